@@ -41,6 +41,7 @@ KINDS = {
 }
 SHOWN_DIGIT = {0x03: ("Wh", 1, 0), 0x0E: ("J", 1_000_000, 0), 0x13: ("m3", 1, 3), 0x6E: ("HCA", 1, 0)}
 GAP_DAYS = 6
+WRONG = datetime.datetime(2000, 1, 1, 0, 7, tzinfo=UTC)  # of a clock that began anew
 COMPANY = bytes([0x24, 0x40])
 STATUS = bytes([0, 0, 0, 0])  # access number, status, configuration
 
@@ -58,6 +59,7 @@ class Telegram(NamedTuple):
     at: Moment
     digits: int
     stored: Optional[Tuple[datetime.date, int]]
+    stamp: Optional[Moment] = None  # what the box's clock says where it is wrong
 
 
 @dataclasses.dataclass
@@ -127,13 +129,18 @@ class Place:
     false: List[False_] = dataclasses.field(default_factory=list)
     struck: List[False_] = dataclasses.field(default_factory=list)
     is_dead_since: Optional[Moment] = None
+    outage: Optional[Tuple[Moment, Moment]] = None  # of the way to the house's box
+
+    def comes(self, at: Moment) -> Moment:
+        """When the office gets what is known at a moment."""
+        return self.outage[1] if self.outage is not None and self.outage[0] <= at < self.outage[1] else at
 
     @property
     def use(self) -> str:
         return self.kind.use
 
     def known(self, now: Moment) -> List[Knot]:
-        return [knot for knot in self.knots if knot.known_at <= now]
+        return [knot for knot in self.knots if self.comes(knot.known_at) <= now]
 
     def consumed(self, moment: Moment, now: Moment) -> Optional[Consumed]:
         """What was consumed up to a moment as it can be known; None where no knot lies before or after it."""
@@ -161,7 +168,7 @@ class Place:
             found += [Entry(at, number, device.first * self.kind.digit + amount - base, False) for at, amount in known.items()
                       if device.begins < at and (last is None or at < last) and at != device.ends]
             found += [Entry(one.at, number, one.digits * self.kind.digit, False) for one in self.false
-                      if one.device is device and one.at <= now and one not in self.struck]
+                      if one.device is device and self.comes(one.at) <= now and one not in self.struck]
             if last is not None and device.last is not None:
                 found.append(Entry(last, number, device.last * self.kind.digit, True))
         return sorted(found, key=lambda entry: (entry.at, entry.meter))
@@ -223,6 +230,7 @@ class House:
     flats: Dict[str, int]  # the areas
     users: Dict[str, List[User]]
     places: List[Place]
+    outage: Optional[Tuple[Moment, Moment]] = None
 
     def telegrams(self) -> Iterator[Tuple[Moment, Device, str, Telegram]]:
         """All telegrams in the order in which the house's box hears them."""
@@ -240,6 +248,7 @@ class Plan(NamedTuple):
     dead_since: Optional[datetime.date]
     false_on: Optional[datetime.date]
     is_high: bool = False  # what is told then is too high
+    unstamped: Tuple[datetime.date, ...] = ()  # days on which the box's clock is wrong
 
 
 def fill(place: Place, plan: Plan, first: datetime.date, after: datetime.date, hour: datetime.time, rng: random.Random
@@ -270,7 +279,7 @@ def knots_of(plan: Plan, first: datetime.date, after: datetime.date, hour: datet
         if not is_silent(plan, day, hour):
             if is_stored:
                 found.add(begin_of(tomorrow))
-            elif day not in plan.lost and day != plan.false_on:
+            elif day not in plan.lost and day != plan.false_on and day not in plan.unstamped:
                 found.add(datetime.datetime.combine(day, hour, UTC))
         day = tomorrow
     return sorted(found)
@@ -322,7 +331,8 @@ def tell(place: Place, plan: Plan, first: datetime.date, after: datetime.date, h
             if day == plan.false_on:
                 digits = digits * 11 // 10 if plan.is_high else digits // 10
                 place.false.append(False_(moment, device, digits))
-            device.telegrams.append(Telegram(moment, digits, stored_at(place, plan, device, day, knots)))
+            device.telegrams.append(Telegram(moment, digits, stored_at(place, plan, device, day, knots),
+                                             WRONG if day in plan.unstamped else None))
         day += datetime.timedelta(days=1)
     if plan.dead_since is not None and plan.exchanged_at is None:
         place.is_dead_since = begin_of(plan.dead_since)

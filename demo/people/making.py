@@ -10,6 +10,7 @@ from people.houses import (BERLIN, GAP_DAYS, KINDS, UTC, Device, House, Kind, Mo
 
 HOSTILE = ("Zoë \"Q\" O'Neill <b>&amp;</b>", "محمد علي", "'; DROP TABLE readings; --", "{{ 7 * 7 }} {% raw %}", "\u202eevil")
 NAMES = ("Weber", "Yılmaz", "Nowak", "Smith", "Đorđević", "Lindqvist")
+WRONG_DAYS = (10, 11, 12)  # of a month, from 0
 FEW_DIGITS = (20_000, 90_000)  # of a meter's first value, which is false at a tenth
 
 
@@ -30,9 +31,16 @@ def house_of(number: int, flats: int, first: datetime.date, after: datetime.date
             device = Device(serial, kind, begin_of(first), rng.randrange(*FEW_DIGITS))
             weight = str(rng.choice(("0.75", "1", "1.5"))) if kind.use == "allocator" else "1"
             made = Place(house.name, flat, kind, index, weight, [device])
-            fill(made, plan_of(kind, len(house.places), first, after, hour, rng), first, after, hour, rng)
+            plan = with_wrong_clock(plan_of(kind, len(house.places), first, after, hour, rng), number, first)
+            fill(made, plan, first, after, hour, rng)
             house.places.append(made)
     return house
+
+
+def with_wrong_clock(plan: Plan, house: int, first: datetime.date) -> Plan:
+    """Of each third house the box's clock is wrong on three days of the second month."""
+    days = tuple(next_month(first) + datetime.timedelta(days=number) for number in WRONG_DAYS) if house % 3 == 0 else ()
+    return plan._replace(unstamped=days, false_on=None if plan.false_on in days else plan.false_on)
 
 
 def kinds_of(house: int, flat: int) -> List[Tuple[Kind, int]]:

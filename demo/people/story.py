@@ -24,7 +24,8 @@ class Office:
         self.coming: Dict[str, List[Tuple[Moment, Device, str, Telegram]]] = {
             house.name: list(house.telegrams()) for house in houses}
         self.serials = {house.name: 0 for house in houses}
-        self.stored_until: Optional[Moment] = None
+        self.boxes = {house.name: house.name for house in houses}
+        self.stored_until: Dict[str, Optional[Moment]] = {house.name: None for house in houses}
         self.run("migrate")
         self.connection = database.connect()
 
@@ -83,7 +84,7 @@ class Office:
         old, new = place.devices
         assert old.last is not None
         self.sql("UPDATE meters SET identity = %s, address = %s WHERE (box, identity) = (%s, %s)", new.identity,
-                 str(new.number), place.house, old.identity)
+                 str(new.number), self.boxes[place.house], old.identity)
         self.sql("UPDATE fittings SET during = tstzrange(lower(during), %s), last_value = %s, last_is_estimated = %s"
                  " WHERE (house, identity) = (%s, %s)", old.ends, old.shown(old.last), old.is_estimated, place.house,
                  old.identity)
@@ -103,23 +104,36 @@ class Office:
         import storing  # what office/ has, by the path set above
         from link import Reading
         from stamps import Window
-        count, window = 0, Window(self.stored_until, until)
-        for name, coming in self.coming.items():
-            while coming and coming[0][0] <= until:
+        count = 0
+        for house in self.houses:
+            last = until
+            if house.outage is not None and house.outage[0] <= until < house.outage[1]:
+                last = house.outage[0]  # since then its box isn't reached
+            coming, window, box = self.coming[house.name], Window(self.stored_until[house.name], last), self.boxes[house.name]
+            while coming and coming[0][0] <= last:
                 month = coming[0][0].date().replace(day=1)
                 page: List[Reading] = []
-                while coming and len(page) < PAGE and coming[0][0] <= until and (
+                while coming and len(page) < PAGE and coming[0][0] <= last and (
                         coming[0][0].date().replace(day=1) == month):
                     at, device, flat, told = coming.pop(0)
-                    self.serials[name] += 1
-                    page.append(Reading(self.serials[name], device.identity, flat, (at.astimezone(UTC),),
+                    self.serials[box] += 1
+                    page.append(Reading(self.serials[box], device.identity, flat, ((told.stamp or at).astimezone(UTC),),
                                         (device.body(told),)))
                 self.as_if_in(month)
                 with self.connection, self.connection.cursor() as cursor:
-                    storing.store_readings(cursor, name, page, window)
+                    storing.store_readings(cursor, box, page, window)
                 count += len(page)
-        self.stored_until = until
+            self.stored_until[house.name] = last
         return count
+
+    def replace(self, house: House) -> None:
+        """The house's box gets a new image, and a new name: office/replace-box, but for the box."""
+        old, new = self.boxes[house.name], f"{self.boxes[house.name]}-b"
+        self.sql("UPDATE boxes SET active = false WHERE name = %s", old)
+        self.sql("INSERT INTO boxes (name, command, house) VALUES (%s, 'false', %s)", new, house.name)
+        self.sql("INSERT INTO meters (box, identity, line, address, flat) SELECT %s, identity, line, address, flat FROM meters"
+                 " WHERE box = %s", new, old)
+        self.boxes[house.name], self.serials[new] = new, 0
 
     def as_if_in(self, month: datetime.date) -> None:
         """What is stored now belongs to that month."""

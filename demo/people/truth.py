@@ -55,8 +55,7 @@ class Truth:
             return Number(DISTURBED, None, "", begins, ends)
         first, last = place.consumed(begins, self.now), place.consumed(ends, self.now)
         if first is None or last is None:
-            is_estimated = any(place is of and begin_of(month) < ends and begins < begin_of(next_month(month))
-                               for of, month in self.estimated_places())
+            is_estimated = any(place is of and ends <= begin_of(next_month(month)) for of, month in self.estimated_places())
             return Number(VALUE if is_estimated else MISSING, None, ESTIMATED if is_estimated else "", begins, ends)
         if place.is_held(entries, begins, ends):
             return Number(HELD, None, "", begins, ends)
