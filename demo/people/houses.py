@@ -140,7 +140,9 @@ class Place:
         return self.kind.use
 
     def known(self, now: Moment) -> List[Knot]:
-        return [knot for knot in self.knots if self.comes(knot.known_at) <= now]
+        """The knots that the office knows. At an exchange a person notes both values, whether the box is in reach or not."""
+        noted = {device.begins for device in self.devices}
+        return [knot for knot in self.knots if (knot.known_at if knot.at in noted else self.comes(knot.known_at)) <= now]
 
     def consumed(self, moment: Moment, now: Moment) -> Optional[Consumed]:
         """What was consumed up to a moment as it can be known; None where no knot lies before or after it."""
