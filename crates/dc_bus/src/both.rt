@@ -7,7 +7,7 @@ ghost use Rattle.dc_bus.specs.Halves.{Runs};
 
 use crate::answer_buf::AnswerBuf;
 use crate::bus::Bus;
-use crate::half::HalfBus;
+use crate::half::{HalfBus, QuietBus};
 use dc_frame::FrameBuf;
 
 /// A way to wait until a bus may have received something.
@@ -26,10 +26,9 @@ pub struct Both<B: HalfBus + Drop, P: Pause<B> + Drop> {
 }
 
 impl<B: HalfBus + Drop, P: Pause<B> + Drop> Both<B, P> {
-    /// Waits for the answer to the request that was sent last. It is silence if the bus is lost.
+    /// Waits for the answer to the request that was sent last.
     fn await_answer(&mut self) -> AnswerBuf
-        ensures heard { Runs B.gives B.waits self.old.bus (result ∷ []) self.new.bus }
-        ensures silence { B.lost self.new.bus ≡ true → result ≡ [] }
+        ensures { Runs B.gives B.waits self.old.bus (result ∷ []) self.new.bus }
     {
         let mut heard = self.bus.hear();
         'waits: while heard.is_none() {
@@ -37,6 +36,18 @@ impl<B: HalfBus + Drop, P: Pause<B> + Drop> Both<B, P> {
             heard = self.bus.hear();
         }
         heard.unwrap_or_default()
+    }
+}
+
+impl<B: QuietBus + Drop, P: Pause<B> + Drop> Both<B, P> {
+    /// Waits until a readout may begin.
+    pub fn make_ready(&mut self)
+        ensures { B.ready self.new.bus ≡ true }
+    {
+        while !self.bus.is_ready() {
+            self.bus.settle();
+            self.pause.pause(&self.bus);
+        }
     }
 }
 
@@ -51,13 +62,7 @@ impl<B: HalfBus + Drop, P: Pause<B> + Drop> Bus for Both<B, P> {
 
     ghost lost = { λ both. B.lost both.bus };
 
-    ghost asks = { BothAsk B.sends B.HalfBus };
-
-    ghost asks_all = { BothAsk B.opens B.HalfBus };
-
-    ghost late = { λ both. B.late both.bus };
-
-    ghost silent = { λ old new request answer asked. asked.silence };
+    ghost asks = { BothAsk B.HalfBus };
 
     fn is_lost(&self) -> bool {
         self.bus.is_lost()
@@ -69,17 +74,5 @@ impl<B: HalfBus + Drop, P: Pause<B> + Drop> Bus for Both<B, P> {
         }
         self.bus.send(request);
         self.await_answer()
-    }
-
-    fn ask_all(&mut self, request: &FrameBuf) -> AnswerBuf {
-        if self.bus.is_lost() {
-            return AnswerBuf::new();
-        }
-        self.bus.send_open(request);
-        self.await_answer()
-    }
-
-    fn late(&self) -> u64 {
-        self.bus.late()
     }
 }

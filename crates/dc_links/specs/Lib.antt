@@ -1,3 +1,5 @@
 -- the definitions that contracts cite
 -- the effect of a call on a bus of one of two kinds
 pub mod Bus
+-- the effect of a script's request on its link
+pub mod Script

@@ -4,9 +4,7 @@
 pub mod Echoes
 -- what is received, piece by piece
 pub mod Pieces
--- what is dropped, and what is gathered
+-- late bytes that are dropped until a gap
 pub mod Drops
--- one call of a line
-pub mod Calls
 -- what a line receives in several steps
 pub mod Steps

@@ -1,4 +1,1 @@
 -- lemmas by topic
-
--- what silence and room mean
-mod Room

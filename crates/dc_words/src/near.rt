@@ -1,9 +1,8 @@
 //! The command that a mistyped word is nearly.
 
 // The commands, the shortest words first among those that begin alike.
-const COMMANDS: [&str; 16] = [
+const COMMANDS: [&str; 14] = [
     "consumption",
-    "copy",
     "decode",
     "demo",
     "fit",
@@ -13,7 +12,6 @@ const COMMANDS: [&str; 16] = [
     "poll",
     "read",
     "report",
-    "rescue",
     "run",
     "scan",
     "status",

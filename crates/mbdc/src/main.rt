@@ -15,7 +15,7 @@ mod loose;
 mod names;
 mod pointing;
 mod poll;
-mod rescue;
+mod report;
 mod script;
 mod tasks;
 mod tracing;

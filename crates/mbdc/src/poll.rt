@@ -1,15 +1,13 @@
 //! The command `poll`: the registered meters of an image are read over the bus lines.
 
-use crate::clock::moment;
 use crate::connecting::{reached, released};
 use crate::names::meters_of;
 use crate::tracing::{TracedBus, shows_progress, trace_file_of, tracer_of};
 use dc_address::Identity;
-use dc_change::Moment;
 use dc_commands::{Printing, poll_over};
 use dc_disk::FileDisk;
 use dc_ending::Ending;
-use dc_files::{Host, Patient, open_disk};
+use dc_files::{Host, Noted, open_image};
 use dc_links::{LinkBus, Peer, Watch};
 use dc_poll::Plan;
 use dc_trace::{Observed, TraceFile};
@@ -27,13 +25,13 @@ pub fn poll_on_image<'a, R>(host: &Host<'_, R>, task: &PollTask<'a>) -> Ending<'
 where
     R: Files<File = File> + Net<Stream = TcpStream> + Clock + Copy + Print + Eprint + AllocGlobal,
 {
-    // No reading gets a stamp that is no time.
-    let Some(begun) = moment(host.rt) else {
-        return Ending::Clock;
+    let file = match open_image(host.rt, task.image) {
+        Ok(file) => file,
+        Err(error) => return host.why.file(task.image, error),
     };
-    let mut disk = match open_disk(host, task.image) {
+    let mut disk = match FileDisk::new(Noted::new(file, host.why)) {
         Ok(disk) => disk,
-        Err(ending) => return ending,
+        Err(error) => return host.why.file(task.image, error),
     };
     let only = match meters_of(host, &mut disk, task.only.as_slice(), task.image) {
         Ok(only) => only,
@@ -53,7 +51,6 @@ where
         peers.as_slice(),
         trace.as_ref(),
         only.as_slice(),
-        begun,
         task,
     );
     released(host, peers.as_slice());
@@ -67,12 +64,11 @@ fn poll_peers<'a, D, R>(
     peers: &[Option<Peer<R>>],
     trace: Option<&TraceFile<'_, R>>,
     only: &[Identity],
-    begun: Moment,
     task: &PollTask<'a>,
 ) -> Ending<'a>
 where
     D: FileExt + OpenFile + Drop,
-    R: Files<File = File> + Clock + Copy + Print + Eprint + AllocGlobal,
+    R: Clock + Copy + Print + Eprint + AllocGlobal,
 {
     let buses = match buses_of(host, peers, trace, task.patience) {
         Ok(buses) => buses,
@@ -84,12 +80,10 @@ where
         tries: task.tries.max(1),
     };
     let printing = Printing {
-        begun,
         is_json: task.is_json,
         is_shown: shows_progress(host, trace),
     };
-    // The readings go on where nobody takes what is printed.
-    let out = Patient::new(io::writer(host.rt), host);
+    let out = Noted::new(io::writer(host.rt), host.why);
     let (_, ending) = poll_over(
         host.rt.alloc(),
         host.rt,

@@ -1,12 +1,13 @@
 //! The command `run`: a script over an image in a file.
 
 use crate::connecting::{connected, released};
+use crate::tasks::ended;
 use dc_bus::Both;
 use dc_commands::{run_over, run_over_gateway};
 use dc_disk::FileDisk;
 use dc_ending::Ending;
-use dc_files::{Host, Noted, open_disk};
-use dc_links::{Connection, Peer, SystemBus, Waiter};
+use dc_files::{Host, Noted, open_image};
+use dc_links::{Connection, Peer, ScriptLink, SystemBus, Waiter};
 use dc_script::Slot;
 use dc_words::RunTask;
 use std::fs::{File, OpenFile};
@@ -17,7 +18,7 @@ use std::rt::{Clock, Files};
 use std::{fs, io};
 
 // A bus line that has a link.
-type LineSlot<'a, C> = Slot<Both<SystemBus<'a, C>, Waiter>>;
+type LineSlot<'a, C> = Slot<ScriptLink<SystemBus<'a, C>, Waiter>>;
 
 /// Runs the script over the image, from file to file, over the links of the bus lines, or the
 /// gateway of bus line 1.
@@ -25,9 +26,13 @@ pub fn run_on_image<'a, R>(host: &Host<'_, R>, task: &RunTask<'a>) -> Ending<'a>
 where
     R: Files<File = File> + Net<Stream = TcpStream> + Clock + Copy + Print + Eprint + AllocGlobal,
 {
-    let disk = match open_disk(host, task.image) {
+    let file = match open_image(host.rt, task.image) {
+        Ok(file) => file,
+        Err(error) => return host.why.file(task.image, error),
+    };
+    let disk = match FileDisk::new(Noted::new(file, host.why)) {
         Ok(disk) => disk,
-        Err(ending) => return ending,
+        Err(error) => return host.why.file(task.image, error),
     };
     let lines = match fs::open(host.rt, task.script) {
         Ok(lines) => Noted::new(lines, host.why),
@@ -61,9 +66,8 @@ where
     };
     let ends = connection.as_ref().map(Connection::ends);
     let out = Noted::new(io::writer(host.rt), host.why);
-    let alloc = host.rt.alloc();
-    let (_, ending) = run_over_gateway(alloc, host.why, disk, lines, out, ends, task.script);
-    ending
+    let (_, outcome) = run_over_gateway(host.rt.alloc(), disk, lines, out, ends);
+    ended(host.why, outcome, task.script)
 }
 
 // Runs the lines of a file over a disk, with the links of the bus lines.
@@ -105,9 +109,8 @@ where
         Err(ending) => return ending,
     };
     let out = Noted::new(io::writer(host.rt), host.why);
-    let (alloc, slots) = (host.rt.alloc(), slots.as_mut_slice());
-    let (_, ending) = run_over(alloc, host.why, disk, lines, out, slots, task.script);
-    ending
+    let (_, outcome) = run_over(host.rt.alloc(), disk, lines, out, slots.as_mut_slice());
+    ended(host.why, outcome, task.script)
 }
 
 // The bus of each line that has a link.
@@ -133,8 +136,9 @@ fn slots_of<'p, 'e, R: Clock + Copy + AllocGlobal>(
 }
 
 fn slot_of<C: Clock + Copy>(bus: SystemBus<'_, C>) -> LineSlot<'_, C> {
+    let both = Both { bus, pause: Waiter };
     Slot {
-        bus: Both { bus, pause: Waiter },
+        bus: ScriptLink { both },
         is_gateway: false,
     }
 }

@@ -1,0 +1,11 @@
+use Rattle.dc_tokens.specs.Object.{fields_tokens}
+use Rattle.dc_frame_json.specs.Meter.{identity_fields}
+use Rattle.dc_tokens.proofs.Adding.{◌>>◌, unchanged, said}
+use Rattle.dc_frame_json.proofs.meter.put_identity.Goals as goal
+
+pub returns : goal.returns
+unfolding fields_tokens identity_fields
+returns g c =
+    said (fields_tokens (identity_fields c.args.identity.now))
+    (c.put_name.ensures >> c.put_string.ensures >> c.put_name-2.ensures >> c.put_string-2.ensures >> c.put_name-3.ensures >> c.put_string-3.ensures
+    >> c.put_count.ensures >> c.put_text.ensures >> c.put_count-2.ensures >> unchanged) cc

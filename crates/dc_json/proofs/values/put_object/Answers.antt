@@ -1,0 +1,12 @@
+use Rattle.std.proofs.Common.{append_assoc, append-nil}
+use Rattle.json.specs.Tree.{json_tokens}
+use Rattle.dc_json.specs.Values.{reading_json}
+use Rattle.dc_tokens.proofs.Objects.{members_are, items_are, fields-append}
+use Rattle.dc_tokens.proofs.Adding.{◌>>◌, unchanged, said}
+use Rattle.dc_json.proofs.values.put_object.Goals as goal
+
+pub returns : goal.returns
+unfolding reading_json
+returns g c =
+    said (json_tokens (reading_json c.args.serial c.args.part.now c.args.points))
+    (c.begin_object.ensures >> c.put_fields_of.ensures >> c.end_object.ensures >> unchanged) (simp (members_are, items_are, fields-append, append_assoc, append-nil))
