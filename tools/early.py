@@ -24,8 +24,8 @@ EXCLUSIVE = [{"--json", "--explain"}, {"--json", "--prometheus"}, {"--primary", 
              {"--dry-run", "--trace"}]
 WRITING = {"format", "run", "fit", "poll"}  # the commands that write to their image; `poll --dry-run` doesn't
 # As crates/dc_words/src/near.rt has them
-COMMANDS = ["consumption", "decode", "demo", "fit", "fold", "format", "inspect", "poll", "read", "report", "run", "scan",
-            "status", "values"]
+COMMANDS = ["consumption", "copy", "decode", "demo", "fit", "fold", "format", "inspect", "poll", "read", "report", "rescue", "run",
+            "scan", "status", "values"]
 
 
 class Said(Exception):

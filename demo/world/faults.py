@@ -22,7 +22,7 @@ from world.meters import Meter
 CLOSE = None
 STALL = 0.8  # seconds: longer than the gap that ends an answer
 SHARE = 0.3  # of the answers
-NOISE, BABBLING = b"\x00", 0.1  # a byte that begins no frame, and seconds between two of them
+NOISE, START, BABBLING = b"\x00", b"\x10", 0.1  # a byte that begins no frame, one that does; seconds between two
 SILENT_BYTE = 0xFF  # what an idle line adds to others' bits
 
 Piece = tuple[float, Optional[bytes]]
@@ -52,8 +52,8 @@ def stalls(rng: random.Random, request: bytes, answer: bytes) -> list[Piece]:
 
 
 def babbles(seconds: float) -> Fault:
-    """After its first answer the line isn't quiet for so long: each tenth of a second a byte comes."""
-    noise: list[Piece] = [(place * BABBLING, NOISE) for place in range(1, round(seconds / BABBLING))]
+    """After its first answer the line isn't quiet for so long: each tenth of a second a byte comes that begins a frame."""
+    noise: list[Piece] = [(place * BABBLING, START) for place in range(1, round(seconds / BABBLING))]
     return lambda rng, request, answer: [(0, answer), *noise]
 
 

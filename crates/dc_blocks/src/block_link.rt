@@ -4,7 +4,7 @@ ghost use Rattle.std.specs.Prelude.{◌≡◌, None, IsTrue};
 ghost use Rattle.dc_blocks.specs.Blocks.{is_short};
 
 use crate::gateway::Gateway;
-use dc_bus::{AnswerBuf, HalfBus, QuietBus};
+use dc_bus::{AnswerBuf, HalfBus};
 use dc_frame::FrameBuf;
 use dc_io::{Sink, Source};
 
@@ -41,13 +41,16 @@ impl<R: Source + Drop, W: Sink + Drop> HalfBus for BlockLink<R, W> {
 
     ghost sends = { LinkSends R.Source W.Sink };
 
+    // The gateway takes all that comes until its block ends.
+    ghost opens = { LinkSends R.Source W.Sink };
+
     // It never waits.
     ghost waits = { λ _ _. ⊥ };
 
     ghost gives = { LinkGives R.Source W.Sink };
 
-    // The exchange is taken whole, so nothing is dropped.
-    ghost dropped = { λ _. 0 };
+    // The exchange is taken whole, so nothing is late.
+    ghost late = { λ _. 0 };
 
     fn is_lost(&self) -> bool {
         self.gateway.is_lost()
@@ -57,6 +60,10 @@ impl<R: Source + Drop, W: Sink + Drop> HalfBus for BlockLink<R, W> {
         if !self.gateway.is_lost() {
             self.request = Some(*request);
         }
+    }
+
+    fn send_open(&mut self, request: &FrameBuf) {
+        self.send(request);
     }
 
     fn hear(&mut self) -> Option<AnswerBuf> {
@@ -71,28 +78,6 @@ impl<R: Source + Drop, W: Sink + Drop> HalfBus for BlockLink<R, W> {
             None => Some(AnswerBuf::new()),
         }
     }
-
-    fn dropped(&self) -> u64 {
-        0
-    }
-}
-
-impl<R: Source + Drop, W: Sink + Drop> QuietBus for BlockLink<R, W> {
-    ghost use Rattle.std.specs.Prelude.{◌≡◌, true};
-
-    ghost ready = { λ _. true };
-
-    ghost settles = { λ old new. new ≡ old };
-
-    ghost settles_left = { λ _. 0 };
-
-    ghost late = { λ _. 0 };
-
-    fn is_ready(&self) -> bool {
-        true
-    }
-
-    fn settle(&mut self) {}
 
     fn late(&self) -> u64 {
         0

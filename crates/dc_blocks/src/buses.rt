@@ -3,13 +3,14 @@
 ghost use Rattle.std.specs.Prelude.{◌≡◌, true};
 
 use crate::gateway::Gateway;
-use dc_bus::{AnswerBuf, Bus, ScriptBus};
+use dc_bus::{AnswerBuf, Bus};
 use dc_frame::FrameBuf;
 use dc_io::{Sink, Source};
 
 impl<R: Source + Drop, W: Sink + Drop> Bus for Gateway<R, W> {
     ghost use Rattle.std.specs.Prelude.{None, []};
     ghost use Rattle.dc_blocks.specs.Asking.{Asks};
+    ghost use Rattle.dc_blocks.specs.Silence.{gateway_is_silent};
 
     // The meters at the other end of a gateway aren't known.
     ghost meters = { λ _. None };
@@ -20,6 +21,14 @@ impl<R: Source + Drop, W: Sink + Drop> Bus for Gateway<R, W> {
 
     ghost asks = { Asks R.Source W.Sink };
 
+    // The gateway takes all that comes until its block ends.
+    ghost asks_all = { Asks R.Source W.Sink };
+
+    // Blocks mark the end of a gateway's answer, so nothing is late.
+    ghost late = { λ _. 0 };
+
+    ghost silent = { gateway_is_silent R.Source W.Sink };
+
     fn is_lost(&self) -> bool {
         Gateway::is_lost(self)
     }
@@ -27,30 +36,10 @@ impl<R: Source + Drop, W: Sink + Drop> Bus for Gateway<R, W> {
     fn ask(&mut self, request: &FrameBuf) -> AnswerBuf {
         Gateway::ask(self, request)
     }
-}
 
-// Blocks mark the end of a gateway's answer, so none is late.
-impl<R: Source + Drop, W: Sink + Drop> ScriptBus for Gateway<R, W> {
-    ghost use Rattle.std.specs.Prelude.{◌≡◌, refl, true};
-    ghost use Rattle.dc_blocks.specs.Silence.{gateway_is_silent};
-
-    ghost ready = { λ _. true };
-
-    ghost settles = { λ old new. new ≡ old };
-
-    ghost late = { λ _. 0 };
-
-    ghost listed = { λ gateway told is. refl };
-
-    ghost ended = { λ gateway is. refl };
-
-    ghost silent = { gateway_is_silent R.Source W.Sink };
-
-    fn is_ready(&self) -> bool {
-        true
+    fn ask_all(&mut self, request: &FrameBuf) -> AnswerBuf {
+        Gateway::ask(self, request)
     }
-
-    fn settle(&mut self) {}
 
     fn late(&self) -> u64 {
         0

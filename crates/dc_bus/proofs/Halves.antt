@@ -36,7 +36,3 @@ is_none_of (Some x) false is e = absurd cc
 abbrev pub and_open : {X : Type 0} → Option X → ℕ → ℕ
 and_open None left = left + 1
 and_open (Some x) left = left
-
-abbrev pub unless_ready : Bool → ℕ → ℕ
-unless_ready true left = 0
-unless_ready false left = left + 1

@@ -14,9 +14,3 @@ pub mod Exchanges
 pub mod Asked
 -- waiting for answers
 pub mod Halves
--- silences in doubt
-pub mod Doubts
--- a bus that answers at once
-pub mod AtOnce
--- steps of a search that takes only what is certain
-pub mod Certains

@@ -1,11 +1,13 @@
 -- A search on a bus that states its meters: what holds before each of its steps.
-use Rattle.std.proofs.Common.{◌≡◌, ◌⊎◌, inl, inr, ℕ, ◌+◌, ◌<◌, ◌≤◌, Bool, true, false, List, [], ◌∷◌, Option, Some, None, length, filter, take, nat_lt, arith, refl, ap, sym, ◌∙◌, subst}
+use Rattle.std.proofs.Common.{◌≡◌, ◌⊎◌, inl, inr, ℕ, ◌+◌, ◌<◌, ◌≤◌, Bool, true, false, List, [], ◌∷◌, Option, Some, None, length, filter, take, nat_lt, not, arith, refl, ap, sym, ◌∙◌, subst}
 use Rattle.std.specs.Prelude.{option_map}
 use Rattle.std.proofs.lemmas.List.{take_all}
 use Rattle.dc_address.specs.Mask.{IsMask, MaskParts, mask_wire, matches}
 use Rattle.dc_address.specs.declared.identity.Identity.{Identity}
 use Rattle.dc_frame.specs.Control.{request_to, selected, selection_by}
-use Rattle.dc_frame.specs.Frame.{spelling}
+use Rattle.dc_frame.specs.Frame.{FrameSeen, ack, spelling}
+use Rattle.dc_frame.specs.Reading.{frame_of}
+use Rattle.dc_frame.proofs.Spellings.{frame_of-spelling}
 use Rattle.dc_search.specs.Bus.{visited}
 use Rattle.dc_search.specs.Request.{request_by}
 use Rattle.dc_search.specs.State.{SearchState, after, after_step, is_idle, new_search, step_by, step_of}
@@ -15,6 +17,7 @@ use Rattle.dc_search.specs.declared.step.Step.TheVariants.{Select, Request, Done
 use Rattle.dc_search.proofs.Sweeps.{AreShort, Swept, SweptOut, counted, due_select, heard_byte, heard_more, heard_one, swept_more, swept_new, swept_out}
 use Rattle.dc_search.proofs.Walks.{walk_finds_all}
 use Rattle.dc_bus.specs.Bus.{Acknowledge, IsHeard, IsSearched, Respond}
+use Rattle.dc_bus.specs.Windows.{are_several, is_one}
 use Rattle.dc_bus.proofs.Digits.{AreDecimal, decimal_visited, is_mask}
 
 -- the selections so far are a prefix of the walk
@@ -65,7 +68,7 @@ made meters budget s next mask matching is calm are by =
 silent : (s : SearchState) (mask : MaskParts) → step_of s ≡ Select mask → after [] s ≡ visited [] s
 silent s mask is = ap (λ (step : Step). after_step step [] s) is
 
-selection : (meters : List Identity) (budget : ℕ) (s next : SearchState) (mask : MaskParts) (chosen : List Identity) (answer : List ℕ) → step_of s ≡ Select mask → Calm meters budget s
+pub selection : (meters : List Identity) (budget : ℕ) (s next : SearchState) (mask : MaskParts) (chosen : List Identity) (answer : List ℕ) → step_of s ≡ Select mask → Calm meters budget s
     → chosen ≡ filter (matches mask) meters → Acknowledge chosen answer → next ≡ after answer s → Searching meters budget next chosen
 selection meters budget s next mask [] answer is calm are heard by =
     inl (made meters budget s next mask [] is calm are (by ∙ ap (λ (bytes : List ℕ). after bytes s) heard ∙ silent s mask is))
@@ -82,10 +85,10 @@ selection meters budget s next mask (meter ∷ more) answer is calm are heard by
 
 -- ---- a request for data
 
-asked_step : (before : SearchState) (mask : MaskParts) → step_of before ≡ Select mask → step_of (counted before) ≡ Request
+pub asked_step : (before : SearchState) (mask : MaskParts) → step_of before ≡ Select mask → step_of (counted before) ≡ Request
 asked_step before mask is = let due = due_select before mask is in ap (λ (ds : List (List ℕ)). step_by ds true (nat_lt (before.selections + 1) before.budget)) due.2
 
-response : (meters : List Identity) (budget : ℕ) (before next : SearchState) (mask : MaskParts) (chosen : List Identity) (answer : List ℕ) → step_of before ≡ Select mask → Calm meters budget before
+pub response : (meters : List Identity) (budget : ℕ) (before next : SearchState) (mask : MaskParts) (chosen : List Identity) (answer : List ℕ) → step_of before ≡ Select mask → Calm meters budget before
     → chosen ≡ filter (matches mask) meters → 0 < length chosen → Respond chosen answer → next ≡ after answer (counted before) → Calm meters budget next
 response meters budget before next mask [] answer is calm are some heard by = absurd (omega (arith, some))
 response meters budget before next mask (meter ∷ []) answer is calm are some heard by =
@@ -95,7 +98,7 @@ response meters budget before next mask (meter ∷ other ∷ more) answer is cal
 
 -- ---- one step
 
-no_data : (due : List (List ℕ)) (answered left : Bool) → answered ≡ false → step_by due answered left ≡ Request → ⊥
+pub no_data : (due : List (List ℕ)) (answered left : Bool) → answered ≡ false → step_by due answered left ≡ Request → ⊥
 no_data [] answered left calm is = cc
 no_data (digits ∷ rest) true left calm is = cc
 no_data (digits ∷ rest) false true calm is = cc
@@ -118,6 +121,28 @@ searching_step meters budget s next old new request answer asks (inr asked) hear
     let step : step_of s ≡ Request = ap step_of asked.state ∙ asked_step asked.before asked.mask asked.step in
     let right : request ≡ spelling (request_to true selected) = sym (some_is _ _ (sym (ap request_at step) ∙ asks)) in
     inl (response meters budget asked.before next asked.mask old answer asked.step asked.calm asked.are asked.some (heard.responds right) (by ∙ ap (after answer) asked.state))
+
+-- where a selection is due, bytes that come to it are one acknowledgement
+one_ack : (chosen : List Identity) (answer : List ℕ) → Acknowledge chosen answer → are_several answer ≡ false
+one_ack [] answer heard = ap are_several heard
+one_ack (meter ∷ more) answer heard = ap are_several heard ∙ ap (λ (f : Option FrameSeen). not (is_one f)) (frame_of-spelling ack)
+
+no_selection_now : (step : Step) (mask : MaskParts) → step ≡ Select mask → step ≡ Request → ⊥
+no_selection_now step mask is asks = cc
+
+one_by : (meters : List Identity) (budget : ℕ) (s : SearchState) (old new : List Identity) (request answer : List ℕ) (step : Step) → step_of s ≡ step → request_at step ≡ Some request
+    → Searching meters budget s old → IsHeard meters old new request answer → (step_of s ≡ Request) ⊎ (are_several answer ≡ false)
+one_by meters budget s old new request answer (Select mask) is asks (inl calm) heard =
+    inr (one_ack new answer (heard.acknowledges mask (selected_mask meters budget s mask is calm) (sym (some_is _ _ asks))))
+one_by meters budget s old new request answer (Select mask) is asks (inr asked) heard =
+    absurd (no_selection_now (step_of s) mask is (ap step_of asked.state ∙ asked_step asked.before asked.mask asked.step))
+one_by meters budget s old new request answer Request is asks searching heard = inl is
+one_by meters budget s old new request answer Done is asks searching heard = absurd cc
+one_by meters budget s old new request answer Budget is asks searching heard = absurd cc
+
+pub one_or_data : (meters : List Identity) (budget : ℕ) (s : SearchState) (old new : List Identity) (request answer : List ℕ) → request_at (step_of s) ≡ Some request → Searching meters budget s old
+    → IsHeard meters old new request answer → (step_of s ≡ Request) ⊎ (are_several answer ≡ false)
+one_or_data meters budget s old new request answer asks searching heard = one_by meters budget s old new request answer (step_of s) refl asks searching heard
 
 -- ---- the end
 

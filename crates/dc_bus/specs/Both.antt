@@ -6,17 +6,16 @@ use Rattle.dc_bus.specs.declared.both.Both.{Both}
 use Rattle.dc_bus.specs.declared.half.HalfBus.{Ghosts as HalfGhosts}
 
 -- the request goes out, and its answer is the next that the bus returns
-pub record Asked {B : Type 0} (half : HalfGhosts B) (old : B) (request answer : List ℕ)
-    (new : B) : Type 0 where
+pub record Asked {B : Type 0} (sends : B → List ℕ → B → Type 0) (half : HalfGhosts B) (old : B)
+    (request answer : List ℕ) (new : B) : Type 0 where
   pub between : B
-  pub sent : half.sends old request between
+  pub sent : sends old request between
   pub heard : Runs half.gives half.waits between (answer ∷ []) new
 
--- A lost bus is untouched and silent. Otherwise the request goes out, and its answer is the next
--- that the bus returns.
-pub record BothAsk {B P : Type 0} (half : HalfGhosts B) (old : Both B P) (request answer : List ℕ)
-    (new : Both B P)
-    : Type 0 where
+-- A lost bus is untouched. Otherwise the request goes out, and its answer is the next that the bus
+-- returns. If the bus is lost by it, or was, the answer is silence.
+pub record BothAsk {B P : Type 0} (sends : B → List ℕ → B → Type 0) (half : HalfGhosts B)
+    (old : Both B P) (request answer : List ℕ) (new : Both B P) : Type 0 where
   pub untouched : half.lost old.bus ≡ true → new ≡ old
-  pub silence : half.lost old.bus ≡ true → answer ≡ []
-  pub asked : half.lost old.bus ≡ false → Asked half old.bus request answer new.bus
+  pub silence : half.lost new.bus ≡ true → answer ≡ []
+  pub asked : half.lost old.bus ≡ false → Asked sends half old.bus request answer new.bus

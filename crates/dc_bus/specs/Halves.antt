@@ -5,11 +5,6 @@ use Rattle.std.specs.Prelude.{◌≡◌, ℕ, List, [], ◌∷◌}
 abbrev pub most_waits : ℕ
 most_waits = 65535
 
--- maximum number of steps in which a bus settles: 64 answers or silences, each after that many
--- waits at most
-abbrev pub most_settles : ℕ
-most_settles = 4259840
-
 -- ---- several steps
 
 -- the bus returned these answers, one after the other, with waits between them

@@ -8,7 +8,5 @@ pub mod Bus
 pub mod Halves
 -- a whole bus over its two halves
 pub mod Both
--- a search on a bus whose answers may be late
-pub mod Late
--- what such a search may take for certain
-pub mod Certain
+-- a search on a bus on which several meters may answer
+pub mod Windows

@@ -7,7 +7,7 @@ ghost use Rattle.dc_bus.specs.Halves.{Runs};
 
 use crate::answer_buf::AnswerBuf;
 use crate::bus::Bus;
-use crate::half::{HalfBus, QuietBus};
+use crate::half::HalfBus;
 use dc_frame::FrameBuf;
 
 /// A way to wait until a bus may have received something.
@@ -26,9 +26,10 @@ pub struct Both<B: HalfBus + Drop, P: Pause<B> + Drop> {
 }
 
 impl<B: HalfBus + Drop, P: Pause<B> + Drop> Both<B, P> {
-    /// Waits for the answer to the request that was sent last.
+    /// Waits for the answer to the request that was sent last. It is silence if the bus is lost.
     fn await_answer(&mut self) -> AnswerBuf
-        ensures { Runs B.gives B.waits self.old.bus (result ∷ []) self.new.bus }
+        ensures heard { Runs B.gives B.waits self.old.bus (result ∷ []) self.new.bus }
+        ensures silence { B.lost self.new.bus ≡ true → result ≡ [] }
     {
         let mut heard = self.bus.hear();
         'waits: while heard.is_none() {
@@ -36,18 +37,6 @@ impl<B: HalfBus + Drop, P: Pause<B> + Drop> Both<B, P> {
             heard = self.bus.hear();
         }
         heard.unwrap_or_default()
-    }
-}
-
-impl<B: QuietBus + Drop, P: Pause<B> + Drop> Both<B, P> {
-    /// Waits until a readout may begin.
-    pub fn make_ready(&mut self)
-        ensures { B.ready self.new.bus ≡ true }
-    {
-        while !self.bus.is_ready() {
-            self.bus.settle();
-            self.pause.pause(&self.bus);
-        }
     }
 }
 
@@ -62,7 +51,13 @@ impl<B: HalfBus + Drop, P: Pause<B> + Drop> Bus for Both<B, P> {
 
     ghost lost = { λ both. B.lost both.bus };
 
-    ghost asks = { BothAsk B.HalfBus };
+    ghost asks = { BothAsk B.sends B.HalfBus };
+
+    ghost asks_all = { BothAsk B.opens B.HalfBus };
+
+    ghost late = { λ both. B.late both.bus };
+
+    ghost silent = { λ old new request answer asked. asked.silence };
 
     fn is_lost(&self) -> bool {
         self.bus.is_lost()
@@ -74,5 +69,17 @@ impl<B: HalfBus + Drop, P: Pause<B> + Drop> Bus for Both<B, P> {
         }
         self.bus.send(request);
         self.await_answer()
+    }
+
+    fn ask_all(&mut self, request: &FrameBuf) -> AnswerBuf {
+        if self.bus.is_lost() {
+            return AnswerBuf::new();
+        }
+        self.bus.send_open(request);
+        self.await_answer()
+    }
+
+    fn late(&self) -> u64 {
+        self.bus.late()
     }
 }

@@ -26,6 +26,16 @@ pub trait Bus {
     // What a request and its answer do to the bus.
     ghost asks: { Self → List ℕ → List ℕ → Self → Type 0 };
 
+    // The same of a request that several meters may answer.
+    ghost asks_all: { Self → List ℕ → List ℕ → Self → Type 0 };
+
+    // Number of times that bytes came which nothing on the bus could have sent.
+    ghost late: { Self → ℕ };
+
+    // If the bus is lost over a request, the answer is silence.
+    ghost silent: { (old new : Self) (request answer : List ℕ)
+        → asks old request answer new → lost new ≡ true → answer ≡ [] };
+
     /// Whether the bus is lost, and silent from now on.
     fn is_lost(&self) -> bool
         ensures { result ≡ lost self.now };
@@ -40,6 +50,22 @@ pub trait Bus {
         // A lost bus is silent, and isn't touched.
         ensures silence { lost self.old ≡ true → result ≡ [] }
         ensures untouched { lost self.old ≡ true → self.new ≡ self.old };
+
+    /// Sends a request that several meters may answer, and returns every byte that comes while one
+    /// of them may begin to answer; no byte is silence.
+    fn ask_all(&mut self, request: &FrameBuf) -> AnswerBuf
+        requires { length request.now ≤ most_request }
+        ensures meters { meters self.new ≡ meters self.old }
+        ensures heard { IfSome (meters self.old)
+            (λ told. IsHeard told (selected self.old) (selected self.new) request.now result) }
+        ensures asked { asks_all self.old request.now result self.new }
+        // A lost bus is silent, and isn't touched.
+        ensures silence { lost self.old ≡ true → result ≡ [] }
+        ensures untouched { lost self.old ≡ true → self.new ≡ self.old };
+
+    /// Number of times that bytes came which nothing on the bus could have sent; it saturates.
+    fn late(&self) -> u64
+        ensures { result ≡ late self.now };
 }
 
 /// Searches a bus with at most `budget` selections: sends each step's request, and passes the

@@ -1,9 +1,9 @@
 //! A bus in two halves: send a request, and take its answer once it is complete.
 
-ghost use Rattle.std.specs.Prelude.{◌≡◌, ◌⊎◌, ◌≤◌, ◌<◌, ℕ, Bool, true, List, [], IfSome, IfNone};
+ghost use Rattle.std.specs.Prelude.{◌≡◌, ◌≤◌, ◌<◌, ℕ, Bool, true, List, [], IfSome, IfNone};
 ghost use Rattle.std.specs.Prelude.{length};
 ghost use Rattle.dc_bus.specs.Limits.{most_request};
-ghost use Rattle.dc_bus.specs.Halves.{most_settles, most_waits};
+ghost use Rattle.dc_bus.specs.Halves.{most_waits};
 
 use crate::answer_buf::AnswerBuf;
 use dc_frame::FrameBuf;
@@ -19,26 +19,36 @@ pub trait HalfBus {
     // Number of times that `hear` can still find the answer incomplete.
     ghost waits_left: { Self → ℕ };
 
-    // The effect on the bus of sending a request, of finding no complete answer, and of taking an
-    // answer.
+    // The effect on the bus of sending a request, of sending one that several meters may answer, of
+    // finding no complete answer, and of taking an answer.
     ghost sends: { Self → List ℕ → Self → Type 0 };
+
+    ghost opens: { Self → List ℕ → Self → Type 0 };
 
     ghost waits: { Self → Self → Type 0 };
 
     ghost gives: { Self → List ℕ → Self → Type 0 };
 
-    // Number of requests before which late bytes were dropped.
-    ghost dropped: { Self → ℕ };
+    // Number of times that bytes came which nothing on the bus could have sent.
+    ghost late: { Self → ℕ };
 
     /// Whether the bus is lost.
     fn is_lost(&self) -> bool
         ensures lost { result ≡ lost self.now }
         ensures few { waits_left self.now ≤ most_waits };
 
-    /// Sends a request.
+    /// Sends a request. It goes out once it may: [`hear`](HalfBus::hear) waits for that, too.
     fn send(&mut self, request: &FrameBuf)
         requires { length request.now ≤ most_request }
         ensures step { sends self.old request.now self.new }
+        ensures few { waits_left self.new ≤ most_waits }
+        ensures untouched { lost self.old ≡ true → self.new ≡ self.old };
+
+    /// Sends a request that several meters may answer: [`hear`](HalfBus::hear) then returns every
+    /// byte that came while one of them may begin to answer, and not only the first frame.
+    fn send_open(&mut self, request: &FrameBuf)
+        requires { length request.now ≤ most_request }
+        ensures step { opens self.old request.now self.new }
         ensures few { waits_left self.new ≤ most_waits }
         ensures untouched { lost self.old ≡ true → self.new ≡ self.old };
 
@@ -53,37 +63,7 @@ pub trait HalfBus {
         ensures untouched { lost self.old ≡ true → self.new ≡ self.old }
         ensures at_once { lost self.old ≡ true → IfNone result ⊥ };
 
-    /// Number of requests before which late bytes were dropped.
-    fn dropped(&self) -> u64
-        ensures { result ≡ dropped self.now };
-}
-
-/// A bus on which answers may be late, so that a readout may begin only when no answer is under
-/// way.
-pub trait QuietBus: HalfBus {
-    // Whether a readout may begin.
-    ghost ready: { Self → Bool };
-
-    // The effect of a step of settling on the bus.
-    ghost settles: { Self → Self → Type 0 };
-
-    // Maximum number of steps of settling left.
-    ghost settles_left: { Self → ℕ };
-
-    // Number of late answers that were dropped.
-    ghost late: { Self → ℕ };
-
-    /// Whether a readout may begin. A lost bus is ready, since it is silent.
-    fn is_ready(&self) -> bool
-        ensures ready { result ≡ ready self.now }
-        ensures few { settles_left self.now ≤ most_settles };
-
-    /// Drops what has arrived so far, one step towards a quiet bus. It doesn't wait.
-    fn settle(&mut self)
-        ensures step { settles self.old self.new }
-        ensures fewer { (ready self.new ≡ true) ⊎ (settles_left self.new < settles_left self.old) };
-
-    /// Number of late answers that were dropped.
+    /// Number of times that bytes came which nothing on the bus could have sent; it saturates.
     fn late(&self) -> u64
         ensures { result ≡ late self.now };
 }

@@ -14,7 +14,7 @@ use dc_decode::decode_lines;
 use dc_disk::MemoryDisk;
 use dc_ending::{Ending, ProgramFault, ending_of};
 use dc_frame_json::json_lines;
-use dc_inspect::{Form, Report, report_on};
+use dc_inspect::{Asked, Form, Outlook, Report, answer, scan};
 use dc_io::{Bytes, Sink, TextFault, first_line};
 use dc_json::explain_lines;
 use dc_log::Store;
@@ -186,11 +186,16 @@ impl World {
             out.put(b"none\n")?;
             return Ok(());
         };
-        let disk = self.disk.take().ok_or(CaseFault::Syntax)?;
+        let mut disk = self.disk.take().ok_or(CaseFault::Syntax)?;
         let mut writer = Output::new(self.heap, self.limits);
-        let (disk, outcome) = report_on(self.heap, disk, report, Form::Csv, &mut writer);
+        let ending = match report_on(self.heap, &mut disk, report, &mut writer) {
+            Ok(outlook) => look_ending(&outlook),
+            Err(fault) => ending_of(Err(fault), INPUT),
+        };
         self.disk = Some(disk);
-        self.ends(writer.as_slice(), outcome.map(|_| false), out)
+        self.limits = NONE;
+        out.put(writer.as_slice())?;
+        put_ending(&ending, out)
     }
 
     // What a search with this budget finds over a bus of the meters of the input.
@@ -282,4 +287,28 @@ fn search_on<W: Sink>(
         Err(Halt::NoMemory) => Err(ProgramFault::NoMemory),
     };
     (concentrator.close(), outcome)
+}
+
+// Writes a table of the image, and returns what opening would make of the image.
+fn report_on<W: Sink>(
+    heap: Global,
+    disk: &mut MemoryDisk<Global>,
+    report: Report,
+    writer: &mut W,
+) -> Result<Outlook, ProgramFault> {
+    let greatest = scan(disk)?;
+    let table = answer(heap, disk, &greatest, Asked::Table(report, Form::Text))?;
+    match writer.put(table.text.as_slice()) {
+        Ok(()) => Ok(table.outlook),
+        Err(_) => Err(ProgramFault::Write),
+    }
+}
+
+// The ending of a look at an image: a sector that is ahead of what it reads as, or why it wouldn't be opened.
+fn look_ending(outlook: &Outlook) -> Ending<'static> {
+    match (outlook.ahead, outlook.refusal) {
+        (Some(sector), _) => Ending::Behind(sector),
+        (None, Some(fault)) => Ending::Open(fault),
+        (None, None) => Ending::Clean,
+    }
 }

@@ -4,6 +4,10 @@
 mod FailedPut
 -- what a poll leaves of a disk
 mod PollLeaving
+-- what a look before opening establishes
+mod Guarding
+-- what `fit` leaves of a disk
+mod FitLeaving
 -- what was printed, and what of the writer is left
 mod Printed
 -- a script whose text was written in another way

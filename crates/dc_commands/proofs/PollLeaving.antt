@@ -124,9 +124,8 @@ module _ {D : Type 0} (g : Ghosts D) (disk left : D) where
   pub leaves_as : (polls so : Outcome → Core → List Happening → Type 0) (outcome : Result Outcome ProgramFault) → PollLeaves g polls disk left outcome
       → ((done : Outcome) (core : Core) (happened : List Happening) → polls done core happened → so done core happened) → PollLeaves g so disk left outcome
   leaves_as polls so outcome l shows = record {
-    polled = λ stands. if_ok_as outcome (λ done. ImageTurned g (polls done) disk left) _ (l.polled stands) (λ done t. turned_as (polls done) (so done) t (shows done));
+    polled = if_ok_as outcome (λ done. ImageTurned g (polls done) disk left) _ l.polled (λ done t. turned_as (polls done) (so done) t (shows done));
     starved = l.starved;
-    small = l.small;
     unopened = l.unopened;
     faults = l.faults;
   }

@@ -7,7 +7,7 @@ use Rattle.dc_commands.specs.Ending.{run_result}
 use Rattle.dc_commands.specs.RunOver.{Over, RunsOver}
 use Rattle.dc_disk.specs.declared.device.Disk.{Ghosts}
 use Rattle.dc_ending.specs.Fault.{IfOpen, IsOfReading}
-use Rattle.dc_ending.specs.Unopened.{IsUnopened, Stands}
+use Rattle.dc_ending.specs.Unopened.{IsUnopened}
 use Rattle.dc_ending.specs.declared.fault.ProgramFault.{ProgramFault}
 use Rattle.dc_ending.specs.declared.fault.ProgramFault.TheVariants.{TooLong, Write, NoMemory}
 use Rattle.dc_io.specs.Lines.{most_input}
@@ -85,11 +85,10 @@ module _ {D O : Type 0} (g : Ghosts D) (links : List LineLink) (over : Over)
     outcome = Err NoMemory;
     is_written = true;
     result_is = refl;
-    ran = λ stands. tt;
-    cut = λ stands is. cc;
-    starved = λ stands is. inl refl;
+    ran = tt;
+    cut = λ is. cc;
+    starved = λ is. inl refl;
     unread = λ of_reading. inl refl;
-    small = λ few. tt;
     unopened = tt;
     silent = λ other. inl (out, Appends-nil (contents out));
     fits = tt;
@@ -102,30 +101,28 @@ module _ {D O : Type 0} (g : Ghosts D) (links : List LineLink) (over : Over)
       → given ≡ script → result ≡ run_result outcome is_written
       → (¬ (IsErrOf outcome Write) → (text : List ℕ) → wrote text → IsPrinted contents out is_written text)
       → (same → wrote [])
-      → (Stands g disk → IfOk outcome (λ faulty. over (λ carries. ImageRan g links given faulty wrote carries disk left)))
-      → (Stands g disk → IsErrOf outcome Write → over (λ carries. ImageCut g links given carries disk left))
-      → (Stands g disk → IsErrOf outcome NoMemory → ((left ≡ disk) × same) ⊎ over (λ carries. ImageStarved g links given wrote carries disk left))
+      → (IfOk outcome (λ faulty. over (λ carries. ImageRan g links given faulty wrote carries disk left)))
+      → (IsErrOf outcome Write → over (λ carries. ImageCut g links given carries disk left))
+      → (IsErrOf outcome NoMemory → ((left ≡ disk) × same) ⊎ over (λ carries. ImageStarved g links given wrote carries disk left))
       → IfErr outcome (λ fault. IsOfReading fault → (left ≡ disk) ⊎ IsOfSearch links fault)
-      → (g.sectors disk < fewest_sectors → MatchResult outcome (λ faulty. ⊥) (λ fault. IfOpen fault (λ e. (e ≡ NotImage) × (left ≡ disk))))
       → IfErr outcome (λ fault. IfOpen fault (IsUnopened g disk left))
       → IfErr outcome (λ fault. fault ≢ Write → same ⊎ IsOfSearch links fault)
       → OnOk outcome (IfSome given (λ input. length input ≤ most_input))
       → (IsErrOf outcome TooLong → IfSome given (λ input. most_input < length input))
       → RunsOver g links script over contents out disk left result
-  runs_so outcome result is_written given script wrote same is result_is shows none ran cut starved unread small unopened untouched fits too_long =
+  runs_so outcome result is_written given script wrote same is result_is shows none ran cut starved unread unopened untouched fits too_long =
       let other_ok : (faulty : Bool) → outcome ≡ Ok faulty → ¬ (IsErrOf outcome Write) = λ faulty ok write. cc in
       let no_memory : outcome ≡ Err NoMemory → ¬ (IsErrOf outcome Write) = λ full write. cc in
       record {
         outcome = outcome;
         is_written = is_written;
         result_is = result_is;
-        ran = λ stands. if_ok_with outcome _ _ (ran stands) (λ faulty ok. maps _ _ (λ carries r. subst (λ (s : Option (List ℕ)). ImageRan g links s faulty (IsPrinted contents out is_written) carries disk left) is
+        ran = if_ok_with outcome _ _ ran (λ faulty ok. maps _ _ (λ carries r. subst (λ (s : Option (List ℕ)). ImageRan g links s faulty (IsPrinted contents out is_written) carries disk left) is
             (ran_as g links given wrote (IsPrinted contents out is_written) carries disk left (shows (other_ok faulty ok)) faulty r)));
-        cut = λ stands write. maps _ _ (λ carries r. subst (λ (s : Option (List ℕ)). ImageCut g links s carries disk left) is r) (cut stands write);
-        starved = λ stands full. ⊎_elim (λ unchanged. inl unchanged.0) (λ r. inr (maps _ _ (λ carries s. subst (λ (t : Option (List ℕ)). ImageStarved g links t (IsPrinted contents out is_written) carries disk left) is
-            (starved_as g links given wrote (IsPrinted contents out is_written) carries disk left (shows (no_memory full)) s)) r)) (starved stands full);
+        cut = λ write. maps _ _ (λ carries r. subst (λ (s : Option (List ℕ)). ImageCut g links s carries disk left) is r) (cut write);
+        starved = λ full. ⊎_elim (λ unchanged. inl unchanged.0) (λ r. inr (maps _ _ (λ carries s. subst (λ (t : Option (List ℕ)). ImageStarved g links t (IsPrinted contents out is_written) carries disk left) is
+            (starved_as g links given wrote (IsPrinted contents out is_written) carries disk left (shows (no_memory full)) s)) r)) (starved full);
         unread = unread;
-        small = small;
         unopened = unopened;
         silent = if_err_with outcome _ _ untouched (λ fault err so other. ⊎_elim (λ unchanged. inl (shows (λ write. other (let both : Err fault ≡ Err Write = sym err ∙ write in cc)) [] (none unchanged))) (λ search. inr search) (so other));
         fits = subst (λ (s : Option (List ℕ)). OnOk outcome (IfSome s (λ input. length input ≤ most_input))) is fits;

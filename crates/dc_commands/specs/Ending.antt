@@ -3,9 +3,10 @@ use Rattle.std.specs.Prelude.{◌≡◌, ◌==◌, ℕ, Bool, true, false, List,
 use Rattle.dc_concentrator.specs.declared.fault.CommitFault.{CommitFault}
 use Rattle.dc_ending.specs.Outcome.{IsOfFile, StopsAs}
 use Rattle.dc_ending.specs.declared.ending.Ending.{Ending}
-use Rattle.dc_ending.specs.declared.ending.Ending.TheVariants.{Clean, Faulty, Disk}
+use Rattle.dc_ending.specs.declared.ending.Ending.TheVariants.{Clean, Faulty, Open, Behind, Disk}
 use Rattle.dc_ending.specs.declared.fault.ProgramFault.{ProgramFault}
 use Rattle.dc_ending.specs.declared.fault.ProgramFault.TheVariants.{Write}
+use Rattle.dc_log.specs.declared.fault.OpenFault.{OpenFault}
 use Rattle.dc_poll.specs.declared.outcome.Outcome.{Outcome}
 
 -- A failed commit comes first, then lost output, and then a meter that wasn't read.
@@ -20,6 +21,14 @@ abbrev pub PollEnds : Result Outcome ProgramFault → Bool → List ℕ → Endi
 PollEnds (Ok outcome) is_printed image ending =
     EndsBy outcome.fault is_printed (outcome.failed == 0) ending
 PollEnds (Err fault) is_printed image ending = StopsAs fault image ending
+
+-- THE ENDING OF A LOOK: what reads is printed in each case. A sector that is ahead comes first, then why the image
+-- wouldn't be opened, and then a meter that is silent.
+abbrev pub look_ended : Option OpenFault → Option ℕ → (is_silent : Bool) → Ending
+look_ended refusal (Some sector) is_silent = Behind sector
+look_ended (Some fault) None is_silent = Open fault
+look_ended None None true = Faulty
+look_ended None None false = Clean
 
 -- The result of a script of which all that was held back of its text is written, or isn't.
 abbrev pub run_result : Result Bool ProgramFault → (is_written : Bool) → Result Bool ProgramFault

@@ -6,10 +6,16 @@ pub mod Bytes
 pub mod Ending
 -- the links of a command
 pub mod Linked
+-- the look at an image before it is opened to be written
+pub mod Guard
 -- the clock of a poll, from one call to the next
 pub mod HostClock
+-- what `fit` does to an image, what it prints, and how it ends
+pub mod FitOver
 -- what `poll` does to an image, what it prints, and how it ends
 pub mod PollOver
+-- what `rescue` leaves in a new image
+pub mod Rescue
 -- what `run` does to an image, what it writes, and how it ends
 pub mod RunOver
 -- which buses are waited for

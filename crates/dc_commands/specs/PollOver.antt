@@ -1,6 +1,6 @@
 -- What the command `poll` does to an image, what it prints, and how it ends (this product).
 use Rattle.std.specs.Prelude.{◌≡◌, ◌⊎◌, ◌≤◌, ◌<◌, ℕ, Bool, true, false, List, [], ◌∷◌, ◌++◌, Option}
-use Rattle.std.specs.Prelude.{Result, IfOk, IfErr, IsErrOf, MatchResult}
+use Rattle.std.specs.Prelude.{Result, IfOk, IfErr, IsErrOf}
 use Rattle.dc_address.specs.declared.identity.Identity.{Identity}
 use Rattle.dc_commands.specs.Bytes.{IsPrinted}
 use Rattle.dc_commands.specs.Ending.{PollEnds}
@@ -10,7 +10,6 @@ use Rattle.dc_concentrator.specs.Core.{Core}
 use Rattle.dc_disk.specs.Runs.{LeavesOnly}
 use Rattle.dc_disk.specs.declared.device.Disk.{Ghosts}
 use Rattle.dc_ending.specs.Fault.{IfOpen}
-use Rattle.dc_ending.specs.Unopened.{Stands}
 use Rattle.dc_ending.specs.declared.ending.Ending.{Ending}
 use Rattle.dc_ending.specs.declared.fault.ProgramFault.{ProgramFault}
 use Rattle.dc_ending.specs.declared.fault.ProgramFault.TheVariants.{Read, TooLong, Write, NoMemory, Open}
@@ -18,7 +17,7 @@ use Rattle.dc_io.specs.Failures.{HasRisen}
 use Rattle.dc_log.specs.Halves.{fewest_sectors, half_of}
 use Rattle.dc_log.specs.Refusal.{TellsOfImage}
 use Rattle.dc_log.specs.declared.fault.OpenFault.{OpenFault}
-use Rattle.dc_log.specs.declared.fault.OpenFault.TheVariants.{NotImage, Worn, Device}
+use Rattle.dc_log.specs.declared.fault.OpenFault.TheVariants.{Worn, Device}
 use Rattle.dc_pending.specs.Images.{EachStands, IsRefused, StandsForOne}
 use Rattle.dc_poll.specs.Bus.{Bus}
 use Rattle.dc_poll.specs.Happening.{Happening}
@@ -73,22 +72,19 @@ StopsPoll Write = ⊥
 StopsPoll NoMemory = Unit {0}
 StopsPoll (Open fault) = Unit {0}
 
--- WHAT A POLL LEAVES OF A DISK. Where each image of it stands for some state, the concentrator that was opened is
--- left by a run of such turns and events, by none where memory ran out.
+-- WHAT A POLL LEAVES OF A DISK each image of which stands for some state: the concentrator that was opened is left by a
+-- run of such turns and events, by none where memory ran out.
 pub record PollLeaves {D : Type 0} (g : Ghosts D)
     (polls : Outcome → Core → List Happening → Type 0) (disk left : D)
     (outcome : Result Outcome ProgramFault) : Type 0 where
-  pub polled : Stands g disk → IfOk outcome (λ done. ImageTurned g (polls done) disk left)
-  pub starved : Stands g disk → IsErrOf outcome NoMemory
-      → (left ≡ disk) ⊎ ImageTurned g (λ core happened. happened ≡ []) disk left
-  pub small : g.sectors disk < fewest_sectors → MatchResult outcome (λ done. ⊥)
-      (λ fault. IfOpen fault (λ e. (e ≡ NotImage) × (left ≡ disk)))
+  pub polled : IfOk outcome (λ done. ImageTurned g (polls done) disk left)
+  pub starved : IsErrOf outcome NoMemory → (left ≡ disk) ⊎ ImageTurned g (λ core happened. happened ≡ []) disk left
   pub unopened : IfErr outcome (λ fault. IfOpen fault (IsUnpolled g disk left))
   pub faults : IfErr outcome StopsPoll
 
 -- ---- the command
 
--- THE COMMAND `poll`, from the disk to the disk and to the ending: this came of the poll, and its whole text was printed
+-- THE COMMAND `poll`, from the disk that is ready to the disk and to the ending: this came of the poll, and its whole text was printed
 -- or wasn't. The ending follows from both.
 pub record PollsOver {D B W O : Type 0} (R : Type 0) (g : Ghosts D) (bus : Bus B)
     (contents : O → Option (List ℕ)) (buses : List B) (only : List Identity) (tries : ℕ) (waits : W)

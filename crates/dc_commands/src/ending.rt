@@ -1,10 +1,11 @@
 //! How a poll and a script end.
 
 ghost use Rattle.std.specs.Prelude.{◌≡◌};
-ghost use Rattle.dc_commands.specs.Ending.{EndsBy, PollEnds, run_result};
+ghost use Rattle.dc_commands.specs.Ending.{EndsBy, PollEnds, look_ended, run_result};
 
 use dc_concentrator::CommitFault;
 use dc_ending::{Ending, ProgramFault, STREAM, ending_of};
+use dc_log::OpenFault;
 use dc_poll::Outcome;
 
 /// The ending of a poll over that image, by its outcome and by whether all was printed: status 3 where a commit
@@ -31,6 +32,23 @@ fn ending_by<'a>(fault: Option<CommitFault>, is_printed: bool, is_read: bool) ->
         None if !is_printed => Ending::File(STREAM),
         None if is_read => Ending::Clean,
         None => Ending::Faulty,
+    }
+}
+
+/// The ending of a look at an image: the first sector that is ahead of what it reads as comes first, then why it
+/// wouldn't be opened, and then a meter that is silent.
+pub fn look_ending<'a>(
+    refusal: Option<OpenFault>,
+    ahead: Option<u32>,
+    is_silent: bool,
+) -> Ending<'a>
+    ensures { result ≡ look_ended refusal ahead is_silent }
+{
+    match (ahead, refusal) {
+        (Some(sector), _) => Ending::Behind(sector),
+        (None, Some(fault)) => Ending::Open(fault),
+        (None, None) if is_silent => Ending::Faulty,
+        (None, None) => Ending::Clean,
     }
 }
 

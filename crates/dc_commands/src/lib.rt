@@ -7,17 +7,22 @@
 
 mod connecting;
 mod ending;
+mod fit;
+mod guard;
 mod known;
 mod known_sink;
 mod known_source;
 mod poll;
+mod rescue;
 mod run;
 mod timer;
 mod waiting;
 
 pub use connecting::links_of;
-pub use ending::{poll_ending, run_result};
+pub use ending::{look_ending, poll_ending, run_result};
+pub use fit::fit_over;
 pub use poll::{Printing, poll_over};
+pub use rescue::{put_rescued, rescue_over};
 pub use run::{run_over, run_over_gateway};
 pub use timer::HostTimer;
 pub use waiting::{Waits, add_awaited};

@@ -5,14 +5,18 @@ ghost use Rattle.std.specs.Io.KnownBytes.{Keeps};
 ghost use Rattle.std.specs.Io.Buffered.{line_writer_contents};
 ghost use Rattle.dc_poll.specs.Telling.{TakesAll};
 ghost use Rattle.dc_commands.specs.Bytes.{IsPrinted, IsWrittenOut};
+ghost use Rattle.dc_commands.specs.Guard.{Guards};
+ghost use Rattle.dc_ending.specs.Unopened.{Stands};
 ghost use Rattle.dc_commands.specs.PollOver.{ArePolled, PollLeaves, PollsOver, shown_text};
 
 use crate::ending::poll_ending;
+use crate::guard::guarded;
 use crate::known::Known;
 use crate::known_sink::{KnownSink, is_written_out};
 use crate::timer::HostTimer;
 use crate::waiting::Waits;
-use dc_bus::QuietBus;
+use dc_bus::HalfBus;
+use dc_change::Moment;
 use dc_disk::Disk;
 use dc_ending::{Ending, ProgramFault};
 use dc_poll::{Outcome, Plan, Teller, poll_image};
@@ -25,9 +29,11 @@ use std::io::{LineWriter, Write};
 use std::marker::Brand;
 use std::rt::Clock;
 
-/// How a poll is printed.
-#[derive(Clone, Copy, Debug, PartialEq, Eq)]
+/// How a poll is printed, and when it begins.
+#[derive(Clone, Copy)]
 pub struct Printing {
+    /// The time at which it begins, which stamps the readings as long as the clock has no other time.
+    pub begun: Moment,
     /// Whether its events are printed as JSON Lines. Else standard error says what the failed tries of a failed
     /// readout brought.
     pub is_json: bool,
@@ -35,8 +41,8 @@ pub struct Printing {
     pub is_shown: bool,
 }
 
-/// Reads the meters of the plan, prints their events line by line, and says how that ended. Where they can't be
-/// printed, the poll goes on without.
+/// Looks at the image, reads the meters of the plan, prints their events line by line, and says how that ended. Where
+/// they can't be printed, the poll goes on without.
 pub fn poll_over<'h, 'a, D, B, W, R, O>(
     alloc: Global,
     rt: &'h R,
@@ -49,15 +55,21 @@ pub fn poll_over<'h, 'a, D, B, W, R, O>(
 ) -> (D, Ending<'a>)
 where
     D: Disk + Drop,
-    B: QuietBus + Drop,
+    B: HalfBus + Drop,
     W: Waits<B> + Drop,
     R: Clock + Eprint,
     O: Write + Drop,
     requires { 0 < plan.tries }
-    // One poll of the image gives the disk, the text and the ending.
-    ensures { PollsOver R D.Disk B.QuietBus O.contents plan.entry.buses.items plan.entry.only.now
-        plan.entry.tries waits out printing.is_json image.now disk result.0 result.1 }
+    // One poll of the image, whatever became of it before, gives the disk, the text and the ending.
+    ensures { Guards D.Disk disk result.0 result.1 (λ ready. PollsOver R D.Disk B.HalfBus O.contents
+        plan.entry.buses.items plan.entry.only.now plan.entry.tries waits out printing.is_json image.now
+        ready result.0 result.1) }
 {
+    let mut disk = disk;
+    match guarded(alloc, &mut disk) {
+        Ok(()) => {}
+        Err(ending) => return (disk, ending),
+    }
     let (disk, outcome, is_printed) = poll_printed::<D, B, W, R, O, Brand>(
         alloc, rt, disk, plan, waits, out, printing,
     );
@@ -76,14 +88,15 @@ fn poll_printed<D, B, W, R, O, K>(
 ) -> (D, Result<Outcome, ProgramFault>, bool)
 where
     D: Disk + Drop,
-    B: QuietBus + Drop,
+    B: HalfBus + Drop,
     W: Waits<B> + Drop,
     R: Clock + Eprint,
     O: Write + Drop,
     K: Known,
     requires tries { 0 < plan.tries }
     requires known { K.writes ≡ is_some (O.contents out) }
-    ensures { PollLeaves D.Disk (ArePolled R B.QuietBus plan.entry.buses.items plan.entry.only.now
+    requires stands { Stands D.Disk disk }
+    ensures { PollLeaves D.Disk (ArePolled R B.HalfBus plan.entry.buses.items plan.entry.only.now
         plan.entry.tries waits (λ events.
         IsPrinted O.contents out result.2 (shown_text printing.is_json events)))
         disk result.0 result.1 }
@@ -93,7 +106,7 @@ where
     };
     let out: KnownSink<LineWriter<O>, K> = KnownSink::new(out);
     let progress = Progress::new(rt, printing.is_shown);
-    let timer = HostTimer::new(rt, &progress, waits);
+    let timer = HostTimer::new(rt, printing.begun, &progress, waits);
     if printing.is_json {
         poll_json(alloc, disk, plan, timer, &progress, out)
     } else {
@@ -112,14 +125,15 @@ fn poll_text<'p, 'h, D, B, W, R, O, K>(
 ) -> (D, Result<Outcome, ProgramFault>, bool)
 where
     D: Disk + Drop,
-    B: QuietBus + Drop,
+    B: HalfBus + Drop,
     W: Waits<B> + Drop,
     R: Clock + Eprint,
     O: Write + Drop,
     K: Known,
     requires tries { 0 < plan.tries }
     requires well { out.sink.failures ≡ 0 }
-    ensures { PollLeaves D.Disk (ArePolled R B.QuietBus plan.entry.buses.items plan.entry.only.now
+    requires stands { Stands D.Disk disk }
+    ensures { PollLeaves D.Disk (ArePolled R B.HalfBus plan.entry.buses.items plan.entry.only.now
         plan.entry.tries timer.entry.waits (λ events. IsWrittenOut O.contents K.writes
         (line_writer_contents O.contents out.sink.writer) result.2 (shown_text false events)))
         disk result.0 result.1 }
@@ -142,14 +156,15 @@ fn poll_json<'p, 'h, D, B, W, R, O, K>(
 ) -> (D, Result<Outcome, ProgramFault>, bool)
 where
     D: Disk + Drop,
-    B: QuietBus + Drop,
+    B: HalfBus + Drop,
     W: Waits<B> + Drop,
     R: Clock + Eprint,
     O: Write + Drop,
     K: Known,
     requires tries { 0 < plan.tries }
     requires well { out.sink.failures ≡ 0 }
-    ensures { PollLeaves D.Disk (ArePolled R B.QuietBus plan.entry.buses.items plan.entry.only.now
+    requires stands { Stands D.Disk disk }
+    ensures { PollLeaves D.Disk (ArePolled R B.HalfBus plan.entry.buses.items plan.entry.only.now
         plan.entry.tries timer.entry.waits (λ events. IsWrittenOut O.contents K.writes
         (line_writer_contents O.contents out.sink.writer) result.2 (shown_text true events)))
         disk result.0 result.1 }
@@ -173,12 +188,13 @@ fn poll<'p, 'h, D, B, W, R, N>(
 ) -> (D, Result<Outcome, ProgramFault>, Unfailing<N>)
 where
     D: Disk + Drop,
-    B: QuietBus + Drop,
+    B: HalfBus + Drop,
     W: Waits<B> + Drop,
     R: Clock + Eprint,
     N: Teller + Drop,
-    requires { 0 < plan.tries }
-    ensures { PollLeaves D.Disk (ArePolled R B.QuietBus plan.entry.buses.items plan.entry.only.now
+    requires tries { 0 < plan.tries }
+    requires stands { Stands D.Disk disk }
+    ensures { PollLeaves D.Disk (ArePolled R B.HalfBus plan.entry.buses.items plan.entry.only.now
         plan.entry.tries timer.entry.waits (λ events. result.2.has_failed ≡ false
         → TakesAll N.takes teller result.2.teller events)) disk result.0 result.1 }
 {

@@ -1,48 +1,61 @@
 //! The command `run` over an image and buses that are open.
 
-ghost use Rattle.std.specs.Prelude.{◌≡◌, IsErrOf, IsTrue, is_some};
+ghost use Rattle.std.specs.Prelude.{◌≡◌, Bool, IsErrOf, IsTrue, Result, is_some};
 ghost use Rattle.std.specs.Io.Buffered.{line_writer_contents};
 ghost use Rattle.std.specs.Io.KnownBytes.{Keeps};
 ghost use Rattle.dc_script.specs.Link.{gateway_links, links_of};
 ghost use Rattle.dc_script.specs.Traffic.{OverGateway};
+ghost use Rattle.dc_commands.specs.Guard.{Guards};
+ghost use Rattle.dc_ending.specs.Outcome.{EndsAs};
+ghost use Rattle.dc_ending.specs.declared.fault.ProgramFault.{ProgramFault};
+ghost use Rattle.dc_ending.specs.Unopened.{Stands};
 ghost use Rattle.dc_commands.specs.RunOver.{OverSlots, RunsOver};
 
 use crate::ending::run_result;
+use crate::guard::guarded;
 use crate::known::Known;
 use crate::known_sink::{KnownSink, is_written_out};
 use crate::known_source::KnownSource;
-use dc_bus::ScriptBus;
+use dc_bus::Bus;
 use dc_disk::Disk;
-use dc_ending::ProgramFault;
+use dc_ending::{Ending, ProgramFault};
+use dc_files::Why;
 use dc_io::{Sink, Source};
 use dc_script::{Slot, run_script, run_script_over};
 use std::alloc::Global;
 use std::io::{LineWriter, Read, Write};
 use std::marker::Brand;
 
-/// Runs the lines of a file over a disk, with the buses of the bus lines. Each line of text is printed as it is
-/// whole: a readout takes seconds, and what was committed is printed also where the run is killed later.
-///
-/// # Errors
-/// Those of [`run_script_over`]; [`ProgramFault::Write`] also where what the writer holds back can't be written out.
-pub fn run_over<D, F, O, B>(
+/// Looks at the image, runs the lines of a file over it, with the buses of the bus lines, and says how that ended. Each
+/// line of text is printed as it is whole: a readout takes seconds, and what was committed is printed also where the run
+/// is killed later.
+pub fn run_over<'a, D, F, O, B>(
     alloc: Global,
+    why: &Why,
     disk: D,
     lines: F,
     out: O,
     slots: &mut [Option<Slot<B>>],
-) -> (D, Result<bool, ProgramFault>)
+    script: &'a str,
+) -> (D, Ending<'a>)
 where
     D: Disk + Drop,
     F: Read + Drop,
     O: Write + Drop,
-    B: ScriptBus + Drop,
-    // One run of the script gives the disk, the text, the traffic and the result.
-    ensures { RunsOver D.Disk (links_of B.lost slots.old) (F.remaining lines)
-        (OverSlots B.lost B.asks B.settles B.ready slots.old slots.new) O.contents out
-        disk result.0 result.1 }
+    B: Bus + Drop,
+    // One run of the script, whatever became of the image before, gives the disk, the text, the traffic and the ending.
+    ensures { Guards D.Disk disk result.0 result.1 (λ ready.
+        (ran : Result Bool ProgramFault) × EndsAs ran script.now result.1
+        × RunsOver D.Disk (links_of B.lost slots.old) (F.remaining lines)
+        (OverSlots B.lost B.asks B.asks_all slots.old slots.new) O.contents out ready result.0 ran) }
 {
-    run_slots::<D, F, O, B, Brand>(alloc, disk, lines, out, slots)
+    let mut disk = disk;
+    match guarded(alloc, &mut disk) {
+        Ok(()) => {}
+        Err(ending) => return (disk, ending),
+    }
+    let (disk, outcome) = run_slots::<D, F, O, B, Brand>(alloc, disk, lines, out, slots);
+    (disk, why.ended(outcome, script))
 }
 
 // Runs the lines, of which contracts know the bytes where they know the reader's.
@@ -57,12 +70,13 @@ where
     D: Disk + Drop,
     F: Read + Drop,
     O: Write + Drop,
-    B: ScriptBus + Drop,
+    B: Bus + Drop,
     K: Known,
     requires reads { K.reads ≡ is_some (F.remaining lines) }
     requires writes { K.writes ≡ is_some (O.contents out) }
+    requires stands { Stands D.Disk disk }
     ensures { RunsOver D.Disk (links_of B.lost slots.old) (F.remaining lines)
-        (OverSlots B.lost B.asks B.settles B.ready slots.old slots.new) O.contents out
+        (OverSlots B.lost B.asks B.asks_all slots.old slots.new) O.contents out
         disk result.0 result.1 }
 {
     let Ok(out) = LineWriter::new(alloc, out) else {
@@ -75,28 +89,35 @@ where
     (disk, run_result(outcome, is_written))
 }
 
-/// Runs the lines of a file over a disk, with the gateway of bus line 1, where one is given.
-///
-/// # Errors
-/// Those of [`run_over`].
-pub fn run_over_gateway<D, F, O, GR, GW>(
+/// As [`run_over`], with the gateway of bus line 1, where one is given.
+pub fn run_over_gateway<'a, D, F, O, GR, GW>(
     alloc: Global,
+    why: &Why,
     disk: D,
     lines: F,
     out: O,
     gateway: Option<(GR, GW)>,
-) -> (D, Result<bool, ProgramFault>)
+    script: &'a str,
+) -> (D, Ending<'a>)
 where
     D: Disk + Drop,
     F: Read + Drop,
     O: Write + Drop,
     GR: Source + Drop,
     GW: Sink + Drop,
-    // One run of the script gives the disk, the text, the traffic and the result.
-    ensures { RunsOver D.Disk (gateway_links gateway) (F.remaining lines)
-        (OverGateway GR.Source GW.Sink gateway) O.contents out disk result.0 result.1 }
+    // One run of the script, whatever became of the image before, gives the disk, the text, the traffic and the ending.
+    ensures { Guards D.Disk disk result.0 result.1 (λ ready.
+        (ran : Result Bool ProgramFault) × EndsAs ran script.now result.1
+        × RunsOver D.Disk (gateway_links gateway) (F.remaining lines)
+        (OverGateway GR.Source GW.Sink gateway) O.contents out ready result.0 ran) }
 {
-    run_gateway::<D, F, O, GR, GW, Brand>(alloc, disk, lines, out, gateway)
+    let mut disk = disk;
+    match guarded(alloc, &mut disk) {
+        Ok(()) => {}
+        Err(ending) => return (disk, ending),
+    }
+    let (disk, outcome) = run_gateway::<D, F, O, GR, GW, Brand>(alloc, disk, lines, out, gateway);
+    (disk, why.ended(outcome, script))
 }
 
 // Runs the lines, of which contracts know the bytes where they know the reader's.
@@ -116,6 +137,7 @@ where
     K: Known,
     requires reads { K.reads ≡ is_some (F.remaining lines) }
     requires writes { K.writes ≡ is_some (O.contents out) }
+    requires stands { Stands D.Disk disk }
     ensures { RunsOver D.Disk (gateway_links gateway) (F.remaining lines)
         (OverGateway GR.Source GW.Sink gateway) O.contents out disk result.0 result.1 }
 {

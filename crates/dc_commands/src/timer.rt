@@ -3,7 +3,7 @@
 ghost use Rattle.std.specs.Prelude.{◌≡◌};
 
 use crate::waiting::{Waits, add_awaited};
-use dc_bus::QuietBus;
+use dc_bus::HalfBus;
 use dc_change::Moment;
 use dc_poll::{Station, Timer};
 use dc_teller::Progress;
@@ -14,7 +14,7 @@ use std::time::{SystemTime, UNIX_EPOCH};
 #[derive(Drop)]
 pub struct HostTimer<'p, 'h, R, W: Drop> {
     rt: &'h R,
-    // The last time that the clock returned; it stays if the clock fails.
+    // The last time that the clock returned; it stays if the clock fails or leaves 1970 to 9999.
     last: Moment,
     progress: &'p Progress<'h, R>,
     /// The wait for the buses.
@@ -22,14 +22,14 @@ pub struct HostTimer<'p, 'h, R, W: Drop> {
 }
 
 impl<'p, 'h, R: Clock + Eprint, W: Drop> HostTimer<'p, 'h, R, W> {
-    /// Begins with the time 0.
-    pub fn new(rt: &'h R, progress: &'p Progress<'h, R>, waits: W) -> Self
+    /// Begins with that time of the clock.
+    pub fn new(rt: &'h R, begun: Moment, progress: &'p Progress<'h, R>, waits: W) -> Self
         ensures waits { result.waits ≡ waits }
-        ensures begins { result.last.seconds ≡ 0 }
+        ensures begins { result.last ≡ begun }
     {
         HostTimer {
             rt,
-            last: Moment { seconds: 0 },
+            last: begun,
             progress,
             waits,
         }
@@ -38,7 +38,7 @@ impl<'p, 'h, R: Clock + Eprint, W: Drop> HostTimer<'p, 'h, R, W> {
 
 impl<B, R, W> Timer<B> for HostTimer<'_, '_, R, W>
 where
-    B: QuietBus + Drop,
+    B: HalfBus + Drop,
     R: Clock + Eprint,
     W: Waits<B> + Drop,
 {
@@ -64,7 +64,7 @@ where
 
     fn pause(&mut self, stations: &[Station<'_, B>], may_sleep: bool)
         ensures passes { LetsPass self.old may_sleep self.new }
-        ensures waits { may_sleep ≡ true → AreWaitedFor B.QuietBus W.adds W.waited stations.now
+        ensures waits { may_sleep ≡ true → AreWaitedFor W.adds W.waited stations.now
             self.old.waits self.new.waits }
     {
         self.progress.show(stations);

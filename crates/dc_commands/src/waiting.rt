@@ -3,7 +3,7 @@
 ghost use Rattle.dc_commands.specs.Waiting.{AddsAwaited, AddsOne};
 ghost use Rattle.dc_poll.specs.Waiting.{is_awaited};
 
-use dc_bus::QuietBus;
+use dc_bus::HalfBus;
 use dc_links::{Watch, Watched};
 use dc_poll::{Station, is_awaited};
 use std::mem;
@@ -42,8 +42,8 @@ impl<B: Watched> Waits<B> for Watch {
 }
 
 /// Adds the buses of the lines that are awaited, and no others, in the order of the lines.
-pub fn add_awaited<B: QuietBus + Drop, W: Waits<B>>(stations: &[Station<'_, B>], waits: &mut W)
-    ensures { AddsAwaited B.QuietBus W.adds stations.now waits.old waits.new }
+pub fn add_awaited<B: HalfBus + Drop, W: Waits<B>>(stations: &[Station<'_, B>], waits: &mut W)
+    ensures { AddsAwaited W.adds stations.now waits.old waits.new }
 {
     let Some((station, others)) = stations.split_first() else {
         return;
@@ -53,8 +53,8 @@ pub fn add_awaited<B: QuietBus + Drop, W: Waits<B>>(stations: &[Station<'_, B>],
 }
 
 // Adds the bus of a line, if it is awaited.
-fn add_one<B: QuietBus + Drop, W: Waits<B>>(station: &Station<'_, B>, waits: &mut W)
-    ensures { AddsOne B.QuietBus W.adds (is_awaited B.QuietBus station.now) station.now.bus
+fn add_one<B: HalfBus + Drop, W: Waits<B>>(station: &Station<'_, B>, waits: &mut W)
+    ensures { AddsOne W.adds (is_awaited station.now) station.now.bus
         waits.old waits.new }
 {
     if is_awaited(station) {

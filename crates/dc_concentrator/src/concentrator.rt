@@ -112,6 +112,12 @@ impl<D: Disk + Drop, A: Allocator + Copy> Concentrator<D, A> {
         ensures at { IfOk result (λ c.
             (D.keeps c.store.disk → EachStands (half_of D.Disk disk) (D.choices disk))
             → IsAt D.Disk c.store.disk c (opened c.house.state)) }
+
+        // And so it is where the image that is read stands for a state, as where a look found none of its sectors ahead
+        // (`dc_log::first_ahead`), whatever else a crash might have left before.
+        ensures at_look { IfOk result (λ c.
+            (D.keeps c.store.disk → (was : State) × Stands (half_of D.Disk disk) was (D.reads disk))
+            → IsAt D.Disk c.store.disk c (opened c.house.state)) }
         ensures any_moment { EachStands (half_of D.Disk disk) (D.choices disk)
             → MatchResult result (λ c. D.keeps c.store.disk
             → LeavesOnly D.Disk disk c.store.disk

@@ -9,7 +9,7 @@ use Rattle.dc_io.specs.Words.{fault_text, number_word}
 use Rattle.dc_ending.specs.Escape.{escaped}
 use Rattle.dc_ending.specs.declared.ending.Ending.{Ending}
 use Rattle.dc_ending.specs.declared.ending.Ending.TheVariants.{Clean, Faulty, Words, Format, Open}
-use Rattle.dc_ending.specs.declared.ending.Ending.TheVariants.{Disk, File, Gateway, Clock, Memory}
+use Rattle.dc_ending.specs.declared.ending.Ending.TheVariants.{Behind, Disk, File, Gateway, Clock, Memory}
 
 abbrev pub status_of : Ending → ℕ
 status_of Clean = 0
@@ -17,6 +17,7 @@ status_of Faulty = 1
 status_of (Words what) = 2
 status_of (Format fault) = 3
 status_of (Open fault) = 3
+status_of (Behind sector) = 3
 status_of (Disk fault) = 3
 status_of (File name) = 4
 status_of Gateway = 4
@@ -46,6 +47,10 @@ unfoldable pub fault_line : List ℕ → ℕ → List ℕ → Option ℕ → Lis
 fault_line what number name sector =
     what ++ fault_text number name ++ sector_word sector ++ codes "\n"
 
+-- a number between two texts
+unfoldable pub numbered_line : List ℕ → ℕ → List ℕ → List ℕ
+numbered_line what number rest = what ++ number_word number ++ rest
+
 -- the line, with its line feed
 abbrev pub line_of : Ending → List ℕ
 line_of Clean = []
@@ -55,6 +60,8 @@ line_of (Format fault) = fault_line (codes "mbdc: format: ") (format_number faul
     (format_name fault) None
 line_of (Open fault) = fault_line (codes "mbdc: open: ") (open_number fault) (open_name fault)
     (damaged_at fault)
+line_of (Behind sector) = numbered_line (codes "mbdc: behind: sector") sector
+    (codes " is ahead of what the image reads as; see mbdc rescue --help\n")
 line_of (Disk fault) = fault_line (codes "mbdc: disk: ") (commit_number fault) (commit_name fault)
     None
 line_of (File name) = named_line (codes "mbdc: file: ") name.now

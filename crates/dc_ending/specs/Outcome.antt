@@ -9,7 +9,7 @@ use Rattle.dc_ending.specs.declared.fault.ProgramFault.TheVariants.{Read, TooLon
 use Rattle.dc_ending.specs.declared.fault.ProgramFault.TheVariants.{Open as NotOpened}
 use Rattle.dc_ending.specs.declared.ending.Ending.{Ending}
 use Rattle.dc_ending.specs.declared.ending.Ending.TheVariants.{Clean, Faulty, Words, Format, Open}
-use Rattle.dc_ending.specs.declared.ending.Ending.TheVariants.{Disk, File, Gateway, Clock, Memory}
+use Rattle.dc_ending.specs.declared.ending.Ending.TheVariants.{Behind, Disk, File, Gateway, Clock, Memory}
 
 -- the run ended by a fault of the file with that name
 abbrev pub IsOfFile : Ending → List ℕ → Type 0
@@ -18,6 +18,7 @@ IsOfFile Faulty wanted = ⊥
 IsOfFile (Words what) wanted = ⊥
 IsOfFile (Format fault) wanted = ⊥
 IsOfFile (Open fault) wanted = ⊥
+IsOfFile (Behind sector) wanted = ⊥
 IsOfFile (Disk fault) wanted = ⊥
 IsOfFile (File name) wanted = name.now ≡ wanted
 IsOfFile Gateway wanted = ⊥

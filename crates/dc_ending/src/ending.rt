@@ -3,7 +3,7 @@
 ghost use Rattle.std.specs.Prelude.{◌≡◌};
 ghost use Rattle.dc_io.specs.Written.{Wrote};
 ghost use Rattle.dc_ending.specs.Ending.{damaged_at, fault_line, line_of, named_line, sector_word};
-ghost use Rattle.dc_ending.specs.Ending.{status_of};
+ghost use Rattle.dc_ending.specs.Ending.{numbered_line, status_of};
 ghost use Rattle.dc_ending.specs.Outcome.{EndsAs};
 
 use crate::ProgramFault;
@@ -28,6 +28,8 @@ pub enum Ending<'a> {
     Format(FormatFault),
     /// The image wasn't opened.
     Open(OpenFault),
+    /// The image reads as a state, but that sector is ahead of it: a sector was lost that had been synced.
+    Behind(u32),
     /// A commit failed, which ended a poll.
     Disk(CommitFault),
     /// The file of that name, or a stream, failed or was too long.
@@ -50,7 +52,7 @@ impl Ending<'_> {
             Ending::Clean => 0,
             Ending::Faulty => 1,
             Ending::Words(_) => 2,
-            Ending::Format(_) | Ending::Open(_) | Ending::Disk(_) => 3,
+            Ending::Format(_) | Ending::Open(_) | Ending::Behind(_) | Ending::Disk(_) => 3,
             Ending::File(_) | Ending::Gateway | Ending::Clock | Ending::Memory => 4,
         }
     }
@@ -75,6 +77,12 @@ impl Ending<'_> {
                 fault.number(),
                 fault.name(),
                 sector_of(fault),
+            ),
+            Ending::Behind(sector) => put_numbered(
+                out,
+                b"mbdc: behind: sector",
+                sector,
+                b" is ahead of what the image reads as; see mbdc rescue --help\n",
             ),
             Ending::Disk(fault) => {
                 put_store(out, b"mbdc: disk: ", fault.number(), fault.name(), None)
@@ -112,6 +120,16 @@ fn put_store<W: Sink>(
     put_fault(out, number, name)?;
     put_sector(out, sector)?;
     out.put(b"\n")
+}
+
+// Writes a number between two texts.
+#[tactic(auto, using(dc_io::proofs::Pieces::written), unfolding(crate::specs::Ending::numbered_line))]
+fn put_numbered<W: Sink>(out: &mut W, what: &[u8], number: u32, rest: &[u8]) -> Result<(), IoFault>
+    ensures { Wrote W.Sink result out.old out.new (numbered_line what.now number rest.now) }
+{
+    out.put(what)?;
+    put_number_word(out, u64::from(number))?;
+    out.put(rest)
 }
 
 fn put_sector<W: Sink>(out: &mut W, sector: Option<u32>) -> Result<(), IoFault>

@@ -2,7 +2,7 @@
 use Rattle.std.specs.Prelude.{◌≡◌, ℕ, List}
 use Rattle.dc_ending.specs.declared.ending.Ending.{Ending}
 use Rattle.dc_ending.specs.declared.ending.Ending.TheVariants.{Clean, Faulty, Words, Format, Open}
-use Rattle.dc_ending.specs.declared.ending.Ending.TheVariants.{Disk, File, Gateway, Clock, Memory}
+use Rattle.dc_ending.specs.declared.ending.Ending.TheVariants.{Behind, Disk, File, Gateway, Clock, Memory}
 
 -- the image is made, or it isn't: for a fault of formatting, of the file with that name, or of memory
 abbrev pub IsOfFormat : Ending → List ℕ → Type 0
@@ -11,6 +11,7 @@ IsOfFormat Faulty wanted = ⊥
 IsOfFormat (Words what) wanted = ⊥
 IsOfFormat (Format fault) wanted = Unit {0}
 IsOfFormat (Open fault) wanted = ⊥
+IsOfFormat (Behind sector) wanted = ⊥
 IsOfFormat (Disk fault) wanted = ⊥
 IsOfFormat (File name) wanted = name.now ≡ wanted
 IsOfFormat Gateway wanted = ⊥

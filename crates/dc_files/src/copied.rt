@@ -6,7 +6,7 @@ ghost use Rattle.dc_files.specs.Copied.{IsOfCopy};
 use crate::host::Host;
 use crate::image::{open_to_look, wait};
 use crate::why::Noted;
-use dc_disk::{Failed, Sector};
+use dc_disk::{Failed, FileDisk, Sector};
 use dc_ending::Ending;
 use dc_log::OpenFault;
 use dc_snapshot::{Sectors, SnapshotFault, snapshot};
@@ -72,6 +72,23 @@ pub fn copy_image<'a, R: Files<File = File> + AllocGlobal>(
     }
 }
 
+/// Copies the image in that file, as [`copy_image`] does, as a disk.
+///
+/// # Errors
+/// The ending of the command, as of [`copy_image`].
+pub fn look_disk<'a, R: Files<File = File> + AllocGlobal>(
+    host: &Host<'_, R>,
+    name: &'a str,
+) -> Result<FileDisk<Copied>, Ending<'a>>
+    ensures { IfErr result (λ ending. IsOfCopy ending name.now) }
+{
+    let copy = copy_image(host, name)?;
+    match FileDisk::new(copy) {
+        Ok(disk) => Ok(disk),
+        Err(error) => Err(host.why.file(name, error)),
+    }
+}
+
 // Number of whole sectors of a file, at most 2^32 - 1.
 fn count_of(facts: &Metadata) -> u32 {
     let whole = facts.len() / SECTOR;
@@ -126,6 +143,11 @@ impl Sectors for Noted<'_, File> {
 }
 
 impl Copied {
+    /// Number of its sectors.
+    pub fn count(&self) -> u32 {
+        self.sectors.len() as u32
+    }
+
     fn at(&self, place: u64) -> Option<&Cell<Sector>> {
         self.sectors.get((place / SECTOR) as usize)
     }

@@ -2,9 +2,9 @@
 
 ghost use Rattle.dc_files.specs.Formatted.{IsOfFormat};
 
-use crate::half_made::{HalfMade, is_same_file};
+use crate::half_made::{HalfMade, begin_image, end_image, is_same_file};
 use crate::host::Host;
-use crate::image::{lock, no_file, open_image, within_limit};
+use crate::image::{no_file, open_image, within_limit};
 use crate::why::{Noted, Why};
 use dc_disk::{Disk, FileDisk};
 use dc_ending::Ending;
@@ -136,35 +136,25 @@ fn make_image<'a, R: Files<File = File> + AllocGlobal>(
 ) -> Ending<'a>
     ensures { IsOfFormat result name.now }
 {
-    // `format ""` and `format folder/` name no file.
-    if name.is_empty() || name.ends_with('/') {
-        host.why.say("it is no name of a file");
-        return Ending::File(name);
-    }
-    let half_made = match HalfMade::create(host.rt, name) {
+    let half_made = match begin_image(host, name, length) {
         Ok(half_made) => half_made,
-        Err(error) if error.kind() == ErrorKind::OutOfMemory => return Ending::Memory,
-        Err(error) => return host.why.file(name, error),
+        Err(ending) => return ending,
     };
-    let formatted = put_in_place(host, &half_made, name, length);
-    half_made.unlink(host.rt);
-    formatted_as(host.why, name, formatted)
+    match format_half_made(host.why, &half_made, length) {
+        Ok(None) => end_image(host, half_made, name),
+        other => {
+            half_made.unlink(host.rt);
+            formatted_as(host.why, name, other)
+        }
+    }
 }
 
-// The file is locked, so that no program runs the image before `format` has ended.
-fn put_in_place<R: Files<File = File>>(
-    host: &Host<'_, R>,
+fn format_half_made(
+    why: &Why,
     half_made: &HalfMade,
-    name: &str,
     length: u64,
 ) -> io::Result<Option<FormatFault>> {
-    lock(&half_made.file)?;
-    half_made.file.set_len(length)?;
-    let fault = format_file(host.why, half_made.file.try_clone()?, length)?;
-    if fault.is_none() {
-        half_made.link(host.rt, name)?;
-    }
-    Ok(fault)
+    format_file(why, half_made.file.try_clone()?, length)
 }
 
 // Formats a file of that length.

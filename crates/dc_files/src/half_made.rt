@@ -1,5 +1,13 @@
-//! The file in which `format` builds an image, until it is whole.
+//! The file in which an image is built, until it is whole.
 
+ghost use Rattle.std.specs.Prelude.{IfErr};
+ghost use Rattle.dc_files.specs.Formatted.{IsOfFormat};
+
+use crate::host::Host;
+use crate::image::lock;
+use crate::why::{Noted, Why};
+use dc_disk::FileDisk;
+use dc_ending::Ending;
 use std::alloc::{AllocError, Global};
 use std::fs::{File, Metadata, OpenOptions};
 use std::io::ErrorKind;
@@ -45,6 +53,20 @@ impl HalfMade {
         Err(io::Error::from(ErrorKind::AlreadyExists))
     }
 
+    /// The file as a disk.
+    ///
+    /// # Errors
+    /// A call of the file failed.
+    pub fn disk<'w>(&self, why: &'w Why) -> io::Result<FileDisk<Noted<'w, File>>> {
+        FileDisk::new(Noted::new(self.file.try_clone()?, why))
+    }
+
+    // Locks the file, and gives it a length.
+    fn prepare(&self, length: u64) -> io::Result<()> {
+        lock(&self.file)?;
+        self.file.set_len(length)
+    }
+
     /// Gives the file the name `image` as well, and makes that durable.
     ///
     /// # Errors
@@ -73,6 +95,59 @@ impl HalfMade {
             (Ok(own), Ok(seen)) => is_same_file(&own, &seen),
             _ => false,
         }
+    }
+}
+
+/// Begins an image of that length, in a file of its own beside `name`. The file is locked, so that no program runs the
+/// image before the command has ended.
+///
+/// # Errors
+/// The ending of the command: no file can be made there.
+pub fn begin_image<'a, R: Files<File = File> + AllocGlobal>(
+    host: &Host<'_, R>,
+    name: &'a str,
+    length: u64,
+) -> Result<HalfMade, Ending<'a>>
+    ensures { IfErr result (λ ending. IsOfFormat ending name.now) }
+{
+    // `format ""` and `format folder/` name no file.
+    if name.is_empty() || name.ends_with('/') {
+        host.why.say("it is no name of a file");
+        return Err(Ending::File(name));
+    }
+    if fs::symlink_metadata(host.rt, name).is_ok() {
+        return Err(
+            host.why
+                .file(name, io::Error::from(ErrorKind::AlreadyExists)),
+        );
+    }
+    let half_made = match HalfMade::create(host.rt, name) {
+        Ok(half_made) => half_made,
+        Err(error) if error.kind() == ErrorKind::OutOfMemory => return Err(Ending::Memory),
+        Err(error) => return Err(host.why.file(name, error)),
+    };
+    match half_made.prepare(length) {
+        Ok(()) => Ok(half_made),
+        Err(error) => {
+            half_made.unlink(host.rt);
+            Err(host.why.file(name, error))
+        }
+    }
+}
+
+/// Gives a whole image its name.
+pub fn end_image<'a, R: Files<File = File>>(
+    host: &Host<'_, R>,
+    half_made: HalfMade,
+    name: &'a str,
+) -> Ending<'a>
+    ensures { IsOfFormat result name.now }
+{
+    let linked = half_made.link(host.rt, name);
+    half_made.unlink(host.rt);
+    match linked {
+        Ok(()) => Ending::Clean,
+        Err(error) => host.why.file(name, error),
     }
 }
 

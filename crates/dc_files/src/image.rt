@@ -87,17 +87,26 @@ fn open_regular<R: Files<File = File>>(
 pub fn within_limit(length: u64) -> io::Result<()>
     ensures { IfErr result (λ error. error_kind error ≡ ErrorKind.InvalidInput) }
 {
-    let mut limit = rlimit {
-        rlim_cur: u64::MAX,
-        rlim_max: u64::MAX,
-    };
-    if libc::getrlimit(RLIMIT_FSIZE, &mut limit) == 0 && limit.rlim_cur < length {
+    if file_limit() < length {
         return Err(io::Error::new(
             ErrorKind::InvalidInput,
             "it is longer than the limit of files (ulimit -f)",
         ));
     }
     Ok(())
+}
+
+/// The greatest length of a file that this process may write (`ulimit -f`).
+pub(crate) fn file_limit() -> u64 {
+    let mut limit = rlimit {
+        rlim_cur: u64::MAX,
+        rlim_max: u64::MAX,
+    };
+    if libc::getrlimit(RLIMIT_FSIZE, &mut limit) == 0 {
+        limit.rlim_cur
+    } else {
+        u64::MAX
+    }
 }
 
 /// The refusal of a folder, a pipe or a device.

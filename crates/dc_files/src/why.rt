@@ -1,10 +1,10 @@
 //! Why a run failed: the system's message for the failed call.
 
 ghost use Rattle.std.specs.Prelude.{◌≡◌, true, false};
-ghost use Rattle.dc_ending.specs.Outcome.{IsOfFile};
+ghost use Rattle.dc_ending.specs.Outcome.{EndsAs, IsOfFile};
 
 use crate::image::read_anew;
-use dc_ending::Ending;
+use dc_ending::{Ending, ProgramFault, ending_of};
 use libc::EIO;
 use std::cell::Cell;
 use std::fs::{File, Metadata, OpenFile};
@@ -93,6 +93,16 @@ impl Why {
         Ending::File(name)
     }
 
+    /// The ending of a run over this input. An input that is too long is no fault of the system.
+    pub fn ended<'a>(&self, outcome: Result<bool, ProgramFault>, input: &'a str) -> Ending<'a>
+        ensures { EndsAs outcome input.now result }
+    {
+        if let Err(ProgramFault::TooLong) = outcome {
+            self.say("it has more than 1 MiB");
+        }
+        ending_of(outcome, input)
+    }
+
     /// The ending of a run by a fault of a link, of that bus line.
     pub fn link<'a>(&self, line: Option<u8>, error: io::Error) -> Ending<'a>
         ensures { result ≡ Ending.Gateway }
@@ -145,7 +155,8 @@ impl Noted<'_, File> {
         read_anew(&self.inner);
     }
 
-    fn noted<V: Drop>(&self, answer: io::Result<V>) -> io::Result<V> {
+    // Notes a call that failed.
+    pub(crate) fn noted<V: Drop>(&self, answer: io::Result<V>) -> io::Result<V> {
         if let Err(error) = answer {
             self.why.note_disk(None, error);
         }
@@ -170,8 +181,8 @@ impl Noted<'_, File> {
     }
 }
 
-// A failure of the disk, and no unreadable sector.
-fn unread() -> io::Error {
+/// A failure of the disk, and no unreadable sector.
+pub(crate) fn unread() -> io::Error {
     io::Error::new(ErrorKind::Other, "the drive can't read a sector")
 }
 

@@ -1,6 +1,6 @@
 -- lemmas by topic
 
--- runs of the concentrator
-pub mod Runs
 -- a copy of a register
 pub mod Copies
+-- what is done to a disk, by what is done to its store
+mod Fitted

@@ -1,77 +1,104 @@
--- What `fit` does to an image (this product): the concentrator is opened, the list is planned on its register, and
--- either nothing is done, or the commands of the plan are lines of the office, in order.
-use Rattle.std.specs.Prelude.{◌≡◌, ◌⊎◌, ℕ, ◌+◌, ◌==◌, Bool, true, false, not, ◌||◌, List, [], ◌++◌, codes, map}
-use Rattle.std.specs.Prelude.{length, take}
+-- What `fit` does to an image (this product): the list is planned on the register that the image stands for, and all of it
+-- is written at once, or nothing of it.
+use Rattle.std.specs.Prelude.{◌≡◌, ◌⊎◌, ℕ, Bool, List, [], ◌++◌, codes, if◌then◌else◌}
 use Rattle.dc_io.specs.Lines.{lines_of}
+use Rattle.dc_change.specs.State.{State, Held}
+use Rattle.dc_change.specs.History.{after, AcceptsAll}
+use Rattle.dc_change.specs.Spelled.{SpellsChanges}
+use Rattle.dc_change.specs.declared.change.Change.{Change}
 use Rattle.dc_disk.specs.declared.device.Disk.{Ghosts}
-use Rattle.dc_change.specs.State.{State}
-use Rattle.dc_concentrator.specs.Event.{Event, offices}
-use Rattle.dc_concentrator.specs.Images.{Machine}
-use Rattle.dc_concentrator.specs.OpenedOn.{IsOpenedOn}
-use Rattle.dc_concentrator.specs.Run.{Ran}
+use Rattle.dc_disk.specs.Runs.{IsSettled, LeavesOnly}
+use Rattle.dc_fit.specs.declared.fault.FitFault.{FitFault}
+use Rattle.dc_fit.specs.declared.fault.FitFault.TheVariants.{Open, NoMemory, Write, Disk}
 use Rattle.dc_list.specs.Plan.{IsPlanned, Outcome}
-
--- the commands as lines of the office
-abbrev pub office_lines : Outcome → List Event
-office_lines plan = map offices plan.commands
+use Rattle.dc_log.specs.Halves.{budget_of, half_of}
+use Rattle.dc_log.specs.Store.{Opened}
+use Rattle.dc_log.specs.declared.fault.OpenFault.{OpenFault}
+use Rattle.dc_log.specs.declared.fault.StoreFault.{StoreFault}
+use Rattle.dc_pending.specs.Images.{EachStands, Keeps, Reads, Stands, StandsForEither, StandsForOne}
 
 -- the last line where a row is wrong
 abbrev pub nothing_done : List ℕ
 nothing_done = codes "nothing is done\n"
 
--- a command of the plan wasn't done: a commit failed, or the register's last command isn't the plan's
-abbrev pub is_unfinished : {D : Type 0} → Outcome → Machine D → Machine D → Bool
-is_unfinished plan first last = last.store.is_stopped
-    || not (last.house.state.last_number
-    == first.house.state.last_number + length plan.commands)
+-- what is printed: what is said of each row and, where one is wrong, that nothing is done
+abbrev pub fit_text : Outcome → List ℕ
+fit_text plan = plan.text ++ (if plan.wrong then nothing_done else [])
 
--- ALL OR NOTHING. Where a row is wrong the concentrator is as it was, and that is said. Else it has run the
--- commands, all of them and no others, and their replies follow what was said of the rows.
-pub record DoesNothing {D : Type 0} (plan : Outcome) (faulty : Bool) (wrote : List ℕ → Type 0)
-    (first last : Machine D) : Type 0 where
-  pub is_wrong : plan.wrong ≡ true
-  pub same : last ≡ first
-  pub text : wrote (plan.text ++ nothing_done)
-  pub told : faulty ≡ true
+-- the register with the whole list; where a row is wrong it is as it was
+abbrev pub fitted : Outcome → List Change → State → State
+fitted plan changes state = if plan.wrong then state else after state changes
 
-pub record DoesAll {D : Type 0} (g : Ghosts D) (origin : D) (state : State) (plan : Outcome)
-    (faulty : Bool) (wrote : List ℕ → Type 0) (first last : Machine D) : Type 0 where
-  pub is_right : plan.wrong ≡ false
-  pub ran : Ran g origin first.house.budget state [] (office_lines plan)
-      (λ replies. wrote (plan.text ++ replies)) first last
-  pub told : faulty ≡ is_unfinished plan first last
+-- what the list comes to on a register: its plan, and the changes that the plan spells, each accepted in turn
+pub record IsListed (list : List ℕ) (house : Held) (plan : Outcome) (changes : List Change) : Type 0 where
+  pub planned : IsPlanned (lines_of list) house plan
+  pub spells : SpellsChanges plan.payload changes
+  pub accepted : AcceptsAll house.budget house.state changes
 
-abbrev pub Does : {D : Type 0} → Ghosts D → D → State → Outcome → Bool → (List ℕ → Type 0)
-    → Machine D → Machine D → Type 0
-Does g origin state plan faulty wrote first last =
-    DoesNothing plan faulty wrote first last ⊎ DoesAll g origin state plan faulty wrote first last
+-- ---- an open store that keeps the register
 
--- a failed write ended it: the first commands of the plan were run, or none
-abbrev pub DoesSome : {D : Type 0} → Ghosts D → D → State → Outcome → Machine D → Machine D → Type 0
-DoesSome g origin state plan first last = (last ≡ first)
-    ⊎ ((done : ℕ) × Ran g origin first.house.budget state []
-    (take (done + 1) (office_lines plan)) (λ text. Unit {0}) first last)
-
--- a plan is made of the list, and this is what it does
-pub record Fits {D : Type 0} (g : Ghosts D) (origin : D) (state : State) (list : List ℕ)
-    (faulty : Bool) (wrote : List ℕ → Type 0) (first last : Machine D) : Type 0 where
+-- the store is as it was, or a crash leaves either all of the list or nothing of it
+pub record Lists {D : Type 0} (g : Ghosts D) (list : List ℕ) (house : Held) (old new : Opened D) : Type 0 where
   pub plan : Outcome
-  pub planned : IsPlanned (lines_of list) first.house plan
-  pub does : Does g origin state plan faulty wrote first last
+  pub changes : List Change
+  pub listed : IsListed list house plan changes
+  pub did : (new ≡ old) ⊎ (Keeps g old house.state → LeavesOnly g old.disk new.disk
+      (StandsForEither (half_of g old.disk) house.state (fitted plan changes house.state)))
 
--- the same, where a failed write ended it
-pub record IsCut {D : Type 0} (g : Ghosts D) (origin : D) (state : State) (list : List ℕ)
-    (first last : Machine D) : Type 0 where
-  pub plan : Outcome
-  pub planned : IsPlanned (lines_of list) first.house plan
-  pub does : DoesSome g origin state plan first last
+-- and all was done, and said
+pub record ListsAll {D : Type 0} (g : Ghosts D) (list : List ℕ) (house : Held) (wrote : List ℕ → Type 0)
+    (wrong : Bool) (old new : Opened D) : Type 0 where
+  pub lists : Lists g list house old new
+  pub wrong_is : wrong ≡ lists.plan.wrong
+  pub text : wrote (fit_text lists.plan)
+  pub kept : Keeps g old house.state → Keeps g new (fitted lists.plan lists.changes house.state)
 
--- FROM THE DISK TO THE DISK: the concentrator that was opened did this.
-pub record OnImage {D : Type 0} (g : Ghosts D) (did : State → Machine D → Machine D → Type 0)
-    (disk new : D) : Type 0 where
+-- ---- from the disk to the disk
+
+-- where the disk keeps the disk model, each image that it may hold stands for some state
+abbrev pub IsStanding : {D : Type 0} → Ghosts D → D → Type 0
+IsStanding g disk = g.keeps disk → EachStands (half_of g disk) (g.choices disk)
+
+-- ALL OR NOTHING. The image stood for a state, and the list was planned on it. A crash at any moment leaves an image that
+-- stands for a state that the disk stood for before, for this one, or for the one after the whole list.
+pub record Fits {D : Type 0} (g : Ghosts D) (list : List ℕ) (disk left : D) : Type 0 where
   pub state : State
-  pub first : Machine D
-  pub last : Machine D
-  pub opening : IsOpenedOn g disk state first
-  pub did_is : did state first last
-  pub disk_is : new ≡ last.store.disk
+  pub plan : Outcome
+  pub changes : List Change
+  pub reads_as : g.keeps left → Reads (half_of g disk) state (g.reads disk)
+  pub listed : IsListed list (record { state = state; budget = budget_of (half_of g disk) }) plan changes
+  pub at_once : g.keeps left → LeavesOnly g disk left (λ image.
+      StandsForOne (half_of g disk) (g.choices disk) image
+      ⊎ StandsForEither (half_of g disk) state (fitted plan changes state) image)
+
+-- DONE: the disk has the whole list, durably, or a row was wrong and nothing is done; which of both was said.
+pub record FitsAll {D : Type 0} (g : Ghosts D) (list : List ℕ) (wrote : List ℕ → Type 0) (wrong : Bool)
+    (disk left : D) : Type 0 where
+  pub fits : Fits g list disk left
+  pub wrong_is : wrong ≡ fits.plan.wrong
+  pub text : wrote (fit_text fits.plan)
+  pub stands : g.keeps left → Stands (half_of g disk) (fitted fits.plan fits.changes fits.state) (g.reads left)
+  pub durable : g.keeps left → IsSettled g left
+
+-- ---- the faults
+
+-- what is stated of the reason why the image wasn't opened
+abbrev pub IfOpen : FitFault → (OpenFault → Type 0) → Type 0
+IfOpen (Open fault) said = said fault
+IfOpen NoMemory said = Unit {0}
+IfOpen Write said = Unit {0}
+IfOpen (Disk fault) said = Unit {0}
+
+-- what is stated of the reason why the image wasn't written
+abbrev pub IfDisk : FitFault → (StoreFault → Type 0) → Type 0
+IfDisk (Open fault) said = Unit {0}
+IfDisk NoMemory said = Unit {0}
+IfDisk Write said = Unit {0}
+IfDisk (Disk fault) said = said fault
+
+-- it ended before the image was written
+abbrev pub IsBefore : FitFault → Type 0
+IsBefore (Open fault) = Unit {0}
+IsBefore NoMemory = Unit {0}
+IsBefore Write = Unit {0}
+IsBefore (Disk fault) = ⊥

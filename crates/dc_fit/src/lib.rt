@@ -1,13 +1,13 @@
 //! Fits the meters of a list: the engine of `mbdc fit`.
 //!
-//! [`fit_on`] opens an image, plans the list on its register ([`plan_on`](dc_list::plan_on)), and does the commands of
-//! the plan as lines of the billing office, in order. Where one row is wrong, nothing is done.
+//! [`fit_on`] opens an image, plans the list on its register ([`plan_on`](dc_list::plan_on)), and writes the changes of
+//! the plan as one group. Where one row is wrong, nothing is written.
 //!
-//! Proved: the commands that are done are exactly those of the plan, all or none; they are a run of the concentrator,
-//! so after a crash between or within them the register is that after a first part of them, with each that was
-//! answered `OK` (the headline of [`Concentrator::open`](dc_concentrator::Concentrator::open)).
+//! Proved: the register is that after the whole list, or as it was, also after a crash at any moment.
 #![tactic(auto)]
 
+mod fault;
 mod fitting;
 
+pub use fault::FitFault;
 pub use fitting::fit_on;

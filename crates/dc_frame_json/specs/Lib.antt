@@ -4,6 +4,8 @@
 pub mod Meter
 -- a data record
 pub mod Record
+-- a row: cells with names
+pub mod Row
 -- a telegram
 pub mod Telegram
 -- a link frame or its fault

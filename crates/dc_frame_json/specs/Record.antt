@@ -18,30 +18,25 @@ use Rattle.dc_names.specs.Vib.{code_of, quantity_name, qualifiers}
 use Rattle.dc_names.specs.Vife.{vife_name}
 use Rattle.dc_tokens.specs.Object.{Field, object_of, array_of, count}
 
--- the numbers and the function of a record
+-- the numbers and the function of a record, its value information block and its data as sent, and what it is of
 unfoldable pub about_fields : Entry → List Field
 about_fields e =
     (codes "storage", count e.storage)
     ∷ (codes "tariff", count e.tariff)
     ∷ (codes "subunit", count e.subunit)
     ∷ (codes "function", string (function_name e.function))
+    ∷ (codes "vib", string (upper_hex e.vib))
+    ∷ (codes "data", string (upper_hex e.content))
+    ∷ (codes "quantity", string (quantity_name e.vib))
     ∷ []
-
--- its value information block and its data as sent
-unfoldable pub sent_fields : Entry → List Field
-sent_fields e = (codes "vib", string (upper_hex e.vib))
-    ∷ (codes "data", string (upper_hex e.content)) ∷ []
 
 -- the name of a VIFE
 unfoldable pub qualifier : ℕ → Json
 qualifier vife = string (vife_name (code_of vife))
 
--- the value information block in words
-unfoldable pub quantity_fields : Entry → List Field
-quantity_fields e =
-    (codes "quantity", string (quantity_name e.vib))
-    ∷ (codes "qualifiers", array_of (map qualifier (qualifiers e.vib)))
-    ∷ []
+-- the names of its VIFEs
+unfoldable pub qualifier_fields : Entry → List Field
+qualifier_fields e = (codes "qualifiers", array_of (map qualifier (qualifiers e.vib))) ∷ []
 
 -- A value is a text: an exact decimal, a date or a date and time of ISO 8601, flags in hex. It is
 -- null if the meter sent no value.
@@ -75,7 +70,7 @@ unfoldable pub reading_fields : Entry → List Field
 reading_fields e = seen_fields (seen_of e) (plain_at e)
 
 unfoldable pub record_fields : Entry → List Field
-record_fields e = about_fields e ++ (sent_fields e ++ (quantity_fields e ++ reading_fields e))
+record_fields e = about_fields e ++ (qualifier_fields e ++ reading_fields e)
 
 unfoldable pub record_json : Entry → Json
 record_json e = object_of (record_fields e)

@@ -1,8 +1,6 @@
 //! The body of a telegram, without a frame around it, as JSON.
 
-ghost use Rattle.std.specs.Prelude.{◌≡◌, IfOk, OnOk, OnErr, is_err};
-ghost use Rattle.json.specs.Print.{print};
-ghost use Rattle.json.specs.Tree.{json_tokens};
+ghost use Rattle.std.specs.Prelude.{◌≡◌, IfOk, is_err};
 ghost use Rattle.dc_io.specs.Written.{Wrote};
 ghost use Rattle.dc_record.specs.Telegram.{telegram_at};
 ghost use Rattle.dc_frame_json.specs.Frame.{body_json};
@@ -12,28 +10,18 @@ use crate::frame::put_body_json;
 use dc_io::{IoFault, Sink};
 use dc_tokens::TokenWriter;
 
-// Writes the object of a body, and returns whether it has a fault.
-#[tactic(auto, using(dc_tokens::proofs::Adding::whole))]
-fn put_object<W: Sink>(out: &mut W, body: &[u8]) -> Result<bool, IoFault>
-    ensures wrote { Wrote W.Sink result out.old out.new (print (json_tokens (body_json body.now))) }
+/// Writes the JSON line of a body without a frame (EN 13757-3, variable data structure): the fields
+/// of its telegram, or its bytes and its fault. Returns whether it has a fault.
+///
+/// A body may have any length.
+#[tactic(auto, using(dc_tokens::proofs::Adding::whole, dc_io::proofs::Pieces::written), unfolding(crate::specs::Text::value_line))]
+pub fn put_body_line<W: Sink>(out: &mut W, body: &[u8]) -> Result<bool, IoFault>
+    ensures wrote { Wrote W.Sink result out.old out.new (value_line (body_json body.now)) }
     ensures fault { IfOk result (λ bad. bad ≡ is_err (telegram_at body.now)) }
 {
     let mut tokens = TokenWriter::new(out);
     let bad = put_body_json(&mut tokens, body);
     tokens.outcome()?;
-    Ok(bad)
-}
-
-/// Writes the JSON line of a body without a frame (EN 13757-3, variable data structure): the fields
-/// of its telegram, or its bytes and its fault. Returns whether it has a fault.
-///
-/// A body may have any length.
-#[tactic(auto, using(dc_io::proofs::Pieces::written), unfolding(crate::specs::Text::value_line))]
-pub fn put_body_line<W: Sink>(out: &mut W, body: &[u8]) -> Result<bool, IoFault>
-    ensures wrote { Wrote W.Sink result out.old out.new (value_line (body_json body.now)) }
-    ensures fault { IfOk result (λ bad. bad ≡ is_err (telegram_at body.now)) }
-{
-    let bad = put_object(out, body)?;
     out.put(b"\n")?;
     Ok(bad)
 }

@@ -6,12 +6,13 @@ ghost use Rattle.dc_frame.specs.Frame.{seen, long};
 ghost use Rattle.dc_decode.specs.Frames.{is_bad_content, is_bad_frame, is_bad};
 ghost use Rattle.dc_tokens.specs.Object.{fields_tokens};
 ghost use Rattle.dc_tokens.specs.Writing.{Added};
-ghost use Rattle.dc_frame_json.specs.Frame.{fault_fields, fault_field, place_fields, link_fields};
+ghost use Rattle.dc_frame_json.specs.Frame.{fault_field, place_fields, link_fields};
 ghost use Rattle.dc_frame_json.specs.Frame.{ci_fields, bytes_field, body_fields, content_fields};
 ghost use Rattle.dc_frame_json.specs.Frame.{frame_fields, read_fields, text_fields, text_json};
 ghost use Rattle.dc_frame_json.specs.Frame.{body_json, hex_fault_json};
 ghost use Rattle.dc_record.specs.Telegram.{telegram_at};
 
+use crate::row::{Cell, put_object};
 use crate::telegram::put_telegram;
 use dc_decode::read_frame;
 use dc_frame::control::VARIABLE_DATA;
@@ -29,24 +30,20 @@ struct Head {
     ci: u8,
 }
 
-// Writes the fields of a fault.
-fn put_fault_fields<W: Sink>(out: &mut TokenWriter<'_, W>, place: &str, number: u8, name: &str)
-    ensures { Added W.Sink out.old out.new (fields_tokens (fault_fields place.now number name.now)) }
-{
-    out.put_text("kind", place);
-    out.put_count("number", u64::from(number));
-    out.put_text("name", name);
-}
-
 // Writes the place of a fault, its number and its name.
-fn put_fault<W: Sink>(out: &mut TokenWriter<'_, W>, place: &str, number: u8, name: &str)
+fn put_fault<'f, W: Sink>(out: &mut TokenWriter<'_, W>, place: &'f str, number: u8, name: &'f str)
     ensures { Added W.Sink out.old out.new
         (fields_tokens (fault_field place.now number name.now ∷ [])) }
 {
     out.put_name("fault");
-    out.begin_object();
-    put_fault_fields(out, place, number, name);
-    out.end_object();
+    put_object(
+        out,
+        &[
+            Cell::Text("kind", place.as_bytes()),
+            Cell::Number("number", u64::from(number)),
+            Cell::Text("name", name.as_bytes()),
+        ],
+    );
 }
 
 // Writes the line and the kind of frame.

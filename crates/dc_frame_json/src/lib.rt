@@ -8,7 +8,8 @@
 //!
 //! [`put_body_line`] writes the object of a body without a frame around it.
 //!
-//! Other crates write a meter's identity, a status byte, a value and a unit as here.
+//! A row of cells with names ([`Cell`]) is written as the fields of an object, as an object or as a line; other crates
+//! write a meter's identity, a status byte, a value and a unit as here.
 #![tactic(auto)]
 
 mod body;
@@ -16,9 +17,11 @@ mod frame;
 mod lines;
 mod meter;
 mod record;
+mod row;
 mod telegram;
 
 pub use body::put_body_line;
 pub use lines::{json_lines, put_json_lines};
 pub use meter::{put_meter, put_status_object};
 pub use record::{put_unit, put_value};
+pub use row::{Cell, put_line, put_object, put_row};

@@ -18,49 +18,6 @@ use dc_io::{IoFault, Sink, Source, TextFault};
 use dc_tokens::TokenWriter;
 use std::alloc::Allocator;
 
-// Writes the object of a text that is read as one frame, and returns whether it has a fault.
-#[tactic(auto, using(dc_tokens::proofs::Adding::whole))]
-fn put_object<W: Sink>(out: &mut W, line: u64, bytes: &[u8]) -> Result<bool, IoFault>
-    ensures wrote { Wrote W.Sink result out.old out.new
-        (print (json_tokens (text_json line bytes.now))) }
-    ensures fault { IfOk result (λ bad. bad ≡ is_bad bytes.now) }
-{
-    let mut tokens = TokenWriter::new(out);
-    let bad = put_text_json(&mut tokens, line, bytes);
-    tokens.outcome()?;
-    Ok(bad)
-}
-
-// Writes the object of a line that isn't pairs of hex digits.
-#[tactic(auto, using(dc_tokens::proofs::Adding::whole))]
-fn put_hex_fault<W: Sink>(out: &mut W, line: u64) -> Result<(), IoFault>
-    ensures { Wrote W.Sink result out.old out.new (print (json_tokens (hex_fault_json line))) }
-{
-    let mut tokens = TokenWriter::new(out);
-    put_hex_fault_json(&mut tokens, line);
-    tokens.outcome()
-}
-
-// Writes the line of a text that is read as one frame, and returns whether it has a fault.
-#[tactic(auto, using(dc_io::proofs::Pieces::written), unfolding(crate::specs::Text::value_line))]
-fn put_text_line<W: Sink>(out: &mut W, line: u64, bytes: &[u8]) -> Result<bool, IoFault>
-    ensures wrote { Wrote W.Sink result out.old out.new (value_line (text_json line bytes.now)) }
-    ensures fault { IfOk result (λ bad. bad ≡ is_bad bytes.now) }
-{
-    let bad = put_object(out, line, bytes)?;
-    out.put(b"\n")?;
-    Ok(bad)
-}
-
-// Writes the line of an input line that isn't pairs of hex digits.
-#[tactic(auto, using(dc_io::proofs::Pieces::written), unfolding(crate::specs::Text::value_line))]
-fn put_fault_line<W: Sink>(out: &mut W, line: u64) -> Result<(), IoFault>
-    ensures { Wrote W.Sink result out.old out.new (value_line (hex_fault_json line)) }
-{
-    put_hex_fault(out, line)?;
-    out.put(b"\n")
-}
-
 /// The form of `decode --json`: an object on each line.
 struct Objects;
 
@@ -72,17 +29,26 @@ impl LineForm for Objects {
 
     ghost fault_text = { λ line. value_line (hex_fault_json line) };
 
+    #[tactic(auto, using(dc_tokens::proofs::Adding::whole, dc_io::proofs::Pieces::written), unfolding(crate::specs::Text::value_line))]
     fn put_frame<W: Sink>(
         line: u64,
         _start: usize,
         bytes: &[u8],
         out: &mut W,
     ) -> Result<bool, IoFault> {
-        put_text_line(out, line, bytes)
+        let mut tokens = TokenWriter::new(out);
+        let bad = put_text_json(&mut tokens, line, bytes);
+        tokens.outcome()?;
+        out.put(b"\n")?;
+        Ok(bad)
     }
 
+    #[tactic(auto, using(dc_tokens::proofs::Adding::whole, dc_io::proofs::Pieces::written), unfolding(crate::specs::Text::value_line))]
     fn put_hex_fault<W: Sink>(line: u64, out: &mut W) -> Result<(), IoFault> {
-        put_fault_line(out, line)
+        let mut tokens = TokenWriter::new(out);
+        put_hex_fault_json(&mut tokens, line);
+        tokens.outcome()?;
+        out.put(b"\n")
     }
 }
 

@@ -2,7 +2,7 @@
 
 ghost use Rattle.std.specs.Prelude.{◌≡◌, ◌≢◌};
 ghost use Rattle.json.specs.Tree.{json_tokens};
-ghost use Rattle.dc_tokens.specs.Object.{object_of, fields_tokens};
+ghost use Rattle.dc_tokens.specs.Object.{object_of};
 ghost use Rattle.dc_tokens.specs.Writing.{Added};
 ghost use Rattle.dc_frame_json.specs.Meter.{identity_fields, status_fields, has_bit};
 
@@ -18,12 +18,13 @@ const LETTERS: usize = 9;
 
 const LETTERS_END: usize = 12;
 
-// Writes the fields of an identity.
-fn put_identity<W: Sink>(out: &mut TokenWriter<'_, W>, identity: &Identity)
-    ensures { Added W.Sink out.old out.new (fields_tokens (identity_fields identity.now)) }
+/// Writes an identity.
+pub fn put_meter<W: Sink>(out: &mut TokenWriter<'_, W>, identity: &Identity)
+    ensures { Added W.Sink out.old out.new (json_tokens (object_of (identity_fields identity.now))) }
 {
     let Identity { version, kind, .. } = *identity;
     let codes = identity.text();
+    out.begin_object();
     out.put_name("id");
     out.put_string(&codes);
     out.put_name("number");
@@ -33,14 +34,6 @@ fn put_identity<W: Sink>(out: &mut TokenWriter<'_, W>, identity: &Identity)
     out.put_count("version", u64::from(version));
     out.put_text("medium", medium_name(kind));
     out.put_count("medium_code", u64::from(kind));
-}
-
-/// Writes an identity.
-pub fn put_meter<W: Sink>(out: &mut TokenWriter<'_, W>, identity: &Identity)
-    ensures { Added W.Sink out.old out.new (json_tokens (object_of (identity_fields identity.now))) }
-{
-    out.begin_object();
-    put_identity(out, identity);
     out.end_object();
 }
 
@@ -52,23 +45,16 @@ fn has_bit(power: u8, status: u8) -> bool
     status / power % 2 == 1
 }
 
-// Writes the fields of a status byte.
-fn put_status<W: Sink>(out: &mut TokenWriter<'_, W>, status: u8)
-    ensures { Added W.Sink out.old out.new (fields_tokens (status_fields status)) }
+/// Writes a status byte.
+pub fn put_status_object<W: Sink>(out: &mut TokenWriter<'_, W>, status: u8)
+    ensures { Added W.Sink out.old out.new (json_tokens (object_of (status_fields status))) }
 {
+    out.begin_object();
     out.put_count("code", u64::from(status));
     out.put_text("application", application_name(status));
     out.put_flag("power_low", has_bit(4, status));
     out.put_flag("permanent_error", has_bit(8, status));
     out.put_flag("temporary_error", has_bit(16, status));
     out.put_count("manufacturer_bits", u64::from(status / 32));
-}
-
-/// Writes a status byte.
-pub fn put_status_object<W: Sink>(out: &mut TokenWriter<'_, W>, status: u8)
-    ensures { Added W.Sink out.old out.new (json_tokens (object_of (status_fields status))) }
-{
-    out.begin_object();
-    put_status(out, status);
     out.end_object();
 }

@@ -1,35 +1,21 @@
 //! A telegram.
 
-ghost use Rattle.std.specs.Prelude.{◌≡◌, ◌∷◌, [], false, map};
-ghost use Rattle.dc_io.specs.Hex.{upper_hex};
-ghost use Rattle.json.specs.Json.{string, null};
+ghost use Rattle.std.specs.Prelude.{◌∷◌, [], map};
 ghost use Rattle.dc_record.specs.Seen.{ending};
 ghost use Rattle.dc_record.specs.Telegram.{parsed};
 ghost use Rattle.dc_tokens.specs.Object.{fields_tokens, values_tokens};
 ghost use Rattle.dc_tokens.specs.Writing.{Added};
 ghost use Rattle.dc_frame_json.specs.Record.{record_json};
-ghost use Rattle.dc_frame_json.specs.Telegram.{header_fields, records_field, ending_fields, end_fields};
+ghost use Rattle.dc_frame_json.specs.Telegram.{end_fields, header_fields, records_field};
 ghost use Rattle.dc_frame_json.specs.Telegram.{telegram_fields};
 
-use crate::meter::{put_meter, put_status_object};
 use crate::record::put_record;
+use crate::row::{Cell, put_row};
 use dc_io::Sink;
 use dc_record::{End, Header, Records, Telegram};
 use dc_tokens::TokenWriter;
 
-// Writes the meter's identity, the access number and the status byte.
-fn put_header<W: Sink>(out: &mut TokenWriter<'_, W>, header: &Header)
-    ensures { Added W.Sink out.old out.new (fields_tokens (header_fields header.now)) }
-{
-    out.put_name("meter");
-    put_meter(out, &header.identity);
-    out.put_count("access", u64::from(header.access));
-    out.put_name("status");
-    put_status_object(out, header.status);
-}
-
 // Writes records, one after the other.
-
 fn put_records<W: Sink>(out: &mut TokenWriter<'_, W>, records: Records<'_>)
     ensures { Added W.Sink out.old out.new (values_tokens (map record_json records.entry)) }
 {
@@ -48,34 +34,46 @@ fn put_records_field<W: Sink>(out: &mut TokenWriter<'_, W>, records: Records<'_>
     out.end_array();
 }
 
-// Writes the end of a body with the manufacturer's data.
-fn put_ending<W: Sink>(out: &mut TokenWriter<'_, W>, more: bool, rest: &[u8])
-    ensures { Added W.Sink out.old out.new
-        (fields_tokens (ending_fields more (string (upper_hex rest.now)))) }
-{
-    out.put_flag("more", more);
-    out.put_hex("manufacturer_data", rest);
-}
-
-// Writes the end of a body.
-#[tactic(auto, unfolding(crate::specs::Telegram::end_fields))]
+// Writes the end of a body: whether more follows, and the manufacturer's data.
+#[tactic(auto, unfolding(crate::specs::Telegram::end_fields, crate::specs::Telegram::ending_fields))]
 fn put_end<W: Sink>(out: &mut TokenWriter<'_, W>, end: End<'_>)
     ensures { Added W.Sink out.old out.new (fields_tokens (end_fields (ending end.entry))) }
 {
     match end {
-        End::Plain => put_no_ending(out),
-        End::Last(rest) => put_ending(out, false, rest),
-        End::More(rest) => put_ending(out, true, rest),
+        End::Plain => put_row(
+            out,
+            &[Cell::Flag("more", false), Cell::Null("manufacturer_data")],
+        ),
+        End::Last(rest) => put_row(
+            out,
+            &[
+                Cell::Flag("more", false),
+                Cell::Hex("manufacturer_data", rest),
+            ],
+        ),
+        End::More(rest) => put_row(
+            out,
+            &[
+                Cell::Flag("more", true),
+                Cell::Hex("manufacturer_data", rest),
+            ],
+        ),
     }
 }
 
-// Writes the end of a body without the manufacturer's data.
-fn put_no_ending<W: Sink>(out: &mut TokenWriter<'_, W>)
-    ensures { Added W.Sink out.old out.new (fields_tokens (ending_fields false null)) }
+// Writes the meter's identity, the access number and the status byte.
+#[tactic(auto, unfolding(crate::specs::Telegram::header_fields))]
+fn put_header<W: Sink>(out: &mut TokenWriter<'_, W>, header: &Header)
+    ensures { Added W.Sink out.old out.new (fields_tokens (header_fields header.now)) }
 {
-    out.put_flag("more", false);
-    out.put_name("manufacturer_data");
-    out.put_null();
+    put_row(
+        out,
+        &[
+            Cell::Meter("meter", header.identity),
+            Cell::Number("access", u64::from(header.access)),
+            Cell::Status("status", header.status),
+        ],
+    );
 }
 
 /// Writes the fields of a telegram.

@@ -12,8 +12,10 @@ use Rattle.dc_ending.specs.declared.fault.ProgramFault.TheVariants.{Open, NoMemo
 use Rattle.dc_log.specs.Halves.{budget_of, half_start, half_end}
 use Rattle.dc_log.specs.declared.fault.OpenFault.{OpenFault}
 use Rattle.dc_log.specs.declared.fault.OpenFault.TheVariants.{Device, NoMemory}
+use Rattle.dc_log.specs.declared.greatest.Greatest.{Greatest}
 use Rattle.dc_log.specs.declared.reading.Found.{Found}
 use Rattle.dc_inspect.specs.Told.{Seen, IsLook, IsOfLook}
+use Rattle.dc_inspect.specs.declared.look.Outlook.{Outlook}
 use Rattle.dc_inspect.specs.declared.look.Slots.{Slots}
 
 -- the contents of the slots
@@ -37,14 +39,14 @@ IsPlaced half_len found =
     × IfSome found (λ f. half_start half_len f.root.half ≤ f.place)
     × IfSome found (λ f. f.place ≤ half_end half_len f.root.half)
 
-abbrev pub IsSeen : {A : Type 0} → ℕ → Image → Option (Found Held A) → Option OpenFault → Type 0
-IsSeen half_len image found refusal = IsLook half_len image (option_map seen_of found) refusal
+abbrev pub IsSeenAs : {A : Type 0} → ℕ → Greatest → Image → Option (Found Held A) → Outlook → Type 0
+IsSeenAs half_len greatest image found outlook = IsLook half_len greatest image (option_map seen_of found) outlook
 
 -- Its failures are counted, and what ends it is the disk, which has counted one, or memory.
 abbrev pub EndsLook : {D X : Type 0} → Ghosts D → D → D → Result X ProgramFault → Type 0
 EndsLook g old new result =
     Counts g old new (IsErrOf result (Open Device))
-    × IfErr result (IsOfLook (HasRisen (g.failures old) (g.failures new)) ⊥)
+    × IfErr result (IsOfLook (HasRisen (g.failures old) (g.failures new)))
 
 -- the program fault for a reading fault that ends the inspection
 abbrev pub IsStop : OpenFault → ProgramFault → Type 0

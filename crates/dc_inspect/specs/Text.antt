@@ -1,6 +1,6 @@
 -- The lines of `inspect`: one fact per line, its name and its numbers (this product).
 use Rattle.std.specs.Prelude.{ℕ, ◌-◌, List, [], ◌++◌, length, codes, slice_get, Option, Some, None}
-use Rattle.std.specs.Prelude.{option_map}
+use Rattle.std.specs.Prelude.{option_map, ◌+◌, nat_lt, if◌then◌else◌}
 use Rattle.dc_io.specs.Words.{number_word, fault_text}
 use Rattle.dc_change.specs.State.{State, ReadingRow}
 use Rattle.dc_change.specs.Size.{size_of}
@@ -8,11 +8,16 @@ use Rattle.dc_roots.specs.declared.root.Root.{Root}
 use Rattle.dc_roots.specs.declared.chooser.Held.{Held}
 use Rattle.dc_roots.specs.declared.chooser.Held.TheVariants.{Valid, Other, Lost}
 use Rattle.dc_log.specs.Fault.{open_number, open_name}
-use Rattle.dc_log.specs.Halves.{half_start, half_end}
 use Rattle.dc_log.specs.declared.fault.OpenFault.{OpenFault}
 use Rattle.dc_log.specs.declared.fault.OpenFault.TheVariants.{NotImage, Damaged, Version, Worn}
 use Rattle.dc_log.specs.declared.fault.OpenFault.TheVariants.{Device, NoMemory}
+use Rattle.dc_log.specs.Halves.{budget_of, half_start, half_end}
+use Rattle.dc_log.specs.declared.greatest.Greatest.{Greatest}
+use Rattle.dc_log.specs.declared.rescuing.Source.{Source}
+use Rattle.dc_log.specs.declared.rescuing.Source.TheVariants.{Whole, Without, OtherRoot}
+use Rattle.dc_inspect.specs.declared.look.Outlook.{Outlook}
 use Rattle.dc_inspect.specs.declared.summary.Summary.{Summary}
+use Rattle.dc_inspect.specs.Told.{Seen}
 
 -- a line of a name and a number, and of a name and two
 unfoldable pub number_line : List ℕ → ℕ → List ℕ
@@ -84,6 +89,11 @@ summary_of budget s = record {
   command = s.last_number;
 }
 
+-- a sector that is ahead of the state that is printed, if one is
+abbrev pub ahead_text : Option ℕ → List ℕ
+ahead_text None = []
+ahead_text (Some sector) = number_line (codes "AHEAD") sector
+
 -- the sector at which an image is damaged
 unfoldable pub sector_word : OpenFault → List ℕ
 sector_word NotImage = []
@@ -103,3 +113,33 @@ refused_line fault = codes "REFUSED " ++ fault_words (open_number fault) (open_n
 abbrev pub refusal_text : Option OpenFault → List ℕ
 refusal_text None = []
 refusal_text (Some fault) = refused_line fault
+
+abbrev pub seen_text : ℕ → Option Seen → List ℕ
+seen_text half_len None = []
+seen_text half_len (Some seen) = place_text half_len seen.root seen.last seen.place
+    ++ summary_text (summary_of (budget_of half_len) seen.state)
+
+-- the text of an image, after the line of its disk
+unfoldable pub image_text : ℕ → Held → Held → Option Seen → Outlook → List ℕ
+image_text half_len first second seen outlook =
+    slot_line 1 first ++ (slot_line 2 second ++ (seen_text half_len seen
+    ++ (ahead_text outlook.ahead ++ refusal_text outlook.refusal)))
+
+-- ---- a rescued state
+
+-- the sector that was left out, and the slot of the root that was left out
+abbrev pub source_text : Source → List ℕ
+source_text Whole = []
+source_text (Without n) = number_line (codes "WITHOUT") n
+source_text (OtherRoot n slot) = pair_line (codes "WITHOUT") n slot
+
+-- the sequences of groups that were written, as far as sectors show it, and aren't in the state
+abbrev pub lost_text : ℕ → ℕ → List ℕ
+lost_text last greatest = if nat_lt last greatest then pair_line (codes "LOST") (last + 1) greatest else []
+
+-- WHAT IS PRINTED OF A RESCUED STATE: what it was read without, the sequence of its last group, its place and its
+-- summary as `inspect` prints them, and what is lost
+unfoldable pub rescue_text : ℕ → Source → Greatest → Seen → List ℕ
+rescue_text half_len source greatest seen =
+    source_text source ++ (number_line (codes "GROUP") seen.last
+    ++ (seen_text half_len (Some seen) ++ lost_text seen.last greatest.sequence.number))

@@ -1,21 +1,19 @@
--- What `inspect` prints of a disk's image (this product): the state that it reads as, by the
--- definitions that opening follows, or its one refusal.
-use Rattle.std.specs.Prelude.{◌≡◌, ◌⊎◌, ◌<◌, ◌≤◌, ℕ, List, [], ◌++◌, codes, Option, Some, None}
+-- What a look finds of a disk's image (this product): the state that it reads as, by the definitions that opening follows,
+-- and what opening would make of it.
+use Rattle.std.specs.Prelude.{◌≡◌, ◌+◌, ℕ, Option, Some, None}
 use Rattle.dc_disk.specs.Disk.{Image}
 use Rattle.dc_change.specs.State.{State}
 use Rattle.dc_roots.specs.declared.root.Root.{Root}
-use Rattle.dc_roots.specs.declared.chooser.Held.{Held}
-use Rattle.dc_roots.specs.Held.{IsHeld}
-use Rattle.dc_log.specs.Halves.{half_len_of, budget_of, fewest_sectors}
-use Rattle.dc_pending.specs.Images.{IsRefused, IsRead}
+use Rattle.dc_log.specs.Greatest.{IsGreatest, IsOneAhead}
+use Rattle.dc_log.specs.declared.greatest.Greatest.{Greatest}
+use Rattle.dc_pending.specs.Images.{IsUnread, IsRead}
 use Rattle.dc_log.specs.Refusal.{IsSpent, TellsOfImage}
 use Rattle.dc_log.specs.declared.fault.OpenFault.{OpenFault}
 use Rattle.dc_log.specs.declared.fault.OpenFault.TheVariants.{NotImage, Worn, Device}
 use Rattle.dc_ending.specs.declared.fault.ProgramFault.{ProgramFault}
 use Rattle.dc_ending.specs.declared.fault.ProgramFault.TheVariants.{Read, TooLong, Write, NoMemory}
 use Rattle.dc_ending.specs.declared.fault.ProgramFault.TheVariants.{Open}
-use Rattle.dc_inspect.specs.Text.{number_line, slot_line, place_text, summary_of, summary_text}
-use Rattle.dc_inspect.specs.Text.{refused_line, refusal_text}
+use Rattle.dc_inspect.specs.declared.look.Outlook.{Outlook}
 
 -- the content of an image: the root in force, the sequence of the last group, the place of the next
 -- one, and the state
@@ -31,56 +29,34 @@ abbrev pub IsWearOf : Root → ℕ → Option OpenFault → Type 0
 IsWearOf root last None = IsSpent root last → ⊥
 IsWearOf root last (Some fault) = (fault ≡ Worn) × IsSpent root last
 
--- what an image reads as and why it doesn't open: either is a fact of the image
-abbrev pub IsLook : ℕ → Image → Option Seen → Option OpenFault → Type 0
-IsLook half_len image (Some seen) refusal =
+-- why an image reads as no state
+abbrev pub IsUnreadFor : ℕ → Image → Option OpenFault → Type 0
+IsUnreadFor half_len image None = ⊥
+IsUnreadFor half_len image (Some fault) = TellsOfImage fault × IsUnread half_len image fault
+
+-- FRESH, OR BEHIND AND SAID SO: where halves carry that session and sequence at most, a sector of them is ahead of what
+-- is seen and is named, or none is.
+abbrev pub IsAheadOf : ℕ → Greatest → Seen → Option ℕ → Type 0
+IsAheadOf half_len greatest seen ahead = (halves : Image) → IsGreatest half_len greatest halves
+    → IsOneAhead half_len seen.root.session (seen.last + 1) ahead halves
+
+-- what an image reads as, a sector that is ahead of that, and why it doesn't open
+abbrev pub IsLook : ℕ → Greatest → Image → Option Seen → Outlook → Type 0
+IsLook half_len greatest image (Some seen) outlook =
     IsRead half_len seen.root seen.place seen.last seen.state image
-    × IsWearOf seen.root seen.last refusal
-IsLook half_len image None None = ⊥
-IsLook half_len image None (Some fault) = TellsOfImage fault × IsRefused half_len image fault
+    × IsAheadOf half_len greatest seen outlook.ahead
+    × IsWearOf seen.root seen.last outlook.refusal
+IsLook half_len greatest image None outlook =
+    (outlook.ahead ≡ None) × IsUnreadFor half_len image outlook.refusal
 
-abbrev pub seen_text : ℕ → Option Seen → List ℕ
-seen_text half_len None = []
-seen_text half_len (Some seen) = place_text half_len seen.root seen.last seen.place
-    ++ summary_text (summary_of (budget_of half_len) seen.state)
+-- of a disk that is too small for an image
+abbrev pub no_image : Outlook
+no_image = record { refusal = Some NotImage; ahead = None }
 
--- the line of a disk: its sectors
-abbrev pub disk_line : ℕ → List ℕ
-disk_line sectors = number_line (codes "DISK") sectors
-
--- the text of an image
-unfoldable pub image_text : ℕ → Held → Held → Option Seen → Option OpenFault → List ℕ
-image_text half_len first second seen refusal =
-    slot_line 1 first ++ (slot_line 2 second ++ (seen_text half_len seen ++ refusal_text refusal))
-
--- A disk that is too small for an image holds none.
-pub record TellsSmall (sectors : ℕ) (refusal : Option OpenFault)
-    (wrote : List ℕ → Type 0) : Type 0 where
-  pub small : sectors < fewest_sectors
-  pub refusal_is : refusal ≡ Some NotImage
-  pub text : wrote (disk_line sectors ++ refused_line NotImage)
-
--- The slots, the state that the image reads as, and why it doesn't open, were printed.
-pub record TellsImage (sectors : ℕ) (image : Image) (refusal : Option OpenFault)
-    (wrote : List ℕ → Type 0) : Type 0 where
-  pub enough : fewest_sectors ≤ sectors
-  pub first : Held
-  pub second : Held
-  pub first_is : IsHeld 1 (image 1) first
-  pub second_is : IsHeld 2 (image 2) second
-  pub seen : Option Seen
-  pub look : IsLook (half_len_of sectors) image seen refusal
-  pub text : wrote (disk_line sectors ++ image_text (half_len_of sectors) first second seen refusal)
-
--- WHAT IS PRINTED of a disk of this many sectors with that image, and why it doesn't open
-abbrev pub Tells : ℕ → Image → Option OpenFault → (List ℕ → Type 0) → Type 0
-Tells sectors image refusal wrote =
-    TellsSmall sectors refusal wrote ⊎ TellsImage sectors image refusal wrote
-
--- what ends an inspection: memory, the disk or the writer, which has counted its failure
-abbrev pub IsOfLook : Type 0 → Type 0 → ProgramFault → Type 0
-IsOfLook disk_failed writer_failed Read = ⊥
-IsOfLook disk_failed writer_failed TooLong = ⊥
-IsOfLook disk_failed writer_failed Write = writer_failed
-IsOfLook disk_failed writer_failed NoMemory = Unit {0}
-IsOfLook disk_failed writer_failed (Open fault) = (fault ≡ Device) × disk_failed
+-- what ends a look: memory, or the disk, which has counted its failure
+abbrev pub IsOfLook : Type 0 → ProgramFault → Type 0
+IsOfLook disk_failed Read = ⊥
+IsOfLook disk_failed TooLong = ⊥
+IsOfLook disk_failed Write = ⊥
+IsOfLook disk_failed NoMemory = Unit {0}
+IsOfLook disk_failed (Open fault) = (fault ≡ Device) × disk_failed

@@ -1,31 +1,25 @@
-//! Inspects an image without opening it, and writes its tables as text and as JSON.
+//! Looks at an image without opening it: its contents as text, its values, status and tables as text and as JSON.
 //!
-//! [`inspect`] reads an image and writes one fact per line: the root slots, the place of the
-//! groups, the register's contents; or why the image doesn't open, with the sector if it is known.
-//! Nothing is written to the disk and nothing is synced, not even the next root. Proved: it prints
-//! the state that the image reads as, by the definitions that
-//! [`Store::open`](dc_log::Store::open) follows, or the image's one refusal.
-//!
-//! [`show_values`] reads an image in the same way, and writes what its meters stand at (dc_latest, dc_json);
-//! [`show_status`] writes when they were last heard, and how full the image is (dc_status).
+//! [`answer`] reads an image as [`Store::open`](dc_log::Store::open) does, and returns the whole text of what is asked
+//! ([`Asked`]): its contents, one fact a line; what its meters stand at (dc_latest, dc_json); when they were last heard,
+//! and how full the image is (dc_status); a table (dc_table, dc_json). Nothing is written to the disk and nothing is
+//! synced, not even the next root. Proved: the text states the state that the image reads as, by the definitions
+//! that opening follows, or the image's one refusal; and a sector that is ahead of that state is named, where [`scan`]
+//! found one ([`Outlook`]).
 //!
 //! [`register_of`] reads the register of an image in that way, for a command that only needs to know its meters.
-//!
-//! [`report_on`] opens an image and writes a table of its contents ([`Report`]), built whole before
-//! it is written, as CSV or as JSON Lines ([`Form`]).
+//! [`put_rescued`] writes what was rescued of a damaged image.
 #![tactic(auto)]
 
-mod inspecting;
+mod answering;
+mod asking;
 mod look;
 mod register;
-mod status;
 mod summary;
-mod table;
 mod text;
-mod values;
 
-pub use inspecting::inspect;
+pub use answering::{Shown, answer, scan};
+pub use asking::{Asked, Form, Report, StatusForm};
+pub use look::Outlook;
 pub use register::register_of;
-pub use status::{StatusForm, show_status};
-pub use table::{Form, Report, report_on};
-pub use values::{ValuesForm, show_values};
+pub use text::put_rescued;

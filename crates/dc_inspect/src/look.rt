@@ -4,12 +4,12 @@ ghost use Rattle.std.specs.Prelude.{◌≡◌, ◌<◌, ◌≤◌, ◌+◌, ◌*
 ghost use Rattle.dc_disk.specs.Runs.{OnlyLooked, Counts};
 ghost use Rattle.dc_log.specs.Halves.{longest_half};
 ghost use Rattle.dc_log.specs.Refusal.{TellsOfImage};
-ghost use Rattle.dc_inspect.specs.Look.{AreHeld, EndsLook, IsPlaced, IsSeen, IsStop};
-ghost use Rattle.dc_inspect.specs.Told.{IsWearOf};
+ghost use Rattle.dc_inspect.specs.Look.{AreHeld, EndsLook, IsPlaced, IsSeenAs, IsStop};
+ghost use Rattle.dc_inspect.specs.Told.{IsWearOf, no_image};
 
 use dc_disk::{Disk, Failed};
 use dc_ending::ProgramFault;
-use dc_log::{Found, OpenFault, is_spent, read_image};
+use dc_log::{Found, Greatest, OpenFault, is_spent, read_chain};
 use dc_register::House;
 use dc_roots::{Held, Root, read_slot};
 use std::alloc::Allocator;
@@ -23,13 +23,22 @@ pub(crate) struct Slots {
     pub second: Held,
 }
 
-/// The state that an image reads as, and why it doesn't open.
+/// What opening would make of an image that was looked at.
+#[derive(Clone, Copy, Debug, PartialEq, Eq)]
+pub struct Outlook {
+    /// Why it doesn't open, if it doesn't.
+    pub refusal: Option<OpenFault>,
+    /// A sector that is ahead of the state that it reads as, if one is: a sector that had been synced was lost.
+    pub ahead: Option<u32>,
+}
+
+/// The state that an image reads as, and what opening would make of it.
 #[derive(Drop)]
 pub(crate) struct Look<A: Allocator + Copy> {
     /// The state and its place, if the image reads as one.
     pub found: Option<Found<House<A>>>,
-    /// Why it doesn't open, if it doesn't.
-    pub refusal: Option<OpenFault>,
+    /// What opening would make of it.
+    pub outlook: Outlook,
 }
 
 /// Reads both root slots.
@@ -70,34 +79,49 @@ pub(crate) fn wear_of(root: &Root, last: u64) -> Option<OpenFault>
     }
 }
 
-/// Reads an image's contents, as opening reads them.
+/// Reads an image's contents, as opening reads them, and compares them with what a scan of the halves found.
 pub(crate) fn look_at<A: Allocator + Copy, D: Disk>(
     alloc: A,
     disk: &mut D,
     half_len: u32,
+    greatest: &Greatest,
 ) -> Result<Look<A>, ProgramFault>
     requires most { half_len ≤ longest_half }
     requires fits { 3 + 2 * half_len ≤ D.sectors disk.old }
     ensures seen { D.keeps disk.new → IfOk result (λ look.
-        IsSeen half_len (D.reads disk.old) look.found look.refusal) }
+        IsSeenAs half_len greatest.now (D.reads disk.old) look.found look.outlook) }
     ensures looked { OnlyLooked D.Disk disk.old disk.new }
     ensures placed { IfOk result (λ look. IsPlaced half_len look.found) }
     ensures ends { EndsLook D.Disk disk.old disk.new result }
 {
-    match read_image(alloc, disk, half_len) {
+    match read_chain(alloc, disk, half_len) {
         Ok(found) => {
             let refusal = wear_of(&found.root, found.last);
+            let ahead = greatest.ahead_of(found.root.session, found.last);
             Ok(Look {
                 found: Some(found),
-                refusal,
+                outlook: Outlook { refusal, ahead },
             })
         }
         Err(fault) => {
             let refusal = refusal_of(fault)?;
             Ok(Look {
                 found: None,
-                refusal: Some(refusal),
+                outlook: Outlook {
+                    refusal: Some(refusal),
+                    ahead: None,
+                },
             })
         }
+    }
+}
+
+/// What opening would make of a disk that is too small for an image.
+pub(crate) fn no_image() -> Outlook
+    ensures { result ≡ no_image }
+{
+    Outlook {
+        refusal: Some(OpenFault::NotImage),
+        ahead: None,
     }
 }

@@ -1,16 +1,19 @@
 //! Writes the contents of an image as text.
 
-ghost use Rattle.std.specs.Prelude.{◌≤◌, ◌++◌};
+ghost use Rattle.std.specs.Prelude.{◌≡◌, ◌≤◌, ◌++◌, codes, option_map, Some};
 ghost use Rattle.dc_io.specs.Written.{Wrote};
-ghost use Rattle.dc_log.specs.Halves.{half_start, half_end, longest_half};
-ghost use Rattle.dc_inspect.specs.Text.{held_words, number_line, pair_line, place_text};
+ghost use Rattle.dc_log.specs.Halves.{budget_of, half_start, half_end, longest_half};
+ghost use Rattle.dc_log.specs.declared.fault.OpenFault.TheVariants.{NotImage};
+ghost use Rattle.dc_inspect.specs.Look.{IsPlaced, seen_of};
+ghost use Rattle.dc_inspect.specs.Text.{ahead_text, held_words, number_line, pair_line, place_text};
 ghost use Rattle.dc_inspect.specs.Text.{readings_words, fault_words, refused_line, refusal_text};
 ghost use Rattle.dc_inspect.specs.Text.{root_words, sector_word, serial_word, slot_line};
-ghost use Rattle.dc_inspect.specs.Text.{summary_text};
+ghost use Rattle.dc_inspect.specs.Text.{image_text, lost_text, rescue_text, seen_text, source_text, summary_text};
 
-use crate::summary::Summary;
+use crate::look::{Look, Slots};
+use crate::summary::{Summary, summary_of};
 use dc_io::{IoFault, Sink, put_fault, put_number_word};
-use dc_log::{Found, OpenFault, half_end, half_start};
+use dc_log::{Found, OpenFault, Rescued, Source, half_end, half_start};
 use dc_register::House;
 use dc_roots::{Held, Root};
 use std::alloc::Allocator;
@@ -60,9 +63,9 @@ fn put_held<W: Sink>(out: &mut W, held: &Held) -> Result<(), IoFault>
     }
 }
 
-/// Writes the line of a root slot.
+// Writes the line of a root slot.
 #[tactic(auto, using(dc_io::proofs::Pieces::written), unfolding(crate::specs::Text::slot_line))]
-pub(crate) fn put_slot<W: Sink>(out: &mut W, slot: u8, held: &Held) -> Result<(), IoFault>
+fn put_slot<W: Sink>(out: &mut W, slot: u8, held: &Held) -> Result<(), IoFault>
     ensures { Wrote W.Sink result out.old out.new (slot_line slot held.now) }
 {
     out.put(b"ROOT")?;
@@ -70,9 +73,9 @@ pub(crate) fn put_slot<W: Sink>(out: &mut W, slot: u8, held: &Held) -> Result<()
     put_held(out, held)
 }
 
-/// Writes the place of the groups that lead to the state.
+// Writes the place of the groups that lead to the state.
 #[tactic(auto, using(dc_io::proofs::Pieces::written), unfolding(crate::specs::Text::place_text))]
-pub(crate) fn put_place<A: Allocator + Copy, W: Sink>(
+fn put_place<A: Allocator + Copy, W: Sink>(
     out: &mut W,
     half_len: u32,
     found: &Found<House<A>>,
@@ -122,9 +125,9 @@ fn put_readings<W: Sink>(out: &mut W, name: &[u8], sum: &Summary) -> Result<(), 
     out.put(b"\n")
 }
 
-/// Writes the summary of a state.
+// Writes the summary of a state.
 #[tactic(auto, using(dc_io::proofs::Pieces::written), unfolding(crate::specs::Text::summary_text))]
-pub(crate) fn put_summary<W: Sink>(out: &mut W, sum: &Summary) -> Result<(), IoFault>
+fn put_summary<W: Sink>(out: &mut W, sum: &Summary) -> Result<(), IoFault>
     ensures { Wrote W.Sink result out.old out.new (summary_text sum.now) }
 {
     put_pair_line(out, b"SIZE", u64::from(sum.size), u64::from(sum.budget))?;
@@ -132,6 +135,16 @@ pub(crate) fn put_summary<W: Sink>(out: &mut W, sum: &Summary) -> Result<(), IoF
     put_readings(out, b"READINGS", sum)?;
     put_number_line(out, b"MARK", sum.confirmed)?;
     put_number_line(out, b"COMMAND", sum.command)
+}
+
+// Writes a sector that is ahead of the state, if one is.
+fn put_ahead<W: Sink>(out: &mut W, ahead: Option<u32>) -> Result<(), IoFault>
+    ensures { Wrote W.Sink result out.old out.new (ahead_text ahead) }
+{
+    match ahead {
+        Some(sector) => put_number_line(out, b"AHEAD", u64::from(sector)),
+        None => Ok(()),
+    }
 }
 
 // Writes the sector of a damaged image.
@@ -177,19 +190,125 @@ fn put_refused<W: Sink>(
     put_fault_words(out, number, name, fault)
 }
 
-/// Writes why an image doesn't open.
-pub(crate) fn put_refused_line<W: Sink>(out: &mut W, fault: OpenFault) -> Result<(), IoFault>
+// Writes why an image doesn't open.
+fn put_refused_line<W: Sink>(out: &mut W, fault: OpenFault) -> Result<(), IoFault>
     ensures { Wrote W.Sink result out.old out.new (refused_line fault) }
 {
     put_refused(out, b"REFUSED ", fault.number(), fault.name(), fault)
 }
 
-/// Writes why an image doesn't open, if it doesn't.
-pub(crate) fn put_refusal<W: Sink>(out: &mut W, refusal: Option<OpenFault>) -> Result<(), IoFault>
+// Writes why an image doesn't open, if it doesn't.
+fn put_refusal<W: Sink>(out: &mut W, refusal: Option<OpenFault>) -> Result<(), IoFault>
     ensures { Wrote W.Sink result out.old out.new (refusal_text refusal) }
 {
     match refusal {
         Some(fault) => put_refused_line(out, fault),
         None => Ok(()),
     }
+}
+
+// Writes the state that an image reads as.
+#[tactic(auto, using(dc_io::proofs::Pieces::written))]
+fn put_seen<A: Allocator + Copy, W: Sink>(
+    out: &mut W,
+    half_len: u32,
+    found: &Found<House<A>>,
+) -> Result<(), IoFault>
+    requires most { half_len ≤ longest_half }
+    requires placed { IsPlaced half_len (Some found.now) }
+    ensures { Wrote W.Sink result out.old out.new (seen_text half_len (Some (seen_of found.now))) }
+{
+    put_place(out, half_len, found)?;
+    put_summary(out, &summary_of(&found.house))
+}
+
+// Writes the state that an image reads as, if it reads.
+fn put_found<A: Allocator + Copy, W: Sink>(
+    out: &mut W,
+    half_len: u32,
+    found: &Option<Found<House<A>>>,
+) -> Result<(), IoFault>
+    requires most { half_len ≤ longest_half }
+    requires placed { IsPlaced half_len found.now }
+    ensures { Wrote W.Sink result out.old out.new
+        (seen_text half_len (option_map seen_of found.now)) }
+{
+    match found {
+        None => Ok(()),
+        Some(found) => put_seen(out, half_len, found),
+    }
+}
+
+/// Writes the text of an image after the line of its disk.
+#[tactic(auto, using(dc_io::proofs::Pieces::written), unfolding(crate::specs::Text::image_text))]
+pub(crate) fn put_image<A: Allocator + Copy, W: Sink>(
+    out: &mut W,
+    half_len: u32,
+    slots: &Slots,
+    look: &Look<A>,
+) -> Result<(), IoFault>
+    requires most { half_len ≤ longest_half }
+    requires placed { IsPlaced half_len look.now.found }
+    ensures { Wrote W.Sink result out.old out.new
+        (image_text half_len slots.now.first slots.now.second
+        (option_map seen_of look.now.found) look.now.outlook) }
+{
+    put_slot(out, 1, &slots.first)?;
+    put_slot(out, 2, &slots.second)?;
+    put_found(out, half_len, &look.found)?;
+    put_ahead(out, look.outlook.ahead)?;
+    put_refusal(out, look.outlook.refusal)
+}
+
+/// Writes the text of a disk that is too small for an image.
+#[tactic(auto, using(dc_io::proofs::Pieces::written))]
+pub(crate) fn put_small<W: Sink>(out: &mut W, sectors: u32) -> Result<(), IoFault>
+    ensures { Wrote W.Sink result out.old out.new
+        (number_line (codes "DISK") sectors ++ refused_line NotImage) }
+{
+    put_number_line(out, b"DISK", u64::from(sectors))?;
+    put_refused_line(out, OpenFault::NotImage)
+}
+
+// Writes what a state was rescued without.
+fn put_source<W: Sink>(out: &mut W, source: Source) -> Result<(), IoFault>
+    ensures { Wrote W.Sink result out.old out.new (source_text source) }
+{
+    match source {
+        Source::Whole => Ok(()),
+        Source::Without(n) => put_number_line(out, b"WITHOUT", u64::from(n)),
+        Source::OtherRoot(n, slot) => {
+            put_pair_line(out, b"WITHOUT", u64::from(n), u64::from(slot))
+        }
+    }
+}
+
+// Writes the sequences of the groups that were written and aren't in a state.
+fn put_lost<W: Sink>(out: &mut W, last: u64, greatest: u64) -> Result<(), IoFault>
+    ensures { Wrote W.Sink result out.old out.new (lost_text last greatest) }
+{
+    if last < greatest {
+        return put_pair_line(out, b"LOST", last + 1, greatest);
+    }
+    Ok(())
+}
+
+/// Writes what was rescued of an image: the sector that it was read without, and the slot of the root in force where that
+/// was left out too; the sequence of the last group that was read; the place and the summary of the state, as for an
+/// image that reads; and the sequences of the groups that were written after it, as far as sectors show them.
+#[tactic(auto, using(dc_io::proofs::Pieces::written), unfolding(crate::specs::Text::rescue_text))]
+pub fn put_rescued<A: Allocator + Copy, W: Sink>(
+    out: &mut W,
+    half_len: u32,
+    rescued: &Rescued<House<A>>,
+) -> Result<(), IoFault>
+    requires most { half_len ≤ longest_half }
+    requires placed { IsPlaced half_len (Some rescued.now.found) }
+    ensures { Wrote W.Sink result out.old out.new
+        (rescue_text half_len rescued.now.source rescued.now.greatest (seen_of rescued.now.found)) }
+{
+    put_source(out, rescued.source)?;
+    put_number_line(out, b"GROUP", rescued.found.last)?;
+    put_seen(out, half_len, &rescued.found)?;
+    put_lost(out, rescued.found.last, rescued.greatest.sequence.number)
 }

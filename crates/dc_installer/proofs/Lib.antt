@@ -7,8 +7,6 @@ mod Failures
 mod Readouts
 -- what is said of a result where it is Ok
 mod Results
--- the steps of setting a primary address
-mod Changes
 -- the counts of a search's course, exchange by exchange
 mod Courses
 -- the tries that find a meter by its number

@@ -3,6 +3,7 @@ use Rattle.std.specs.Prelude.{◌≡◌, ℕ, ◌+◌, ◌-◌, ◌%◌, ◌<◌
 use Rattle.std.specs.Prelude.{codes, map, nat_eq, Option, None, Some, if◌then◌else◌}
 use Rattle.std.specs.List.{starts_with}
 use Rattle.dc_address.specs.Mask.{mask_wire}
+use Rattle.dc_bus.specs.Windows.{Reads}
 use Rattle.dc_address.specs.Text.{text_of}
 use Rattle.dc_address.specs.declared.identity.Identity.{Identity}
 use Rattle.dc_frame.specs.Control.{request_to, selected, selection_by}
@@ -45,35 +46,35 @@ ending false misses = Nobody misses
 
 -- THE TRIES THAT ARE LEFT, after those that brought this. A selection that bytes came to is followed by a request. A
 -- meter is found where one telegram comes, and the meter has the number.
-pub data Tries {B : Type 0} (asks : B → List ℕ → List ℕ → B → Type 0) (digits : List ℕ)
+pub data Tries {B : Type 0} (asks_all : B → List ℕ → List ℕ → B → Type 0) (digits : List ℕ)
     : ℕ → Bool → Misses → B → Numbered → B → Type 0 where
   are_over : {collided : Bool} {misses : Misses} {bus : B}
-      → Tries asks digits 0 collided misses bus (ending collided misses) bus
+      → Tries asks_all digits 0 collided misses bus (ending collided misses) bus
   meets_silence : {left : ℕ} {collided : Bool} {misses : Misses} {old between new : B}
       {found : Numbered} (answer : List ℕ) → 0 < left → is_silent answer ≡ true
-      → asks old (spelling (selection_to digits)) answer between
-      → Tries asks digits (left - 1) false (and_missed answer misses) between found new
-      → Tries asks digits left collided misses old found new
+      → asks_all old (spelling (selection_to digits)) answer between
+      → Tries asks_all digits (left - 1) false (and_missed answer misses) between found new
+      → Tries asks_all digits left collided misses old found new
   finds : {left : ℕ} {collided : Bool} {misses : Misses} {old between new : B} {meter : Identity}
       (answer telegram : List ℕ) → 0 < left → is_silent answer ≡ false
-      → asks old (spelling (selection_to digits)) answer between
-      → asks between (spelling (request_to true selected)) telegram new
+      → asks_all old (spelling (selection_to digits)) answer between
+      → Reads asks_all (spelling (request_to true selected)) between telegram new
       → with_number digits telegram ≡ Some meter
-      → Tries asks digits left collided misses old (One meter) new
+      → Tries asks_all digits left collided misses old (One meter) new
   collides : {left : ℕ} {collided : Bool} {misses : Misses} {old between asked new : B}
       {found : Numbered} (answer telegram : List ℕ) → 0 < left → is_silent answer ≡ false
-      → asks old (spelling (selection_to digits)) answer between
-      → asks between (spelling (request_to true selected)) telegram asked
+      → asks_all old (spelling (selection_to digits)) answer between
+      → Reads asks_all (spelling (request_to true selected)) between telegram asked
       → with_number digits telegram ≡ None
-      → Tries asks digits (left - 1) (collided && is_noise telegram)
+      → Tries asks_all digits (left - 1) (collided && is_noise telegram)
       (and_missed telegram misses) asked found new
-      → Tries asks digits left collided misses old found new
+      → Tries asks_all digits left collided misses old found new
 
 -- THE ONE METER WITH A NUMBER is asked for, and nothing else goes out.
 abbrev pub IsFound : {B : Type 0} → (B → List ℕ → List ℕ → B → Type 0) → List ℕ → B → Numbered
     → B → Type 0
-IsFound asks digits old found new =
-    Tries asks digits most_tries true (misses_of []) old found new
+IsFound asks_all digits old found new =
+    Tries asks_all digits most_tries true (misses_of []) old found new
 
 -- ---- the text
 

@@ -1,17 +1,18 @@
 //! Setting a primary address.
 
-ghost use Rattle.std.specs.Prelude.{◌≡◌, ◌++◌, ◌==◌, true, ℕ, List, codes};
-ghost use Rattle.dc_frame.specs.Control.{request_to, reset_to};
+ghost use Rattle.std.specs.Prelude.{◌≡◌, ◌++◌, true, ℕ, List, codes};
+ghost use Rattle.dc_bus.specs.Windows.{Insists, most_tries};
+ghost use Rattle.dc_frame.specs.Control.{request_to};
 ghost use Rattle.dc_frame.specs.Frame.{spelling};
 ghost use Rattle.dc_io.specs.Written.{Wrote};
-ghost use Rattle.dc_installer.specs.Scan.{is_none};
 ghost use Rattle.dc_installer.specs.Address.{IsAddressed, IsChanged, IsFree, address_word};
 ghost use Rattle.dc_installer.specs.Address.{addressing_text, change_to, confirmed, elsewhere};
+ghost use Rattle.dc_installer.specs.Address.{one_at};
 
-use crate::primary::{meter_at, put_address, requests, resets};
+use crate::primary::{Asked, ask_address, ask_reset, is_ack, put_address, sender_at};
 use dc_address::Identity;
-use dc_bus::{Bus, ScriptBus};
-use dc_frame::control::{SND_UD, write_request, write_reset};
+use dc_bus::{AnswerBuf, Bus, TRIES, insist};
+use dc_frame::control::{SND_UD, write_request};
 use dc_frame::{FrameBuf, write_long};
 use dc_io::{IoFault, Sink, put_number_word};
 
@@ -42,74 +43,65 @@ pub enum Addressing {
 /// Sets the primary address of the meter at `from` to `to`, by SND_UD with the record `01 7A to` (EN 13757-3, bus
 /// address), and reads it there.
 ///
-/// Nothing goes to `from` unless `to` is silent: a reset and a request are met by silence, and no late answer shows
-/// until the bus is quiet. The change goes out only where one meter acknowledges at `from` and its telegram names it.
-/// Whether the change is acknowledged doesn't count; the telegram at `to` decides.
-pub fn set_address<B: ScriptBus>(bus: &mut B, from: u8, to: u8) -> Addressing
-    ensures { IsAddressed B.asks B.settles B.late from to bus.old result bus.new }
+/// Nothing goes to `from` unless `to` is silent: a reset and a request are met by silence three times each. The change
+/// goes out only where one meter acknowledges at `from`, and its telegram comes twice and names that address. Whether
+/// the change is acknowledged doesn't count; the telegram at `to` decides.
+pub fn set_address<B: Bus>(bus: &mut B, from: u8, to: u8) -> Addressing
+    ensures { IsAddressed B.asks B.asks_all from to bus.old result bus.new }
 {
     if !is_free(bus, to) {
         return Addressing::Taken;
     }
-    if !resets(bus, from) {
+    let asked = ask_address(bus, from);
+    if asked.answer.as_slice().is_empty() {
         return Addressing::Nobody;
     }
-    match requests(bus, from) {
+    match one_at(from, &asked) {
         Some(meter) => change(bus, &meter, from, to),
         None => Addressing::Unclear,
     }
 }
 
 // Whether nobody answers at an address.
-fn is_free<B: ScriptBus>(bus: &mut B, address: u8) -> bool
-    ensures { IsFree B.asks B.settles B.late address bus.old result bus.new }
+fn is_free<B: Bus>(bus: &mut B, address: u8) -> bool
+    ensures { IsFree B.asks_all address bus.old result bus.new }
 {
-    let late = bus.late();
-    if !is_reset_silent(bus, address) {
+    let answer = ask_reset(bus, address);
+    if !answer.as_slice().is_empty() {
         return false;
     }
-    if !is_request_silent(bus, address) {
-        return false;
-    }
-    bus.settle();
-    has_count(bus, late)
+    let telegram = ask_data(bus, address);
+    telegram.as_slice().is_empty()
 }
 
-// Whether a reset is met by silence.
-fn is_reset_silent<B: Bus>(bus: &mut B, address: u8) -> bool
-    ensures { (answer : List ℕ) × B.asks bus.old (spelling (reset_to address)) answer bus.new
-        × (result ≡ is_none answer) }
-{
-    let mut request = FrameBuf::new();
-    write_reset(address, &mut request);
-    bus.ask(&request).as_slice().is_empty()
-}
-
-// Whether a request is met by silence.
-fn is_request_silent<B: Bus>(bus: &mut B, address: u8) -> bool
-    ensures { (answer : List ℕ) × B.asks bus.old (spelling (request_to true address)) answer bus.new
-        × (result ≡ is_none answer) }
+// Requests a telegram, and returns what comes to that.
+fn ask_data<B: Bus>(bus: &mut B, address: u8) -> AnswerBuf
+    ensures { Insists B.asks_all (spelling (request_to true address)) most_tries bus.old result
+        bus.new }
 {
     let mut request = FrameBuf::new();
     write_request(true, address, &mut request);
-    bus.ask(&request).as_slice().is_empty()
+    insist(bus, &request, TRIES)
 }
 
-// Whether this many late answers came.
-fn has_count<B: ScriptBus>(bus: &B, late: u64) -> bool
-    ensures { result ≡ (B.late bus.now == late) }
+// The one meter that acknowledges at an address, and whose telegram comes from there.
+fn one_at(address: u8, asked: &Asked) -> Option<Identity>
+    ensures { result ≡ one_at address asked.now.answer asked.now.telegram }
 {
-    bus.late() == late
+    if is_ack(&asked.answer) {
+        sender_at(address, &asked.telegram)
+    } else {
+        None
+    }
 }
 
 // Sends a meter its new address, and reads it there.
-fn change<B: ScriptBus>(bus: &mut B, meter: &Identity, from: u8, to: u8) -> Addressing
-    ensures { IsChanged B.asks B.settles from to meter.now bus.old result bus.new }
+fn change<B: Bus>(bus: &mut B, meter: &Identity, from: u8, to: u8) -> Addressing
+    ensures { IsChanged B.asks B.asks_all from to meter.now bus.old result bus.new }
 {
     send_change(bus, from, to);
-    bus.settle();
-    let sender = meter_at(bus, to);
-    confirmed(meter, sender)
+    let asked = ask_address(bus, to);
+    confirmed(meter, sender_at(to, &asked.telegram))
 }
 
 // Sends the record of the new address, and waits for its acknowledgement. The frame count bit is 0: that of the

@@ -10,8 +10,8 @@ use dc_frame::control::{SELECTION, SND_NKE};
 use dc_frame::{Frame, parse};
 use dc_search::meter_of;
 
-/// How far a search is: what its requests and their answers come to so far. Those that the search drops, since an
-/// answer may have been late, count too. Counts stay at the greatest number of 64 bits.
+/// How far a search is: what its requests and their answers come to so far, repeats too. Counts stay at the greatest
+/// number of 64 bits.
 #[derive(Clone, Copy, Debug, PartialEq, Eq)]
 pub struct Course {
     /// Number of selections.

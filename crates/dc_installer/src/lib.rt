@@ -20,7 +20,7 @@ pub use address::{Addressing, put_addressing, set_address};
 pub use course::Course;
 pub use laws::a_course_counts_the_answers;
 pub use number::{Numbered, find_number, put_unfound};
-pub use primary::{Acknowledgement, GREATEST, identify, scan_primary};
+pub use primary::{GREATEST, identify, scan_primary};
 pub use reading::{Readout, read};
 pub use unread::put_unread;
 pub use wildcards::{Count, ScanFault, scan};

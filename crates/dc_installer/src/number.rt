@@ -8,14 +8,14 @@ ghost use Rattle.dc_io.specs.Written.{Wrote};
 ghost use Rattle.dc_misses.specs.Misses.{and_missed, is_noise, is_silent};
 ghost use Rattle.dc_search.specs.Prefix.{mask_of_digits};
 
-use crate::primary::{ask_telegram, sender_of};
+use crate::primary::ask_telegram;
 use dc_address::{Identity, Mask};
 use dc_bus::{AnswerBuf, Bus};
 use dc_frame::FrameBuf;
 use dc_frame::control::{SELECTED, write_selection};
 use dc_io::{IoFault, Sink};
 use dc_misses::{Misses, is_noise};
-use dc_search::Branch;
+use dc_search::{Branch, meter_of};
 
 // Number of tries.
 const TRIES: u8 = 3;
@@ -33,10 +33,10 @@ pub enum Numbered {
 }
 
 /// Finds the one meter with a number, of eight digits in ASCII: selects it, with wildcards for manufacturer,
-/// version and type (EN 13757-3), and requests its telegram, which the meter repeats to the next readout. It
-/// tries three times.
+/// version and type (EN 13757-3), and requests its telegram, which has to come twice from one meter, alone. The meter
+/// repeats it to the next readout. It tries three times.
 pub fn find_number<B: Bus>(bus: &mut B, digits: &[u8; 8]) -> Numbered
-    ensures { IsFound B.asks digits.now bus.old result bus.new }
+    ensures { IsFound B.asks_all digits.now bus.old result bus.new }
 {
     try_on(bus, digits, TRIES, true, Misses::none())
 }
@@ -49,7 +49,7 @@ fn try_on<B: Bus>(
     collided: bool,
     misses: Misses,
 ) -> Numbered
-    ensures { Tries B.asks digits.now left collided misses bus.old result bus.new }
+    ensures { Tries B.asks_all digits.now left collided misses bus.old result bus.new }
 {
     if left == 0 {
         return ending(collided, misses);
@@ -108,11 +108,11 @@ fn ending(collided: bool, misses: Misses) -> Numbered
 }
 
 fn ask_selection<B: Bus>(bus: &mut B, digits: &[u8; 8]) -> AnswerBuf
-    ensures { B.asks bus.old (spelling (selection_to digits.now)) result bus.new }
+    ensures { B.asks_all bus.old (spelling (selection_to digits.now)) result bus.new }
 {
     let mut request = FrameBuf::new();
     write_selection(&mask_of(digits).wire(), &mut request);
-    bus.ask(&request)
+    bus.ask_all(&request)
 }
 
 // The mask of all meters with a number.
@@ -146,7 +146,7 @@ fn digit_of(code: u8) -> u8
 fn with_number(telegram: &AnswerBuf, digits: &[u8; 8]) -> Option<Identity>
     ensures { result ≡ with_number digits.now telegram.now }
 {
-    match sender_of(telegram) {
+    match meter_of(telegram.as_slice()) {
         Some(meter) => having(&meter, digits),
         None => None,
     }

@@ -13,9 +13,9 @@ use Rattle.dc_value.specs.declared.point.Seen.{Seen}
 use Rattle.dc_value.specs.declared.point.Seen.TheVariants.{Point as Known, Other}
 use Rattle.dc_register.specs.Points.{points_in, shown}
 use Rattle.dc_tokens.specs.Object.{fields_tokens, values_tokens}
-use Rattle.dc_tokens.proofs.Objects.{fields-around, no_values, values-append}
+use Rattle.dc_tokens.proofs.Objects.{fields-append, no_values, values-append}
 use Rattle.dc_json.specs.Reported.{reported_fields}
-use Rattle.dc_json.specs.Values.{current_of, moment_fields, status_field, values_field}
+use Rattle.dc_json.specs.Values.{current_of, received_fields, values_field}
 
 -- one record more
 pub first_record : (e : Entry) (records : List Entry)
@@ -32,10 +32,10 @@ pub none_told : (seen : Seen) → seen ≡ Other → [] ≡ values_tokens (flat_
 none_told seen is = sym no_values ∙ ap (λ (s : Seen). values_tokens (flat_map current_of (shown s))) (sym is)
 
 pub reported_as : (moment : ℕ) (header : Header) (records : List Entry) (t : Parsed) → header ≡ t.header → records ≡ t.records
-    → fields_tokens (moment_fields moment) ++ (fields_tokens (status_field header.status ∷ []) ++ (fields_tokens (values_field (points_in records) ∷ []) ++ [])) ≡ fields_tokens (reported_fields moment t)
+    → fields_tokens (received_fields moment header.status) ++ (fields_tokens (values_field (points_in records) ∷ []) ++ []) ≡ fields_tokens (reported_fields moment t)
 unfolding reported_fields
 reported_as moment header records t same listed =
-    ap (λ (ts : List Token). fields_tokens (moment_fields moment) ++ (fields_tokens (status_field header.status ∷ []) ++ ts)) (append-nil (fields_tokens (values_field (points_in records) ∷ [])))
-    ∙ sym (fields-around (moment_fields moment) (status_field header.status) (values_field (points_in records) ∷ []))
-    ∙ ap (λ (h : Header). fields_tokens (moment_fields moment ++ (status_field h.status ∷ values_field (points_in records) ∷ []))) same
-    ∙ ap (λ (es : List Entry). fields_tokens (moment_fields moment ++ (status_field t.header.status ∷ values_field (points_in es) ∷ []))) listed
+    ap (λ (ts : List Token). fields_tokens (received_fields moment header.status) ++ ts) (append-nil (fields_tokens (values_field (points_in records) ∷ [])))
+    ∙ sym (fields-append (received_fields moment header.status) (values_field (points_in records) ∷ []))
+    ∙ ap (λ (h : Header). fields_tokens (received_fields moment h.status ++ values_field (points_in records) ∷ [])) same
+    ∙ ap (λ (es : List Entry). fields_tokens (received_fields moment t.header.status ++ values_field (points_in es) ∷ [])) listed

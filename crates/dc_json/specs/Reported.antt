@@ -3,9 +3,9 @@ use Rattle.std.specs.Prelude.{ℕ, List, [], ◌∷◌, ◌++◌}
 use Rattle.dc_record.specs.Telegram.{Parsed}
 use Rattle.dc_register.specs.Points.{points_in}
 use Rattle.dc_tokens.specs.Object.{Field}
-use Rattle.dc_json.specs.Values.{moment_fields, status_field, values_field}
+use Rattle.dc_json.specs.Values.{received_fields, values_field}
 
 -- when it was received, the status, and the current values among its records
 unfoldable pub reported_fields : ℕ → Parsed → List Field
-reported_fields moment t = moment_fields moment
-    ++ (status_field t.header.status ∷ values_field (points_in t.records) ∷ [])
+reported_fields moment t = received_fields moment t.header.status
+    ++ values_field (points_in t.records) ∷ []

@@ -43,28 +43,23 @@ abbrev pub byte_in : Result Parsed BodyFault → ℕ
 byte_in (Ok telegram) = telegram.header.status
 byte_in (Err fault) = 0
 
--- the minute in UTC
-unfoldable pub utc_json : ℕ → Json
-utc_json moment = value_json (minute_of moment)
+-- when a telegram was received, in seconds since 1970 and as the minute in UTC, and the status that it reports
+unfoldable pub received_fields : ℕ → ℕ → List Field
+received_fields moment status =
+    (codes "moment", count moment)
+    ∷ (codes "utc", value_json (minute_of moment))
+    ∷ (codes "status", object_of (status_fields status))
+    ∷ []
 
--- when a telegram was received: in seconds since 1970, and as the minute in UTC
-unfoldable pub moment_fields : ℕ → List Field
-moment_fields moment = (codes "moment", count moment) ∷ (codes "utc", utc_json moment) ∷ []
-
-unfoldable pub status_field : ℕ → Field
-status_field status = (codes "status", object_of (status_fields status))
-
--- when a part was received, and the status that it reports
-unfoldable pub part_fields : PartRow → List Field
-part_fields part = moment_fields part.moment ++ status_field (byte_in (telegram_at part.body)) ∷ []
-
-unfoldable pub serial_field : ℕ → Field
-serial_field serial = (codes "serial", count serial)
+-- a reading's serial, and its last part
+unfoldable pub head_fields : ℕ → PartRow → List Field
+head_fields serial part =
+    (codes "serial", count serial)
+    ∷ received_fields part.moment (byte_in (telegram_at part.body))
 
 -- a reading: its serial, its last part, and its current values
 unfoldable pub reading_fields : ℕ → PartRow → List Point → List Field
-reading_fields serial part points =
-    serial_field serial ∷ [] ++ (part_fields part ++ values_field points ∷ [])
+reading_fields serial part points = head_fields serial part ++ values_field points ∷ []
 
 unfoldable pub reading_json : ℕ → PartRow → List Point → Json
 reading_json serial part points = object_of (reading_fields serial part points)

@@ -87,19 +87,14 @@ fn put_frame<W: Sink>(out: &mut W, start: usize, frame: Frame<'_>) -> Result<boo
         } => {
             out.put(b"long frame, ")?;
             put_link(out, control, address)?;
-            put_information(out, ci)?;
+            out.put(b", ")?;
+            out.put(ci_name(ci).as_bytes())?;
+            out.put(b" (")?;
+            put_byte(out, ci)?;
+            out.put(b")\n")?;
             put_body(out, start.saturating_add(BODY), ci, body)
         }
     }
-}
-
-// Writes a CI byte in words, and ends the line.
-fn put_information<W: Sink>(out: &mut W, ci: u8) -> Result<(), IoFault> {
-    out.put(b", ")?;
-    out.put(ci_name(ci).as_bytes())?;
-    out.put(b" (")?;
-    put_byte(out, ci)?;
-    out.put(b")\n")
 }
 
 // Writes a text that begins at this place of a line, and returns whether it has a fault.

@@ -9,11 +9,13 @@ ghost use Rattle.dc_change.specs.Fields.{last_moment};
 ghost use Rattle.dc_register.specs.Points.{points_in, shown};
 ghost use Rattle.dc_tokens.specs.Writing.{Added};
 ghost use Rattle.dc_tokens.specs.Object.{fields_tokens, values_tokens};
-ghost use Rattle.dc_json.specs.Values.{current_of, values_field};
+ghost use Rattle.dc_json.specs.Values.{current_of, received_fields, values_field};
 ghost use Rattle.dc_json.specs.Reported.{reported_fields};
 
-use crate::values::{put_if_current, put_moment, put_status};
+use crate::values::put_if_current;
+use dc_frame_json::{Cell, put_row};
 use dc_io::Sink;
+use dc_latest::minute;
 use dc_record::{Record, Records, Telegram};
 use dc_tokens::TokenWriter;
 use dc_value::{Seen, point_of};
@@ -25,9 +27,24 @@ pub fn put_reported<W: Sink>(out: &mut TokenWriter<'_, W>, moment: u64, telegram
     ensures { Added W.Sink out.old out.new
         (fields_tokens (reported_fields moment (parsed telegram.now))) }
 {
-    put_moment(out, moment);
-    put_status(out, telegram.header().status);
+    put_received(out, moment, telegram.header().status);
     put_values(out, telegram.records());
+}
+
+// Writes when a telegram was received, and the status that it reports.
+#[tactic(auto, unfolding(crate::specs::Values::received_fields))]
+fn put_received<W: Sink>(out: &mut TokenWriter<'_, W>, moment: u64, status: u8)
+    requires { moment ≤ last_moment }
+    ensures { Added W.Sink out.old out.new (fields_tokens (received_fields moment status)) }
+{
+    put_row(
+        out,
+        &[
+            Cell::Number("moment", moment),
+            Cell::Value("utc", minute(moment)),
+            Cell::Status("status", status),
+        ],
+    );
 }
 
 // Writes the field of the current values.

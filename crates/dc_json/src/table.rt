@@ -6,6 +6,7 @@ use dc_names::{
 };
 use dc_record::{Header, Record, Telegram};
 use dc_value::{Seen, TEXT_ROOM, Value, point_of};
+use itoa::Buffer;
 
 // The widths of the columns, in characters.
 const QUANTITY: usize = 30;
@@ -28,25 +29,6 @@ fn put_spaces<W: Sink>(out: &mut W, count: usize) -> Result<(), IoFault> {
 fn put_cell<W: Sink>(out: &mut W, text: &[u8], width: usize) -> Result<(), IoFault> {
     out.put(text)?;
     put_spaces(out, width.saturating_sub(text.len()))
-}
-
-// Number of digits of a number.
-fn digits_of(number: u64) -> usize {
-    let mut digits = 1;
-    let mut power = 10;
-    'powers: for _ in 0..19u8 {
-        if number < power {
-            return digits;
-        }
-        digits = digits.saturating_add(1);
-        power = power.saturating_mul(10);
-    }
-    digits
-}
-
-fn put_number_cell<W: Sink>(out: &mut W, number: u64) -> Result<(), IoFault> {
-    put_number(out, number)?;
-    put_spaces(out, NUMBER.saturating_sub(digits_of(number)))
 }
 
 // Writes the meter of a telegram and its status.
@@ -103,9 +85,10 @@ fn put_row<W: Sink>(out: &mut W, found: &Record<'_>) -> Result<(), IoFault> {
     out.put(b"  ")?;
     put_cell(out, quantity_name(found.vib).as_bytes(), QUANTITY)?;
     put_reading(out, found)?;
-    put_number_cell(out, found.storage)?;
-    put_number_cell(out, u64::from(found.tariff))?;
-    put_number_cell(out, u64::from(found.subunit))?;
+    let mut number = Buffer::new();
+    put_cell(out, number.format(found.storage).as_bytes(), NUMBER)?;
+    put_cell(out, number.format(found.tariff).as_bytes(), NUMBER)?;
+    put_cell(out, number.format(found.subunit).as_bytes(), NUMBER)?;
     out.put(function_name(found.function).as_bytes())?;
     put_qualifiers(out, found.vib)?;
     out.put(b"\n")

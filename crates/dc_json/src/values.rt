@@ -1,23 +1,20 @@
 //! What the meters of a house stand at, as JSON Lines.
 
-ghost use Rattle.std.specs.Prelude.{◌≡◌, ◌≤◌, ◌∷◌, ◌++◌, [], IfOk, option_copied};
+ghost use Rattle.std.specs.Prelude.{◌≡◌, ◌∷◌, ◌++◌, [], IfOk, option_copied};
 ghost use Rattle.std.specs.List.{flat_map};
 ghost use Rattle.json.specs.Tree.{json_tokens};
 ghost use Rattle.dc_record.specs.Telegram.{telegram_at};
-ghost use Rattle.dc_change.specs.Fields.{last_moment};
 ghost use Rattle.dc_latest.specs.Values.{is_current, last_part};
 ghost use Rattle.dc_io.specs.Written.{Wrote};
 ghost use Rattle.dc_tokens.specs.Writing.{Added};
 ghost use Rattle.dc_tokens.specs.Object.{fields_tokens, values_tokens};
-ghost use Rattle.dc_json.specs.Values.{byte_in, current_fields, current_json, current_of};
-ghost use Rattle.dc_json.specs.Values.{held_field, held_json, last_json, moment_fields};
-ghost use Rattle.dc_json.specs.Values.{part_fields, reading_fields, reading_json, serial_field};
-ghost use Rattle.dc_json.specs.Values.{stands_json, stands_line, status_field, utc_json, values_field};
-ghost use Rattle.dc_json.specs.Values.{values_lines};
+ghost use Rattle.dc_json.specs.Values.{byte_in, current_json, current_of, head_fields};
+ghost use Rattle.dc_json.specs.Values.{held_field, held_json, last_json, reading_json};
+ghost use Rattle.dc_json.specs.Values.{stands_json, stands_line, values_field, values_lines};
 
 use crate::grown::Grown;
 use crate::report::put_whose;
-use dc_frame_json::{put_status_object, put_unit, put_value};
+use dc_frame_json::{Cell, put_object, put_row};
 use dc_io::{IoFault, NoMemory, Sink};
 use dc_latest::{last_reading, minute};
 use dc_register::{House, Part, Place, Points, Reading};
@@ -25,25 +22,20 @@ use dc_tokens::TokenWriter;
 use dc_value::Point;
 use std::alloc::Allocator;
 
-// Writes the fields of a current value.
-fn put_fields<W: Sink>(out: &mut TokenWriter<'_, W>, point: &Point)
-    ensures { Added W.Sink out.old out.new (fields_tokens (current_fields point.now)) }
-{
-    out.put_count("tariff", u64::from(point.tariff));
-    out.put_count("subunit", u64::from(point.subunit));
-    out.put_name("value");
-    put_value(out, &point.value);
-    out.put_name("unit");
-    put_unit(out, point.quantity.unit());
-}
-
 // Writes a current value.
+#[tactic(auto, unfolding(crate::specs::Values::current_json, crate::specs::Values::current_fields))]
 fn put_current<W: Sink>(out: &mut TokenWriter<'_, W>, point: &Point)
     ensures { Added W.Sink out.old out.new (json_tokens (current_json point.now)) }
 {
-    out.begin_object();
-    put_fields(out, point);
-    out.end_object();
+    put_object(
+        out,
+        &[
+            Cell::Number("tariff", u64::from(point.tariff)),
+            Cell::Number("subunit", u64::from(point.subunit)),
+            Cell::Value("value", point.value),
+            Cell::Unit("unit", point.quantity.unit()),
+        ],
+    );
 }
 
 // Whether a value is current: storage number 0, instantaneous (EN 13757-3).
@@ -81,33 +73,6 @@ fn put_values<A: Allocator, W: Sink>(out: &mut TokenWriter<'_, W>, points: Point
     out.end_array();
 }
 
-/// Writes a moment.
-pub(crate) fn put_moment<W: Sink>(out: &mut TokenWriter<'_, W>, moment: u64)
-    requires { moment ≤ last_moment }
-    ensures { Added W.Sink out.old out.new (fields_tokens (moment_fields moment)) }
-{
-    out.put_count("moment", moment);
-    out.put_name("utc");
-    put_utc(out, moment);
-}
-
-// Writes the minute of a moment in UTC.
-#[tactic(auto, unfolding(crate::specs::Values::utc_json))]
-fn put_utc<W: Sink>(out: &mut TokenWriter<'_, W>, moment: u64)
-    requires { moment ≤ last_moment }
-    ensures { Added W.Sink out.old out.new (json_tokens (utc_json moment)) }
-{
-    put_value(out, &minute(moment))
-}
-
-/// Writes the field of a status byte.
-pub(crate) fn put_status<W: Sink>(out: &mut TokenWriter<'_, W>, status: u8)
-    ensures { Added W.Sink out.old out.new (fields_tokens (status_field status ∷ [])) }
-{
-    out.put_name("status");
-    put_status_object(out, status);
-}
-
 // The status byte of a part's telegram.
 fn status_of<A: Allocator>(part: &Part<A>) -> u8
     ensures { result ≡ byte_in (telegram_at part.now.body) }
@@ -115,38 +80,25 @@ fn status_of<A: Allocator>(part: &Part<A>) -> u8
     part.telegram().header().status
 }
 
-// Writes when a part was received, and the status that it reports.
-fn put_part<A: Allocator, W: Sink>(out: &mut TokenWriter<'_, W>, part: &Part<A>)
-    ensures { Added W.Sink out.old out.new (fields_tokens (part_fields part.now)) }
+// Writes the serial of a reading, when its last part was received, and the status that this reports.
+#[tactic(auto, unfolding(crate::specs::Values::head_fields, crate::specs::Values::received_fields))]
+fn put_head<A: Allocator, W: Sink>(out: &mut TokenWriter<'_, W>, serial: u64, part: &Part<A>)
+    ensures { Added W.Sink out.old out.new (fields_tokens (head_fields serial part.now)) }
 {
-    put_moment(out, part.moment());
-    put_status(out, status_of(part));
-}
-
-// Writes the field of a serial.
-fn put_serial<W: Sink>(out: &mut TokenWriter<'_, W>, serial: u64)
-    ensures { Added W.Sink out.old out.new (fields_tokens (serial_field serial ∷ [])) }
-{
-    out.put_count("serial", serial);
-}
-
-// Writes the fields of a reading.
-fn put_fields_of<A: Allocator, W: Sink>(
-    out: &mut TokenWriter<'_, W>,
-    serial: u64,
-    part: &Part<A>,
-    points: Points<'_, A>,
-)
-    ensures { Added W.Sink out.old out.new
-        (fields_tokens (reading_fields serial part.now points.entry)) }
-{
-    put_serial(out, serial);
-    put_part(out, part);
-    put_values(out, points);
+    let moment = part.moment();
+    put_row(
+        out,
+        &[
+            Cell::Number("serial", serial),
+            Cell::Number("moment", moment),
+            Cell::Value("utc", minute(moment)),
+            Cell::Status("status", status_of(part)),
+        ],
+    );
 }
 
 // Writes a reading of this last part and these points.
-fn put_object<A: Allocator, W: Sink>(
+fn put_part<A: Allocator, W: Sink>(
     out: &mut TokenWriter<'_, W>,
     serial: u64,
     part: &Part<A>,
@@ -156,7 +108,8 @@ fn put_object<A: Allocator, W: Sink>(
         (json_tokens (reading_json serial part.now points.entry)) }
 {
     out.begin_object();
-    put_fields_of(out, serial, part, points);
+    put_head(out, serial, part);
+    put_values(out, points);
     out.end_object();
 }
 
@@ -167,7 +120,7 @@ fn put_reading<A: Allocator, W: Sink>(out: &mut TokenWriter<'_, W>, reading: &Re
 {
     let parts = reading.parts();
     match parts.get(parts.len().saturating_sub(1)) {
-        Some(part) => put_object(out, reading.serial(), part, Points::of(parts)),
+        Some(part) => put_part(out, reading.serial(), part, Points::of(parts)),
         None => out.put_null(),
     }
 }

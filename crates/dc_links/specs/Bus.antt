@@ -9,12 +9,6 @@ lost_by a b (First bus) = a bus
 lost_by a b (Second bus) = b bus
 lost_by a b Absent = true
 
--- an absent bus is silent, so a readout may begin
-abbrev pub ready_by : {A B : Type 0} → (A → Bool) → (B → Bool) → LinkBus A B → Bool
-ready_by a b (First bus) = a bus
-ready_by a b (Second bus) = b bus
-ready_by a b Absent = true
-
 abbrev pub left_by : {A B : Type 0} → (A → ℕ) → (B → ℕ) → LinkBus A B → ℕ
 left_by a b (First bus) = a bus
 left_by a b (Second bus) = b bus

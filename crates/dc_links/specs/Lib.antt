@@ -1,5 +1,3 @@
 -- the definitions that contracts cite
 -- the effect of a call on a bus of one of two kinds
 pub mod Bus
--- the effect of a script's request on its link
-pub mod Script

@@ -7,7 +7,6 @@ use crate::terminal::Held;
 use dc_blocks::{BlockLink, Gateway};
 use dc_io::{ReadSource, WriteSink};
 use dc_raw::{Line, PollWire};
-use dc_steady::Steady;
 use dc_words::LinkName;
 use std::fs::File;
 use std::io;
@@ -29,8 +28,8 @@ pub enum Peer<C: Clock + Copy> {
     Blocks(Connection<C>),
 }
 
-/// The bus of a transparent link, which tolerates late answers.
-pub type RawBus<S, C> = Steady<Line<PollWire<S, S, C>>>;
+/// The bus of a transparent link.
+pub type RawBus<S, C> = Line<PollWire<S, S, C>>;
 
 /// The bus of a TCP stream or of a terminal.
 pub type ByteBus<'a, C> = LinkBus<RawBus<Tcp<'a>, C>, RawBus<Terminal<'a>, C>>;
@@ -71,12 +70,12 @@ impl<C: Clock + Copy> Peer<C> {
         match self {
             Peer::Tcp(stream) => {
                 let wire = PollWire::new(Tcp { stream }, Tcp { stream }, clock, patience)?;
-                Ok(LinkBus::First(LinkBus::First(Steady::new(Line::new(wire)))))
+                Ok(LinkBus::First(LinkBus::First(Line::new(wire))))
             }
             Peer::Serial(held) => {
                 let terminal = Terminal { file: &held.file };
                 let wire = PollWire::new(terminal, terminal, clock, patience)?;
-                Ok(LinkBus::First(LinkBus::Second(Steady::new(Line::new(wire)))))
+                Ok(LinkBus::First(LinkBus::Second(Line::new(wire))))
             }
             Peer::Blocks(connection) => {
                 let (reader, writer) = connection.ends();

@@ -51,8 +51,8 @@ impl Watch {
 
     fn add_bytes<C: Clock + Copy>(&mut self, bus: &ByteBus<'_, C>) {
         match bus {
-            LinkBus::First(tcp) => self.put(tcp.bus.wire.fd(), tcp.bus.wire.left()),
-            LinkBus::Second(serial) => self.put(serial.bus.wire.fd(), serial.bus.wire.left()),
+            LinkBus::First(tcp) => self.put(tcp.wire.fd(), tcp.wire.left()),
+            LinkBus::Second(serial) => self.put(serial.wire.fd(), serial.wire.left()),
             LinkBus::Absent => {}
         }
     }

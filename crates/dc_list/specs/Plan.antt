@@ -7,7 +7,11 @@ use Rattle.dc_io.specs.Lines.{lines_of}
 use Rattle.dc_io.specs.Words.{number_word}
 use Rattle.dc_address.specs.Text.{text_of}
 use Rattle.dc_address.specs.declared.identity.Identity.{Identity}
-use Rattle.dc_change.specs.Accepts.{command_refusal, occupies}
+use Rattle.dc_change.specs.Accepts.{Accepts, command_refusal, occupies}
+use Rattle.dc_change.specs.Encoding.{change_bytes}
+use Rattle.dc_change.specs.Valid.{IsChange}
+use Rattle.dc_change.specs.Spelled.{SpellsChanges}
+use Rattle.dc_change.specs.History.{AcceptsAll}
 use Rattle.dc_change.specs.Apply.{applied}
 use Rattle.dc_change.specs.Fields.{address_word}
 use Rattle.dc_change.specs.Command.{line_of}
@@ -93,6 +97,29 @@ abbrev pub entry_orders : ℕ → Entry → State → List (List ℕ)
 entry_orders budget Blank s = []
 entry_orders budget (Bad fault) s = []
 entry_orders budget (Spelled row) s = order_of (verdict_on budget row s) row s
+
+-- the change of a new meter's command, and its encoding
+abbrev pub changes_by : Verdict → Row → State → List Change
+changes_by New row s = change_of row s ∷ []
+changes_by Stands row s = []
+changes_by Spent row s = []
+changes_by (Refused fault) row s = []
+
+abbrev pub entry_changes : ℕ → Entry → State → List Change
+entry_changes budget Blank s = []
+entry_changes budget (Bad fault) s = []
+entry_changes budget (Spelled row) s = changes_by (verdict_on budget row s) row s
+
+abbrev pub bytes_by : Verdict → Row → State → List ℕ
+bytes_by New row s = change_bytes (change_of row s)
+bytes_by Stands row s = []
+bytes_by Spent row s = []
+bytes_by (Refused fault) row s = []
+
+abbrev pub entry_bytes : ℕ → Entry → State → List ℕ
+entry_bytes budget Blank s = []
+entry_bytes budget (Bad fault) s = []
+entry_bytes budget (Spelled row) s = bytes_by (verdict_on budget row s) row s
 
 abbrev pub is_wrong_verdict : Verdict → Bool
 is_wrong_verdict New = false
@@ -186,6 +213,22 @@ orders budget [] s = []
 orders budget (entry ∷ entries) s =
     entry_orders budget entry s ++ orders budget entries (after_entry budget entry s)
 
+abbrev pub changes : ℕ → List Entry → State → List Change
+changes budget [] s = []
+changes budget (entry ∷ entries) s =
+    entry_changes budget entry s ++ changes budget entries (after_entry budget entry s)
+
+abbrev pub payload : ℕ → List Entry → State → List ℕ
+payload budget [] s = []
+payload budget (entry ∷ entries) s =
+    entry_bytes budget entry s ++ payload budget entries (after_entry budget entry s)
+
+-- each is a change, and accepted in the state after those before it
+abbrev pub AreOrdered : ℕ → State → List Change → Type 0
+AreOrdered budget s [] = Unit {0}
+AreOrdered budget s (change ∷ changes) =
+    IsChange change × Accepts budget change s × AreOrdered budget (applied change s) changes
+
 abbrev pub any_wrong : ℕ → List Entry → State → Bool
 any_wrong budget [] s = false
 any_wrong budget (entry ∷ entries) s =
@@ -199,9 +242,11 @@ texts budget number (entry ∷ entries) s = entry_text budget number entry s
 
 -- ---- a list
 
--- what a list comes to: the lines of the commands, whether a row is wrong, and what is said of each row
+-- what a list comes to: the lines of the commands and the encoding of their changes, whether a row is wrong, and what
+-- is said of each row
 pub record Outcome : Type 0 where
   pub commands : List (List ℕ)
+  pub payload : List ℕ
   pub wrong : Bool
   pub text : List ℕ
 
@@ -210,11 +255,12 @@ header_words = codes "the first line has to be meter,line,address,flat"
 
 -- the first line isn't the header
 abbrev pub no_header : Outcome
-no_header = record { commands = []; wrong = true; text = said 1 header_words }
+no_header = record { commands = []; payload = []; wrong = true; text = said 1 header_words }
 
 abbrev pub outcome_of : ℕ → List Entry → State → Outcome
 outcome_of budget entries s = record {
   commands = orders budget entries s;
+  payload = payload budget entries s;
   wrong = any_wrong budget entries s;
   text = texts budget 2 entries s;
 }
@@ -224,6 +270,7 @@ pub record ArePlanned (rows : List (List ℕ)) (house : Held) (outcome : Outcome
   pub entries : List Entry
   pub rows_are : AreReadAs rows entries
   pub outcome_is : outcome ≡ outcome_of house.budget entries house.state
+  pub ordered : AreOrdered house.budget house.state (changes house.budget entries house.state)
 
 -- WHAT A LIST COMES TO on a register: its first line is the header, and the others are its rows.
 abbrev pub IsPlanned : List (List ℕ) → Held → Outcome → Type 0
@@ -238,14 +285,18 @@ IsPlanned (header ∷ rows) house outcome =
 pub record IsStepBy (verdict : Verdict) (row : Row) (number : ℕ) (old new : Held)
     (before outcome : Outcome) : Type 0 where
   pub house_is : new ≡ record old { state = after_verdict verdict row old.state }
+  pub fine : verdict ≡ New → IsChange (change_of row old.state) × Accepts old.budget (change_of row old.state) old.state
   pub commands_are : outcome.commands ≡ before.commands ++ order_of verdict row old.state
+  pub payload_is : outcome.payload ≡ before.payload ++ bytes_by verdict row old.state
   pub wrong_is : outcome.wrong ≡ (before.wrong || is_wrong_verdict verdict)
   pub text_is : outcome.text ≡ before.text ++ said number (verdict_words verdict row old.state)
 
 pub record IsStep (entry : Entry) (number : ℕ) (old new : Held) (before outcome : Outcome)
     : Type 0 where
   pub house_is : new ≡ record old { state = after_entry old.budget entry old.state }
+  pub ordered : AreOrdered old.budget old.state (entry_changes old.budget entry old.state)
   pub commands_are : outcome.commands ≡ before.commands ++ entry_orders old.budget entry old.state
+  pub payload_is : outcome.payload ≡ before.payload ++ entry_bytes old.budget entry old.state
   pub wrong_is : outcome.wrong ≡ (before.wrong || is_wrong old.budget entry old.state)
   pub text_is : outcome.text ≡ before.text ++ entry_text old.budget number entry old.state
 
@@ -259,9 +310,17 @@ pub record AreSteps (lines : List (List ℕ)) (number : ℕ) (old new : Held)
   pub entries : List Entry
   pub lines_are : AreReadAs lines entries
   pub house_is : new ≡ record old { state = after_all old.budget entries old.state }
+  pub ordered : AreOrdered old.budget old.state (changes old.budget entries old.state)
   pub commands_are : outcome.commands ≡ before.commands ++ orders old.budget entries old.state
+  pub payload_is : outcome.payload ≡ before.payload ++ payload old.budget entries old.state
   pub wrong_is : outcome.wrong ≡ (before.wrong || any_wrong old.budget entries old.state)
   pub text_is : outcome.text ≡ before.text ++ texts old.budget number entries old.state
 
 abbrev pub nothing : Outcome
-nothing = record { commands = []; wrong = false; text = [] }
+nothing = record { commands = []; payload = []; wrong = false; text = [] }
+
+-- THE PAYLOAD OF A PLAN spells changes that are accepted in turn on the register: it is one group of the store.
+pub record IsOneGroup (house : Held) (outcome : Outcome) : Type 0 where
+  pub changes : List Change
+  pub spells : SpellsChanges outcome.payload changes
+  pub accepted : AcceptsAll house.budget house.state changes

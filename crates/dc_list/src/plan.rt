@@ -6,15 +6,16 @@ ghost use Rattle.dc_change.specs.State.{Held};
 ghost use Rattle.dc_list.specs.Rows.{IsRow, header_text};
 ghost use Rattle.dc_change.specs.Accepts.{Accepts};
 ghost use Rattle.dc_change.specs.Apply.{applied};
+ghost use Rattle.dc_change.specs.Encoding.{change_bytes};
 ghost use Rattle.dc_change.specs.Command.{line_of};
 ghost use Rattle.dc_change.specs.Valid.{IsChange};
 ghost use Rattle.dc_list.specs.Plan.{change_of, command_of};
-ghost use Rattle.dc_list.specs.Plan.{AreSteps, IsLineStep, IsPlanned, IsStep, IsStepBy, no_header, nothing};
+ghost use Rattle.dc_list.specs.Plan.{AreSteps, IsLineStep, IsOneGroup, IsPlanned, IsStep, IsStepBy, no_header, nothing};
 ghost use Rattle.dc_list.specs.declared.row.Entry.TheVariants.{Row as Spelled, Bad};
 
 use crate::row::{Entry, Row, RowFault, read_line, row_text};
 use crate::verdict::{Verdict, change_of, command_of, fault_words, put_row, put_said, verdict_on};
-use dc_change::CommandLine;
+use dc_change::{CommandLine, encode_change};
 use dc_io::{Bytes, IoFault, NoMemory, first_line};
 use dc_register::House;
 use std::alloc::Allocator;
@@ -26,6 +27,7 @@ const NO_HEADER: &str = "the first line has to be meter,line,address,flat";
 #[derive(Drop)]
 pub struct Plan<A: Allocator> {
     commands: Vec<CommandLine, A>,
+    changes: Bytes<A>,
     is_wrong: bool,
     text: Bytes<A>,
 }
@@ -37,6 +39,7 @@ impl<A: Allocator> Model for Plan<A> {
 
     ghost view = { λ p. record {
       commands = p.commands.items;
+      payload = p.changes.bytes;
       wrong = p.is_wrong;
       text = p.text.bytes;
     } };
@@ -60,6 +63,13 @@ impl<A: Allocator + Copy> Plan<A> {
         self.commands.as_slice()
     }
 
+    /// The encodings of the changes of these commands, one after the other: the payload of one group.
+    pub fn changes(&self) -> &[u8]
+        ensures { result.now ≡ self.now.payload }
+    {
+        self.changes.as_slice()
+    }
+
     /// Whether a row is wrong, so that nothing is done.
     pub fn is_wrong(&self) -> bool
         ensures { result ≡ self.now.wrong }
@@ -80,6 +90,7 @@ impl<A: Allocator + Copy> Plan<A> {
     {
         Plan {
             commands: Vec::new(alloc),
+            changes: Bytes::new(alloc),
             is_wrong: false,
             text: Bytes::new(alloc),
         }
@@ -140,9 +151,11 @@ impl<A: Allocator + Copy> Plan<A> {
         ensures plan { OnOk result (self.new ≡ record self.old {
           commands = self.old.commands
               ++ line_of (house.old.state.last_number + 1) (command_of row.now) ∷ [];
+          payload = self.old.payload ++ change_bytes (change_of row.now house.old.state);
         }) }
     {
         let change = change_of(row, house);
+        kept(encode_change(&change, &mut self.changes))?;
         let line = command_of(row).line(house.last_number() + 1);
         self.commands.push(line)?;
         house.apply(&change)
@@ -195,7 +208,8 @@ pub fn plan_on<A: Allocator + Copy>(
     list: &[u8],
     house: House<A>,
 ) -> Result<Plan<A>, NoMemory>
-    ensures { IfOk result (λ plan. IsPlanned (lines_of list.now) house plan) }
+    ensures planned { IfOk result (λ plan. IsPlanned (lines_of list.now) house plan) }
+    ensures one_group { IfOk result (λ plan. IsOneGroup house plan) }
 {
     if list.is_empty() {
         let plan = without_header(alloc)?;

@@ -6,8 +6,12 @@ pub mod Ahead
 pub mod Append
 -- what an image stands for while a group of changes is written, and then
 pub mod Appended
+-- the greatest number that sectors carry
+pub mod Peaks
 -- what an image stands for while it is compacted, and then
 pub mod Compacted
+-- one answer is right: the first sector that is ahead, or none
+pub mod Behinds
 -- a group writer's draft, from its first byte to its commit sector
 pub mod Drafts
 -- what the puts of an encoder do to a group's sink, all together

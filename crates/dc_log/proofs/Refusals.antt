@@ -1,5 +1,5 @@
 -- The refusals of an image exclude each other, and an image that reads as a state is refused only
--- for an exhausted counter, or for a sector that is ahead of it.
+-- for an exhausted counter.
 use Rattle.std.proofs.Common.{◌≡◌, ◌⊎◌, inl, inr, ⊎_elim, ℕ, zero, suc, ◌<◌, ◌≤◌, ◌+◌, ◌-◌, List, None, arith, ap, sym, subst, ◌∙◌, refl}
 use Rattle.std.proofs.lemmas.Bool.{cases_lt}
 use Rattle.dc_disk.specs.Disk.{Image}
@@ -16,9 +16,8 @@ use Rattle.dc_log.specs.declared.fault.OpenFault.{OpenFault}
 use Rattle.dc_log.specs.declared.fault.OpenFault.TheVariants.{NotImage, Damaged, Version, Worn, Device, NoMemory}
 use Rattle.dc_log.specs.Halves.{half_start, budget_of}
 use Rattle.dc_log.specs.Sites.{base_site, change_site}
-use Rattle.dc_log.specs.Stands.{IsSequence, IsFirst, IsCurrent, HasBase, HasMore, Holds, ReadsBy, StandsBy, Reads, Stands}
-use Rattle.dc_log.specs.Refusal.{HasNoRoot, HasOtherLength, HasNoBase, HasBadBase, HasBadGroup, IsBehind, IsDamagedAt, HasOtherVersion, IsSpent, IsWorn, IsRefused, TellsOfImage}
-use Rattle.dc_log.proofs.Ahead.{none_ahead, one_first}
+use Rattle.dc_log.specs.Stands.{IsSequence, IsCurrent, HasBase, HasMore, Holds, ReadsBy, Reads, Stands}
+use Rattle.dc_log.specs.Refusal.{HasNoRoot, HasOtherLength, HasNoBase, HasBadBase, HasBadGroup, IsDamagedAt, HasOtherVersion, IsSpent, IsWorn, IsUnread, IsRefused, TellsOfImage}
 use Rattle.dc_log.proofs.Once.{one_holds, not_more}
 use Rattle.dc_kept.specs.declared.kept.Language.{Ghosts as Language}
 
@@ -33,9 +32,6 @@ module _ {K : Type 0} (lang : Language K) where
 
     abbrev NoState : ℕ → Type 0
     NoState n = NoBase n ⊎ HasBadBase lang half_len n image
-
-    abbrev NoChain : ℕ → Type 0
-    NoChain n = NoState n ⊎ HasBadGroup lang half_len n image
 
     abbrev HasBaseGroup : Root → Type 0
     HasBaseGroup root = IsComplete (base_site half_len root) image
@@ -94,7 +90,7 @@ module _ {K : Type 0} (lang : Language K) where
         (λ le. le)
         (cases_lt bad.m m)
 
-    stops_before_the_end : (n : ℕ) (root : Root) (m place : ℕ) (state : lang.State) → NoChain n → ReadsBy lang half_len root m place state image → ⊥
+    stops_before_the_end : (n : ℕ) (root : Root) (m place : ℕ) (state : lang.State) → IsDamagedAt lang half_len n image → ReadsBy lang half_len root m place state image → ⊥
     stops_before_the_end n root m place state (inl early) by =
         let base = has_base root m place state by.holds in
         stops_at_state n root base.0 base.1.0 early (record { chosen = by.chosen; version = by.version; length_is = by.length_is }) base.1.1
@@ -141,11 +137,11 @@ module _ {K : Type 0} (lang : Language K) where
         let base = has_base bad.root bad.m n' bad.state bad.before in
         stops_at_state n bad.root base.0 base.1.0 early bad.current base.1.1
 
-    one_stop : (n n' : ℕ) → NoChain n → NoChain n' → n ≡ n'
-    one_stop n n' (inl a) (inl b) = one_bad_base n n' a b
-    one_stop n n' (inl a) (inr b) = absurd (group_behind_no_state n n' a b)
-    one_stop n n' (inr a) (inl b) = absurd (group_behind_no_state n' n b a)
-    one_stop n n' (inr a) (inr b) =
+    one_damage : (n n' : ℕ) → IsDamagedAt lang half_len n image → IsDamagedAt lang half_len n' image → n ≡ n'
+    one_damage n n' (inl a) (inl b) = one_bad_base n n' a b
+    one_damage n n' (inl a) (inr b) = absurd (group_behind_no_state n n' a b)
+    one_damage n n' (inr a) (inl b) = absurd (group_behind_no_state n' n b a)
+    one_damage n n' (inr a) (inr b) =
         let same = one_root b.root a.root image b.current.chosen a.current.chosen in
         let there = subst (λ (r : Root). Holds lang half_len r image b.m n' b.state) same b.before in
         let back = subst (λ (r : Root). Holds lang half_len r image a.m n a.state) (sym same) a.before in
@@ -155,7 +151,7 @@ module _ {K : Type 0} (lang : Language K) where
         (one_holds lang half_len most a.root image a.m n n' a.state b.state a.before (subst (λ (j : ℕ). Holds lang half_len a.root image j n' b.state) count there)).0
 
     -- what reads, reads by one root and one number of groups
-    one_reading : (root root' : Root) (m m' place place' : ℕ) (state state' : lang.State) → ReadsBy lang half_len root m place state image → ReadsBy lang half_len root' m' place' state' image
+    pub one_reading : (root root' : Root) (m m' place place' : ℕ) (state state' : lang.State) → ReadsBy lang half_len root m place state image → ReadsBy lang half_len root' m' place' state' image
         → (root' ≡ root) × (m' ≡ m)
     one_reading root root' m m' place place' state state' a b =
         let same : root' ≡ root = one_root root' root image b.chosen a.chosen in
@@ -164,33 +160,15 @@ module _ {K : Type 0} (lang : Language K) where
         let ge = not_more lang half_len most root image m m' place place' state state' a there.holds in
         (same, omega arith)
 
-    -- what stands is not behind
-    stands_not_behind : (n : ℕ) (root : Root) (m place : ℕ) (state : lang.State) → IsBehind lang half_len n image → StandsBy lang half_len root m place state image → ⊥
-    stands_not_behind n root m place state behind by =
-        let same = one_reading root behind.root m behind.m place behind.place state behind.state by.reads behind.by in
-        let there : IsFirst half_len root.session (root.base_sequence + suc behind.m) n image = subst (λ (r : Root). IsFirst half_len r.session (r.base_sequence + suc behind.m) n image) same.0 behind.first in
-        none_ahead half_len root.session (root.base_sequence + suc m) n image by.fresh (subst (λ (j : ℕ). IsFirst half_len root.session (root.base_sequence + suc j) n image) same.1 there)
-
-    one_damage : (n n' : ℕ) → IsDamagedAt lang half_len n image → IsDamagedAt lang half_len n' image → n ≡ n'
-    one_damage n n' (inl a) (inl b) = one_stop n n' a b
-    one_damage n n' (inl a) (inr b) = absurd (stops_before_the_end n b.root b.m b.place b.state a b.by)
-    one_damage n n' (inr a) (inl b) = absurd (stops_before_the_end n' a.root a.m a.place a.state b a.by)
-    one_damage n n' (inr a) (inr b) =
-        let same = one_reading a.root b.root a.m b.m a.place b.place a.state b.state a.by b.by in
-        let there : IsFirst half_len a.root.session (a.root.base_sequence + suc b.m) n' image = subst (λ (r : Root). IsFirst half_len r.session (r.base_sequence + suc b.m) n' image) same.0 b.first in
-        one_first half_len a.root.session (a.root.base_sequence + suc a.m) n n' image a.first
-        (subst (λ (j : ℕ). IsFirst half_len a.root.session (a.root.base_sequence + suc j) n' image) same.1 there)
-
     -- THE FAULTS
 
     -- a damaged image has a root of this version, or none
     root_of_damage : (n : ℕ) → IsDamagedAt lang half_len n image → HasNoRoot n image ⊎ ((root : Root) × (IsChosen root image × IsKnown root.version))
-    root_of_damage n (inl (inl (inl (inl (inl none))))) = inl none
-    root_of_damage n (inl (inl (inl (inl (inr other))))) = inr (other.root, (other.chosen, other.version))
-    root_of_damage n (inl (inl (inl (inr none)))) = inr (none.root, (none.current.chosen, none.current.version))
-    root_of_damage n (inl (inl (inr bad))) = inr (bad.root, (bad.current.chosen, bad.current.version))
+    root_of_damage n (inl (inl (inl (inl none)))) = inl none
+    root_of_damage n (inl (inl (inl (inr other)))) = inr (other.root, (other.chosen, other.version))
+    root_of_damage n (inl (inl (inr none))) = inr (none.root, (none.current.chosen, none.current.version))
     root_of_damage n (inl (inr bad)) = inr (bad.root, (bad.current.chosen, bad.current.version))
-    root_of_damage n (inr behind) = inr (behind.root, (behind.by.chosen, behind.by.version))
+    root_of_damage n (inr bad) = inr (bad.root, (bad.current.chosen, bad.current.version))
 
     damage_and_no_root : (n : ℕ) → IsDamagedAt lang half_len n image → IsRootless None image → ⊥
     damage_and_no_root n damage rootless = ⊎_elim
@@ -207,30 +185,42 @@ module _ {K : Type 0} (lang : Language K) where
         (λ (has : (root : Root) × (IsChosen root image × IsKnown root.version)). other_version has.0 has.1.0 has.1.1 other)
         (root_of_damage n damage)
 
-    -- an image that reads as a state is refused only for an exhausted counter, or for a sector that is ahead
-    pub read_or_refused : (state : lang.State) (f : OpenFault) → TellsOfImage f → IsRefused lang half_len image f → Reads lang half_len state image
-        → (f ≡ Worn) ⊎ ((n : ℕ) × (f ≡ Damaged n) × IsBehind lang half_len n image)
-    read_or_refused state NotImage tells why reads = absurd (why.none reads.root reads.by.chosen.here)
-    read_or_refused state (Damaged n) tells (inl why) reads = absurd (stops_before_the_end n reads.root reads.m reads.place state why reads.by)
-    read_or_refused state (Damaged n) tells (inr why) reads = inr (n, refl, why)
-    read_or_refused state Version tells why reads = absurd (other_version reads.root reads.by.chosen reads.by.version why)
-    read_or_refused state Worn tells why reads = inl refl
+    -- an image that reads as a state is read
+    pub read_is_read : (state : lang.State) (f : OpenFault) → TellsOfImage f → IsUnread lang half_len image f → Reads lang half_len state image → ⊥
+    read_is_read state NotImage tells why reads = why.none reads.root reads.by.chosen.here
+    read_is_read state (Damaged n) tells why reads = stops_before_the_end n reads.root reads.m reads.place state why reads.by
+    read_is_read state Version tells why reads = other_version reads.root reads.by.chosen reads.by.version why
+    read_is_read state Worn tells why reads = why
+    read_is_read state Device tells why reads = tells
+    read_is_read state NoMemory tells why reads = tells
+
+    -- and refused only for an exhausted counter
+    pub read_or_refused : (state : lang.State) (f : OpenFault) → TellsOfImage f → IsRefused lang half_len image f → Reads lang half_len state image → f ≡ Worn
+    read_or_refused state NotImage tells why reads = absurd (read_is_read state NotImage tells why reads)
+    read_or_refused state (Damaged n) tells why reads = absurd (read_is_read state (Damaged n) tells why reads)
+    read_or_refused state Version tells why reads = absurd (read_is_read state Version tells why reads)
+    read_or_refused state Worn tells why reads = refl
     read_or_refused state Device tells why reads = absurd tells
     read_or_refused state NoMemory tells why reads = absurd tells
 
-    -- and where the image stands for a state, a refusal is that it is worn
+    -- so is one that stands for a state
     pub stands_or_refused : (state : lang.State) (f : OpenFault) → TellsOfImage f → IsRefused lang half_len image f → Stands lang half_len state image → f ≡ Worn
-    stands_or_refused state f tells why stands = ⊎_elim
-        (λ worn. worn)
-        (λ (behind : (n : ℕ) × (f ≡ Damaged n) × IsBehind lang half_len n image).
-        absurd (stands_not_behind behind.0 stands.root stands.m stands.place state behind.2 stands.by))
-        (read_or_refused state f tells why (record { root = stands.root; m = stands.m; place = stands.place; by = stands.by.reads }))
+    stands_or_refused state f tells why stands = read_or_refused state f tells why (record { root = stands.root; m = stands.m; place = stands.place; by = stands.by.reads })
+
+    -- where reading stops, opening does
+    pub unread_refused : (f : OpenFault) → IsUnread lang half_len image f → IsRefused lang half_len image f
+    unread_refused NotImage why = why
+    unread_refused (Damaged n) why = why
+    unread_refused Version why = why
+    unread_refused Worn why = absurd why
+    unread_refused Device why = why
+    unread_refused NoMemory why = why
 
     only_no_root : (f : OpenFault) → TellsOfImage f → IsRootless None image → IsRefused lang half_len image f → f ≡ NotImage
     only_no_root NotImage tells rootless why = refl
     only_no_root (Damaged n) tells rootless why = absurd (damage_and_no_root n why rootless)
     only_no_root Version tells rootless why = absurd (rootless.none why.root why.chosen.here)
-    only_no_root Worn tells rootless why = absurd (rootless.none why.root why.by.reads.chosen.here)
+    only_no_root Worn tells rootless why = absurd (rootless.none why.root why.by.chosen.here)
     only_no_root Device tells rootless why = absurd tells
     only_no_root NoMemory tells rootless why = absurd tells
 
@@ -238,7 +228,7 @@ module _ {K : Type 0} (lang : Language K) where
     only_version NotImage tells other why = absurd (why.none other.root other.chosen.here)
     only_version (Damaged n) tells other why = absurd (damage_and_other_version n why other)
     only_version Version tells other why = refl
-    only_version Worn tells other why = absurd (other_version why.root why.by.reads.chosen why.by.reads.version other)
+    only_version Worn tells other why = absurd (other_version why.root why.by.chosen why.by.version other)
     only_version Device tells other why = absurd tells
     only_version NoMemory tells other why = absurd tells
 
@@ -246,8 +236,7 @@ module _ {K : Type 0} (lang : Language K) where
     only_damage n NotImage tells damage why = absurd (damage_and_no_root n damage why)
     only_damage n (Damaged n') tells damage why = ap Damaged (one_damage n' n why damage)
     only_damage n Version tells damage why = absurd (damage_and_other_version n damage why)
-    only_damage n Worn tells (inl damage) why = absurd (stops_before_the_end n why.root why.m why.place why.state damage why.by.reads)
-    only_damage n Worn tells (inr behind) why = absurd (stands_not_behind n why.root why.m why.place why.state behind why.by)
+    only_damage n Worn tells damage why = absurd (stops_before_the_end n why.root why.m why.place why.state damage why.by)
     only_damage n Device tells damage why = absurd tells
     only_damage n NoMemory tells damage why = absurd tells
 
@@ -256,12 +245,12 @@ module _ {K : Type 0} (lang : Language K) where
     one_refusal NotImage g tells tells' why why' = sym (only_no_root g tells' why why')
     one_refusal (Damaged n) g tells tells' why why' = sym (only_damage n g tells' why why')
     one_refusal Version g tells tells' why why' = sym (only_version g tells' why why')
-    one_refusal Worn g tells tells' why why' = sym (stands_or_refused why.state g tells' why' (record { root = why.root; m = why.m; place = why.place; by = why.by }))
+    one_refusal Worn g tells tells' why why' = sym (read_or_refused why.state g tells' why' (record { root = why.root; m = why.m; place = why.place; by = why.by }))
     one_refusal Device g tells tells' why why' = absurd tells
     one_refusal NoMemory g tells tells' why why' = absurd tells
 
     -- an image whose root isn't spent after the groups that are read isn't worn
     pub not_worn : (root : Root) (m place : ℕ) (state : lang.State) → ReadsBy lang half_len root m place state image → (IsSpent root (root.base_sequence + m) → ⊥) → IsWorn lang half_len image → ⊥
     not_worn root m place state by fine worn =
-        let same = one_reading root worn.root m worn.m place worn.place state worn.state by worn.by.reads in
+        let same = one_reading root worn.root m worn.m place worn.place state worn.state by worn.by in
         fine (subst (λ (n : ℕ). IsSpent root (root.base_sequence + n)) same.1 (subst (λ (r : Root). IsSpent r (r.base_sequence + worn.m)) same.0 worn.spent))

@@ -8,6 +8,7 @@ use Rattle.dc_pages.specs.Reading.{IsCutAt}
 use Rattle.dc_log.specs.Halves.{budget_of}
 use Rattle.dc_log.specs.Sites.{base_site, change_site}
 use Rattle.dc_log.specs.Stands.{IsSequence, IsFresh, IsFirst, IsCurrent, IsReached, IsRead, StandsBy}
+use Rattle.dc_log.specs.Behind.{IsBehind}
 use Rattle.dc_log.specs.Refusal.{IsDamagedAt}
 use Rattle.dc_kept.specs.declared.kept.Language.{Ghosts as Language}
 
@@ -39,13 +40,13 @@ module _ {K : Type 0} (lang : Language K) where
 
     -- no base group is there
     pub base_cut : (site : Site) (n : ℕ) → site ≡ base_site half_len root → IsCutAt site n image → IsDamagedAt lang half_len n image
-    base_cut site n at_site cut = inl (inl (inl (inr (record { root = root; current = current; cut = subst (λ (s : Site). IsCutAt s n image) at_site cut }))))
+    base_cut site n at_site cut = inl (inl (inr (record { root = root; current = current; cut = subst (λ (s : Site). IsCutAt s n image) at_site cut })))
 
     -- the base group spells no state
     pub base_bad : (site : Site) (sectors : ℕ) (payload : List ℕ) → site ≡ base_site half_len root → IsThere site payload sectors image
         → ((state : lang.State) → lang.SpellsState (budget_of half_len) payload state → ⊥) → IsDamagedAt lang half_len site.first image
     base_bad site sectors payload at_site read none =
-        inl (inl (inr (record {
+        inl (inr (record {
           root = root;
           current = current;
           session = read.0;
@@ -54,7 +55,7 @@ module _ {K : Type 0} (lang : Language K) where
           group = subst (λ (s : Site). IsGroup s read.0 payload read.1 image) at_site read.2;
           no_state = none;
           at = ap (λ (s : Site). s.first) at_site;
-        })))
+        }))
 
   -- one group of changes more
   pub group_reached : (half_len : ℕ) (root : Root) (place last : ℕ) (site : Site) (sectors : ℕ) (payload : List ℕ) (was state : lang.State) (changes : List lang.Change) (image : Image)
@@ -94,7 +95,7 @@ module _ {K : Type 0} (lang : Language K) where
       let last_is = reached.last_is in
       let e : last + 1 ≡ root.base_sequence + suc reached.m = omega (arith, last_is) in
       let group = subst (λ (s : Site). IsGroup s read.0 payload read.1 image) at_site read.2 in
-      inl (inr (record {
+      inr (record {
         root = root;
         current = reached.current;
         m = reached.m;
@@ -106,7 +107,7 @@ module _ {K : Type 0} (lang : Language K) where
         payload = payload;
         group = subst (λ (q : ℕ). IsGroup (change_site half_len root q place) read.0 payload read.1 image) e group;
         no_changes = none;
-      }))
+      })
 
   -- after the last complete group the image is read
   pub all_read : (half_len : ℕ) (root : Root) (place last : ℕ) (state : lang.State) (image : Image) → IsReached lang half_len root place last state image
@@ -128,18 +129,18 @@ module _ {K : Type 0} (lang : Language K) where
 
   -- a sector is ahead of what is read
   pub read_behind : (half_len : ℕ) (root : Root) (place last n : ℕ) (state : lang.State) (image : Image) → IsRead lang half_len root place last state image
-      → IsFirst half_len root.session (last + 1) n image → IsDamagedAt lang half_len n image
+      → IsFirst half_len root.session (last + 1) n image → IsBehind lang half_len n image
   read_behind half_len root place last n state image read first =
       let last_is = read.last_is in
       let e : last + 1 ≡ root.base_sequence + suc read.m = omega (arith, last_is) in
-      inr (record {
+      record {
         root = root;
         m = read.m;
         place = place;
         state = state;
         by = read.by;
         first = subst (λ (q : ℕ). IsFirst half_len root.session q n image) e first;
-      })
+      }
 
   -- and where none is, the image stands for the state
   pub read_fresh : (half_len : ℕ) (root : Root) (place last : ℕ) (state : lang.State) (image : Image) → (read : IsRead lang half_len root place last state image)

@@ -1,6 +1,6 @@
 -- Why an image isn't opened, as a fact of the image: this product's image format. Opening reads the
--- roots, checks the version and the half length of the one in force, reads the base group, then each
--- group of changes, and then looks for a sector that is ahead; the first step that fails gives the fault.
+-- roots, checks the version and the half length of the one in force, reads the base group, and then
+-- each group of changes; the first step that fails gives the fault.
 use Rattle.std.specs.Prelude.{◌≡◌, ◌≢◌, ◌⊎◌, ◌≤◌, ◌^◌, ◌-◌, ℕ, suc, ◌+◌, List, Some, None}
 use Rattle.dc_disk.specs.Disk.{Image}
 use Rattle.dc_roots.specs.declared.root.Root.{Root}
@@ -13,8 +13,7 @@ use Rattle.dc_log.specs.declared.fault.OpenFault.TheVariants.{NotImage, Damaged,
 use Rattle.dc_log.specs.declared.fault.OpenFault.TheVariants.{Device, NoMemory}
 use Rattle.dc_log.specs.Halves.{half_start, budget_of, longest_half}
 use Rattle.dc_log.specs.Sites.{base_site, change_site}
-use Rattle.dc_log.specs.Stands.{image_version, IsSequence, IsCurrent, IsFirst, Holds, ReadsBy}
-use Rattle.dc_log.specs.Stands.{StandsBy, Reads, Stands}
+use Rattle.dc_log.specs.Stands.{image_version, IsSequence, IsCurrent, Holds, ReadsBy, Reads}
 use Rattle.dc_kept.specs.declared.kept.Language.{Ghosts as Language}
 
 -- a root slot can't be read, and the other one has no root
@@ -85,31 +84,30 @@ module _ {K : Type 0} (lang : Language K) where
     pub no_changes : (changes : List lang.Change) → lang.SpellsChanges payload changes
         → lang.Accepts (budget_of half_len) state changes → ⊥
 
-  -- The image reads as a state, but a sector is ahead of it: it was written after what is read, by a later session or
-  -- in a later group. No crash leaves that; a sector was lost that had been synced.
-  pub record IsBehind (half_len n : ℕ) (image : Image) : Type 0 where
-    pub root : Root
-    pub m : ℕ
-    pub place : ℕ
-    pub state : lang.State
-    pub by : ReadsBy lang half_len root m place state image
-    pub first : IsFirst half_len root.session (root.base_sequence + suc m) n image
-
   abbrev pub IsDamagedAt : ℕ → ℕ → Image → Type 0
   IsDamagedAt half_len n image =
-      ((((HasNoRoot n image ⊎ HasOtherLength half_len n image) ⊎ HasNoBase half_len n image)
-      ⊎ HasBadBase half_len n image) ⊎ HasBadGroup half_len n image) ⊎ IsBehind half_len n image
+      (((HasNoRoot n image ⊎ HasOtherLength half_len n image) ⊎ HasNoBase half_len n image)
+      ⊎ HasBadBase half_len n image) ⊎ HasBadGroup half_len n image
 
-  -- the image stands for a state, but no session can begin on it
+  -- the image reads as a state, but no session can begin on it
   pub record IsWorn (half_len : ℕ) (image : Image) : Type 0 where
     pub root : Root
     pub m : ℕ
     pub place : ℕ
     pub state : lang.State
-    pub by : StandsBy lang half_len root m place state image
+    pub by : ReadsBy lang half_len root m place state image
     pub spent : IsSpent root (root.base_sequence + m)
 
-  -- why reading the image stops; a device may always fail, and memory may always run out
+  -- why reading the image stops, and so it reads as no state; a device may always fail, and memory may always run out
+  abbrev pub IsUnread : ℕ → Image → OpenFault → Type 0
+  IsUnread half_len image NotImage = IsRootless None image
+  IsUnread half_len image (Damaged n) = IsDamagedAt half_len n image
+  IsUnread half_len image Version = HasOtherVersion image
+  IsUnread half_len image Worn = ⊥
+  IsUnread half_len image Device = Unit {0}
+  IsUnread half_len image NoMemory = Unit {0}
+
+  -- why opening the image stops: reading does, or no session can begin
   abbrev pub IsRefused : ℕ → Image → OpenFault → Type 0
   IsRefused half_len image NotImage = IsRootless None image
   IsRefused half_len image (Damaged n) = IsDamagedAt half_len n image
@@ -127,16 +125,14 @@ module _ {K : Type 0} (lang : Language K) where
       → TellsOfImage f → TellsOfImage g → IsRefused half_len image f → IsRefused half_len image g
       → f ≡ g
 
-  -- An image that reads as a state is refused only for an exhausted counter, or for a sector that is ahead of that
-  -- state (read_or_refused). One that stands for the state has no such sector.
+  -- An image that reads as a state is refused only for an exhausted counter (read_or_refused).
   abbrev pub RefusedIsNotRead : Type 0
   RefusedIsNotRead = (half_len : ℕ) → half_len ≤ longest_half
       → (image : Image) (state : lang.State) (f : OpenFault) → TellsOfImage f → IsRefused half_len image f
-      → Reads lang half_len state image
-      → (f ≡ Worn) ⊎ ((n : ℕ) × (f ≡ Damaged n) × IsBehind half_len n image)
+      → Reads lang half_len state image → f ≡ Worn
 
-  -- An image that stands for a state is refused only for an exhausted counter (stands_or_refused).
-  abbrev pub StandingIsOpened : Type 0
-  StandingIsOpened = (half_len : ℕ) → half_len ≤ longest_half
-      → (image : Image) (state : lang.State) (f : OpenFault) → TellsOfImage f → IsRefused half_len image f
-      → Stands lang half_len state image → f ≡ Worn
+  -- An image that reads as a state is read: no step of reading stops (read_is_read).
+  abbrev pub UnreadIsNotRead : Type 0
+  UnreadIsNotRead = (half_len : ℕ) → half_len ≤ longest_half
+      → (image : Image) (state : lang.State) (f : OpenFault) → TellsOfImage f → IsUnread half_len image f
+      → Reads lang half_len state image → ⊥

@@ -12,7 +12,7 @@ use thiserror::Error;
 pub enum OpenFault {
     /// The disk has fewer than 131 sectors, or both root slots are readable and neither has a root.
     NotImage,
-    /// The image can't be read from that sector on; or it can, and that sector was written after all that is read.
+    /// The image can't be read from that sector on.
     Damaged(u32),
     /// The version of the root in force is neither 1 nor 2.
     Version,

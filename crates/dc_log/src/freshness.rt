@@ -1,17 +1,22 @@
 //! Looks for sectors that are ahead of the state that an image reads as.
 
-ghost use Rattle.std.specs.Prelude.{◌≡◌, ◌<◌, ◌≤◌, ◌+◌, ◌*◌, ◌-◌, ◌↔◌, IfOk, IsErr, IsTrue};
+ghost use Rattle.std.specs.Prelude.{◌≡◌, ◌<◌, ◌≤◌, ◌+◌, ◌*◌, ◌-◌, ◌↔◌, IfOk, IfErr, IsErr, IsErrOf};
+ghost use Rattle.std.specs.Prelude.{IsTrue, OnOk, Ok, Err, None};
 ghost use Rattle.dc_disk.specs.declared.sector.Sector.TheVariants.{Bytes};
-ghost use Rattle.dc_disk.specs.Runs.{OnlyLooked, Counts};
-ghost use Rattle.dc_log.specs.Halves.{longest_half};
-ghost use Rattle.dc_log.specs.Stands.{IsAhead, IsFirstAhead};
+ghost use Rattle.dc_disk.specs.Disk.{IsImage};
+ghost use Rattle.dc_disk.specs.Runs.{OnlyLooked, LeavesOnly, Counts, IsSettled};
+ghost use Rattle.dc_log.specs.Behind.{IsBehindAt};
+ghost use Rattle.dc_log.specs.Halves.{fewest_sectors, half_of, longest_half};
+ghost use Rattle.dc_log.specs.Refusal.{IsUnread};
+ghost use Rattle.dc_log.specs.Stands.{EachStands, IsAhead, IsFirstAhead, Stands};
+ghost use Rattle.dc_log.specs.declared.fault.OpenFault.TheVariants.{NotImage, Device};
 
-use crate::halves::half_end;
+use crate::OpenFault;
+use crate::halves::{FEWEST_SECTORS, FIRST_SECTOR, half_end, half_len_of};
+use crate::reading::{Found, read_image};
 use dc_disk::{Disk, Failed, ReadFault};
+use dc_kept::Kept;
 use dc_pages::stamp_of;
-
-/// The first sector of the first half.
-const FIRST_SECTOR: u32 = 3;
 
 /// Whether bytes are those of a sector that is ahead of a session and of the sequence after the last one.
 fn is_ahead(bytes: &[u8; 512], session: u64, last: u64) -> bool
@@ -39,7 +44,7 @@ fn reads_ahead<D: Disk>(disk: &mut D, n: u32, session: u64, last: u64) -> Result
 }
 
 /// Reads both halves and returns the first sector that is ahead, if one is.
-pub(crate) fn first_ahead<D: Disk>(
+pub(crate) fn first_ahead_of<D: Disk>(
     disk: &mut D,
     half_len: u32,
     session: u64,
@@ -58,4 +63,73 @@ pub(crate) fn first_ahead<D: Disk>(
         }
     }
     Ok(None)
+}
+
+/// Returns the first sector that is ahead of the state that an image reads as, if one is. Such an image has lost a
+/// sector that had been synced, which no crash does: opening it would go on from an older state. Nothing is written and
+/// nothing is synced.
+///
+/// # Errors
+/// Why the image reads as no state. An exhausted counter is no error here.
+pub fn first_ahead<K: Kept, D: Disk>(
+    alloc: K::Alloc,
+    disk: &mut D,
+) -> Result<Option<u32>, OpenFault>
+    ensures small { D.sectors disk.old < fewest_sectors → result ≡ Err NotImage }
+
+    // None exactly where the image stands for a state; else it reads as one, and this is the first sector that is ahead.
+    ensures told { D.keeps disk.new → IfOk result (λ ahead.
+        IsBehindAt K.Language (half_of D.Disk disk.old) ahead (D.reads disk.old)) }
+    ensures none { (state : K.State) → Stands K.Language (half_of D.Disk disk.old) state (D.reads disk.old)
+        → D.keeps disk.new → IfOk result (λ ahead. ahead ≡ None) }
+
+    // Err only where the image reads as no state, or where the device or memory failed.
+    ensures refused { fewest_sectors ≤ D.sectors disk.old
+        → D.keeps disk.new
+        → IfErr result (λ fault. IsUnread K.Language (half_of D.Disk disk.old) (D.reads disk.old) fault) }
+    ensures looked { OnlyLooked D.Disk disk.old disk.new }
+    ensures counts { Counts D.Disk disk.old disk.new (IsErrOf result Device) }
+{
+    let count = disk.count();
+    if count < FEWEST_SECTORS {
+        return Err(OpenFault::NotImage);
+    }
+    let (_, ahead) = read_image::<K, D>(alloc, disk, half_len_of(count))?;
+    Ok(ahead)
+}
+
+/// Makes what the image reads as durable, and returns the first sector that is ahead, as [`first_ahead`]. A program
+/// calls it before it opens an image to write it: where no sector is ahead, each image that a crash may leave from then
+/// on stands for a state, whatever wrote the image and whatever became of it. That is the premise of opening.
+///
+/// # Errors
+/// As [`first_ahead`]; and [`OpenFault::Device`] where the sync failed.
+pub fn settled_ahead<K: Kept, D: Disk>(
+    alloc: K::Alloc,
+    disk: &mut D,
+) -> Result<Option<u32>, OpenFault>
+    ensures small { D.sectors disk.old < fewest_sectors → result ≡ Err NotImage }
+    ensures stands { D.keeps disk.new → result ≡ Ok None
+        → EachStands K.Language (half_of D.Disk disk.new) (D.choices disk.new) }
+    ensures told { D.keeps disk.new → IfOk result (λ ahead.
+        IsBehindAt K.Language (half_of D.Disk disk.old) ahead (D.reads disk.old)) }
+    ensures none { (state : K.State) → Stands K.Language (half_of D.Disk disk.old) state (D.reads disk.old)
+        → D.keeps disk.new → IfOk result (λ ahead. ahead ≡ None) }
+    ensures refused { fewest_sectors ≤ D.sectors disk.old
+        → D.keeps disk.new
+        → IfErr result (λ fault. IsUnread K.Language (half_of D.Disk disk.old) (D.reads disk.old) fault) }
+    ensures unwritten { D.reads disk.new ≡ D.reads disk.old }
+    ensures durable { OnOk result (IsSettled D.Disk disk.new) }
+    ensures spares { LeavesOnly D.Disk disk.old disk.new (IsImage (D.choices disk.old)) }
+    ensures before { D.keeps disk.new → D.keeps disk.old }
+    ensures counts { Counts D.Disk disk.old disk.new (IsErrOf result Device) }
+{
+    if disk.count() < FEWEST_SECTORS {
+        return Err(OpenFault::NotImage);
+    }
+    match disk.sync() {
+        Ok(()) => {}
+        Err(Failed) => return Err(OpenFault::Device),
+    }
+    first_ahead::<K, D>(alloc, disk)
 }

@@ -9,6 +9,9 @@ use dc_pages::PAYLOAD;
 /// Minimum number of sectors of an image: halves of 64.
 pub const FEWEST_SECTORS: u32 = 131;
 
+/// The first sector of the first half.
+pub(crate) const FIRST_SECTOR: u32 = 3;
+
 /// Maximum number of sectors of a half.
 const LONGEST_HALF: u32 = 65536;
 

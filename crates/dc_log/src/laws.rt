@@ -1,6 +1,7 @@
 //! Theorems about images. The functions have no effect; their contracts state the theorems.
 
-ghost use Rattle.dc_log.specs.Refusal.{OneRefusal, RefusedIsNotRead, StandingIsOpened};
+ghost use Rattle.dc_log.specs.Behind.{OneBehind};
+ghost use Rattle.dc_log.specs.Refusal.{OneRefusal, RefusedIsNotRead, UnreadIsNotRead};
 ghost use Rattle.dc_log.specs.Stands.{ReadsOnce};
 
 use dc_kept::Kept;
@@ -16,12 +17,18 @@ pub fn one_refusal<K: Kept>()
     ensures { OneRefusal K.Language }
 {}
 
-/// A refused image reads as no state, unless a counter is exhausted or a sector is ahead of that state.
+/// A refused image reads as no state, unless a counter is exhausted.
 pub fn a_refused_image_is_not_read<K: Kept>()
     ensures { RefusedIsNotRead K.Language }
 {}
 
-/// An image that stands for a state is refused only where a counter is exhausted: none of its sectors is ahead.
-pub fn a_standing_image_is_opened<K: Kept>()
-    ensures { StandingIsOpened K.Language }
+/// An image that reads as a state is read.
+pub fn an_unread_image_is_not_read<K: Kept>()
+    ensures { UnreadIsNotRead K.Language }
+{}
+
+/// An image that stands for a state has no sector that is ahead, as each image that a crash leaves; another has one first
+/// sector that is.
+pub fn one_first_ahead<K: Kept>()
+    ensures { OneBehind K.Language }
 {}

@@ -15,12 +15,12 @@
 //! An image of version 1 opens too: after the session's root it is compacted into an image of
 //! version 2, which is what every store keeps. It can't be converted back.
 //!
-//! What opens stands for its state, whatever became of the image before: a sector that was lost after its sync shows by
-//! one that was written after it, and then the image is `Damaged`. A lost last group looks like one that a
-//! crash kept from its sync.
+//! What a crash leaves stands for a state. Other images may have lost a sector after its sync. Where a later sector is
+//! left, [`first_ahead`] finds it before the image is opened: opening would go on from an older state. A lost
+//! last group looks like one that a crash kept from its sync.
 //!
 //! An append is a group and one sync. A compaction is the whole state as a base group in the other half, a
-//! sync, the next root and a sync. An open reads each sector that it needs once, and then both halves whole.
+//! sync, the next root and a sync. An open reads each sector that it needs once; a look before it also reads both halves.
 #![tactic(auto)]
 
 mod appending;
@@ -28,20 +28,26 @@ mod compacting;
 mod fault;
 mod formatting;
 mod freshness;
+mod greatest;
 mod halves;
 mod laws;
 mod opening;
 mod reading;
+mod rescuing;
 mod rooting;
 mod sites;
 mod store;
 mod writing;
 
 pub use fault::{FormatFault, OpenFault, StoreFault};
+pub use freshness::{first_ahead, settled_ahead};
+pub use greatest::{Greatest, Peak, greatest_of};
 pub use halves::{FEWEST_SECTORS, half_end, half_len_of, half_start};
 pub use laws::{
-    a_refused_image_is_not_read, a_standing_image_is_opened, one_refusal, reads_as_one_state,
+    a_refused_image_is_not_read, an_unread_image_is_not_read, one_first_ahead, one_refusal,
+    reads_as_one_state,
 };
 pub use opening::is_spent;
 pub use reading::{Found, read_chain, read_image};
+pub use rescuing::{RenewFault, Rescued, Source, renew, rescue};
 pub use store::Store;

@@ -16,7 +16,7 @@ ghost use Rattle.dc_log.specs.Refusal.{IsRefused, IsSpent, IsWorn};
 
 use crate::OpenFault;
 use crate::compacting::compact_into_other_half;
-use crate::reading::{Found, VERSION, read_image};
+use crate::reading::{Found, VERSION, read_chain};
 use crate::rooting::put_root;
 use dc_disk::{Disk, Failed};
 use dc_kept::Kept;
@@ -138,9 +138,7 @@ pub(crate) fn open_on<K: Kept, D: Disk>(
         × IsOpenedRoot root (root.base_sequence + m) found.root) }
     ensures version { IfOk result (λ found. found.root.version ≡ image_version) }
     ensures not_worn { D.keeps disk.new → OnOk result (IsWorn K.Language half_len (D.reads disk.old) → ⊥) }
-    ensures stands { D.keeps disk.new
-        → IfOk result (λ found. Stands K.Language half_len (K.state found.house) (D.reads disk.old)) }
-    ensures ready { D.keeps disk.new
+    ensures ready { D.keeps disk.new → (was : K.State) → Stands K.Language half_len was (D.reads disk.old)
         → IfOk result (λ found. IsBegun K.Language half_len found.root found.place found.last (K.state found.house)
         (D.reads disk.new)) }
     ensures durable { OnOk result (IsSettled D.Disk disk.new) }
@@ -158,7 +156,7 @@ pub(crate) fn open_on<K: Kept, D: Disk>(
         Ok(()) => {}
         Err(Failed) => return Err(OpenFault::Device),
     }
-    let mut found = read_image(alloc, disk, half_len)?;
+    let mut found = read_chain(alloc, disk, half_len)?;
     if is_spent(&found.root, found.last) {
         return Err(OpenFault::Worn);
     }

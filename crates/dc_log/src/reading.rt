@@ -8,13 +8,13 @@ ghost use Rattle.dc_log.specs.declared.fault.OpenFault.{OpenFault};
 ghost use Rattle.dc_log.specs.declared.fault.OpenFault.TheVariants.{Device};
 ghost use Rattle.dc_log.specs.Halves.{half_start, half_end, budget_of, longest_half};
 ghost use Rattle.dc_log.specs.Stands.{IsSequence, IsCurrent, IsReached, IsRead, Holds};
-ghost use Rattle.dc_log.specs.Stands.{ReadsBy, Reads, IsFresh};
+ghost use Rattle.dc_log.specs.Stands.{ReadsBy, Reads, IsFirstAhead};
 ghost use Rattle.dc_pages.specs.Group.{IsKnown, IsComplete};
 ghost use Rattle.dc_log.specs.Sites.{change_site};
-ghost use Rattle.dc_log.specs.Refusal.{IsRefused};
+ghost use Rattle.dc_log.specs.Refusal.{IsUnread};
 
 use crate::OpenFault;
-use crate::freshness::first_ahead;
+use crate::freshness::first_ahead_of;
 use crate::halves::budget_of;
 use crate::sites::{base_site, change_site};
 use dc_disk::{Disk, Failed};
@@ -36,7 +36,7 @@ fn current_root<K: Kept, D: Disk>(disk: &mut D, half_len: u32) -> Result<Root, O
     ensures half { IfOk result (λ root. root.half ≤ 1) }
     ensures known { IfOk result (λ root. IsKnown root.version) }
     ensures refused { D.keeps disk.new
-        → IfErr result (λ fault. IsRefused K.Language half_len (D.reads disk.old) fault) }
+        → IfErr result (λ fault. IsUnread K.Language half_len (D.reads disk.old) fault) }
     ensures looked { OnlyLooked D.Disk disk.old disk.new }
     ensures counts { Counts D.Disk disk.old disk.new (IsErrOf result Device) }
 {
@@ -84,7 +84,7 @@ fn read_base<K: Kept, D: Disk>(
     ensures from { IfOk result (λ found. half_start half_len root.half ≤ found.place) }
     ensures within { IfOk result (λ found. found.place ≤ half_end half_len root.half) }
     ensures refused { D.keeps disk.new → IsCurrent half_len root (D.reads disk.old)
-        → IfErr result (λ fault. IsRefused K.Language half_len (D.reads disk.old) fault) }
+        → IfErr result (λ fault. IsUnread K.Language half_len (D.reads disk.old) fault) }
     ensures looked { OnlyLooked D.Disk disk.old disk.new }
     ensures counts { Counts D.Disk disk.old disk.new (IsErrOf result Device) }
 {
@@ -130,7 +130,7 @@ fn read_next<K: Kept, D: Disk>(
     ensures refused { D.keeps disk.new → K.limit found.old.house ≡ budget_of half_len
         → IsReached K.Language half_len found.old.root found.old.place found.old.last (K.state found.old.house)
         (D.reads disk.old)
-        → IfErr result (λ fault. IsRefused K.Language half_len (D.reads disk.old) fault) }
+        → IfErr result (λ fault. IsUnread K.Language half_len (D.reads disk.old) fault) }
     ensures from { found.old.place ≤ found.new.place }
     ensures further { result ≡ Ok true → found.old.place < found.new.place }
     ensures within { OnOk result (found.new.place ≤ half_end half_len found.new.root.half) }
@@ -179,7 +179,7 @@ fn read_groups<K: Kept, D: Disk>(
     ensures refused { D.keeps disk.new → K.limit found.old.house ≡ budget_of half_len
         → IsReached K.Language half_len found.old.root found.old.place found.old.last (K.state found.old.house)
         (D.reads disk.old)
-        → IfErr result (λ fault. IsRefused K.Language half_len (D.reads disk.old) fault) }
+        → IfErr result (λ fault. IsUnread K.Language half_len (D.reads disk.old) fault) }
     ensures from { found.old.place ≤ found.new.place }
     ensures within { OnOk result (found.new.place ≤ half_end half_len found.new.root.half) }
     ensures root { found.new.root ≡ found.old.root }
@@ -202,7 +202,7 @@ pub fn read_chain<K: Kept, D: Disk>(
     ensures all { D.keeps disk.new → IfOk result (λ found.
         IsRead K.Language half_len found.root found.place found.last (K.state found.house) (D.reads disk.old)) }
     ensures refused { D.keeps disk.new
-        → IfErr result (λ fault. IsRefused K.Language half_len (D.reads disk.old) fault) }
+        → IfErr result (λ fault. IsUnread K.Language half_len (D.reads disk.old) fault) }
     ensures budget { IfOk result (λ found. K.limit found.house ≡ budget_of half_len) }
     ensures half { IfOk result (λ found. found.root.half ≤ 1) }
     ensures known { IfOk result (λ found. IsKnown found.root.version) }
@@ -217,33 +217,32 @@ pub fn read_chain<K: Kept, D: Disk>(
     Ok(found)
 }
 
-/// Reads the image: from the root in force to the state, and then every sector of both halves, of which none may be
-/// ahead of that state.
+/// Reads the image: from the root in force to the state, and then every sector of both halves. With the state it returns
+/// the first sector that is ahead of it, if one is.
 pub fn read_image<K: Kept, D: Disk>(
     alloc: K::Alloc,
     disk: &mut D,
     half_len: u32,
-) -> Result<Found<K>, OpenFault>
+) -> Result<(Found<K>, Option<u32>), OpenFault>
     requires most { half_len ≤ longest_half }
     requires fits { 3 + 2 * half_len ≤ D.sectors disk.old }
-    ensures all { D.keeps disk.new → IfOk result (λ found.
-        IsRead K.Language half_len found.root found.place found.last (K.state found.house) (D.reads disk.old)) }
-    ensures fresh { D.keeps disk.new → IfOk result (λ found.
-        IsFresh half_len found.root.session (found.last + 1) (D.reads disk.old)) }
+    ensures all { D.keeps disk.new → IfOk result (λ read.
+        IsRead K.Language half_len read.0.root read.0.place read.0.last (K.state read.0.house) (D.reads disk.old)) }
+    ensures ahead { D.keeps disk.new → IfOk result (λ read.
+        IsFirstAhead half_len read.0.root.session (read.0.last + 1) read.1 (D.reads disk.old)) }
     ensures refused { D.keeps disk.new
-        → IfErr result (λ fault. IsRefused K.Language half_len (D.reads disk.old) fault) }
-    ensures budget { IfOk result (λ found. K.limit found.house ≡ budget_of half_len) }
-    ensures half { IfOk result (λ found. found.root.half ≤ 1) }
-    ensures known { IfOk result (λ found. IsKnown found.root.version) }
-    ensures from { IfOk result (λ found. half_start half_len found.root.half ≤ found.place) }
-    ensures within { IfOk result (λ found. found.place ≤ half_end half_len found.root.half) }
+        → IfErr result (λ fault. IsUnread K.Language half_len (D.reads disk.old) fault) }
+    ensures budget { IfOk result (λ read. K.limit read.0.house ≡ budget_of half_len) }
+    ensures half { IfOk result (λ read. read.0.root.half ≤ 1) }
+    ensures known { IfOk result (λ read. IsKnown read.0.root.version) }
+    ensures from { IfOk result (λ read. half_start half_len read.0.root.half ≤ read.0.place) }
+    ensures within { IfOk result (λ read. read.0.place ≤ half_end half_len read.0.root.half) }
     ensures looked { OnlyLooked D.Disk disk.old disk.new }
     ensures counts { Counts D.Disk disk.old disk.new (IsErrOf result Device) }
 {
     let found = read_chain(alloc, disk, half_len)?;
-    match first_ahead(disk, half_len, found.root.session, found.last) {
-        Ok(None) => Ok(found),
-        Ok(Some(sector)) => Err(OpenFault::Damaged(sector)),
+    match first_ahead_of(disk, half_len, found.root.session, found.last) {
+        Ok(ahead) => Ok((found, ahead)),
         Err(Failed) => Err(OpenFault::Device),
     }
 }

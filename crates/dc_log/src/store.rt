@@ -139,11 +139,10 @@ impl<D: Disk + Drop> Store<D> {
             × ReadsBy K.Language (half_of D.Disk disk) root m place (K.state o.1) (D.reads disk)
             × IsOpenedRoot root (root.base_sequence + m) o.0.root) }
 
-        // What opens stands for its state, whatever wrote the image and whatever became of it since, and the store
+        // Where the image stands for a state, as it does where none of its sectors is ahead (`first_ahead`), the store
         // keeps that state.
-        ensures stands { IfOk result (λ o.
-            D.keeps o.0.disk → Stands K.Language (half_of D.Disk disk) (K.state o.1) (D.reads disk)) }
-        ensures keeps { IfOk result (λ o. D.keeps o.0.disk → Keeps K.Language D.Disk o.0 (K.state o.1)) }
+        ensures keeps { (was : K.State) → Stands K.Language (half_of D.Disk disk) was (D.reads disk)
+            → IfOk result (λ o. D.keeps o.0.disk → Keeps K.Language D.Disk o.0 (K.state o.1)) }
 
         // Unless the device failed, a refusal wrote nothing: the disk reads as before, and so does each image of
         // every moment.

@@ -1,6 +1,7 @@
 //! The names of codes of the standard.
 #![tactic(auto)]
 
+mod codes;
 mod fields;
 mod first;
 mod media;
@@ -11,11 +12,14 @@ mod second;
 mod vib;
 mod vife;
 
-pub use fields::{application_name, ci_name, control_name, function_name};
-pub use first::first_name;
-pub use media::medium_name;
+pub use fields::{
+    CONTROLS, FUNCTIONS, INFORMATIONS, STATES, application_name, ci_name, control_name,
+    function_name,
+};
+pub use first::{FIRST, first_name};
+pub use media::{MEDIA, medium_name};
 pub use plain::{Plain, plain_of};
-pub use primary::primary_name;
-pub use second::second_name;
+pub use primary::{PRIMARY, primary_name};
+pub use second::{SECOND, second_name};
 pub use vib::{qualifiers, quantity_name};
-pub use vife::vife_name;
+pub use vife::{VIFES, vife_name};

@@ -1,7 +1,10 @@
 //! Units of codes whose data are plain numbers.
+//!
+//! A row of a table has codes of one unit: the first and the last, the unit, and the power of ten of the first. Each
+//! further code stands for the next power of ten.
 
-ghost use Rattle.std.specs.Prelude.{◌≡◌, ◌<◌, ◌≤◌, Some, option_map};
-ghost use Rattle.dc_names.specs.Scale.{scale_in, scale_of, scale_view, primary, first, after, second, second_00, second_23, second_40};
+ghost use Rattle.std.specs.Prelude.{◌≡◌, map, option_map};
+ghost use Rattle.dc_names.specs.Scale.{AreNarrow, after, row_of, scale_in, scale_of, scale_view};
 
 /// A unit, and the power of ten that a number counts.
 #[derive(Clone, Copy, Debug)]
@@ -10,13 +13,117 @@ pub(crate) struct Scale {
     pub exponent: i8,
 }
 
+/// Durations and identifications among the primary VIFs (EN 13757-3).
+pub const PRIMARY_SCALES: [(u8, u8, &str, i8); 19] = [
+    (0x20, 0x20, "s", 0),
+    (0x21, 0x21, "min", 0),
+    (0x22, 0x22, "h", 0),
+    (0x23, 0x23, "d", 0),
+    (0x24, 0x24, "s", 0),
+    (0x25, 0x25, "min", 0),
+    (0x26, 0x26, "h", 0),
+    (0x27, 0x27, "d", 0),
+    (0x70, 0x70, "s", 0),
+    (0x71, 0x71, "min", 0),
+    (0x72, 0x72, "h", 0),
+    (0x73, 0x73, "d", 0),
+    (0x74, 0x74, "s", 0),
+    (0x75, 0x75, "min", 0),
+    (0x76, 0x76, "h", 0),
+    (0x77, 0x77, "d", 0),
+    (0x78, 0x78, "", 0),
+    (0x79, 0x79, "", 0),
+    (0x7A, 0x7A, "", 0),
+];
+
+/// The codes after FB (EN 13757-3, first extension of VIF codes).
+pub const FIRST_SCALES: [(u8, u8, &str, i8); 16] = [
+    (0x02, 0x03, "kvarh", 0),
+    (0x04, 0x05, "kVAh", 0),
+    (0x0C, 0x0F, "Mcal", -1),
+    (0x14, 0x17, "kvar", -3),
+    (0x18, 0x19, "t", 2),
+    (0x1A, 0x1B, "%", -1),
+    (0x20, 0x20, "ft3", 0),
+    (0x21, 0x21, "ft3", -1),
+    (0x28, 0x29, "MW", -1),
+    (0x2A, 0x2A, "deg", -1),
+    (0x2B, 0x2B, "deg", -1),
+    (0x2C, 0x2F, "Hz", -3),
+    (0x30, 0x31, "GJ/h", -1),
+    (0x34, 0x37, "kVA", -3),
+    (0x74, 0x77, "C", -3),
+    (0x78, 0x7F, "W", -3),
+];
+
+/// The codes after FD (EN 13757-3, second extension of VIF codes).
+pub const SECOND_SCALES: [(u8, u8, &str, i8); 57] = [
+    (0x00, 0x03, "currency", -3),
+    (0x04, 0x07, "currency", -3),
+    (0x08, 0x08, "", 0),
+    (0x09, 0x09, "", 0),
+    (0x0B, 0x0B, "", 0),
+    (0x0C, 0x0C, "", 0),
+    (0x0D, 0x0D, "", 0),
+    (0x0E, 0x0E, "", 0),
+    (0x0F, 0x0F, "", 0),
+    (0x1C, 0x1C, "Bd", 0),
+    (0x1D, 0x1D, "bit times", 0),
+    (0x1E, 0x1E, "", 0),
+    (0x20, 0x20, "", 0),
+    (0x21, 0x21, "", 0),
+    (0x22, 0x22, "", 0),
+    (0x24, 0x24, "s", 0),
+    (0x25, 0x25, "min", 0),
+    (0x26, 0x26, "h", 0),
+    (0x27, 0x27, "d", 0),
+    (0x28, 0x28, "months", 0),
+    (0x29, 0x29, "years", 0),
+    (0x2B, 0x2B, "s", 0),
+    (0x2C, 0x2C, "s", 0),
+    (0x2D, 0x2D, "min", 0),
+    (0x2E, 0x2E, "h", 0),
+    (0x2F, 0x2F, "d", 0),
+    (0x31, 0x31, "min", 0),
+    (0x32, 0x32, "h", 0),
+    (0x33, 0x33, "d", 0),
+    (0x34, 0x34, "s", 0),
+    (0x35, 0x35, "min", 0),
+    (0x36, 0x36, "h", 0),
+    (0x37, 0x37, "d", 0),
+    (0x38, 0x38, "months", 0),
+    (0x39, 0x39, "years", 0),
+    (0x3A, 0x3A, "", 0),
+    (0x3C, 0x3C, "s", 0),
+    (0x3D, 0x3D, "min", 0),
+    (0x3E, 0x3E, "h", 0),
+    (0x3F, 0x3F, "d", 0),
+    (0x40, 0x4F, "V", -9),
+    (0x50, 0x5F, "A", -12),
+    (0x60, 0x60, "", 0),
+    (0x61, 0x61, "", 0),
+    (0x63, 0x63, "", 0),
+    (0x64, 0x64, "", 0),
+    (0x68, 0x68, "h", 0),
+    (0x69, 0x69, "d", 0),
+    (0x6A, 0x6A, "months", 0),
+    (0x6B, 0x6B, "years", 0),
+    (0x6C, 0x6C, "h", 0),
+    (0x6D, 0x6D, "d", 0),
+    (0x6E, 0x6E, "months", 0),
+    (0x6F, 0x6F, "years", 0),
+    (0x71, 0x71, "dBm", 0),
+    (0x74, 0x74, "d", 0),
+    (0x75, 0x75, "", 0),
+];
+
 // The unit of a value information block whose data are plain numbers.
 pub(crate) fn scale_of(vib: &[u8]) -> Option<Scale>
     ensures { option_map scale_view result ≡ scale_of vib.now }
 {
     match vib {
         [] => None,
-        [vif] => primary(*vif),
+        [vif] => scale_in(&PRIMARY_SCALES, *vif),
         [vif, code] => after(*vif, *code),
         [_, _, _, ..] => None,
     }
@@ -27,118 +134,26 @@ fn after(vif: u8, code: u8) -> Option<Scale>
     ensures { option_map scale_view result ≡ after vif code }
 {
     match vif {
-        0xFB => first(code),
-        0xFD => second(code),
+        0xFB => scale_in(&FIRST_SCALES, code),
+        0xFD => scale_in(&SECOND_SCALES, code),
         _ => None,
     }
 }
 
-fn scaled(unit: &'static str, exponent: i8) -> Option<Scale>
-    ensures { option_map scale_view result ≡ Some (unit.now, exponent) }
-{
-    Some(Scale { unit, exponent })
-}
-
-// The primary VIFs.
+// The unit of a code in a table.
 #[tactic(auto, unfolding(crate::specs::Scale::scale_in))]
-fn primary(code: u8) -> Option<Scale>
-    ensures { option_map scale_view result ≡ scale_in primary code }
+fn scale_in(mut rows: &[(u8, u8, &'static str, i8)], code: u8) -> Option<Scale>
+    requires { AreNarrow (map (λ r. row_of r.0 r.1 r.2.now r.3) rows.now) }
+    ensures { option_map scale_view result
+        ≡ scale_in (map (λ r. row_of r.0 r.1 r.2.now r.3) rows.entry.now) code }
 {
-    match code {
-        0x20 | 0x24 | 0x70 | 0x74 => scaled("s", 0),
-        0x21 | 0x25 | 0x71 | 0x75 => scaled("min", 0),
-        0x22 | 0x26 | 0x72 | 0x76 => scaled("h", 0),
-        0x23 | 0x27 | 0x73 | 0x77 => scaled("d", 0),
-        0x78 | 0x79 | 0x7A => scaled("", 0),
-        _ => None,
+    while let [row, rest @ ..] = rows {
+        let (first, last, unit, exponent) = *row;
+        if first <= code && code <= last {
+            let exponent = exponent + (code - first) as i8;
+            return Some(Scale { unit, exponent });
+        }
+        rows = rest;
     }
-}
-
-// The codes after FB.
-#[tactic(auto, unfolding(crate::specs::Scale::scale_in))]
-fn first(code: u8) -> Option<Scale>
-    ensures { option_map scale_view result ≡ scale_in first code }
-{
-    match code {
-        0x02..=0x03 => scaled("kvarh", (code - 0x02) as i8),
-        0x04..=0x05 => scaled("kVAh", (code - 0x04) as i8),
-        0x0C..=0x0F => scaled("Mcal", (code - 0x0C) as i8 - 1),
-        0x14..=0x17 => scaled("kvar", (code - 0x14) as i8 - 3),
-        0x18..=0x19 => scaled("t", (code - 0x18) as i8 + 2),
-        0x1A..=0x1B => scaled("%", (code - 0x1A) as i8 - 1),
-        0x20 => scaled("ft3", 0),
-        0x21 => scaled("ft3", -1),
-        0x28..=0x29 => scaled("MW", (code - 0x28) as i8 - 1),
-        0x2A | 0x2B => scaled("deg", -1),
-        0x2C..=0x2F => scaled("Hz", (code - 0x2C) as i8 - 3),
-        0x30..=0x31 => scaled("GJ/h", (code - 0x30) as i8 - 1),
-        0x34..=0x37 => scaled("kVA", (code - 0x34) as i8 - 3),
-        0x74..=0x77 => scaled("C", (code - 0x74) as i8 - 3),
-        0x78..=0x7F => scaled("W", (code - 0x78) as i8 - 3),
-        _ => None,
-    }
-}
-
-// The codes after FD.
-fn second(code: u8) -> Option<Scale>
-    ensures { option_map scale_view result ≡ second code }
-{
-    match code {
-        0x00..=0x22 => identification(code),
-        0x23..=0x3F => interval(code),
-        _ => measurement(code),
-    }
-}
-
-// The codes 00 to 22 after FD.
-#[tactic(auto, unfolding(crate::specs::Scale::scale_in))]
-fn identification(code: u8) -> Option<Scale>
-    requires { code < 0x23 }
-    ensures { option_map scale_view result ≡ scale_in second_00 code }
-{
-    match code {
-        0x00..=0x03 => scaled("currency", code as i8 - 3),
-        0x04..=0x07 => scaled("currency", (code - 0x04) as i8 - 3),
-        0x08 | 0x09 | 0x0B | 0x0C | 0x0D | 0x0E | 0x0F | 0x1E | 0x20 | 0x21 | 0x22 => scaled("", 0),
-        0x1C => scaled("Bd", 0),
-        0x1D => scaled("bit times", 0),
-        _ => None,
-    }
-}
-
-// The codes 23 to 3F after FD.
-#[tactic(auto, unfolding(crate::specs::Scale::scale_in))]
-fn interval(code: u8) -> Option<Scale>
-    requires { (0x23 ≤ code) × (code < 0x40) }
-    ensures { option_map scale_view result ≡ scale_in second_23 code }
-{
-    match code {
-        0x24 | 0x2B | 0x2C | 0x34 | 0x3C => scaled("s", 0),
-        0x25 | 0x2D | 0x31 | 0x35 | 0x3D => scaled("min", 0),
-        0x26 | 0x2E | 0x32 | 0x36 | 0x3E => scaled("h", 0),
-        0x27 | 0x2F | 0x33 | 0x37 | 0x3F => scaled("d", 0),
-        0x28 | 0x38 => scaled("months", 0),
-        0x29 | 0x39 => scaled("years", 0),
-        0x3A => scaled("", 0),
-        _ => None,
-    }
-}
-
-// The codes from 40 on after FD.
-#[tactic(auto, unfolding(crate::specs::Scale::scale_in))]
-fn measurement(code: u8) -> Option<Scale>
-    requires { 0x40 ≤ code }
-    ensures { option_map scale_view result ≡ scale_in second_40 code }
-{
-    match code {
-        0x40..=0x4F => scaled("V", (code - 0x40) as i8 - 9),
-        0x50..=0x5F => scaled("A", (code - 0x50) as i8 - 12),
-        0x60 | 0x61 | 0x63 | 0x64 | 0x75 => scaled("", 0),
-        0x68 | 0x6C => scaled("h", 0),
-        0x69 | 0x6D | 0x74 => scaled("d", 0),
-        0x6A | 0x6E => scaled("months", 0),
-        0x6B | 0x6F => scaled("years", 0),
-        0x71 => scaled("dBm", 0),
-        _ => None,
-    }
+    None
 }

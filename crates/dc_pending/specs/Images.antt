@@ -1,5 +1,5 @@
 -- The store's definitions, of the register: what `dc_log` says of any state, said of the house's.
-use Rattle.std.specs.Prelude.{ℕ, List}
+use Rattle.std.specs.Prelude.{ℕ, List, Option}
 use Rattle.dc_disk.specs.declared.device.Disk.{Ghosts}
 use Rattle.dc_disk.specs.Disk.{Image, Choices}
 use Rattle.dc_change.specs.State.{State}
@@ -9,6 +9,7 @@ use Rattle.dc_roots.specs.declared.root.Root.{Root}
 use Rattle.dc_log.specs.declared.fault.OpenFault.{OpenFault}
 use Rattle.dc_log.specs.Stands as standing
 use Rattle.dc_log.specs.Refusal as refusal
+use Rattle.dc_log.specs.Behind as behind
 use Rattle.dc_log.specs.Store as store
 use Rattle.dc_log.specs.Store.{Opened}
 
@@ -35,6 +36,12 @@ StandsForFront = standing.StandsForFront register
 
 abbrev pub IsRefused : ℕ → Image → OpenFault → Type 0
 IsRefused = refusal.IsRefused register
+
+abbrev pub IsUnread : ℕ → Image → OpenFault → Type 0
+IsUnread = refusal.IsUnread register
+
+abbrev pub IsBehindAt : ℕ → Option ℕ → Image → Type 0
+IsBehindAt = behind.IsBehindAt register
 
 abbrev pub IsWorn : ℕ → Image → Type 0
 IsWorn = refusal.IsWorn register

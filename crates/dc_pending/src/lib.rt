@@ -23,4 +23,4 @@ pub use fault::TakeFault;
 pub use lines::{Lines, is_line};
 pub use taking::take;
 pub use waiting::Waiting;
-pub use writing::write_waiting;
+pub use writing::{write_changes, write_waiting};

@@ -8,17 +8,17 @@ use Rattle.dc_concentrator.specs.declared.fault.HearFault.{HearFault}
 use Rattle.dc_concentrator.specs.declared.fault.StartFault.{StartFault}
 use Rattle.dc_concentrator.specs.declared.line_heard.LineHeard.{LineHeard}
 use Rattle.dc_concentrator.specs.declared.line_heard.LineHeard.TheVariants.{Again, Ready, Accepted, Failed as HasFailed}
-use Rattle.dc_bus.specs.Halves.{most_settles, most_waits}
+use Rattle.dc_bus.specs.Halves.{most_waits}
 use Rattle.dc_poll.specs.Bus.{Bus}
 use Rattle.dc_readout.specs.declared.why.Why.{Why}
 use Rattle.dc_readout.specs.declared.why.Why.TheVariants.{NoAnswer}
 use Rattle.dc_poll.specs.Happening.{Happening, does}
 use Rattle.dc_poll.specs.Queue.{Part, part, most_asks, Goes, stays, passes_on, starts_it, is_refused, asks_it, has_no_request, is_given_up, goes_on, is_accepted, is_put_off, fails_at_last, is_faulty}
-use Rattle.dc_poll.specs.Talking.{Talk, Talks, rests, settles_it, begins, has_none, sends_it, waits_it, takes_it, hears_it}
+use Rattle.dc_poll.specs.Talking.{Talk, Talks, rests, begins, has_none, sends_it, waits_it, takes_it, hears_it}
 use Rattle.dc_misses.specs.Misses.{misses_of}
 use Rattle.dc_poll.specs.Missed.{misses_heard}
 use Rattle.dc_poll.specs.Round.{LineGoes}
-use Rattle.dc_poll.specs.Station.{IsPass, IsSoundIn, IsSound, is_answered, taken_of, IsAfter, Listens, Next, part_of, talk_of, rounds_in, rounds_of, rounds_a_start, rounds_by_phase, settling, ended, next_pass, put_off, after_answer, after_failure}
+use Rattle.dc_poll.specs.Station.{IsPass, IsSoundIn, IsSound, is_answered, taken_of, IsAfter, Listens, Next, part_of, talk_of, rounds_in, rounds_of, rounds_a_start, rounds_by_phase, ended, next_pass, put_off, after_answer, after_failure}
 use Rattle.dc_poll.specs.declared.end.End.{End}
 use Rattle.dc_poll.specs.declared.end.End.TheVariants.{Read, Failed, Refused}
 use Rattle.dc_poll.specs.declared.end.Refusal.TheVariants.{Start, Hear}
@@ -29,7 +29,7 @@ use Rattle.dc_poll.specs.declared.phase.Request.TheVariants.{Quiet, Sent, Answer
 use Rattle.dc_poll.specs.declared.station.Station.{Station}
 use Rattle.dc_poll.proofs.Idling.{fewer_silent}
 use Rattle.dc_poll.proofs.Missing.{counts_same, counts_turn}
-use Rattle.dc_poll.proofs.Counting.{pass_less, pass_put_off, start_count, refuse_count, settle_count, ask_count, end_count, free_count, pass_count}
+use Rattle.dc_poll.proofs.Counting.{pass_less, pass_put_off, start_count, refuse_count, ask_count, end_count, free_count, pass_count}
 use Rattle.dc_poll.proofs.Queues.{line_by, line_stays, part_is, part_first, talk_is, of_after, from_phase}
 
 some_of : (xs : List Identity) (m : Identity) → xs ≡ m ∷ drop 1 xs → 0 < length xs
@@ -109,16 +109,16 @@ module _ {B : Type 0} (g : Bus B) where
 
   -- how many rounds one of known parts takes
   rounds_at : (out pending over tries : ℕ) (s : Station B) (phase : Phase) (request : Request) (n : ℕ) → s.phase ≡ phase → s.request ≡ request
-      → n ≤ rounds_in out pending over tries (length s.left.now) s.due s.pass phase request (g.waits_left s.bus) (g.ready s.bus) (g.settles_left s.bus) - 1
+      → n ≤ rounds_in out pending over tries (length s.left.now) s.due s.pass phase request (g.waits_left s.bus) - 1
       → n ≤ rounds_of g out pending over tries s - 1
   rounds_at out pending over tries s phase request n p r few =
-      from_phase (λ ph rq. n ≤ rounds_in out pending over tries (length s.left.now) s.due s.pass ph rq (g.waits_left s.bus) (g.ready s.bus) (g.settles_left s.bus) - 1) s phase request p r few
+      from_phase (λ ph rq. n ≤ rounds_in out pending over tries (length s.left.now) s.due s.pass ph rq (g.waits_left s.bus) - 1) s phase request p r few
 
   rounds_at' : (out pending over tries : ℕ) (s : Station B) (phase : Phase) (n : ℕ) → s.phase ≡ phase
-      → n ≤ rounds_in out pending over tries (length s.left.now) s.due s.pass phase s.request (g.waits_left s.bus) (g.ready s.bus) (g.settles_left s.bus)
+      → n ≤ rounds_in out pending over tries (length s.left.now) s.due s.pass phase s.request (g.waits_left s.bus)
       → n ≤ rounds_of g out pending over tries s
   rounds_at' out pending over tries s phase n p few =
-      from_phase (λ ph rq. n ≤ rounds_in out pending over tries (length s.left.now) s.due s.pass ph rq (g.waits_left s.bus) (g.ready s.bus) (g.settles_left s.bus)) s phase s.request p refl few
+      from_phase (λ ph rq. n ≤ rounds_in out pending over tries (length s.left.now) s.due s.pass ph rq (g.waits_left s.bus)) s phase s.request p refl few
 
   -- ---- the next pass
 
@@ -176,12 +176,12 @@ module _ {B : Type 0} (g : Bus B) where
   rounds_passed out pending over tries old new free some sound after = by_due old.due refl
     where
       rounds : ℕ → ℕ → Phase → ℕ
-      rounds due pass phase = rounds_in out pending over tries (length old.left.now) due pass phase old.request (g.waits_left old.bus) (g.ready old.bus) (g.settles_left old.bus)
+      rounds due pass phase = rounds_in out pending over tries (length old.left.now) due pass phase old.request (g.waits_left old.bus)
 
       here : (n : Next) → IsAfter n old.bus old.request old.said new → n.left ≡ old.left.now → n.phase ≡ old.phase → rounds_of g out pending over tries new ≡ rounds n.due n.pass Free
       here n is left phase =
-          of_after (λ left due pass phase request bus. rounds_in out pending over tries (length left) due pass phase request (g.waits_left bus) (g.ready bus) (g.settles_left bus) ≡ rounds n.due n.pass Free) n _ _ _ new is
-          (ap (λ (xs : List Identity). rounds_in out pending over tries (length xs) n.due n.pass n.phase old.request (g.waits_left old.bus) (g.ready old.bus) (g.settles_left old.bus)) left ∙ ap (λ (p : Phase). rounds n.due n.pass p) (phase ∙ free))
+          of_after (λ left due pass phase request bus. rounds_in out pending over tries (length left) due pass phase request (g.waits_left bus) ≡ rounds n.due n.pass Free) n _ _ _ new is
+          (ap (λ (xs : List Identity). rounds_in out pending over tries (length xs) n.due n.pass n.phase old.request (g.waits_left old.bus)) left ∙ ap (λ (p : Phase). rounds n.due n.pass p) (phase ∙ free))
 
       there : rounds_of g out pending over tries old ≡ rounds old.due old.pass Free
       there = ap (λ (p : Phase). rounds old.due old.pass p) free
@@ -191,7 +191,7 @@ module _ {B : Type 0} (g : Bus B) where
           let is = subst (λ (d : ℕ). IsAfter (next_pass old.left.now d old.pass old.phase) old.bus old.request old.said new) none after in
           let less : old.pass < tries = (free_pass tries old free sound).3 (omega (arith, none, some)) in
           let anew : rounds (length old.left.now) (old.pass + 1) Free ≡ rounds 0 old.pass Free =
-          ap (λ (n : ℕ). n * rounds_a_start + rounds_by_phase out pending over (settling (length old.left.now) (g.ready old.bus) (g.settles_left old.bus)) Free old.request (g.waits_left old.bus)) (pass_count tries (length old.left.now) old.pass less) in
+          ap (λ (n : ℕ). n * rounds_a_start + rounds_by_phase out pending over Free old.request (g.waits_left old.bus)) (pass_count tries (length old.left.now) old.pass less) in
           here (next_pass old.left.now 0 old.pass old.phase) is refl refl ∙ anew ∙ ap (λ (n : ℕ). rounds n old.pass Free) (sym none) ∙ sym there
       by_due (suc n) more =
           let is = subst (λ (d : ℕ). IsAfter (next_pass old.left.now d old.pass old.phase) old.bus old.request old.said new) more after in
@@ -211,18 +211,18 @@ module _ {B : Type 0} (g : Bus B) where
   part_kept s new meter phase bus request said first some is =
       part_is new (meter ∷ drop 1 s.left.now) (suc (s.due - 1)) s.pass phase (is.left ∙ first) (let due = is.due in omega (arith, due, some)) is.pass is.phase
 
-  pub line_started : (tries line : ℕ) (meter : Identity) (answer : Result (Unit {0}) StartFault) (old new : Station B) → old.phase ≡ Free → old.request ≡ Quiet → g.ready old.bus ≡ true → old.left.now ≡ meter ∷ drop 1 old.left.now → 0 < old.due → old.pass ≤ tries
+  pub line_started : (tries line : ℕ) (meter : Identity) (answer : Result (Unit {0}) StartFault) (old new : Station B) → old.phase ≡ Free → old.request ≡ Quiet → old.left.now ≡ meter ∷ drop 1 old.left.now → 0 < old.due → old.pass ≤ tries
       → OnOk answer (IsAfter (record { left = old.left.now; due = old.due; pass = old.pass; phase = Busy most_asks }) old.bus old.request old.said new)
       → IfErr answer (λ fault. IsAfter (ended old.left.now old.due old.pass (Refused meter (Start fault))) old.bus old.request old.said new)
       → new.misses ≡ misses_of [] → LineGoes g tries line old new (does (starts line meter, started answer) ∷ [])
-  line_started tries line meter (Ok tt) old new free silent ready first some few ok err anew =
+  line_started tries line meter (Ok tt) old new free silent first some few ok err anew =
       line_by tries line old new _ _ (record { bus = old.bus; request = Quiet; said = old.said }) (record { bus = old.bus; request = Quiet; said = old.said }) _
       (part_first old meter Free first some free) (part_kept old new meter (Busy most_asks) _ _ _ first some ok) (talk_is old _ _ _ refl silent refl) (talk_is new _ _ _ ok.bus (ok.request ∙ silent) ok.said)
-      (starts_it few stays) (begins ready rests) (counts_turn line old.misses new.misses (starts line meter, started (Ok tt)) anew)
-  line_started tries line meter (Err fault) old new free silent ready first some few ok err anew =
+      (starts_it few stays) (begins rests) (counts_turn line old.misses new.misses (starts line meter, started (Ok tt)) anew)
+  line_started tries line meter (Err fault) old new free silent first some few ok err anew =
       line_by tries line old new _ _ (record { bus = old.bus; request = Quiet; said = old.said }) (record { bus = old.bus; request = Quiet; said = old.said }) _
       (part_first old meter Free first some free) (part_left old new _ _ _ _ err) (talk_is old _ _ _ refl silent refl) (talk_is new _ _ _ err.bus (err.request ∙ silent) err.said)
-      (is_refused few stays) (begins ready rests) (counts_turn line old.misses new.misses (starts line meter, started (Err fault)) anew)
+      (is_refused few stays) (begins rests) (counts_turn line old.misses new.misses (starts line meter, started (Err fault)) anew)
 
   pub sound_started : (tries : ℕ) (meter : Identity) (answer : Result (Unit {0}) StartFault) (old new : Station B) → old.phase ≡ Free → 0 < old.due → IsSound g tries old
       → OnOk answer (IsAfter (record { left = old.left.now; due = old.due; pass = old.pass; phase = Busy most_asks }) old.bus old.request old.said new)
@@ -242,46 +242,16 @@ module _ {B : Type 0} (g : Bus B) where
       → rounds_of g 1 1 1 tries new ≤ rounds_of g 1 1 1 tries old - 1
   fewer_started tries meter (Ok tt) old new free silent first some ok err =
       rounds_at 1 1 1 tries old Free Quiet (rounds_of g 1 1 1 tries new) free silent
-      (of_after (λ left due pass phase request bus. rounds_in 1 1 1 tries (length left) due pass phase request (g.waits_left bus) (g.ready bus) (g.settles_left bus)
-      ≤ rounds_in 1 1 1 tries (length old.left.now) old.due old.pass Free Quiet (g.waits_left old.bus) (g.ready old.bus) (g.settles_left old.bus) - 1) _ _ _ _ new ok
-      (subst (λ (rq : Request). rounds_in 1 1 1 tries (length old.left.now) old.due old.pass (Busy most_asks) rq (g.waits_left old.bus) (g.ready old.bus) (g.settles_left old.bus)
-      ≤ rounds_in 1 1 1 tries (length old.left.now) old.due old.pass Free Quiet (g.waits_left old.bus) (g.ready old.bus) (g.settles_left old.bus) - 1) (sym silent)
-      (start_count old.left.now tries (some_of old.left.now meter first) old.due old.pass (g.waits_left old.bus) (g.waits_left old.bus) (g.settles_left old.bus) (g.settles_left old.bus) (g.ready old.bus) (g.ready old.bus) some)))
+      (of_after (λ left due pass phase request bus. rounds_in 1 1 1 tries (length left) due pass phase request (g.waits_left bus)
+      ≤ rounds_in 1 1 1 tries (length old.left.now) old.due old.pass Free Quiet (g.waits_left old.bus) - 1) _ _ _ _ new ok
+      (subst (λ (rq : Request). rounds_in 1 1 1 tries (length old.left.now) old.due old.pass (Busy most_asks) rq (g.waits_left old.bus)
+      ≤ rounds_in 1 1 1 tries (length old.left.now) old.due old.pass Free Quiet (g.waits_left old.bus) - 1) (sym silent)
+      (start_count old.left.now tries (some_of old.left.now meter first) old.due old.pass (g.waits_left old.bus) (g.waits_left old.bus) some)))
   fewer_started tries meter (Err fault) old new free silent first some ok err =
       rounds_at 1 1 1 tries old Free Quiet (rounds_of g 1 1 1 tries new) free silent
-      (of_after (λ left due pass phase request bus. rounds_in 1 1 1 tries (length left) due pass phase request (g.waits_left bus) (g.ready bus) (g.settles_left bus)
-      ≤ rounds_in 1 1 1 tries (length old.left.now) old.due old.pass Free Quiet (g.waits_left old.bus) (g.ready old.bus) (g.settles_left old.bus) - 1) _ _ _ _ new err
-      (refuse_count old.left.now tries (some_of old.left.now meter first) old.due old.pass (g.waits_left old.bus) (g.waits_left old.bus) (g.settles_left old.bus) (g.settles_left old.bus) (g.ready old.bus) (g.ready old.bus) (Refused meter (Start fault)) some))
-
-  -- ---- it settles
-
-  pub line_settled : (tries line : ℕ) (old new : Station B) → old.request ≡ Quiet → g.ready old.bus ≡ false → g.settles old.bus new.bus → new ≡ record old { bus = new.bus } → LineGoes g tries line old new []
-  line_settled tries line old new silent not settles kept =
-      let at : B = new.bus in
-      subst (λ (s : Station B). LineGoes g tries line old s []) (sym kept)
-      (record {
-        queue = stays;
-        talk = subst (λ (rq : Request). Talks g line (record { bus = old.bus; request = rq; said = old.said }) [] (record { bus = at; request = rq; said = old.said })) (sym silent) (settles_it not settles rests);
-        misses = counts_same line old.misses old.misses refl;
-      })
-
-  pub sound_settled : (tries : ℕ) (old new : Station B) → old.phase ≡ Free → new ≡ record old { bus = new.bus } → IsSound g tries old → IsSound g tries new
-  sound_settled tries old new free kept sound =
-      let at : B = new.bus in
-      subst (λ (s : Station B). IsSound g tries s) (sym kept)
-      (subst (λ (p : Phase). IsSoundIn tries (length old.left.now) old.due old.pass p old.request (g.waits_left at)) (sym free) (free_sound tries old free sound))
-
-  pub fewer_settled : (tries : ℕ) (meter : Identity) (old new : Station B) → old.phase ≡ Free → old.request ≡ Quiet → old.left.now ≡ meter ∷ drop 1 old.left.now → g.ready old.bus ≡ false → g.settles_left old.bus ≤ most_settles
-      → ((g.ready new.bus ≡ true) ⊎ (g.settles_left new.bus < g.settles_left old.bus)) → new ≡ record old { bus = new.bus }
-      → rounds_of g 0 0 0 tries new ≤ rounds_of g 1 1 1 tries old - 1
-  fewer_settled tries meter old new free silent first not few steps kept =
-      let at : B = new.bus in
-      let n : ℕ = rounds_in 0 0 0 tries (length old.left.now) old.due old.pass Free Quiet (g.waits_left at) (g.ready at) (g.settles_left at) in
-      let less = settle_count old.left.now tries (some_of old.left.now meter first) old.due old.pass (g.waits_left at) (g.waits_left old.bus) (g.settles_left old.bus) (g.settles_left at) (g.ready at) few steps in
-      let less' = subst (λ (b : Bool). n ≤ rounds_in 1 1 1 tries (length old.left.now) old.due old.pass Free Quiet (g.waits_left old.bus) b (g.settles_left old.bus) - 1) (sym not) less in
-      subst (λ (s : Station B). rounds_of g 0 0 0 tries s ≤ rounds_of g 1 1 1 tries old - 1) (sym kept)
-      (from_phase (λ ph rq. rounds_in 0 0 0 tries (length old.left.now) old.due old.pass ph rq (g.waits_left at) (g.ready at) (g.settles_left at) ≤ rounds_of g 1 1 1 tries old - 1) old Free Quiet free silent
-      (rounds_at 1 1 1 tries old Free Quiet n free silent less'))
+      (of_after (λ left due pass phase request bus. rounds_in 1 1 1 tries (length left) due pass phase request (g.waits_left bus)
+      ≤ rounds_in 1 1 1 tries (length old.left.now) old.due old.pass Free Quiet (g.waits_left old.bus) - 1) _ _ _ _ new err
+      (refuse_count old.left.now tries (some_of old.left.now meter first) old.due old.pass (g.waits_left old.bus) (g.waits_left old.bus) (Refused meter (Start fault)) some))
 
   -- ---- it room
 
@@ -320,11 +290,11 @@ module _ {B : Type 0} (g : Bus B) where
       let was = busy_sound tries room old busy sound in
       let some : 0 < length old.left.now = let more = was.1 in let few = was.0.2 in omega (arith, more, few) in
       rounds_at 0 0 0 tries old (Busy room) old.request (rounds_of g out pending over tries new) busy refl
-      (of_after (λ left due pass phase rq bus. rounds_in out pending over tries (length left) due pass phase rq (g.waits_left bus) (g.ready bus) (g.settles_left bus)
-      ≤ rounds_in 0 0 0 tries (length old.left.now) old.due old.pass (Busy room) old.request (g.waits_left old.bus) (g.ready old.bus) (g.settles_left old.bus) - 1) _ _ _ _ new gone
-      (subst (λ (rq : Request). rounds_in out pending over tries (length (drop 1 old.left.now)) (old.due - 1) old.pass (Over end) rq (g.waits_left old.bus) (g.ready old.bus) (g.settles_left old.bus)
-      ≤ rounds_in 0 0 0 tries (length old.left.now) old.due old.pass (Busy room) old.request (g.waits_left old.bus) (g.ready old.bus) (g.settles_left old.bus) - 1) (sym silent)
-      (end_count old.left.now tries some out pending over old.due old.pass room (g.waits_left old.bus) (g.waits_left old.bus) (g.settles_left old.bus) (g.settles_left old.bus) (g.ready old.bus) (g.ready old.bus) old.request end one)))
+      (of_after (λ left due pass phase rq bus. rounds_in out pending over tries (length left) due pass phase rq (g.waits_left bus)
+      ≤ rounds_in 0 0 0 tries (length old.left.now) old.due old.pass (Busy room) old.request (g.waits_left old.bus) - 1) _ _ _ _ new gone
+      (subst (λ (rq : Request). rounds_in out pending over tries (length (drop 1 old.left.now)) (old.due - 1) old.pass (Over end) rq (g.waits_left old.bus)
+      ≤ rounds_in 0 0 0 tries (length old.left.now) old.due old.pass (Busy room) old.request (g.waits_left old.bus) - 1) (sym silent)
+      (end_count old.left.now tries some out pending over old.due old.pass room (g.waits_left old.bus) (g.waits_left old.bus) old.request end one)))
 
   -- with nothing out
   pub fewer_given : (tries room : ℕ) (end : End) (old new : Station B) → old.phase ≡ Busy room → old.request ≡ Quiet → IsSound g tries old → IsAfter (ended old.left.now old.due old.pass end) old.bus old.request old.said new
@@ -332,14 +302,14 @@ module _ {B : Type 0} (g : Bus B) where
   fewer_given tries room end old new busy silent sound gone =
       let was = busy_sound tries room old busy sound in
       rounds_at 1 1 1 tries old (Busy room) Quiet (rounds_of g 0 0 0 tries new) busy silent
-      (of_after (λ left due pass phase rq bus. rounds_in 0 0 0 tries (length left) due pass phase rq (g.waits_left bus) (g.ready bus) (g.settles_left bus)
-      ≤ rounds_in 1 1 1 tries (length old.left.now) old.due old.pass (Busy room) Quiet (g.waits_left old.bus) (g.ready old.bus) (g.settles_left old.bus) - 1) _ _ _ _ new gone
-      (let less = end_count old.left.now tries (busy_some was) 0 1 0 old.due old.pass room (g.waits_left old.bus) (g.waits_left old.bus) (g.settles_left old.bus) (g.settles_left old.bus) (g.ready old.bus) (g.ready old.bus) Quiet end (omega arith) in
+      (of_after (λ left due pass phase rq bus. rounds_in 0 0 0 tries (length left) due pass phase rq (g.waits_left bus)
+      ≤ rounds_in 1 1 1 tries (length old.left.now) old.due old.pass (Busy room) Quiet (g.waits_left old.bus) - 1) _ _ _ _ new gone
+      (let less = end_count old.left.now tries (busy_some was) 0 1 0 old.due old.pass room (g.waits_left old.bus) (g.waits_left old.bus) Quiet end (omega arith) in
       of_rq old.request silent less))
     where
       of_rq : (rq : Request) → rq ≡ Quiet
-          → rounds_in 0 1 0 tries (length (drop 1 old.left.now)) (old.due - 1) old.pass (Over end) Quiet (g.waits_left old.bus) (g.ready old.bus) (g.settles_left old.bus) ≤ rounds_in 0 0 0 tries (length old.left.now) old.due old.pass (Busy room) Quiet (g.waits_left old.bus) (g.ready old.bus) (g.settles_left old.bus) - 1
-          → rounds_in 0 0 0 tries (length (drop 1 old.left.now)) (old.due - 1) old.pass (Over end) rq (g.waits_left old.bus) (g.ready old.bus) (g.settles_left old.bus) ≤ rounds_in 1 1 1 tries (length old.left.now) old.due old.pass (Busy room) Quiet (g.waits_left old.bus) (g.ready old.bus) (g.settles_left old.bus) - 1
+          → rounds_in 0 1 0 tries (length (drop 1 old.left.now)) (old.due - 1) old.pass (Over end) Quiet (g.waits_left old.bus) ≤ rounds_in 0 0 0 tries (length old.left.now) old.due old.pass (Busy room) Quiet (g.waits_left old.bus) - 1
+          → rounds_in 0 0 0 tries (length (drop 1 old.left.now)) (old.due - 1) old.pass (Over end) rq (g.waits_left old.bus) ≤ rounds_in 1 1 1 tries (length old.left.now) old.due old.pass (Busy room) Quiet (g.waits_left old.bus) - 1
       of_rq rq e less = omega (arith, less)
 
       busy_some : IsSoundIn tries (length old.left.now) old.due old.pass (Busy room) old.request (g.waits_left old.bus) → 0 < length old.left.now
@@ -362,9 +332,9 @@ module _ {B : Type 0} (g : Bus B) where
   fewer_asked tries room meter (Some bytes) old new busy more silent sound sent over =
       let was = busy_sound tries room old busy sound in
       rounds_at 1 1 1 tries old (Busy room) Quiet (rounds_of g 0 0 0 tries new) busy silent
-      (of_after (λ left due pass phase rq bus. rounds_in 0 0 0 tries (length left) due pass phase rq (g.waits_left bus) (g.ready bus) (g.settles_left bus)
-      ≤ rounds_in 1 1 1 tries (length old.left.now) old.due old.pass (Busy room) Quiet (g.waits_left old.bus) (g.ready old.bus) (g.settles_left old.bus) - 1) _ _ _ _ new sent.2
-      (ask_count old.left.now tries (let more = was.1 in let few = was.0.2 in omega (arith, more, few)) old.due old.pass room (g.waits_left new.bus) (g.waits_left old.bus) (g.settles_left new.bus) (g.settles_left old.bus) (g.ready new.bus) (g.ready old.bus) more sent.1))
+      (of_after (λ left due pass phase rq bus. rounds_in 0 0 0 tries (length left) due pass phase rq (g.waits_left bus)
+      ≤ rounds_in 1 1 1 tries (length old.left.now) old.due old.pass (Busy room) Quiet (g.waits_left old.bus) - 1) _ _ _ _ new sent.2
+      (ask_count old.left.now tries (let more = was.1 in let few = was.0.2 in omega (arith, more, few)) old.due old.pass room (g.waits_left new.bus) (g.waits_left old.bus) more sent.1))
   fewer_asked tries room meter None old new busy more silent sound sent over = fewer_given tries room (Read meter) old new busy silent sound over
 
   -- ---- it listens
@@ -407,19 +377,19 @@ module _ {B : Type 0} (g : Bus B) where
       (heard_sound tries (length old.left.now) old.due old.pass (g.waits_left old.bus) (g.waits_left at) old.phase old.request (λ e. omega (arith, few, less)) was)
 
   -- what is out counts, whatever the phase
-  took_count : (tries count due pass waits waits' settles settles' : ℕ) (ready ready' : Bool) (phase : Phase) (bytes : List ℕ) → IsSoundIn tries count due pass phase Sent waits
-      → rounds_in 0 0 0 tries count due pass phase (Answered bytes) waits' ready' settles' ≤ rounds_in 0 0 0 tries count due pass phase Sent waits ready settles
-  took_count tries count due pass waits waits' settles settles' ready ready' Free bytes sound = absurd (let not = sound.1 in cc)
-  took_count tries count due pass waits waits' settles settles' ready ready' (Busy n) bytes sound = omega arith
-  took_count tries count due pass waits waits' settles settles' ready ready' (Pending n) bytes sound = absurd (let not = sound.3 in cc)
-  took_count tries count due pass waits waits' settles settles' ready ready' (Over end) bytes sound = absurd (let not = sound.1 in cc)
+  took_count : (tries count due pass waits waits' : ℕ) (phase : Phase) (bytes : List ℕ) → IsSoundIn tries count due pass phase Sent waits
+      → rounds_in 0 0 0 tries count due pass phase (Answered bytes) waits' ≤ rounds_in 0 0 0 tries count due pass phase Sent waits
+  took_count tries count due pass waits waits' Free bytes sound = absurd (let not = sound.1 in cc)
+  took_count tries count due pass waits waits' (Busy n) bytes sound = omega arith
+  took_count tries count due pass waits waits' (Pending n) bytes sound = absurd (let not = sound.3 in cc)
+  took_count tries count due pass waits waits' (Over end) bytes sound = absurd (let not = sound.1 in cc)
 
-  waited_count : (tries count due pass waits waits' settles settles' : ℕ) (ready ready' : Bool) (phase : Phase) → waits' < waits → IsSoundIn tries count due pass phase Sent waits
-      → rounds_in 1 0 0 tries count due pass phase Sent waits' ready' settles' ≤ rounds_in 0 0 0 tries count due pass phase Sent waits ready settles
-  waited_count tries count due pass waits waits' settles settles' ready ready' Free less sound = absurd (let not = sound.1 in cc)
-  waited_count tries count due pass waits waits' settles settles' ready ready' (Busy n) less sound = omega (arith, less)
-  waited_count tries count due pass waits waits' settles settles' ready ready' (Pending n) less sound = absurd (let not = sound.3 in cc)
-  waited_count tries count due pass waits waits' settles settles' ready ready' (Over end) less sound = absurd (let not = sound.1 in cc)
+  waited_count : (tries count due pass waits waits' : ℕ) (phase : Phase) → waits' < waits → IsSoundIn tries count due pass phase Sent waits
+      → rounds_in 1 0 0 tries count due pass phase Sent waits' ≤ rounds_in 0 0 0 tries count due pass phase Sent waits
+  waited_count tries count due pass waits waits' Free less sound = absurd (let not = sound.1 in cc)
+  waited_count tries count due pass waits waits' (Busy n) less sound = omega (arith, less)
+  waited_count tries count due pass waits waits' (Pending n) less sound = absurd (let not = sound.3 in cc)
+  waited_count tries count due pass waits waits' (Over end) less sound = absurd (let not = sound.1 in cc)
 
   -- it listens, and if nothing was received, nothing more happens
   pub fewer_listens : (tries : ℕ) (old new : Station B) → old.request ≡ Sent → Listens g old new → IsSound g tries old → rounds_of g (if is_answered new.request then 0 else 1) 0 0 tries new ≤ rounds_of g 0 0 0 tries old
@@ -428,19 +398,19 @@ module _ {B : Type 0} (g : Bus B) where
       was : IsSoundIn tries (length old.left.now) old.due old.pass old.phase Sent (g.waits_left old.bus)
       was = subst (λ (rq : Request). IsSoundIn tries (length old.left.now) old.due old.pass old.phase rq (g.waits_left old.bus)) is sound
 
-      sent_rounds : (m : ℕ) → m ≤ rounds_in 0 0 0 tries (length old.left.now) old.due old.pass old.phase Sent (g.waits_left old.bus) (g.ready old.bus) (g.settles_left old.bus) → m ≤ rounds_of g 0 0 0 tries old
-      sent_rounds m few = subst (λ (rq : Request). m ≤ rounds_in 0 0 0 tries (length old.left.now) old.due old.pass old.phase rq (g.waits_left old.bus) (g.ready old.bus) (g.settles_left old.bus)) (sym is) few
+      sent_rounds : (m : ℕ) → m ≤ rounds_in 0 0 0 tries (length old.left.now) old.due old.pass old.phase Sent (g.waits_left old.bus) → m ≤ rounds_of g 0 0 0 tries old
+      sent_rounds m few = subst (λ (rq : Request). m ≤ rounds_in 0 0 0 tries (length old.left.now) old.due old.pass old.phase rq (g.waits_left old.bus)) (sym is) few
 
       by_listens : Listens g old new → rounds_of g (if is_answered new.request then 0 else 1) 0 0 tries new ≤ rounds_of g 0 0 0 tries old
       by_listens (inl took) =
           let at : B = new.bus in
           subst (λ (s : Station B). rounds_of g (if is_answered s.request then 0 else 1) 0 0 tries s ≤ rounds_of g 0 0 0 tries old) (sym took.2)
-          (sent_rounds _ (took_count tries (length old.left.now) old.due old.pass (g.waits_left old.bus) (g.waits_left at) (g.settles_left old.bus) (g.settles_left at) (g.ready old.bus) (g.ready at) old.phase took.0 was))
+          (sent_rounds _ (took_count tries (length old.left.now) old.due old.pass (g.waits_left old.bus) (g.waits_left at) old.phase took.0 was))
       by_listens (inr waited) =
           let at : B = new.bus in
           subst (λ (s : Station B). rounds_of g (if is_answered s.request then 0 else 1) 0 0 tries s ≤ rounds_of g 0 0 0 tries old) (sym waited.2)
-          (sent_rounds _ (subst (λ (rq : Request). rounds_in (if is_answered rq then 0 else 1) 0 0 tries (length old.left.now) old.due old.pass old.phase rq (g.waits_left at) (g.ready at) (g.settles_left at) ≤ rounds_in 0 0 0 tries (length old.left.now) old.due old.pass old.phase Sent (g.waits_left old.bus) (g.ready old.bus) (g.settles_left old.bus)) (sym is)
-          (waited_count tries (length old.left.now) old.due old.pass (g.waits_left old.bus) (g.waits_left at) (g.settles_left old.bus) (g.settles_left at) (g.ready old.bus) (g.ready at) old.phase waited.1 was)))
+          (sent_rounds _ (subst (λ (rq : Request). rounds_in (if is_answered rq then 0 else 1) 0 0 tries (length old.left.now) old.due old.pass old.phase rq (g.waits_left at) ≤ rounds_in 0 0 0 tries (length old.left.now) old.due old.pass old.phase Sent (g.waits_left old.bus)) (sym is)
+          (waited_count tries (length old.left.now) old.due old.pass (g.waits_left old.bus) (g.waits_left at) old.phase waited.1 was)))
 
   -- with an answer or without, it takes no more rounds than before
   pub fewer_with : (tries : ℕ) (old new : Station B) (b : Bool) (request : Request) → old.request ≡ request → is_answered new.request ≡ b → (old.request ≡ Sent → Listens g old new) → ((old.request ≡ Sent) ⊎ (new ≡ old)) → IsSound g tries old
@@ -552,19 +522,19 @@ module _ {B : Type 0} (g : Bus B) where
       was = busy_sound tries room old busy sound
 
       most : ℕ
-      most = rounds_in 0 0 0 tries (length old.left.now) old.due old.pass (Busy room) old.request (g.waits_left old.bus) (g.ready old.bus) (g.settles_left old.bus)
+      most = rounds_in 0 0 0 tries (length old.left.now) old.due old.pass (Busy room) old.request (g.waits_left old.bus)
 
-      by_parts : (n : Next) → IsAfter n old.bus Quiet old.said new → rounds_in 1 0 0 tries (length n.left) n.due n.pass n.phase Quiet (g.waits_left old.bus) (g.ready old.bus) (g.settles_left old.bus) ≤ most → rounds_of g 1 0 0 tries new ≤ rounds_of g 0 0 0 tries old
+      by_parts : (n : Next) → IsAfter n old.bus Quiet old.said new → rounds_in 1 0 0 tries (length n.left) n.due n.pass n.phase Quiet (g.waits_left old.bus) ≤ most → rounds_of g 1 0 0 tries new ≤ rounds_of g 0 0 0 tries old
       by_parts n is few =
           rounds_at' 0 0 0 tries old (Busy room) (rounds_of g 1 0 0 tries new) busy
-          (of_after (λ left due pass phase rq bus. rounds_in 1 0 0 tries (length left) due pass phase rq (g.waits_left bus) (g.ready bus) (g.settles_left bus) ≤ most) n _ _ _ new is few)
+          (of_after (λ left due pass phase rq bus. rounds_in 1 0 0 tries (length left) due pass phase rq (g.waits_left bus) ≤ most) n _ _ _ new is few)
 
       by_end : (end : End) → IsAfter (ended old.left.now old.due old.pass end) old.bus Quiet old.said new → rounds_of g 1 0 0 tries new ≤ rounds_of g 0 0 0 tries old
       by_end end is = let less = fewer_ended 1 0 0 tries room end Quiet old new (omega arith) busy sound refl is in omega (arith, less)
 
       by_try : (b : Bool) (why : Why) → IsAfter (after_failure b old.left.now old.due old.pass (Failed meter why)) old.bus Quiet old.said new → rounds_of g 1 0 0 tries new ≤ rounds_of g 0 0 0 tries old
-      by_try true why is = by_parts _ is (subst (λ (k : ℕ). rounds_in 1 0 0 tries k (old.due - 1) old.pass Free Quiet (g.waits_left old.bus) (g.ready old.bus) (g.settles_left old.bus) ≤ most) (sym (put_off_count old.left.now (let more = was.1 in let few = was.0.2 in omega (arith, more, few))))
-          (free_count old.left.now tries (let more = was.1 in let few = was.0.2 in omega (arith, more, few)) 1 old.due old.pass room (g.waits_left old.bus) (g.waits_left old.bus) (g.settles_left old.bus) (g.settles_left old.bus) (g.ready old.bus) (g.ready old.bus) old.request))
+      by_try true why is = by_parts _ is (subst (λ (k : ℕ). rounds_in 1 0 0 tries k (old.due - 1) old.pass Free Quiet (g.waits_left old.bus) ≤ most) (sym (put_off_count old.left.now (let more = was.1 in let few = was.0.2 in omega (arith, more, few))))
+          (free_count old.left.now tries (let more = was.1 in let few = was.0.2 in omega (arith, more, few)) 1 old.due old.pass room (g.waits_left old.bus) (g.waits_left old.bus) old.request))
       by_try false why is = by_end (Failed meter why) is
 
       by_answer : (told : Result LineHeard HearFault) → IsAfter (after_answer (nat_lt old.pass tries) old.left.now old.due old.pass room meter told) old.bus Quiet old.said new → rounds_of g 1 0 0 tries new ≤ rounds_of g 0 0 0 tries old

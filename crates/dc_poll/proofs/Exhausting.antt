@@ -8,48 +8,45 @@ use Rattle.dc_address.specs.declared.identity.Identity.{Identity}
 use Rattle.dc_poll.specs.Waiting.{is_done, is_free}
 use Rattle.std.proofs.Math.Nat.{mul-le-mul_left}
 use Rattle.std.proofs.lemmas.List.{nil_from_length}
-use Rattle.dc_bus.specs.Halves.{most_settles}
 use Rattle.dc_poll.specs.Bus.{Bus}
 use Rattle.dc_poll.specs.Round.{HasFew, IsFresh, IsOver, IsSilent}
-use Rattle.dc_poll.specs.Station.{IsSoundIn, IsSound, rounds_a_start, rounds_in, rounds_of, settling, starts_left}
+use Rattle.dc_poll.specs.Station.{IsSoundIn, IsSound, rounds_a_start, rounds_in, rounds_of, starts_left}
 use Rattle.dc_poll.specs.declared.phase.Phase.{Phase}
 use Rattle.dc_poll.specs.declared.phase.Phase.TheVariants.{Free, Busy, Pending, Over}
 use Rattle.dc_poll.specs.declared.phase.Request.{Request}
 use Rattle.dc_poll.specs.declared.phase.Request.TheVariants.{Quiet}
 use Rattle.dc_poll.specs.declared.station.Station.{Station}
-use Rattle.dc_poll.proofs.Counting.{settling_few}
 
-over_by : (tries count due pass waits settles : ℕ) (ready : Bool) (phase : Phase) (request : Request) → IsSoundIn tries count due pass phase request waits → rounds_in 1 1 1 tries count due pass phase request waits ready settles ≤ 0 → (count ≡ 0) × (phase ≡ Free)
-over_by tries zero due pass waits settles ready Free request sound none = (refl, refl)
-over_by tries (suc n) zero pass waits settles ready Free request sound none =
+over_by : (tries count due pass waits : ℕ) (phase : Phase) (request : Request) → IsSoundIn tries count due pass phase request waits → rounds_in 1 1 1 tries count due pass phase request waits ≤ 0 → (count ≡ 0) × (phase ≡ Free)
+over_by tries zero due pass waits Free request sound none = (refl, refl)
+over_by tries (suc n) zero pass waits Free request sound none =
     absurd (let less = sound.0.3 (omega arith) in some_pass (tries - pass) (omega (arith, less)) none)
   where
-    some_pass : (q : ℕ) → 0 < q → (0 - 0 + suc n * q) * rounds_a_start + settling (suc n) ready settles ≤ 0 → ⊥
+    some_pass : (q : ℕ) → 0 < q → (0 - 0 + suc n * q) * rounds_a_start + 0 ≤ 0 → ⊥
     some_pass zero more few = omega (arith, more)
     some_pass (suc q) more few = omega (arith, few)
-over_by tries (suc n) (suc m) pass waits settles ready Free request sound none = absurd (omega (arith, none))
-over_by tries count due pass waits settles ready (Busy n) request sound none = absurd (omega (arith, none))
-over_by tries count due pass waits settles ready (Pending n) request sound none = absurd (omega (arith, none))
-over_by tries count due pass waits settles ready (Over end) request sound none = absurd (omega (arith, none))
+over_by tries (suc n) (suc m) pass waits Free request sound none = absurd (omega (arith, none))
+over_by tries count due pass waits (Busy n) request sound none = absurd (omega (arith, none))
+over_by tries count due pass waits (Pending n) request sound none = absurd (omega (arith, none))
+over_by tries count due pass waits (Over end) request sound none = absurd (omega (arith, none))
 
 few_starts : (tries count due pass : ℕ) → due ≡ count → pass ≡ 1 → starts_left tries count due pass ≡ count + count * (tries - 1)
 few_starts tries count due pass all first = ap (λ (p : ℕ). due + count * (tries - p)) first ∙ ap (λ (n : ℕ). n + count * (tries - 1)) all
 
-few_by : (tries count due pass waits settles : ℕ) (ready : Bool) (phase : Phase) (request : Request) → tries < 256 → count ≤ 65535 → due ≡ count → pass ≡ 1 → phase ≡ Free
-    → rounds_in 1 1 1 tries count due pass phase request waits ready settles + 1 ≤ 65535 * (255 * rounds_a_start) + rounds_a_start
-few_by tries count due pass waits settles ready Free request small few all first free =
-    let late = settling_few count ready settles in
+few_by : (tries count due pass waits : ℕ) (phase : Phase) (request : Request) → tries < 256 → count ≤ 65535 → due ≡ count → pass ≡ 1 → phase ≡ Free
+    → rounds_in 1 1 1 tries count due pass phase request waits + 1 ≤ 65535 * (255 * rounds_a_start) + rounds_a_start
+few_by tries count due pass waits Free request small few all first free =
     let later : tries - 1 ≤ 254 = omega (arith, small) in
     let most : count * (tries - 1) ≤ count * 254 = mul-le-mul_left count later in
     let starts = few_starts tries count (due - 0) pass (omega (arith, all)) first in
-    subst (λ (n : ℕ). n * rounds_a_start + settling count ready settles + 1 ≤ 65535 * (255 * rounds_a_start) + rounds_a_start) (sym starts)
-    (most_of (count * (tries - 1)) most late)
+    subst (λ (n : ℕ). n * rounds_a_start + 0 + 1 ≤ 65535 * (255 * rounds_a_start) + rounds_a_start) (sym starts)
+    (most_of (count * (tries - 1)) most)
   where
-    most_of : (n : ℕ) → n ≤ count * 254 → settling count ready settles ≤ most_settles + 1 → (count + n) * rounds_a_start + settling count ready settles + 1 ≤ 65535 * (255 * rounds_a_start) + rounds_a_start
-    most_of n less late = omega (arith, less, late, few)
-few_by tries count due pass waits settles ready (Busy n) request small few all first free = absurd cc
-few_by tries count due pass waits settles ready (Pending n) request small few all first free = absurd cc
-few_by tries count due pass waits settles ready (Over end) request small few all first free = absurd cc
+    most_of : (n : ℕ) → n ≤ count * 254 → (count + n) * rounds_a_start + 0 + 1 ≤ 65535 * (255 * rounds_a_start) + rounds_a_start
+    most_of n less = omega (arith, less, few)
+few_by tries count due pass waits (Busy n) request small few all first free = absurd cc
+few_by tries count due pass waits (Pending n) request small few all first free = absurd cc
+few_by tries count due pass waits (Over end) request small few all first free = absurd cc
 
 silent_by : (tries count due pass waits : ℕ) (phase : Phase) (request : Request) → IsSoundIn tries count due pass phase request waits → phase ≡ Free → request ≡ Quiet
 silent_by tries count due pass waits Free request sound free = sound.1
@@ -64,29 +61,29 @@ fresh_by tries count due pass waits (Busy n) request some all first free quiet =
 fresh_by tries count due pass waits (Pending n) request some all first free quiet = absurd cc
 fresh_by tries count due pass waits (Over end) request some all first free quiet = absurd cc
 
-over_count : (tries count due pass waits settles : ℕ) (ready : Bool) (phase : Phase) (request : Request) → rounds_in 1 1 1 tries count due pass phase request waits ready settles ≤ rounds_in 1 1 0 tries count due pass phase request waits ready settles + 1
-over_count tries count due pass waits settles ready Free request = omega arith
-over_count tries count due pass waits settles ready (Busy n) request = omega arith
-over_count tries count due pass waits settles ready (Pending n) request = omega arith
-over_count tries count due pass waits settles ready (Over end) request = omega arith
+over_count : (tries count due pass waits : ℕ) (phase : Phase) (request : Request) → rounds_in 1 1 1 tries count due pass phase request waits ≤ rounds_in 1 1 0 tries count due pass phase request waits + 1
+over_count tries count due pass waits Free request = omega arith
+over_count tries count due pass waits (Busy n) request = omega arith
+over_count tries count due pass waits (Pending n) request = omega arith
+over_count tries count due pass waits (Over end) request = omega arith
 
-less_count : (tries count due pass waits settles : ℕ) (ready : Bool) (phase : Phase) (request : Request) → rounds_in 1 0 0 tries count due pass phase request waits ready settles ≤ rounds_in 1 1 1 tries count due pass phase request waits ready settles
-less_count tries count due pass waits settles ready Free request = omega arith
-less_count tries count due pass waits settles ready (Busy n) request = omega arith
-less_count tries count due pass waits settles ready (Pending n) request = omega arith
-less_count tries count due pass waits settles ready (Over end) request = omega arith
+less_count : (tries count due pass waits : ℕ) (phase : Phase) (request : Request) → rounds_in 1 0 0 tries count due pass phase request waits ≤ rounds_in 1 1 1 tries count due pass phase request waits
+less_count tries count due pass waits Free request = omega arith
+less_count tries count due pass waits (Busy n) request = omega arith
+less_count tries count due pass waits (Pending n) request = omega arith
+less_count tries count due pass waits (Over end) request = omega arith
 
 module _ {B : Type 0} (g : Bus B) where
   pub over_one : (tries : ℕ) (s : Station B) → rounds_of g 1 1 1 tries s ≤ rounds_of g 1 1 0 tries s + 1
-  over_one tries s = over_count tries (length s.left.now) s.due s.pass (g.waits_left s.bus) (g.settles_left s.bus) (g.ready s.bus) s.phase s.request
+  over_one tries s = over_count tries (length s.left.now) s.due s.pass (g.waits_left s.bus) s.phase s.request
 
   pub all_less : (tries : ℕ) (s : Station B) → rounds_of g 1 0 0 tries s ≤ rounds_of g 1 1 1 tries s
-  all_less tries s = less_count tries (length s.left.now) s.due s.pass (g.waits_left s.bus) (g.settles_left s.bus) (g.ready s.bus) s.phase s.request
+  all_less tries s = less_count tries (length s.left.now) s.due s.pass (g.waits_left s.bus) s.phase s.request
 
   pub all_over : (tries : ℕ) (stations : List (Station B)) → All (IsSound g tries) stations → ((k : ℕ) (d : Station B) → k < length stations → rounds_of g 1 1 1 tries (get_or stations k d) ≤ 0) → All IsOver stations
   all_over tries stations sound none k d below =
       let s : Station B = get_or stations k d in
-      let is = over_by tries (length s.left.now) s.due s.pass (g.waits_left s.bus) (g.settles_left s.bus) (g.ready s.bus) s.phase s.request (sound k d below) (none k d below) in
+      let is = over_by tries (length s.left.now) s.due s.pass (g.waits_left s.bus) s.phase s.request (sound k d below) (none k d below) in
       (nil_from_length s.left.now is.0, is.1)
 
   -- and no request is out
@@ -97,7 +94,7 @@ module _ {B : Type 0} (g : Bus B) where
 
   -- a queue of which no meter was started takes no more rounds than these
   pub most_rounds : (tries : ℕ) (s : Station B) → tries < 256 → IsFresh s → HasFew s → rounds_of g 1 1 1 tries s + 1 ≤ 65535 * (255 * rounds_a_start) + rounds_a_start
-  most_rounds tries s small fresh few = few_by tries (length s.left.now) s.due s.pass (g.waits_left s.bus) (g.settles_left s.bus) (g.ready s.bus) s.phase s.request small few fresh.all fresh.first fresh.free
+  most_rounds tries s small fresh few = few_by tries (length s.left.now) s.due s.pass (g.waits_left s.bus) s.phase s.request small few fresh.all fresh.first fresh.free
 
   pub all_fresh : (tries : ℕ) (stations : List (Station B)) → 0 < tries → All IsFresh stations → All (IsSound g tries) stations
   all_fresh tries stations some fresh k d below =

@@ -6,7 +6,7 @@ use Rattle.dc_poll.specs.Bus.{Bus}
 use Rattle.dc_poll.specs.Happening.{Happening, does, tells}
 use Rattle.dc_poll.specs.Missed.{is_miss, missed_by, missed_in}
 use Rattle.dc_poll.specs.Queue.{Part, part, Goes, most_asks, started_by, starts_in, stays, passes_on, starts_it, is_refused, asks_it, has_no_request, is_given_up, goes_on, is_accepted, is_put_off, fails_at_last, is_faulty, is_stored, is_unstored, stands_by, is_told, loses_it}
-use Rattle.dc_poll.specs.Talking.{Talk, Talks, rests, settles_it, begins, has_none, sends_it, waits_it, takes_it, hears_it, stands_by as talk_stands_by, tells_it, loses_it as talk_loses_it}
+use Rattle.dc_poll.specs.Talking.{Talk, Talks, rests, begins, has_none, sends_it, waits_it, takes_it, hears_it, stands_by as talk_stands_by, tells_it, loses_it as talk_loses_it}
 use Rattle.dc_poll.specs.declared.phase.Phase.{Phase}
 use Rattle.dc_poll.specs.declared.phase.Phase.TheVariants.{Free, Busy, Pending, Over}
 use Rattle.dc_poll.specs.declared.phase.Request.{Request}
@@ -116,8 +116,7 @@ none_heard n k (h ∷ front) back e few = absurd cc
 heard_few : {B : Type 0} {g : Bus B} {line : ℕ} {first last : Talk B} {happened : List Happening} → Talks g line first happened last → (n k : ℕ) → n + out_of first.request ≤ k → (front back : List Happening) → happened ≡ front ++ back
     → heard_since n front ≤ asked_since k front
 heard_few rests n k few front back e = none_heard n k front back e (omega (arith, few))
-heard_few (settles_it not step talks) n k few front back e = heard_few talks n k few front back e
-heard_few (begins is talks) n k few front back e = heard_next n k front back e (omega (arith, few)) (heard_few talks 0 0 (omega arith))
+heard_few (begins talks) n k few front back e = heard_next n k front back e (omega (arith, few)) (heard_few talks 0 0 (omega arith))
 heard_few (has_none talks) n k few front back e = heard_next n k front back e (omega (arith, few)) (heard_few talks n k few)
 heard_few (sends_it sent talks) n k few front back e = heard_next n k front back e (omega (arith, few)) (heard_few talks n (k + 1) (omega (arith, few)))
 heard_few (waits_it waited talks) n k few front back e = heard_few talks n k few front back e

@@ -1,11 +1,15 @@
 -- A life of the concentrator from the disk to the disk.
 use Rattle.std.proofs.Common.{◌≡◌, List, [], Result, Ok, Err}
-use Rattle.std.specs.Prelude.{IfOk}
+use Rattle.std.specs.Prelude.{IfErr, IfOk}
 use Rattle.dc_change.specs.State.{State}
 use Rattle.dc_concentrator.specs.Core.{Core}
 use Rattle.dc_concentrator.specs.Images.{Machine}
 use Rattle.dc_concentrator.specs.OpenedOn.{IsOpenedOn}
 use Rattle.dc_disk.specs.declared.device.Disk.{Ghosts}
+use Rattle.dc_ending.specs.Fault.{IfOpen}
+use Rattle.dc_ending.specs.declared.fault.ProgramFault.{ProgramFault}
+use Rattle.dc_ending.specs.declared.fault.ProgramFault.TheVariants.{Read, TooLong, Write, NoMemory, Open}
+use Rattle.dc_log.specs.declared.fault.OpenFault.{OpenFault}
 use Rattle.dc_poll.specs.Happening.{Happening}
 use Rattle.dc_poll.specs.ImagePoll.{ImageTurned}
 use Rattle.dc_poll.specs.Round.{Happens}
@@ -18,3 +22,12 @@ module _ {D : Type 0} (g : Ghosts D) (disk new : D) (state : State) (first last 
       → IfOk result (λ x. ImageTurned g (such x) disk new)
   turned_ok (Ok x) such opening happens is = turned (such x) opening happens is
   turned_ok (Err e) such opening happens is = tt
+
+-- where no fault is of an opening, whatever is stated of one
+pub none_opened : {X : Type 0} (result : Result X ProgramFault) (said : OpenFault → Type 0) → IfErr result (λ fault. IfOpen fault (λ e. ⊥)) → IfErr result (λ fault. IfOpen fault said)
+none_opened (Ok x) said none = tt
+none_opened (Err Read) said none = tt
+none_opened (Err TooLong) said none = tt
+none_opened (Err Write) said none = tt
+none_opened (Err NoMemory) said none = tt
+none_opened (Err (Open fault)) said none = absurd none

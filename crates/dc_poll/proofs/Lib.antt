@@ -1,5 +1,3 @@
--- the ghost members of a bus, from those of its two traits
-pub mod Whole
 -- what happens in a poll, one thing after the other
 pub mod Happenings
 -- turns that were run, one after the other, and what is said of them

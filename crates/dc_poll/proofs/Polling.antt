@@ -119,7 +119,7 @@ is_round_of tries moment stored asked mids asking rest turns same are a = by_par
 
 module _ {B T N : Type 0} (g : Bus B) (told : T → ℕ → T → Type 0) (passes : T → Bool → T → Type 0) (takes : N → Told → N → Type 0) where
   pub goes_round : (tries moment : ℕ) (stored : Result (Unit {0}) CommitFault) (olds asked mids news : List (Station B)) (first passed last : T) (old new : N) (was now : Counts) (core : Core) (happened more : List Happening)
-      → length asked ≡ length olds → length mids ≡ length asked → passes first (may_sleep g asked) passed → told passed moment last
+      → length asked ≡ length olds → length mids ≡ length asked → passes first (may_sleep asked) passed → told passed moment last
       → Asked g tries moment stored olds asked mids happened
       → AllTells g mids news (TakesAll takes old new) was now (leads core (happened_turns happened)) more
       → GoesRound g told passes tries (fault_of stored) olds news first last (TakesAll takes old new) was now core (happened ++ more)

@@ -10,7 +10,7 @@ use Rattle.dc_poll.specs.Bus.{Bus}
 use Rattle.dc_poll.specs.declared.event.Event.{Event as Told}
 use Rattle.dc_poll.specs.Happening.{Happening, does, tells, is_on, kept_on, happened_on, happened_turns}
 use Rattle.dc_poll.specs.Queue.{Part, part, Goes, stays, passes_on, starts_it, is_refused, asks_it, has_no_request, is_given_up, goes_on, is_accepted, is_put_off, fails_at_last, is_faulty, is_stored, is_unstored, stands_by, is_told, loses_it}
-use Rattle.dc_poll.specs.Talking.{Talk, Talks, rests, settles_it, begins, has_none, sends_it, waits_it, takes_it, hears_it, stands_by as talk_stands_by, tells_it, loses_it as talk_loses_it}
+use Rattle.dc_poll.specs.Talking.{Talk, Talks, rests, begins, has_none, sends_it, waits_it, takes_it, hears_it, stands_by as talk_stands_by, tells_it, loses_it as talk_loses_it}
 use Rattle.dc_poll.specs.Missed.{CountsMisses}
 use Rattle.dc_poll.specs.Round.{LineGoes, Moves, Steps, AreTurns}
 use Rattle.dc_poll.specs.Station.{part_of, talk_of, Next, IsAfter}
@@ -44,8 +44,7 @@ goes_both (loses_it a) b = loses_it (goes_both a b)
 pub talks_both : {B : Type 0} {g : Bus B} {line : ℕ} {old between last : Talk B} {front back : List Happening}
     → Talks g line old front between → Talks g line between back last → Talks g line old (front ++ back) last
 talks_both rests b = b
-talks_both (settles_it not step a) b = settles_it not step (talks_both a b)
-talks_both (begins is a) b = begins is (talks_both a b)
+talks_both (begins a) b = begins (talks_both a b)
 talks_both (has_none a) b = has_none (talks_both a b)
 talks_both (sends_it sent a) b = sends_it sent (talks_both a b)
 talks_both (waits_it waited a) b = waits_it waited (talks_both a b)

@@ -12,8 +12,7 @@ use Rattle.dc_poll.specs.Queue.{Part, part, Goes, stays, is_stored, is_unstored,
 use Rattle.dc_poll.specs.Talking.{Talk, Talks, rests, stands_by as talk_stands_by}
 use Rattle.dc_poll.specs.Round.{LineGoes, AllSteps, IsStored, AreStored, EachFewer, IsCommitTurn, IsStoredAs, uncounted}
 use Rattle.std.specs.Prelude.{OnOk}
-use Rattle.dc_bus.specs.Halves.{most_settles}
-use Rattle.dc_poll.specs.Station.{IsSoundIn, IsSound, Next, part_of, talk_of, rounds_a_start, rounds_a_request, rounds_to_settle, rounds_in, rounds_of, stored_by}
+use Rattle.dc_poll.specs.Station.{IsSoundIn, IsSound, Next, part_of, talk_of, rounds_a_start, rounds_a_request, rounds_to_end, rounds_in, rounds_of, stored_by}
 use Rattle.dc_poll.specs.declared.end.End.TheVariants.{Refused}
 use Rattle.dc_poll.specs.declared.end.Refusal.TheVariants.{Commit}
 use Rattle.dc_poll.specs.declared.phase.Phase.{Phase}
@@ -50,21 +49,21 @@ sound_by tries [] due pass (Pending n) request waits stored sound = absurd (let 
 sound_by tries (m ∷ ms) due pass (Pending n) request waits (Ok count) sound = (sound.0, sound.1, sound.2, λ e. absurd (let quiet = sound.3 in let both = sym quiet ∙ e in cc))
 sound_by tries (m ∷ ms) due pass (Pending n) request waits (Err fault) sound = (pass_less tries (m ∷ ms) due pass sound.1 sound.0, sound.3)
 
-fewer_by : (tries out pending : ℕ) (left : List Identity) (due pass : ℕ) (phase : Phase) (request : Request) (waits : ℕ) (ready : Bool) (settles : ℕ) (stored : Result ℕ CommitFault) → IsSoundIn tries (length left) due pass phase request waits
-    → rounds_in out pending 0 tries (length (stored_by left due pass phase stored).left) (stored_by left due pass phase stored).due (stored_by left due pass phase stored).pass (stored_by left due pass phase stored).phase request waits ready settles
-    ≤ rounds_in out 0 0 tries (length left) due pass phase request waits ready settles - 0
-fewer_by tries out pending left due pass Free request waits ready settles stored sound = omega arith
-fewer_by tries out pending left due pass (Busy n) request waits ready settles stored sound = omega arith
-fewer_by tries out pending left due pass (Over end) request waits ready settles stored sound = omega arith
-fewer_by tries out pending [] due pass (Pending n) request waits ready settles stored sound = absurd (let some = sound.1 in let few = sound.0.2 in omega (arith, some, few))
-fewer_by tries out pending (m ∷ ms) due pass (Pending n) request waits ready settles (Ok count) sound = by_request request sound.3
+fewer_by : (tries out pending : ℕ) (left : List Identity) (due pass : ℕ) (phase : Phase) (request : Request) (waits : ℕ) (stored : Result ℕ CommitFault) → IsSoundIn tries (length left) due pass phase request waits
+    → rounds_in out pending 0 tries (length (stored_by left due pass phase stored).left) (stored_by left due pass phase stored).due (stored_by left due pass phase stored).pass (stored_by left due pass phase stored).phase request waits
+    ≤ rounds_in out 0 0 tries (length left) due pass phase request waits - 0
+fewer_by tries out pending left due pass Free request waits stored sound = omega arith
+fewer_by tries out pending left due pass (Busy n) request waits stored sound = omega arith
+fewer_by tries out pending left due pass (Over end) request waits stored sound = omega arith
+fewer_by tries out pending [] due pass (Pending n) request waits stored sound = absurd (let some = sound.1 in let few = sound.0.2 in omega (arith, some, few))
+fewer_by tries out pending (m ∷ ms) due pass (Pending n) request waits (Ok count) sound = by_request request sound.3
   where
-    by_request : (rq : Request) → rq ≡ Quiet → rounds_in out pending 0 tries (suc (length ms)) due pass (Busy n) rq waits ready settles ≤ rounds_in out 0 0 tries (suc (length ms)) due pass (Pending n) rq waits ready settles - 0
-    by_request rq e = subst (λ (x : Request). rounds_in out pending 0 tries (suc (length ms)) due pass (Busy n) x waits ready settles ≤ rounds_in out 0 0 tries (suc (length ms)) due pass (Pending n) x waits ready settles - 0) (sym e) (omega arith)
-fewer_by tries out pending (m ∷ ms) due pass (Pending n) request waits ready settles (Err fault) sound =
+    by_request : (rq : Request) → rq ≡ Quiet → rounds_in out pending 0 tries (suc (length ms)) due pass (Busy n) rq waits ≤ rounds_in out 0 0 tries (suc (length ms)) due pass (Pending n) rq waits - 0
+    by_request rq e = subst (λ (x : Request). rounds_in out pending 0 tries (suc (length ms)) due pass (Busy n) x waits ≤ rounds_in out 0 0 tries (suc (length ms)) due pass (Pending n) x waits - 0) (sym e) (omega arith)
+fewer_by tries out pending (m ∷ ms) due pass (Pending n) request waits (Err fault) sound =
     by_rest (suc (length ms) * (tries - pass)) (length ms * (tries - pass)) (left_count (m ∷ ms) due (tries - pass))
   where
-    by_rest : (all rest : ℕ) → (due - 1) + rest ≤ (due - 1) + all → (due - 1 - 0 + rest) * rounds_a_start + (most_settles + 1 + 0) ≤ (due - 1 + all) * rounds_a_start + (rounds_to_settle + n * rounds_a_request + 0) - 0
+    by_rest : (all rest : ℕ) → (due - 1) + rest ≤ (due - 1) + all → (due - 1 - 0 + rest) * rounds_a_start + (1 + 0) ≤ (due - 1 + all) * rounds_a_start + (rounds_to_end + n * rounds_a_request + 0) - 0
     by_rest all rest less = omega (arith, less)
 
 module _ {B : Type 0} (g : Bus B) where
@@ -81,8 +80,8 @@ module _ {B : Type 0} (g : Bus B) where
 
   pub fewer_stored : (tries out pending : ℕ) (stored : Result ℕ CommitFault) (old new : Station B) → IsSound g tries old → IsStored stored old new → rounds_of g out pending 0 tries new ≤ rounds_of g out 0 0 tries old - 0
   fewer_stored tries out pending stored old new sound is =
-      of_after (λ left due pass phase request bus. rounds_in out pending 0 tries (length left) due pass phase request (g.waits_left bus) (g.ready bus) (g.settles_left bus) ≤ rounds_of g out 0 0 tries old - 0) _ _ _ _ new is.0
-      (fewer_by tries out pending old.left.now old.due old.pass old.phase old.request (g.waits_left old.bus) (g.ready old.bus) (g.settles_left old.bus) stored sound)
+      of_after (λ left due pass phase request bus. rounds_in out pending 0 tries (length left) due pass phase request (g.waits_left bus) ≤ rounds_of g out 0 0 tries old - 0) _ _ _ _ new is.0
+      (fewer_by tries out pending old.left.now old.due old.pass old.phase old.request (g.waits_left old.bus) stored sound)
 
   -- ---- all lines
 

@@ -23,7 +23,6 @@ use Rattle.dc_poll.specs.declared.phase.Phase.{Phase}
 use Rattle.dc_poll.specs.declared.phase.Phase.TheVariants.{Free, Busy, Pending, Over}
 use Rattle.dc_poll.specs.declared.phase.Request.{Request}
 use Rattle.dc_poll.specs.declared.station.Station.{Station}
-use Rattle.dc_poll.proofs.Counting.{settling_few}
 use Rattle.dc_poll.proofs.Missing.{counts_told}
 use Rattle.dc_poll.proofs.Happenings.{turns_append, events_append, reads_append, failures_append}
 use Rattle.dc_poll.proofs.Queues.{line_stays, told_on, told_off}
@@ -156,9 +155,8 @@ module _ {B : Type 0} (g : Bus B) where
 
   pub fewer_told : (tries : ℕ) (end : End) (old new : Station B) → old.phase ≡ Over end → new ≡ record old { phase = Free } → rounds_of g 1 1 1 tries new ≤ rounds_of g 1 1 0 tries old
   fewer_told tries end old new over kept =
-      let few = settling_few (length old.left.now) (g.ready old.bus) (g.settles_left old.bus) in
       subst (λ (s : Station B). rounds_of g 1 1 1 tries s ≤ rounds_of g 1 1 0 tries old) (sym kept)
-      (subst (λ (p : Phase). rounds_in 1 1 1 tries (length old.left.now) old.due old.pass Free old.request (g.waits_left old.bus) (g.ready old.bus) (g.settles_left old.bus) ≤ rounds_in 1 1 0 tries (length old.left.now) old.due old.pass p old.request (g.waits_left old.bus) (g.ready old.bus) (g.settles_left old.bus)) (sym over) (omega (arith, few)))
+      (subst (λ (p : Phase). rounds_in 1 1 1 tries (length old.left.now) old.due old.pass Free old.request (g.waits_left old.bus) ≤ rounds_in 1 1 0 tries (length old.left.now) old.due old.pass p old.request (g.waits_left old.bus)) (sym over) (omega arith))
 
 pub on_ok : {X E : Type 0} (result : Result X E) (P Q : Type 0) → (P → Q) → OnOk result P → OnOk result Q
 on_ok (Ok x) P Q goes p = goes p
@@ -168,14 +166,14 @@ pub on_err : {X E : Type 0} (result : Result X E) (P Q : Type 0) → (P → Q) �
 on_err (Ok x) P Q goes p = tt
 on_err (Err e) P Q goes p = goes p
 
-over_count : (tries count due pass waits settles : ℕ) (ready : Bool) (phase : Phase) (request : Request) → ((end : End) → phase ≡ Over end → ⊥) → rounds_in 1 1 1 tries count due pass phase request waits ready settles ≤ rounds_in 1 1 0 tries count due pass phase request waits ready settles
-over_count tries count due pass waits settles ready Free request not = omega arith
-over_count tries count due pass waits settles ready (Busy n) request not = omega arith
-over_count tries count due pass waits settles ready (Pending n) request not = omega arith
-over_count tries count due pass waits settles ready (Over end) request not = absurd (not end refl)
+over_count : (tries count due pass waits : ℕ) (phase : Phase) (request : Request) → ((end : End) → phase ≡ Over end → ⊥) → rounds_in 1 1 1 tries count due pass phase request waits ≤ rounds_in 1 1 0 tries count due pass phase request waits
+over_count tries count due pass waits Free request not = omega arith
+over_count tries count due pass waits (Busy n) request not = omega arith
+over_count tries count due pass waits (Pending n) request not = omega arith
+over_count tries count due pass waits (Over end) request not = absurd (not end refl)
 
 pub fewer_silent : {B : Type 0} (g : Bus B) (tries : ℕ) (s : Station B) → ((end : End) → s.phase ≡ Over end → ⊥) → rounds_of g 1 1 1 tries s ≤ rounds_of g 1 1 0 tries s
-fewer_silent g tries s not = over_count tries (length s.left.now) s.due s.pass (g.waits_left s.bus) (g.settles_left s.bus) (g.ready s.bus) s.phase s.request not
+fewer_silent g tries s not = over_count tries (length s.left.now) s.due s.pass (g.waits_left s.bus) s.phase s.request not
 
 pub on_any : {X E : Type 0} (result : Result X E) (P : Type 0) → P → OnOk result P
 on_any (Ok x) P p = p

@@ -54,7 +54,7 @@ pub record GoesRound {B T : Type 0} (g : Bus B) (told : T → ℕ → T → Type
   pub parts : happened ≡ asking ++ rest
   pub asks : Rounds g tries olds asked asking
   pub goes_on : Rounds g tries asked news rest
-  pub waits : passes first (may_sleep g asked) passed
+  pub waits : passes first (may_sleep asked) passed
   pub reads_time : told passed moment last
   pub is_round : IsRound moment (happened_turns happened)
   pub asks_first : is_round.asking ≡ happened_turns asking

@@ -1,13 +1,13 @@
 -- A line's part of the readout (this product).
 use Rattle.std.specs.Prelude.{◌≡◌, ◌⊎◌, ℕ, zero, suc, ◌+◌, ◌-◌, ◌*◌, ◌<◌, ◌≤◌, Bool, true, false}
-use Rattle.std.specs.Prelude.{List, [], ◌∷◌, ◌++◌, length, take, drop, min, Result, Ok, Err}
+use Rattle.std.specs.Prelude.{List, [], ◌∷◌, ◌++◌, length, take, drop, Result, Ok, Err}
 use Rattle.dc_address.specs.declared.identity.Identity.{Identity}
 use Rattle.dc_concentrator.specs.declared.fault.CommitFault.{CommitFault}
 use Rattle.dc_concentrator.specs.declared.fault.HearFault.{HearFault}
 use Rattle.dc_concentrator.specs.declared.line_heard.LineHeard.{LineHeard}
 use Rattle.dc_concentrator.specs.declared.line_heard.LineHeard.TheVariants.{Again, Ready, Accepted}
 use Rattle.dc_concentrator.specs.declared.line_heard.LineHeard.TheVariants.{Failed as HasFailed}
-use Rattle.dc_bus.specs.Halves.{most_settles, most_waits}
+use Rattle.dc_bus.specs.Halves.{most_waits}
 use Rattle.dc_poll.specs.Bus.{Bus}
 use Rattle.dc_poll.specs.Queue.{Part, part, most_asks}
 use Rattle.dc_poll.specs.Talking.{Talk}
@@ -149,17 +149,11 @@ IsSound g tries station = IsSoundIn tries (length station.left.now) station.due 
 abbrev pub rounds_a_request : ℕ
 rounds_a_request = most_waits + 3
 
-abbrev pub rounds_to_settle : ℕ
-rounds_to_settle = most_settles + 3
+abbrev pub rounds_to_end : ℕ
+rounds_to_end = 3
 
 abbrev pub rounds_a_start : ℕ
-rounds_a_start = rounds_to_settle + most_asks * rounds_a_request + 1
-
--- until the bus is ready
-abbrev pub settling : ℕ → Bool → ℕ → ℕ
-settling zero ready settles = 0
-settling (suc more) true settles = 0
-settling (suc more) false settles = 1 + min settles most_settles
+rounds_a_start = rounds_to_end + most_asks * rounds_a_request + 1
 
 abbrev pub rounds_by_request : ℕ → Request → ℕ → ℕ
 rounds_by_request out Quiet waits = 0
@@ -167,13 +161,13 @@ rounds_by_request out Sent waits = out + 1 + waits
 rounds_by_request out (Answered bytes) waits = out
 
 -- A request that is out, a telegram that is pending and an end that isn't written count for this many rounds.
-abbrev pub rounds_by_phase : ℕ → ℕ → ℕ → ℕ → Phase → Request → ℕ → ℕ
-rounds_by_phase out pending over free Free request waits = free
-rounds_by_phase out pending over free (Busy n) request waits =
-    rounds_to_settle + n * rounds_a_request + rounds_by_request out request waits
-rounds_by_phase out pending over free (Pending n) request waits =
-    rounds_to_settle + n * rounds_a_request + pending
-rounds_by_phase out pending over free (Over end) request waits = most_settles + 1 + over
+abbrev pub rounds_by_phase : ℕ → ℕ → ℕ → Phase → Request → ℕ → ℕ
+rounds_by_phase out pending over Free request waits = 0
+rounds_by_phase out pending over (Busy n) request waits =
+    rounds_to_end + n * rounds_a_request + rounds_by_request out request waits
+rounds_by_phase out pending over (Pending n) request waits =
+    rounds_to_end + n * rounds_a_request + pending
+rounds_by_phase out pending over (Over end) request waits = 1 + over
 
 -- the present meter was started in this pass
 abbrev pub begun : Phase → ℕ
@@ -186,13 +180,12 @@ begun (Over end) = 0
 abbrev pub starts_left : ℕ → ℕ → ℕ → ℕ → ℕ
 starts_left tries count due pass = due + count * (tries - pass)
 
-abbrev pub rounds_in : ℕ → ℕ → ℕ → ℕ → ℕ → ℕ → ℕ → Phase → Request → ℕ → Bool → ℕ → ℕ
-rounds_in out pending over tries count due pass phase request waits ready settles =
+abbrev pub rounds_in : ℕ → ℕ → ℕ → ℕ → ℕ → ℕ → ℕ → Phase → Request → ℕ → ℕ
+rounds_in out pending over tries count due pass phase request waits =
     starts_left tries count (due - begun phase) pass * rounds_a_start
-    + rounds_by_phase out pending over (settling count ready settles) phase request waits
+    + rounds_by_phase out pending over phase request waits
 
 abbrev pub rounds_of : {B : Type 0} → Bus B → ℕ → ℕ → ℕ → ℕ → Station B → ℕ
 rounds_of g out pending over tries station =
     rounds_in out pending over tries (length station.left.now) station.due station.pass
-    station.phase station.request
-    (g.waits_left station.bus) (g.ready station.bus) (g.settles_left station.bus)
+    station.phase station.request (g.waits_left station.bus)

@@ -20,19 +20,13 @@ pub record Talk (B : Type 0) : Type 0 where
   pub said : Bool
 
 -- THE TALK ON A BUS, by what happens on its line. The requests of the readouts are sent, and no
--- others. The answer is taken once, and only then the next request is sent. A readout begins only
--- if the bus is ready; a bus that isn't settles first. Nothing else touches the bus. The event
--- of the line's loss comes once.
+-- others. The answer is taken once, and only then the next request is sent. Nothing else touches the
+-- bus. The event of the line's loss comes once.
 pub data Talks {B : Type 0} (g : Bus B) (line : ℕ)
     : Talk B → List Happening → Talk B → Type 0 where
   rests : {last : Talk B} → Talks g line last [] last
-  settles_it : {bus next : B} {said : Bool} {more : List Happening} {last : Talk B}
-      → g.ready bus ≡ false → g.settles bus next
-      → Talks g line (record { bus = next; request = Quiet; said = said }) more last
-      → Talks g line (record { bus = bus; request = Quiet; said = said }) more last
   begins : {bus : B} {said : Bool} {meter : Identity} {answer : Result (Unit {0}) StartFault}
       {more : List Happening} {last : Talk B}
-      → g.ready bus ≡ true
       → Talks g line (record { bus = bus; request = Quiet; said = said }) more last
       → Talks g line (record { bus = bus; request = Quiet; said = said })
       (does (starts line meter, started answer) ∷ more) last

@@ -1,7 +1,6 @@
 -- When a poll may sleep (this product).
-use Rattle.std.specs.Prelude.{Bool, true, false, not, ◌&&◌, ◌||◌, ◌==◌, List, length}
+use Rattle.std.specs.Prelude.{Bool, true, false, ◌&&◌, ◌||◌, ◌==◌, List, length}
 use Rattle.std.specs.List.{list_all}
-use Rattle.dc_poll.specs.Bus.{Bus}
 use Rattle.dc_poll.specs.declared.phase.Phase.{Phase}
 use Rattle.dc_poll.specs.declared.phase.Phase.TheVariants.{Free, Busy, Pending, Over}
 use Rattle.dc_poll.specs.declared.phase.Request.{Request}
@@ -21,23 +20,18 @@ is_free (Busy n) = false
 is_free (Pending n) = false
 is_free (Over end) = false
 
--- a meter is to be begun, and the bus isn't ready for that
-abbrev pub is_settling : {B : Type 0} → Bus B → Station B → Bool
-is_settling g station =
-    is_free station.phase && not (length station.left.now == 0) && not (g.ready station.bus)
-
 -- the line waits for its bus
-abbrev pub is_awaited : {B : Type 0} → Bus B → Station B → Bool
-is_awaited g station = is_sent station.request || is_settling g station
+abbrev pub is_awaited : {B : Type 0} → Station B → Bool
+is_awaited station = is_sent station.request
 
 -- the line has nothing left
 abbrev pub is_done : {B : Type 0} → Station B → Bool
 is_done station = is_free station.phase && length station.left.now == 0
 
 -- the line goes on when its bus has more, or not at all
-abbrev pub is_resting : {B : Type 0} → Bus B → Station B → Bool
-is_resting g station = is_awaited g station || is_done station
+abbrev pub is_resting : {B : Type 0} → Station B → Bool
+is_resting station = is_awaited station || is_done station
 
 -- A POLL MAY SLEEP where each line waits for its bus or has nothing left.
-abbrev pub may_sleep : {B : Type 0} → Bus B → List (Station B) → Bool
-may_sleep {B} g stations = list_all (λ (s : Station B). is_resting g s) stations
+abbrev pub may_sleep : {B : Type 0} → List (Station B) → Bool
+may_sleep {B} stations = list_all (λ (s : Station B). is_resting s) stations

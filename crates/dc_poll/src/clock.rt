@@ -5,13 +5,13 @@ ghost use Rattle.std.specs.List.{list_any};
 ghost use Rattle.dc_poll.specs.Clock.{ComparesClock, has_later, is_behind};
 
 use crate::timer::Timer;
-use dc_bus::QuietBus;
+use dc_bus::HalfBus;
 use dc_change::Moment;
 use dc_register::{House, Part};
 use std::alloc::Allocator;
 
 /// Warns the timer where its moment lies before the newest time stamp of the register.
-pub fn compare_clock<A: Allocator + Copy, B: QuietBus + Drop, T: Timer<B>>(
+pub fn compare_clock<A: Allocator + Copy, B: HalfBus + Drop, T: Timer<B>>(
     house: &House<A>,
     timer: &mut T,
 )

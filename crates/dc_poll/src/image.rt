@@ -29,7 +29,7 @@ use crate::teller::Teller;
 use crate::telling::tell_one;
 use crate::timer::Timer;
 use dc_address::Identity;
-use dc_bus::QuietBus;
+use dc_bus::HalfBus;
 use dc_concentrator::{Concentrator, StartFault};
 use dc_disk::Disk;
 use dc_ending::ProgramFault;
@@ -42,7 +42,7 @@ const MOST_LINES: usize = 8;
 
 /// The meters to read, and the buses.
 #[derive(Drop)]
-pub struct Plan<'a, A: Allocator, B: QuietBus + Drop> {
+pub struct Plan<'a, A: Allocator, B: HalfBus + Drop> {
     /// The buses of lines 1, 2 and so on, of which eight are used. A bus that is lost from the
     /// start counts as none.
     pub buses: Vec<B, A>,
@@ -63,7 +63,7 @@ pub struct Plan<'a, A: Allocator, B: QuietBus + Drop> {
 /// # Errors
 /// [`ProgramFault::Open`] where the image wasn't opened, and [`ProgramFault::NoMemory`], both before anything is
 /// asked or told; [`ProgramFault::Write`] where the teller couldn't take an event.
-pub fn poll_image<D: Disk + Drop, A: Allocator + Copy, B: QuietBus + Drop, T: Timer<B>, N: Teller>(
+pub fn poll_image<D: Disk + Drop, A: Allocator + Copy, B: HalfBus + Drop, T: Timer<B>, N: Teller>(
     alloc: A,
     disk: D,
     plan: Plan<'_, A, B>,
@@ -75,7 +75,7 @@ pub fn poll_image<D: Disk + Drop, A: Allocator + Copy, B: QuietBus + Drop, T: Ti
     // opened, and the image is left as that run leaves it.
     ensures polled { (D.keeps disk → EachStands (half_of D.Disk disk) (D.choices disk))
         → IfOk result.1 (λ outcome. ImageTurned D.Disk (λ core happened.
-        PlanPolled B.QuietBus T.tells T.passes T.warns N.takes plan.entry.buses.items
+        PlanPolled B.HalfBus T.tells T.passes T.warns N.takes plan.entry.buses.items
         plan.entry.only.now plan.entry.tries timer.old timer.new teller.old teller.new outcome core
         happened) disk result.0) }
     ensures cut { (D.keeps disk → EachStands (half_of D.Disk disk) (D.choices disk))
@@ -118,7 +118,7 @@ pub fn poll_image<D: Disk + Drop, A: Allocator + Copy, B: QuietBus + Drop, T: Ti
 }
 
 // Reads the meters of the plan.
-fn poll<D: Disk + Drop, A: Allocator + Copy, B: QuietBus + Drop, T: Timer<B>, N: Teller>(
+fn poll<D: Disk + Drop, A: Allocator + Copy, B: HalfBus + Drop, T: Timer<B>, N: Teller>(
     alloc: A,
     concentrator: &mut Concentrator<D, A>,
     plan: Plan<'_, A, B>,
@@ -127,7 +127,7 @@ fn poll<D: Disk + Drop, A: Allocator + Copy, B: QuietBus + Drop, T: Timer<B>, N:
 ) -> Result<Outcome, ProgramFault>
     requires { 0 < plan.tries }
     ensures went { Runs D.Disk (λ core happened. IfOk result (λ outcome.
-        PlanPolled B.QuietBus T.tells T.passes T.warns N.takes plan.entry.buses.items
+        PlanPolled B.HalfBus T.tells T.passes T.warns N.takes plan.entry.buses.items
         plan.entry.only.now plan.entry.tries timer.old timer.new teller.old teller.new outcome core
         happened))
         concentrator.old concentrator.new }
@@ -181,7 +181,7 @@ fn poll<D: Disk + Drop, A: Allocator + Copy, B: QuietBus + Drop, T: Timer<B>, N:
 }
 
 // The meters to be read of each line.
-fn queues_of<A: Allocator + Copy, B: QuietBus + Drop>(
+fn queues_of<A: Allocator + Copy, B: HalfBus + Drop>(
     alloc: A,
     house: &House<A>,
     buses: &[B],
@@ -242,7 +242,7 @@ fn is_wanted(meter: &Identity, only: &[Identity]) -> bool
 }
 
 // The lines with their queues. Of a line that has no bus it is never told that it is lost.
-fn stations_of<'a, A: Allocator + Copy, B: QuietBus + Drop>(
+fn stations_of<'a, A: Allocator + Copy, B: HalfBus + Drop>(
     alloc: A,
     buses: Vec<B, A>,
     queues: &'a mut [Vec<Identity, A>],
@@ -293,7 +293,7 @@ fn registered<A: Allocator + Copy>(alloc: A, house: &House<A>) -> Result<Vec<Ide
 }
 
 // Tells an event for each of these meters that can't be read, and returns how many there are.
-fn refuse_others<A: Allocator + Copy, B: QuietBus + Drop, N: Teller>(
+fn refuse_others<A: Allocator + Copy, B: HalfBus + Drop, N: Teller>(
     house: &House<A>,
     stations: &[Station<'_, B>],
     wanted: &[Identity],
@@ -339,7 +339,7 @@ fn tell_refusal<N: Teller>(
 }
 
 // Why a meter can't be read, before it is started.
-fn refusal_of<A: Allocator + Copy, B: QuietBus + Drop>(
+fn refusal_of<A: Allocator + Copy, B: HalfBus + Drop>(
     house: &House<A>,
     stations: &[Station<'_, B>],
     meter: &Identity,
@@ -360,7 +360,7 @@ fn refusal_of<A: Allocator + Copy, B: QuietBus + Drop>(
 }
 
 // Whether a line has a bus that isn't lost.
-fn has_bus<B: QuietBus + Drop>(stations: &[Station<'_, B>], line: u8) -> bool
+fn has_bus<B: HalfBus + Drop>(stations: &[Station<'_, B>], line: u8) -> bool
     ensures { result ≡ has_bus B.lost (map (λ s. s.bus) stations.now) line }
 {
     match stations.get(usize::from(line).saturating_sub(1)) {

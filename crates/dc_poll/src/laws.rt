@@ -25,7 +25,7 @@ ghost use Rattle.dc_poll.specs.declared.phase.Phase.{Phase};
 ghost use Rattle.dc_poll.specs.declared.phase.Phase.TheVariants.{Free};
 
 use crate::timer::Timer;
-use dc_bus::QuietBus;
+use dc_bus::HalfBus;
 
 /// A queue that is at its end went through all its meters, in passes: in the first each was started, in order, and in
 /// each later one those that failed in the one before it. There are no more passes than tries, so each was started once
@@ -57,8 +57,8 @@ pub fn what_is_read_is_not_begun_again()
 {}
 
 /// The event of a failed readout has its line, and says how many of its failed tries brought what.
-pub fn the_misses_of_a_failed_readout_are_told<B: QuietBus + Drop>()
-    ensures { MissesAreTold B.QuietBus }
+pub fn the_misses_of_a_failed_readout_are_told<B: HalfBus + Drop>()
+    ensures { MissesAreTold B.HalfBus }
 {}
 
 /// The queues of a plan have each meter once, where those of the register ascend.
@@ -86,7 +86,7 @@ pub fn what_is_committed_waits_no_more()
 
 /// Where a line has no request any more, all that was accepted is committed, unless a commit answered
 /// a fault; and the same at each event.
-pub fn what_is_read_is_committed<B: QuietBus + Drop, T: Timer<B>>()
+pub fn what_is_read_is_committed<B: HalfBus + Drop, T: Timer<B>>()
     ensures asked { IsCommittedWhereNoneIsAsked T.tells T.passes }
     ensures told { (core : Core) (store : Store) (front back : List Happening) (line : ℕ)
         (told : Told) →
@@ -96,6 +96,6 @@ pub fn what_is_read_is_committed<B: QuietBus + Drop, T: Timer<B>>()
 
 /// In a poll each answer is received with fewer changes pending than the maximum. So none is refused because too many
 /// are pending.
-pub fn each_answer_finds_room_among_the_pending_changes<B: QuietBus + Drop, T: Timer<B>>()
+pub fn each_answer_finds_room_among_the_pending_changes<B: HalfBus + Drop, T: Timer<B>>()
     ensures { AnswersFindRoom T.tells T.passes }
 {}

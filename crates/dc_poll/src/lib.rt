@@ -1,7 +1,7 @@
 //! The readout of many meters on up to eight lines at once, round after round.
 //!
 //! The meters of a line are read in passes: the first goes through all, in order, each later one through those that
-//! failed in the one before it. In a round each line takes one step: it settles, begins its next meter and asks, or
+//! failed in the one before it. In a round each line takes one step: it begins its next meter and asks, or
 //! asks. Then time passes, what is complete of the answers is heard, one commit writes all that was accepted, and
 //! each readout that ended gives an event ([`read_all`]).
 //!

@@ -11,7 +11,7 @@ ghost use Rattle.dc_poll.specs.Station.{IsSound, rounds_of};
 use crate::calls;
 use crate::station::Station;
 use crate::stepping::{hear, step};
-use dc_bus::QuietBus;
+use dc_bus::HalfBus;
 use dc_change::Moment;
 use dc_concentrator::{CommitFault, Concentrator};
 use dc_disk::Disk;
@@ -28,20 +28,20 @@ pub(crate) fn line_at(at: usize) -> u8
     at as u8 + 1
 }
 
-// Every line that has no request out settles, or begins its next meter and asks, or asks.
-pub fn ask_all<D: Disk + Drop, A: Allocator + Copy, B: QuietBus + Drop>(
+// Every line that has no request out begins its next meter and asks, or asks.
+pub fn ask_all<D: Disk + Drop, A: Allocator + Copy, B: HalfBus + Drop>(
     concentrator: &mut Concentrator<D, A>,
     stations: &mut [Station<'_, B>],
     tries: u8,
 )
     requires lines { length stations.old ≤ most_lines }
-    requires sound { All (IsSound B.QuietBus tries) stations.old }
+    requires sound { All (IsSound B.HalfBus tries) stations.old }
     ensures went { Runs D.Disk (λ core happened.
-        AllSteps B.QuietBus tries (All IsAsking) stations.old stations.new happened)
+        AllSteps B.HalfBus tries (All IsAsking) stations.old stations.new happened)
         concentrator.old concentrator.new }
-    ensures sound { All (IsSound B.QuietBus tries) stations.new }
-    ensures fewer { EachFewer (rounds_of B.QuietBus 1 1 1 tries)
-        (rounds_of B.QuietBus 0 0 0 tries) 1
+    ensures sound { All (IsSound B.HalfBus tries) stations.new }
+    ensures fewer { EachFewer (rounds_of B.HalfBus 1 1 1 tries)
+        (rounds_of B.HalfBus 0 0 0 tries) 1
         stations.old stations.new }
     ensures budget { concentrator.new.house.budget ≡ concentrator.old.house.budget }
 {
@@ -51,7 +51,7 @@ pub fn ask_all<D: Disk + Drop, A: Allocator + Copy, B: QuietBus + Drop>(
 }
 
 // What becomes of each line by a commit.
-fn store_all<B: QuietBus + Drop>(
+fn store_all<B: HalfBus + Drop>(
     stations: &mut [Station<'_, B>],
     stored: &Result<usize, CommitFault>,
 )
@@ -63,19 +63,19 @@ fn store_all<B: QuietBus + Drop>(
 }
 
 /// Commits the pending changes.
-pub fn commit_all<D: Disk + Drop, A: Allocator + Copy, B: QuietBus + Drop>(
+pub fn commit_all<D: Disk + Drop, A: Allocator + Copy, B: HalfBus + Drop>(
     concentrator: &mut Concentrator<D, A>,
     stations: &mut [Station<'_, B>],
 ) -> Result<(), CommitFault>
-    ensures went { (tries : ℕ) → All (IsSound B.QuietBus tries) stations.old
+    ensures went { (tries : ℕ) → All (IsSound B.HalfBus tries) stations.old
         → Runs D.Disk (λ core happened.
-        AllSteps B.QuietBus tries (IsStoredAs result) stations.old stations.new happened)
+        AllSteps B.HalfBus tries (IsStoredAs result) stations.old stations.new happened)
         concentrator.old concentrator.new }
-    ensures sound { (tries : ℕ) → All (IsSound B.QuietBus tries) stations.old
-        → All (IsSound B.QuietBus tries) stations.new }
-    ensures fewer { (tries out pending : ℕ) → All (IsSound B.QuietBus tries) stations.old
-        → EachFewer (rounds_of B.QuietBus out 0 0 tries)
-        (rounds_of B.QuietBus out pending 0 tries) 0
+    ensures sound { (tries : ℕ) → All (IsSound B.HalfBus tries) stations.old
+        → All (IsSound B.HalfBus tries) stations.new }
+    ensures fewer { (tries out pending : ℕ) → All (IsSound B.HalfBus tries) stations.old
+        → EachFewer (rounds_of B.HalfBus out 0 0 tries)
+        (rounds_of B.HalfBus out pending 0 tries) 0
         stations.old stations.new }
     ensures budget { concentrator.new.house.budget ≡ concentrator.old.house.budget }
 {
@@ -95,20 +95,20 @@ fn uncounted(stored: Result<usize, CommitFault>) -> Result<(), CommitFault>
 }
 
 // Where as many telegrams are pending as may be, they are committed. How many are pending then.
-fn make_room<D: Disk + Drop, A: Allocator + Copy, B: QuietBus + Drop>(
+fn make_room<D: Disk + Drop, A: Allocator + Copy, B: HalfBus + Drop>(
     concentrator: &mut Concentrator<D, A>,
     stations: &mut [Station<'_, B>],
     pending: u8,
 ) -> Result<u8, CommitFault>
     ensures few { IfOk result (λ now. now < most_pending) }
-    ensures went { (tries : ℕ) → All (IsSound B.QuietBus tries) stations.old
+    ensures went { (tries : ℕ) → All (IsSound B.HalfBus tries) stations.old
         → Runs D.Disk (λ core happened.
-        AllSteps B.QuietBus tries (IsRoom pending result) stations.old stations.new happened)
+        AllSteps B.HalfBus tries (IsRoom pending result) stations.old stations.new happened)
         concentrator.old concentrator.new }
-    ensures sound { (tries : ℕ) → All (IsSound B.QuietBus tries) stations.old
-        → All (IsSound B.QuietBus tries) stations.new }
-    ensures fewer { (tries out : ℕ) → All (IsSound B.QuietBus tries) stations.old
-        → EachFewer (rounds_of B.QuietBus out 0 0 tries) (rounds_of B.QuietBus out 0 0 tries) 0
+    ensures sound { (tries : ℕ) → All (IsSound B.HalfBus tries) stations.old
+        → All (IsSound B.HalfBus tries) stations.new }
+    ensures fewer { (tries out : ℕ) → All (IsSound B.HalfBus tries) stations.old
+        → EachFewer (rounds_of B.HalfBus out 0 0 tries) (rounds_of B.HalfBus out 0 0 tries) 0
         stations.old stations.new }
     ensures budget { concentrator.new.house.budget ≡ concentrator.old.house.budget }
 {
@@ -130,20 +130,20 @@ fn and_accepted(pending: u8, accepted: bool) -> u8
 }
 
 // Every line with a request out takes its answer, if it is complete.
-pub fn hear_all<D: Disk + Drop, A: Allocator + Copy, B: QuietBus + Drop>(
+pub fn hear_all<D: Disk + Drop, A: Allocator + Copy, B: HalfBus + Drop>(
     concentrator: &mut Concentrator<D, A>,
     stations: &mut [Station<'_, B>],
     tries: u8,
     moment: Moment,
 ) -> Result<(), CommitFault>
     requires lines { length stations.old ≤ most_lines }
-    requires sound { All (IsSound B.QuietBus tries) stations.old }
+    requires sound { All (IsSound B.HalfBus tries) stations.old }
     ensures went { Runs D.Disk (λ core happened.
-        AllSteps B.QuietBus tries (AreHeardAs moment.seconds result) stations.old stations.new happened)
+        AllSteps B.HalfBus tries (AreHeardAs moment.seconds result) stations.old stations.new happened)
         concentrator.old concentrator.new }
-    ensures sound { All (IsSound B.QuietBus tries) stations.new }
-    ensures fewer { OnOk result (EachFewer (rounds_of B.QuietBus 0 0 0 tries)
-        (rounds_of B.QuietBus 1 0 0 tries) 0
+    ensures sound { All (IsSound B.HalfBus tries) stations.new }
+    ensures fewer { OnOk result (EachFewer (rounds_of B.HalfBus 0 0 0 tries)
+        (rounds_of B.HalfBus 1 0 0 tries) 0
         stations.old stations.new) }
     ensures budget { concentrator.new.house.budget ≡ concentrator.old.house.budget }
 {
@@ -162,20 +162,20 @@ pub fn hear_all<D: Disk + Drop, A: Allocator + Copy, B: QuietBus + Drop>(
 }
 
 // And then all that was accepted is committed.
-pub fn hear_and_commit<D: Disk + Drop, A: Allocator + Copy, B: QuietBus + Drop>(
+pub fn hear_and_commit<D: Disk + Drop, A: Allocator + Copy, B: HalfBus + Drop>(
     concentrator: &mut Concentrator<D, A>,
     stations: &mut [Station<'_, B>],
     tries: u8,
     moment: Moment,
 ) -> Result<(), CommitFault>
     requires lines { length stations.old ≤ most_lines }
-    requires sound { All (IsSound B.QuietBus tries) stations.old }
+    requires sound { All (IsSound B.HalfBus tries) stations.old }
     ensures went { Runs D.Disk (λ core happened.
-        AllSteps B.QuietBus tries (EndsInCommit moment.seconds result) stations.old stations.new happened)
+        AllSteps B.HalfBus tries (EndsInCommit moment.seconds result) stations.old stations.new happened)
         concentrator.old concentrator.new }
-    ensures sound { All (IsSound B.QuietBus tries) stations.new }
-    ensures fewer { OnOk result (EachFewer (rounds_of B.QuietBus 0 0 0 tries)
-        (rounds_of B.QuietBus 1 1 0 tries) 0
+    ensures sound { All (IsSound B.HalfBus tries) stations.new }
+    ensures fewer { OnOk result (EachFewer (rounds_of B.HalfBus 0 0 0 tries)
+        (rounds_of B.HalfBus 1 1 0 tries) 0
         stations.old stations.new) }
     ensures budget { concentrator.new.house.budget ≡ concentrator.old.house.budget }
 {

@@ -20,7 +20,7 @@ use crate::teller::Teller;
 use crate::telling::{tell_all, tell_one};
 use crate::timer::Timer;
 use crate::waiting::{is_done, may_sleep};
-use dc_bus::QuietBus;
+use dc_bus::HalfBus;
 use dc_concentrator::{CommitFault, Concentrator};
 use dc_disk::Disk;
 use dc_io::IoFault;
@@ -29,11 +29,11 @@ use std::alloc::Allocator;
 // More rounds than are ever needed: of as many meters as a queue has, each tried as often as a byte says.
 const MOST_ROUNDS: u64 = 65_535 * 255 * ROUNDS_A_START + ROUNDS_A_START;
 
-// This many rounds one start takes at most: until its bus is ready, and for each request and its answer.
-const ROUNDS_A_START: u64 = 4_259_843 + 103 * 65_538 + 1;
+// This many rounds one start takes at most: for each request and its answer, and its end.
+const ROUNDS_A_START: u64 = 3 + 103 * 65_538 + 1;
 
 // One round. The fault of its commit, if there was one.
-fn round<D: Disk + Drop, A: Allocator + Copy, B: QuietBus + Drop, T: Timer<B>, N: Teller>(
+fn round<D: Disk + Drop, A: Allocator + Copy, B: HalfBus + Drop, T: Timer<B>, N: Teller>(
     concentrator: &mut Concentrator<D, A>,
     stations: &mut [Station<'_, B>],
     tries: u8,
@@ -42,15 +42,15 @@ fn round<D: Disk + Drop, A: Allocator + Copy, B: QuietBus + Drop, T: Timer<B>, N
     teller: &mut N,
 ) -> Result<Option<CommitFault>, IoFault>
     requires lines { length stations.old ≤ most_lines }
-    requires sound { All (IsSound B.QuietBus tries) stations.old }
+    requires sound { All (IsSound B.HalfBus tries) stations.old }
     requires few { counts.old.read + counts.old.failed + most_lines < 2 ^ 64 }
     ensures went { Runs D.Disk (λ core happened. IfOk result (λ fault.
-        GoesRound B.QuietBus T.tells T.passes tries fault stations.old stations.new
+        GoesRound B.HalfBus T.tells T.passes tries fault stations.old stations.new
         timer.old timer.new (TakesAll N.takes teller.old teller.new) counts.old counts.new core happened))
         concentrator.old concentrator.new }
-    ensures sound { OnOk result (All (IsSound B.QuietBus tries) stations.new) }
+    ensures sound { OnOk result (All (IsSound B.HalfBus tries) stations.new) }
     ensures fewer { IfOk result (λ fault. fault ≡ None
-        → EachFewer (rounds_of B.QuietBus 1 1 1 tries) (rounds_of B.QuietBus 1 1 1 tries) 1 stations.old stations.new) }
+        → EachFewer (rounds_of B.HalfBus 1 1 1 tries) (rounds_of B.HalfBus 1 1 1 tries) 1 stations.old stations.new) }
     ensures few { OnOk result (counts.new.read + counts.new.failed
         ≤ counts.old.read + counts.old.failed + most_lines) }
     ensures budget { concentrator.new.house.budget ≡ concentrator.old.house.budget }
@@ -79,14 +79,14 @@ fn fault_of(stored: Result<(), CommitFault>) -> Option<CommitFault>
 }
 
 // Whether no meter is left.
-fn is_over<B: QuietBus + Drop>(stations: &[Station<'_, B>]) -> bool
+fn is_over<B: HalfBus + Drop>(stations: &[Station<'_, B>]) -> bool
     ensures { result ≡ list_all (λ s. is_done_with s) stations.now }
 {
     stations.iter().all(|station| is_done(station))
 }
 
 // Round after round, until no meter is left, or a commit returned a fault.
-fn read_rounds<D: Disk + Drop, A: Allocator + Copy, B: QuietBus + Drop, T: Timer<B>, N: Teller>(
+fn read_rounds<D: Disk + Drop, A: Allocator + Copy, B: HalfBus + Drop, T: Timer<B>, N: Teller>(
     concentrator: &mut Concentrator<D, A>,
     stations: &mut [Station<'_, B>],
     tries: u8,
@@ -95,10 +95,10 @@ fn read_rounds<D: Disk + Drop, A: Allocator + Copy, B: QuietBus + Drop, T: Timer
     teller: &mut N,
 ) -> Result<Outcome, IoFault>
     requires lines { length stations.old ≤ most_lines }
-    requires sound { All (IsSound B.QuietBus tries) stations.old }
+    requires sound { All (IsSound B.HalfBus tries) stations.old }
     requires few { before.read + before.failed < 2 ^ 63 }
     ensures went { Runs D.Disk (λ core happened.
-        IfOk result (λ outcome. Polled B.QuietBus T.tells T.passes tries
+        IfOk result (λ outcome. Polled B.HalfBus T.tells T.passes tries
         stations.old stations.new timer.old timer.new (TakesAll N.takes teller.old teller.new) before outcome
         core happened)) concentrator.old concentrator.new }
     ensures few { IfOk result (λ outcome. outcome.read + outcome.failed < 2 ^ 63 + 2 ^ 62) }
@@ -136,7 +136,7 @@ fn outcome_of(counts: Counts, fault: Option<CommitFault>) -> Outcome
 }
 
 // How many meters are left on these lines.
-fn meters_left<B: QuietBus + Drop>(stations: &[Station<'_, B>]) -> u64
+fn meters_left<B: HalfBus + Drop>(stations: &[Station<'_, B>]) -> u64
     ensures { result ≡ min (2 ^ 64 - 1) (meters_left stations.now) }
 {
     match stations.split_first() {
@@ -156,14 +156,14 @@ fn tell_late<N: Teller>(line: u8, answers: u64, teller: &mut N) -> Result<(), Io
 }
 
 // How many late answers were dropped on each of these lines, of which the first has that number.
-fn tell_lates<B: QuietBus + Drop, N: Teller>(
+fn tell_lates<B: HalfBus + Drop, N: Teller>(
     stations: &[Station<'_, B>],
     line: u8,
     teller: &mut N,
 ) -> Result<(), IoFault>
     requires { line + length stations.now ≤ 255 }
     ensures { HasTold N.Teller result teller.old teller.new
-        (lates_from B.QuietBus line stations.now) }
+        (lates_from B.HalfBus line stations.now) }
 {
     let Some((station, others)) = stations.split_first() else {
         return Ok(());
@@ -173,7 +173,7 @@ fn tell_lates<B: QuietBus + Drop, N: Teller>(
 }
 
 // Tells the end of the poll. The meters that are left count as not read.
-fn finish<B: QuietBus + Drop, N: Teller>(
+fn finish<B: HalfBus + Drop, N: Teller>(
     stations: &[Station<'_, B>],
     between: Outcome,
     teller: &mut N,
@@ -185,7 +185,7 @@ fn finish<B: QuietBus + Drop, N: Teller>(
       fault = between.fault;
     }) }
     ensures told { IfOk result (λ outcome. TakesAll N.takes teller.old teller.new
-        (lates_from B.QuietBus 1 stations.now ++ has_ended outcome.read outcome.failed ∷ [])) }
+        (lates_from B.HalfBus 1 stations.now ++ has_ended outcome.read outcome.failed ∷ [])) }
     ensures fault { OnErr result (HasRisen (N.failures teller.old) (N.failures teller.new)) }
     ensures well { OnOk result (N.failures teller.new ≡ N.failures teller.old) }
 {
@@ -198,7 +198,7 @@ fn finish<B: QuietBus + Drop, N: Teller>(
     })
 }
 
-fn tell_finish<B: QuietBus + Drop, N: Teller>(
+fn tell_finish<B: HalfBus + Drop, N: Teller>(
     stations: &[Station<'_, B>],
     read: u64,
     failed: u64,
@@ -206,7 +206,7 @@ fn tell_finish<B: QuietBus + Drop, N: Teller>(
 ) -> Result<(), IoFault>
     requires { length stations.now ≤ most_lines }
     ensures { HasTold N.Teller result teller.old teller.new
-        (lates_from B.QuietBus 1 stations.now ++ has_ended read failed ∷ []) }
+        (lates_from B.HalfBus 1 stations.now ++ has_ended read failed ∷ []) }
 {
     tell_lates(stations, 1, teller)?;
     tell_one(&Event::End { read, failed }, teller)
@@ -225,7 +225,7 @@ fn tell_finish<B: QuietBus + Drop, N: Teller>(
 ///
 /// # Errors
 /// The teller couldn't take an event.
-pub fn read_all<D: Disk + Drop, A: Allocator + Copy, B: QuietBus + Drop, T: Timer<B>, N: Teller>(
+pub fn read_all<D: Disk + Drop, A: Allocator + Copy, B: HalfBus + Drop, T: Timer<B>, N: Teller>(
     concentrator: &mut Concentrator<D, A>,
     stations: &mut [Station<'_, B>],
     tries: u8,
@@ -236,7 +236,7 @@ pub fn read_all<D: Disk + Drop, A: Allocator + Copy, B: QuietBus + Drop, T: Time
     requires fresh { All IsFresh stations.old }
     requires tries { 0 < tries }
     ensures went { Runs D.Disk (λ core happened. IfOk result (λ outcome.
-        PollsAll B.QuietBus T.tells T.passes tries stations.old stations.new timer.old timer.new
+        PollsAll B.HalfBus T.tells T.passes tries stations.old stations.new timer.old timer.new
         (TakesAll N.takes teller.old teller.new) (record { read = 0; failed = 0 }) outcome core happened))
         concentrator.old concentrator.new }
     ensures budget { concentrator.new.house.budget ≡ concentrator.old.house.budget }
@@ -257,7 +257,7 @@ pub fn read_all<D: Disk + Drop, A: Allocator + Copy, B: QuietBus + Drop, T: Time
 pub(crate) fn read_on<
     D: Disk + Drop,
     A: Allocator + Copy,
-    B: QuietBus + Drop,
+    B: HalfBus + Drop,
     T: Timer<B>,
     N: Teller,
 >(
@@ -269,10 +269,10 @@ pub(crate) fn read_on<
     teller: &mut N,
 ) -> Result<Outcome, IoFault>
     requires lines { length stations.old ≤ most_lines }
-    requires sound { All (IsSound B.QuietBus tries) stations.old }
+    requires sound { All (IsSound B.HalfBus tries) stations.old }
     requires few { before.read + before.failed < 2 ^ 63 }
     ensures went { Runs D.Disk (λ core happened. IfOk result (λ outcome.
-        PollsAll B.QuietBus T.tells T.passes tries stations.old stations.new timer.old timer.new
+        PollsAll B.HalfBus T.tells T.passes tries stations.old stations.new timer.old timer.new
         (TakesAll N.takes teller.old teller.new) before outcome core happened))
         concentrator.old concentrator.new }
     ensures budget { concentrator.new.house.budget ≡ concentrator.old.house.budget }

@@ -18,7 +18,7 @@ ghost use Rattle.dc_poll.specs.declared.phase.Request.TheVariants.{Quiet, Sent};
 use crate::end::{End, Refusal};
 use crate::phase::{Phase, Request};
 use dc_address::Identity;
-use dc_bus::QuietBus;
+use dc_bus::HalfBus;
 use dc_concentrator::{CommitFault, HearFault, LineHeard, StartFault};
 use dc_frame::FrameBuf;
 use dc_misses::{Misses, is_missing};
@@ -31,7 +31,7 @@ pub(crate) const MOST_ASKS: u8 = 103;
 /// A line's bus, and the meters that are still to be read on it. They are read in passes: the first goes through all in
 /// order, each later one through those that failed in the one before it.
 #[derive(Drop)]
-pub struct Station<'a, B: QuietBus + Drop> {
+pub struct Station<'a, B: HalfBus + Drop> {
     /// The bus.
     pub bus: B,
     /// The meters that are still to be read: those that are left in this pass, the present one first, and then those
@@ -51,7 +51,7 @@ pub struct Station<'a, B: QuietBus + Drop> {
     pub misses: Misses,
 }
 
-impl<'a, B: QuietBus + Drop> Station<'a, B> {
+impl<'a, B: HalfBus + Drop> Station<'a, B> {
     /// These meters, of which none was started. Their order changes as they are read.
     pub fn new(bus: B, meters: &'a mut [Identity]) -> Station<'a, B>
         ensures fresh { IsAfter
@@ -149,7 +149,7 @@ impl<'a, B: QuietBus + Drop> Station<'a, B> {
     // Where a request is out, what was heard of it is taken, once it is complete.
     pub(crate) fn listen(&mut self)
         ensures out { self.old.request ≡ Sent
-            → Listens B.QuietBus self.old self.new }
+            → Listens B.HalfBus self.old self.new }
         ensures kept { (self.old.request ≡ Sent) ⊎ (self.new ≡ self.old) }
     {
         if let Request::Sent = self.request {

@@ -1,6 +1,6 @@
-//! One step of a line: it settles, begins its next meter and sends its request, or takes an answer.
+//! One step of a line: it begins its next meter and sends its request, or takes an answer.
 
-ghost use Rattle.std.specs.Prelude.{◌≡◌, ◌⊎◌, ◌<◌, ◌≤◌, ◌-◌, ◌∷◌, ℕ, length, drop, true, false};
+ghost use Rattle.std.specs.Prelude.{◌≡◌, ◌<◌, ◌≤◌, ◌-◌, ◌∷◌, ℕ, length, drop, true, false};
 ghost use Rattle.dc_poll.specs.Keeping.{IsAsking, is_accepted};
 ghost use Rattle.dc_poll.specs.Queue.{most_asks};
 ghost use Rattle.dc_poll.specs.Round.{HearsOne, Runs, Steps};
@@ -13,27 +13,27 @@ use crate::end::End;
 use crate::phase::{Phase, Request};
 use crate::station::{MOST_ASKS, Station};
 use dc_address::Identity;
-use dc_bus::QuietBus;
+use dc_bus::HalfBus;
 use dc_change::Moment;
 use dc_concentrator::{Concentrator, HearFault, LineHeard};
 use dc_disk::Disk;
 use dc_readout::Why;
 use std::alloc::Allocator;
 
-/// A line that has no request out and meters left settles, or begins the next one and asks, or asks.
-pub fn step<D: Disk + Drop, A: Allocator + Copy, B: QuietBus + Drop>(
+/// A line that has no request out and meters left begins the next one and asks, or asks.
+pub fn step<D: Disk + Drop, A: Allocator + Copy, B: HalfBus + Drop>(
     concentrator: &mut Concentrator<D, A>,
     station: &mut Station<'_, B>,
     line: u8,
     tries: u8,
 )
-    requires { IsSound B.QuietBus tries station.old }
+    requires { IsSound B.HalfBus tries station.old }
     ensures went { Runs D.Disk (λ core happened.
-        Steps B.QuietBus tries line IsAsking station.old station.new happened)
+        Steps B.HalfBus tries line IsAsking station.old station.new happened)
         concentrator.old concentrator.new }
-    ensures sound { IsSound B.QuietBus tries station.new }
-    ensures fewer { rounds_of B.QuietBus 0 0 0 tries station.new
-        ≤ rounds_of B.QuietBus 1 1 1 tries station.old - 1 }
+    ensures sound { IsSound B.HalfBus tries station.new }
+    ensures fewer { rounds_of B.HalfBus 0 0 0 tries station.new
+        ≤ rounds_of B.HalfBus 1 1 1 tries station.old - 1 }
     ensures budget { concentrator.new.house.budget ≡ concentrator.old.house.budget }
 {
     let Request::Quiet = &station.request else {
@@ -50,76 +50,71 @@ pub fn step<D: Disk + Drop, A: Allocator + Copy, B: QuietBus + Drop>(
 }
 
 // A line that is free goes on in its pass, or in the next one.
-fn go_on<D: Disk + Drop, A: Allocator + Copy, B: QuietBus + Drop>(
+fn go_on<D: Disk + Drop, A: Allocator + Copy, B: HalfBus + Drop>(
     concentrator: &mut Concentrator<D, A>,
     station: &mut Station<'_, B>,
     line: u8,
     meter: Identity,
     tries: u8,
 )
-    requires sound { IsSound B.QuietBus tries station.old }
+    requires sound { IsSound B.HalfBus tries station.old }
     requires free { station.old.phase ≡ Free }
     requires first { station.old.left.now ≡ meter ∷ drop 1 station.old.left.now }
     ensures went { Runs D.Disk (λ core happened.
-        Steps B.QuietBus tries line IsAsking station.old station.new happened)
+        Steps B.HalfBus tries line IsAsking station.old station.new happened)
         concentrator.old concentrator.new }
-    ensures sound { IsSound B.QuietBus tries station.new }
-    ensures fewer { rounds_of B.QuietBus 0 0 0 tries station.new
-        ≤ rounds_of B.QuietBus 1 1 1 tries station.old - 1 }
+    ensures sound { IsSound B.HalfBus tries station.new }
+    ensures fewer { rounds_of B.HalfBus 0 0 0 tries station.new
+        ≤ rounds_of B.HalfBus 1 1 1 tries station.old - 1 }
     ensures budget { concentrator.new.house.budget ≡ concentrator.old.house.budget }
 {
     station.pass_on();
     prepare(concentrator, station, line, meter, tries);
 }
 
-// It settles, or begins its next meter.
-fn prepare<D: Disk + Drop, A: Allocator + Copy, B: QuietBus + Drop>(
+// It begins its next meter.
+fn prepare<D: Disk + Drop, A: Allocator + Copy, B: HalfBus + Drop>(
     concentrator: &mut Concentrator<D, A>,
     station: &mut Station<'_, B>,
     line: u8,
     meter: Identity,
     tries: u8,
 )
-    requires sound { IsSound B.QuietBus tries station.old }
+    requires sound { IsSound B.HalfBus tries station.old }
     requires free { station.old.phase ≡ Free }
     requires due { 0 < station.old.due }
     requires first { station.old.left.now ≡ meter ∷ drop 1 station.old.left.now }
     ensures went { Runs D.Disk (λ core happened.
-        Steps B.QuietBus tries line IsAsking station.old station.new happened)
+        Steps B.HalfBus tries line IsAsking station.old station.new happened)
         concentrator.old concentrator.new }
-    ensures sound { IsSound B.QuietBus tries station.new }
-    ensures fewer { rounds_of B.QuietBus 0 0 0 tries station.new
-        ≤ rounds_of B.QuietBus 1 1 1 tries station.old - 1 }
+    ensures sound { IsSound B.HalfBus tries station.new }
+    ensures fewer { rounds_of B.HalfBus 0 0 0 tries station.new
+        ≤ rounds_of B.HalfBus 1 1 1 tries station.old - 1 }
     ensures budget { concentrator.new.house.budget ≡ concentrator.old.house.budget }
 {
-    if !station.bus.is_ready() {
-        station.bus.settle();
-        return;
-    }
     if start(concentrator, station, line, meter, tries) {
         ask(concentrator, station, line, meter, MOST_ASKS);
     }
 }
 
 // Begins a meter. Whether its readout goes on.
-fn start<D: Disk + Drop, A: Allocator + Copy, B: QuietBus + Drop>(
+fn start<D: Disk + Drop, A: Allocator + Copy, B: HalfBus + Drop>(
     concentrator: &mut Concentrator<D, A>,
     station: &mut Station<'_, B>,
     line: u8,
     meter: Identity,
     tries: u8,
 ) -> bool
-    requires sound { IsSound B.QuietBus tries station.old }
+    requires sound { IsSound B.HalfBus tries station.old }
     requires free { station.old.phase ≡ Free }
-    requires ready { B.ready station.old.bus ≡ true }
     requires due { 0 < station.old.due }
     requires first { station.old.left.now ≡ meter ∷ drop 1 station.old.left.now }
     ensures went { Runs D.Disk (λ core happened.
-        Steps B.QuietBus tries line IsAsking station.old station.new happened)
+        Steps B.HalfBus tries line IsAsking station.old station.new happened)
         concentrator.old concentrator.new }
-    ensures sound { IsSound B.QuietBus tries station.new }
-    ensures fewer { rounds_of B.QuietBus 1 1 1 tries station.new
-        ≤ rounds_of B.QuietBus 1 1 1 tries station.old - 1 }
+    ensures sound { IsSound B.HalfBus tries station.new }
+    ensures fewer { rounds_of B.HalfBus 1 1 1 tries station.new
+        ≤ rounds_of B.HalfBus 1 1 1 tries station.old - 1 }
     ensures busy { result ≡ true → (station.new.phase ≡ Busy most_asks)
         × (station.new.request ≡ Quiet)
         × (station.new.left.now ≡ station.old.left.now) }
@@ -131,7 +126,7 @@ fn start<D: Disk + Drop, A: Allocator + Copy, B: QuietBus + Drop>(
 }
 
 // Sends the next request of a meter that may ask so often yet.
-fn ask<D: Disk + Drop, A: Allocator + Copy, B: QuietBus + Drop>(
+fn ask<D: Disk + Drop, A: Allocator + Copy, B: HalfBus + Drop>(
     concentrator: &Concentrator<D, A>,
     station: &mut Station<'_, B>,
     line: u8,
@@ -141,15 +136,15 @@ fn ask<D: Disk + Drop, A: Allocator + Copy, B: QuietBus + Drop>(
     requires busy { station.old.phase ≡ Busy asks }
     requires quiet { station.old.request ≡ Quiet }
     requires first { station.old.left.now ≡ meter ∷ drop 1 station.old.left.now }
-    ensures went { (tries : ℕ) → IsSound B.QuietBus tries station.old
+    ensures went { (tries : ℕ) → IsSound B.HalfBus tries station.old
         → Runs D.Disk (λ core happened.
-        Steps B.QuietBus tries line IsAsking station.old station.new happened)
+        Steps B.HalfBus tries line IsAsking station.old station.new happened)
         concentrator.now concentrator.now }
-    ensures sound { (tries : ℕ) → IsSound B.QuietBus tries station.old
-        → IsSound B.QuietBus tries station.new }
-    ensures fewer { (tries : ℕ) → IsSound B.QuietBus tries station.old
-        → rounds_of B.QuietBus 0 0 0 tries station.new
-        ≤ rounds_of B.QuietBus 1 1 1 tries station.old - 1 }
+    ensures sound { (tries : ℕ) → IsSound B.HalfBus tries station.old
+        → IsSound B.HalfBus tries station.new }
+    ensures fewer { (tries : ℕ) → IsSound B.HalfBus tries station.old
+        → rounds_of B.HalfBus 0 0 0 tries station.new
+        ≤ rounds_of B.HalfBus 1 1 1 tries station.old - 1 }
 {
     if asks == 0 {
         station.leave(End::Failed(meter, Why::NoAnswer));
@@ -161,20 +156,20 @@ fn ask<D: Disk + Drop, A: Allocator + Copy, B: QuietBus + Drop>(
 
 /// Takes the answer to a request that is out, if it is complete; returns whether a telegram was
 /// accepted.
-pub fn hear<D: Disk + Drop, A: Allocator + Copy, B: QuietBus + Drop>(
+pub fn hear<D: Disk + Drop, A: Allocator + Copy, B: HalfBus + Drop>(
     concentrator: &mut Concentrator<D, A>,
     station: &mut Station<'_, B>,
     line: u8,
     tries: u8,
     moment: Moment,
 ) -> bool
-    requires { IsSound B.QuietBus tries station.old }
+    requires { IsSound B.HalfBus tries station.old }
     ensures went { Runs D.Disk (λ core happened.
-        HearsOne B.QuietBus tries line moment.seconds result station.old station.new happened)
+        HearsOne B.HalfBus tries line moment.seconds result station.old station.new happened)
         concentrator.old concentrator.new }
-    ensures sound { IsSound B.QuietBus tries station.new }
-    ensures fewer { rounds_of B.QuietBus 1 0 0 tries station.new
-        ≤ rounds_of B.QuietBus 0 0 0 tries station.old }
+    ensures sound { IsSound B.HalfBus tries station.new }
+    ensures fewer { rounds_of B.HalfBus 1 0 0 tries station.new
+        ≤ rounds_of B.HalfBus 0 0 0 tries station.old }
     ensures budget { concentrator.new.house.budget ≡ concentrator.old.house.budget }
 {
     station.listen();
@@ -185,21 +180,21 @@ pub fn hear<D: Disk + Drop, A: Allocator + Copy, B: QuietBus + Drop>(
 }
 
 // Judges the answer to a request.
-fn judge<D: Disk + Drop, A: Allocator + Copy, B: QuietBus + Drop>(
+fn judge<D: Disk + Drop, A: Allocator + Copy, B: HalfBus + Drop>(
     concentrator: &mut Concentrator<D, A>,
     station: &mut Station<'_, B>,
     line: u8,
     tries: u8,
     moment: Moment,
 ) -> bool
-    requires sound { IsSound B.QuietBus tries station.old }
+    requires sound { IsSound B.HalfBus tries station.old }
     requires answered { is_answered station.old.request ≡ true }
     ensures went { Runs D.Disk (λ core happened.
-        HearsOne B.QuietBus tries line moment.seconds result station.old station.new happened)
+        HearsOne B.HalfBus tries line moment.seconds result station.old station.new happened)
         concentrator.old concentrator.new }
-    ensures sound { IsSound B.QuietBus tries station.new }
-    ensures fewer { rounds_of B.QuietBus 1 0 0 tries station.new
-        ≤ rounds_of B.QuietBus 0 0 0 tries station.old }
+    ensures sound { IsSound B.HalfBus tries station.new }
+    ensures fewer { rounds_of B.HalfBus 1 0 0 tries station.new
+        ≤ rounds_of B.HalfBus 0 0 0 tries station.old }
     ensures budget { concentrator.new.house.budget ≡ concentrator.old.house.budget }
 {
     let Phase::Busy(asks) = station.phase else {

@@ -17,7 +17,7 @@ use crate::outcome::Counts;
 use crate::phase::Phase;
 use crate::station::Station;
 use crate::teller::Teller;
-use dc_bus::QuietBus;
+use dc_bus::HalfBus;
 use dc_concentrator::Concentrator;
 use dc_disk::Disk;
 use dc_io::IoFault;
@@ -65,7 +65,7 @@ fn count(end: &End, outcome: &mut Counts)
 }
 
 // Tells how the readout of a line's meter ended.
-fn tell_end<D: Disk + Drop, A: Allocator + Copy, B: QuietBus + Drop, N: Teller>(
+fn tell_end<D: Disk + Drop, A: Allocator + Copy, B: HalfBus + Drop, N: Teller>(
     concentrator: &Concentrator<D, A>,
     station: &mut Station<'_, B>,
     line: u8,
@@ -74,15 +74,15 @@ fn tell_end<D: Disk + Drop, A: Allocator + Copy, B: QuietBus + Drop, N: Teller>(
 ) -> Result<(), IoFault>
     requires { outcome.old.read + outcome.old.failed < 2 ^ 64 - 1 }
     ensures went { Runs D.Disk (λ core happened.
-        OnOk result (Tells B.QuietBus line station.old station.new
+        OnOk result (Tells B.HalfBus line station.old station.new
         (TakesAll N.takes teller.old teller.new) outcome.old outcome.new core happened))
         concentrator.now concentrator.now }
     ensures few { outcome.new.read + outcome.new.failed ≤ outcome.old.read + outcome.old.failed
         + 1 }
-    ensures sound { (tries : ℕ) → IsSound B.QuietBus tries station.old
-        → IsSound B.QuietBus tries station.new }
-    ensures fewer { OnOk result ((tries : ℕ) → rounds_of B.QuietBus 1 1 1 tries station.new
-        ≤ rounds_of B.QuietBus 1 1 0 tries station.old) }
+    ensures sound { (tries : ℕ) → IsSound B.HalfBus tries station.old
+        → IsSound B.HalfBus tries station.new }
+    ensures fewer { OnOk result ((tries : ℕ) → rounds_of B.HalfBus 1 1 1 tries station.new
+        ≤ rounds_of B.HalfBus 1 1 0 tries station.old) }
     ensures fault { OnErr result (HasRisen (N.failures teller.old) (N.failures teller.new)) }
     ensures well { OnOk result (N.failures teller.new ≡ N.failures teller.old) }
 {
@@ -96,14 +96,14 @@ fn tell_end<D: Disk + Drop, A: Allocator + Copy, B: QuietBus + Drop, N: Teller>(
 }
 
 // Tells once that a line is lost.
-fn tell_loss<D: Disk + Drop, A: Allocator + Copy, B: QuietBus + Drop, N: Teller>(
+fn tell_loss<D: Disk + Drop, A: Allocator + Copy, B: HalfBus + Drop, N: Teller>(
     concentrator: &Concentrator<D, A>,
     station: &mut Station<'_, B>,
     line: u8,
     teller: &mut N,
 ) -> Result<(), IoFault>
     ensures went { (outcome : Counted)
-        → Runs D.Disk (λ core happened. OnOk result (Tells B.QuietBus line station.old station.new
+        → Runs D.Disk (λ core happened. OnOk result (Tells B.HalfBus line station.old station.new
         (TakesAll N.takes teller.old teller.new) outcome outcome core happened))
         concentrator.now concentrator.now }
     ensures kept { station.new ≡ record station.old { said = station.new.said } }
@@ -123,7 +123,7 @@ fn tell_loss<D: Disk + Drop, A: Allocator + Copy, B: QuietBus + Drop, N: Teller>
 
 // Tells the events of a line after a commit: the end of a meter's readout, and the loss of the
 // line.
-fn tell<D: Disk + Drop, A: Allocator + Copy, B: QuietBus + Drop, N: Teller>(
+fn tell<D: Disk + Drop, A: Allocator + Copy, B: HalfBus + Drop, N: Teller>(
     concentrator: &Concentrator<D, A>,
     station: &mut Station<'_, B>,
     line: u8,
@@ -132,15 +132,15 @@ fn tell<D: Disk + Drop, A: Allocator + Copy, B: QuietBus + Drop, N: Teller>(
 ) -> Result<(), IoFault>
     requires { outcome.old.read + outcome.old.failed < 2 ^ 64 - 1 }
     ensures went { Runs D.Disk (λ core happened.
-        OnOk result (Tells B.QuietBus line station.old station.new
+        OnOk result (Tells B.HalfBus line station.old station.new
         (TakesAll N.takes teller.old teller.new) outcome.old outcome.new core happened))
         concentrator.now concentrator.now }
     ensures few { outcome.new.read + outcome.new.failed ≤ outcome.old.read + outcome.old.failed
         + 1 }
-    ensures sound { (tries : ℕ) → IsSound B.QuietBus tries station.old
-        → IsSound B.QuietBus tries station.new }
-    ensures fewer { OnOk result ((tries : ℕ) → rounds_of B.QuietBus 1 1 1 tries station.new
-        ≤ rounds_of B.QuietBus 1 1 0 tries station.old) }
+    ensures sound { (tries : ℕ) → IsSound B.HalfBus tries station.old
+        → IsSound B.HalfBus tries station.new }
+    ensures fewer { OnOk result ((tries : ℕ) → rounds_of B.HalfBus 1 1 1 tries station.new
+        ≤ rounds_of B.HalfBus 1 1 0 tries station.old) }
     ensures fault { OnErr result (HasRisen (N.failures teller.old) (N.failures teller.new)) }
     ensures well { OnOk result (N.failures teller.new ≡ N.failures teller.old) }
 {
@@ -151,7 +151,7 @@ fn tell<D: Disk + Drop, A: Allocator + Copy, B: QuietBus + Drop, N: Teller>(
 }
 
 /// Tells the events of all lines after a commit.
-pub fn tell_all<D: Disk + Drop, A: Allocator + Copy, B: QuietBus + Drop, N: Teller>(
+pub fn tell_all<D: Disk + Drop, A: Allocator + Copy, B: HalfBus + Drop, N: Teller>(
     concentrator: &Concentrator<D, A>,
     stations: &mut [Station<'_, B>],
     outcome: &mut Counts,
@@ -160,15 +160,15 @@ pub fn tell_all<D: Disk + Drop, A: Allocator + Copy, B: QuietBus + Drop, N: Tell
     requires lines { length stations.old ≤ most_lines }
     requires few { outcome.old.read + outcome.old.failed + most_lines < 2 ^ 64 }
     ensures went { Runs D.Disk (λ core happened.
-        OnOk result (AllTells B.QuietBus stations.old stations.new
+        OnOk result (AllTells B.HalfBus stations.old stations.new
         (TakesAll N.takes teller.old teller.new) outcome.old outcome.new core happened))
         concentrator.now concentrator.now }
     ensures few { OnOk result (outcome.new.read + outcome.new.failed ≤ outcome.old.read
         + outcome.old.failed + most_lines) }
-    ensures sound { OnOk result ((tries : ℕ) → All (IsSound B.QuietBus tries) stations.old
-        → All (IsSound B.QuietBus tries) stations.new) }
+    ensures sound { OnOk result ((tries : ℕ) → All (IsSound B.HalfBus tries) stations.old
+        → All (IsSound B.HalfBus tries) stations.new) }
     ensures fewer { OnOk result ((tries : ℕ)
-        → EachFewer (rounds_of B.QuietBus 1 1 0 tries) (rounds_of B.QuietBus 1 1 1 tries) 0
+        → EachFewer (rounds_of B.HalfBus 1 1 0 tries) (rounds_of B.HalfBus 1 1 1 tries) 0
         stations.old stations.new) }
     ensures fault { OnErr result (HasRisen (N.failures teller.old) (N.failures teller.new)) }
     ensures well { OnOk result (N.failures teller.new ≡ N.failures teller.old) }

@@ -1,11 +1,11 @@
 //! The clock of a poll.
 
 use crate::station::Station;
-use dc_bus::QuietBus;
+use dc_bus::HalfBus;
 use dc_change::Moment;
 
 /// What tells the time of a poll, and lets time pass between two rounds.
-pub trait Timer<B: QuietBus + Drop> {
+pub trait Timer<B: HalfBus + Drop> {
     // That it returned this moment, that time passed, where it may have slept or not, and that it was warned.
     ghost use Rattle.std.specs.Prelude.{ℕ, Bool};
 

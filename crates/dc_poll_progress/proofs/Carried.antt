@@ -31,7 +31,7 @@ use Rattle.dc_progress.proofs.Rows.{readouts_of_a_run_end}
 use Rattle.dc_poll.specs.Bus.{Bus}
 use Rattle.dc_poll.specs.Happening.{Happening, does, tells, happened_on, happened_turns, turns_of, last_of, newest_serial}
 use Rattle.dc_poll.specs.Queue.{starts_in}
-use Rattle.dc_poll.specs.Talking.{Talk, Talks, rests, settles_it, begins, has_none, sends_it, waits_it, takes_it, hears_it, stands_by, tells_it, loses_it}
+use Rattle.dc_poll.specs.Talking.{Talk, Talks, rests, begins, has_none, sends_it, waits_it, takes_it, hears_it, stands_by, tells_it, loses_it}
 use Rattle.dc_poll.specs.declared.event.Event.{Event as Told}
 use Rattle.dc_poll.specs.declared.event.Event.TheVariants.{Read as told_read, Failed as has_failed}
 use Rattle.dc_poll.specs.declared.event.Event.TheVariants.{Refused as was_refused, Lost as is_lost}
@@ -464,9 +464,7 @@ module _ (budget line : ℕ) (state : State) (wire : Wire) (all : List Turn) (ch
     along : {first last : Talk B} {on : List Happening} (talk : Talks g line first on last) (x : Identity) (idle : Bool) (full : List Happening) (before : List Turn) (now start : Line) → on ≡ happened_on line full → AreOfLines full → all ≡ before ++ happened_turns full → AreTrueAt before full
         → Stands first.request now start → IsCounted start → (idle ≡ true → IsFree before) → Since x before start → IsCarried wire.meters now talk → AllByRecursion IsSuppliedIn on → AllByRecursion (IsWiredOn line state wire) (starts_in on) → Going (Some x) (asks_at first.request start) idle on before full
     along (rests {last = t}) x idle full before now start on of is truth at counted free s carried well wired = record { facts = tt; parts = parts_none line wire (core_at before) (happened_turns full) (none_on line full on of) }
-    along (settles_it unready settles more) x idle full before now start on of is truth at counted free s carried well wired =
-        along more x idle full before now start on of is truth at counted free s carried well wired
-    along (begins {meter = y} {answer = answer} {more = later} ready more) x idle full before now start on of is truth at counted free s carried well wired =
+    along (begins {meter = y} {answer = answer} {more = later} more) x idle full before now start on of is truth at counted free s carried well wired =
         let p = split_at line (does (starts line y, started answer)) later full on of in
         let counted_now : IsCounted now = ap (λ (l : Line). length l.positions) at ∙ counted in
         let first : Line = bus_at_first now.positions in
@@ -530,8 +528,7 @@ module _ (budget line : ℕ) (state : State) (wire : Wire) (all : List Turn) (ch
         → length now.positions ≡ length wire.meters → session_of (leads (opened state) before) line ≡ None → IsCarried wire.meters now talk → AllByRecursion IsSuppliedIn on → AllByRecursion (IsWiredOn line state wire) (starts_in on)
         → Facts (λ (x : Identity). WasRead line state wire all x) (λ (x : Identity) (serial : ℕ). WasNew line state wire all x serial) None n idle on × PartsIn line wire (leads (opened state) before) (happened_turns full)
     along_first rests n idle full before now on of is truth counted free carried well wired = (tt, parts_none line wire (core_at before) (happened_turns full) (none_on line full on of))
-    along_first (settles_it unready settles more) n idle full before now on of is truth counted free carried well wired = along_first more n idle full before now on of is truth counted free carried well wired
-    along_first (begins {meter = y} {answer = answer} {more = later} ready more) n idle full before now on of is truth counted free carried well wired =
+    along_first (begins {meter = y} {answer = answer} {more = later} more) n idle full before now on of is truth counted free carried well wired =
         let p = split_at line (does (starts line y, started answer)) later full on of in
         let first : Line = bus_at_first now.positions in
         let one = starts_one None n idle y answer before later full now is truth counted (λ e. free) p wired.0 (λ there truly since.

@@ -17,7 +17,7 @@ use Rattle.dc_progress.specs.Rounds.{IsHeard, row_after}
 use Rattle.dc_progress.proofs.Rows.{readouts_of_a_run_end}
 use Rattle.dc_poll.specs.Bus.{Bus}
 use Rattle.dc_poll.specs.Happening.{Happening, does, tells, is_on, happened_on, happened_turns, turns_of}
-use Rattle.dc_poll.specs.Talking.{Talk, Talks, rests, settles_it, begins, has_none, sends_it, waits_it, takes_it, hears_it, stands_by, tells_it, loses_it}
+use Rattle.dc_poll.specs.Talking.{Talk, Talks, rests, begins, has_none, sends_it, waits_it, takes_it, hears_it, stands_by, tells_it, loses_it}
 use Rattle.dc_poll.specs.declared.phase.Request.{Request}
 use Rattle.dc_poll.specs.declared.phase.Request.TheVariants.{Quiet, Sent, Answered}
 use Rattle.dc_poll_progress.specs.Talked.{IsDone, IsServed, ReadoutsOfAPollEnd}
@@ -119,8 +119,7 @@ module _ (line : ℕ) (meters : List Meter) where
     served : {first last : Talk B} {on : List Happening} (talk : Talks g line first on last) (full : List Happening) (now start : Line) → on ≡ happened_on line full → AreOfLines full
         → Stands first.request now start → IsServed meters now talk → Left start (happened_turns full)
     served rests full now start is of at serves = record { last = start; serves = all_away full start is of }
-    served (settles_it unready settles more) full now start is of at serves = served more full now start is of at serves
-    served (begins ready more) full now start is of at serves = absurd serves
+    served (begins more) full now start is of at serves = absurd serves
     served (has_none {more = later} more) full now start is of at serves =
         let p = peel (does (asks line, asked None)) later full is of in
         over (does (asks line, asked None)) later full start start p (served more p.rest now start p.more_is p.of at serves) (λ last s. asks_none s)

@@ -11,7 +11,7 @@ use Rattle.dc_concentrator.specs.declared.fault.HearFault.TheVariants.{NoMemory}
 use Rattle.dc_progress.specs.Beside.{Bus as Line, bus_at_first}
 use Rattle.dc_poll.specs.Bus.{Bus}
 use Rattle.dc_poll.specs.Happening.{Happening, happened_turns}
-use Rattle.dc_poll.specs.Talking.{Talk, Talks, rests, settles_it, begins, has_none, sends_it}
+use Rattle.dc_poll.specs.Talking.{Talk, Talks, rests, begins, has_none, sends_it}
 use Rattle.dc_poll.specs.Talking.{waits_it, takes_it, hears_it, stands_by, tells_it, loses_it}
 use Rattle.dc_poll_progress.specs.Talked.{GivesTo}
 
@@ -27,8 +27,7 @@ pub record Wire : Type 0 where
 abbrev pub IsCarried : {B : Type 0} {g : Bus B} {line : ℕ} {first last : Talk B}
     {happened : List Happening} → List Meter → Line → Talks g line first happened last → Type 0
 IsCarried meters now rests = Unit {0}
-IsCarried meters now (settles_it unready settles more) = IsCarried meters now more
-IsCarried meters now (begins ready more) = IsCarried meters (bus_at_first now.positions) more
+IsCarried meters now (begins more) = IsCarried meters (bus_at_first now.positions) more
 IsCarried meters now (has_none more) = IsCarried meters now more
 IsCarried meters now (sends_it {request = request} sends more) =
     IsCarried meters (record now { waits = frame_of request }) more

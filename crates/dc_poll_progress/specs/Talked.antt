@@ -15,7 +15,7 @@ use Rattle.dc_progress.specs.Needs.{IsThere}
 use Rattle.dc_progress.specs.Rounds.{IsHeard, row_after}
 use Rattle.dc_poll.specs.Bus.{Bus}
 use Rattle.dc_poll.specs.Happening.{Happening, happened_on, happened_turns}
-use Rattle.dc_poll.specs.Talking.{Talk, Talks, rests, settles_it, begins, has_none, sends_it}
+use Rattle.dc_poll.specs.Talking.{Talk, Talks, rests, begins, has_none, sends_it}
 use Rattle.dc_poll.specs.Talking.{waits_it, takes_it, hears_it, stands_by, tells_it, loses_it}
 use Rattle.dc_poll.specs.declared.phase.Request.TheVariants.{Quiet}
 
@@ -40,8 +40,7 @@ pub record GivesTo (meters : List Meter) (now : Line) (bytes : List ℕ) (goes_o
 abbrev pub IsServed : {B : Type 0} {g : Bus B} {line : ℕ} {first last : Talk B}
     {happened : List Happening} → List Meter → Line → Talks g line first happened last → Type 0
 IsServed meters now rests = Unit {0}
-IsServed meters now (settles_it unready settles more) = IsServed meters now more
-IsServed meters now (begins ready more) = ⊥
+IsServed meters now (begins more) = ⊥
 IsServed meters now (has_none more) = IsServed meters now more
 IsServed meters now (sends_it {request = request} sends more) =
     IsServed meters (record now { waits = frame_of request }) more

@@ -5,7 +5,7 @@ ghost use Rattle.dc_poll_progress.specs.OneMeter.{HousesMayBePolled};
 ghost use Rattle.dc_poll_progress.specs.RoomRow.{RoomRowSuffices};
 ghost use Rattle.dc_poll_progress.specs.Talked.{ReadoutsOfAPollEnd};
 
-use dc_bus::QuietBus;
+use dc_bus::HalfBus;
 use dc_disk::Disk;
 use dc_poll::{Teller, Timer};
 
@@ -13,8 +13,8 @@ use dc_poll::{Teller, Timer};
 ///
 /// The meters of its line follow the standard, nothing is lost three times in a row, no answer is
 /// refused, and no commit fails. What the other lines do is free.
-pub fn each_readout_of_a_poll_ends_in_a_reading<B: QuietBus>()
-    ensures { ReadoutsOfAPollEnd B.QuietBus }
+pub fn each_readout_of_a_poll_ends_in_a_reading<B: HalfBus>()
+    ensures { ReadoutsOfAPollEnd B.HalfBus }
 {}
 
 /// Every meter is read by a poll of an image, and that is committed.
@@ -24,20 +24,20 @@ pub fn each_readout_of_a_poll_ends_in_a_reading<B: QuietBus>()
 /// refused because memory ran out, and no commit fails. Then what is read on each line is its queue,
 /// in order, and each meter of it has one reading more than before, whole and in order, whose serial
 /// the poll reports. No readout fails, and the counts say so.
-pub fn every_meter_is_read<D: Disk + Drop, B: QuietBus + Drop, T: Timer<B>, N: Teller>()
-    ensures { EveryMeterIsRead D.Disk B.QuietBus T.tells T.passes T.warns N.takes }
+pub fn every_meter_is_read<D: Disk + Drop, B: HalfBus + Drop, T: Timer<B>, N: Teller>()
+    ensures { EveryMeterIsRead D.Disk B.HalfBus T.tells T.passes T.warns N.takes }
 {}
 
 /// A register whose row ROOM (`status`) has at least as many readings as meters are to be
 /// read has room for a poll of them.
 ///
 /// The reading of each takes at most what those that are held take on average, as that row counts.
-pub fn a_register_has_room_where_the_row_room_suffices<B: QuietBus>()
-    ensures { RoomRowSuffices B.QuietBus }
+pub fn a_register_has_room_where_the_row_room_suffices<B: HalfBus>()
+    ensures { RoomRowSuffices B.HalfBus }
 {}
 
 /// The premises of a poll on its meters and its register can be met, for each identity, each primary
 /// address or none, and each position of the meter.
-pub fn a_house_may_be_polled<B: QuietBus>()
-    ensures { HousesMayBePolled B.QuietBus }
+pub fn a_house_may_be_polled<B: HalfBus>()
+    ensures { HousesMayBePolled B.HalfBus }
 {}

@@ -17,7 +17,7 @@ use Rattle.dc_world.specs.declared.event.Outcome.{Outcome}
 use Rattle.dc_world.specs.declared.event.Outcome.TheVariants.{RequestLost, ReplyLost, ReplyUnreadable, AsSent}
 use Rattle.dc_world.specs.Meter.{Meter, Position}
 use Rattle.dc_world.specs.World.{heard_in}
-use Rattle.dc_late.specs.Late.{clear_after, has_answer, is_command}
+use Rattle.dc_progress.specs.Answering.{clear_after, has_answer, is_command}
 use Rattle.dc_progress.specs.Rounds.{IsHeard, IsUnanswered, is_answered, losses_by, row_after}
 use Rattle.dc_progress.proofs.Heard.{nothing_read}
 

@@ -2,6 +2,8 @@
 
 -- the rounds of a readout, and what the line loses in them
 pub mod Rounds
+-- which answers end an exchange
+pub mod Answering
 -- what a readout needs
 pub mod Needs
 -- what a readout comes to

@@ -11,7 +11,7 @@ use Rattle.dc_world.specs.declared.event.Outcome.TheVariants.{RequestLost, Reply
 use Rattle.dc_world.specs.declared.event.Outcome.TheVariants.{ReplyUnreadable, AsSent}
 use Rattle.dc_world.specs.Meter.{Meter, Position}
 use Rattle.dc_world.specs.World.{positions_after, heard_in}
-use Rattle.dc_late.specs.Late.{clear_after, has_answer}
+use Rattle.dc_progress.specs.Answering.{clear_after, has_answer}
 use Rattle.dc_concentrator.specs.declared.line_heard.LineHeard.{LineHeard}
 use Rattle.dc_concentrator.specs.declared.fault.HearFault.{HearFault}
 use Rattle.dc_concentrator.specs.declared.fault.HearFault.TheVariants.{NoMemory}

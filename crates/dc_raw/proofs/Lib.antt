@@ -4,7 +4,9 @@
 pub mod Echoes
 -- what is received, piece by piece
 pub mod Pieces
--- late bytes that are dropped until a gap
+-- what is dropped, and what is gathered
 pub mod Drops
+-- one call of a line
+pub mod Calls
 -- what a line receives in several steps
 pub mod Steps

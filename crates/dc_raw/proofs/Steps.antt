@@ -11,8 +11,10 @@ use Rattle.dc_bus.specs.Limits.{most_answer}
 use Rattle.dc_raw.specs.declared.line.Line.{Line}
 use Rattle.dc_raw.specs.declared.wire.Wire.{Ghosts as WireGhosts}
 use Rattle.dc_raw.specs.Wire.{Sound, AreHeard, bytes_in, bytes_of, pieces}
-use Rattle.dc_raw.specs.Heard.{Answers, ComesFrom, Ends, Heard, Hearing, IsByte, IsFrame, Lasts, Waits, answer_of, begins, past_echo, heard_of, front_by, is_over, missing_of, missing_by, is_whole, is_silent, has_gap, still, still_none, Releases, goes_out, waits_on}
-use Rattle.dc_raw.specs.Line.{GivesOver, IsHeardAfterGap, IsHeld, WaitsBy, WaitsOn, gives_now, gives_then, released_by}
+use Rattle.dc_raw.specs.Heard.{Answers, ComesFrom, Ends, Heard, Hearing, IsByte, IsFrame, Lasts, Waits, answer_of, begins, past_echo, heard_of, front_by, is_over, missing_of, missing_by, is_whole, is_silent, has_gap, still, still_none}
+use Rattle.dc_raw.specs.Line.{Gives, GivesOver, Skips, a_copy, gives_all, gives_nothing, gives_now, gives_one, gives_then, gives_up, no_copy, waits_all, waits_held, waits_nothing, waits_one}
+use Rattle.dc_raw.specs.Turn.{is_copy}
+use Rattle.dc_raw.specs.declared.state.Kind.TheVariants.{One, All as Whole_window, Nobody}
 use Rattle.dc_raw.proofs.Echoes.{begins_front, begins_same, past_plain, past_echoed, shorter_front}
 use Rattle.dc_raw.proofs.Pieces.{heard-append, stays_bad}
 
@@ -184,44 +186,63 @@ record Over {W : Type 0} (hears : W → Sound → W → Type 0) (old : W) (befor
   ends : Ends answer end
 
 module _ {W : Type 0} (wire : WireGhosts W) where
-  over_now : (old new : Line W) (answer : List ℕ) → Answers wire.hears old.wire old.hearing answer new.wire new.hearing → Over wire.hears old.wire old.hearing answer new.wire
-  over_now old new answer a = record {
+  over_now : (old : W) (before : Hearing) (answer : List ℕ) (new : W) (after : Hearing) → Answers wire.hears old before answer new after → Over wire.hears old before answer new
+  over_now old before answer new after a = record {
     sounds = pieces a.bursts ++ a.end;
     gave = a.gave;
     front = pieces a.bursts;
     end = a.end;
     parts = refl;
-    heard = a.heard ∙ ap (λ (xs : List ℕ). past_echo old.hearing.request (old.hearing.bytes ++ xs)) (sym (bursts_then a.bursts a.end (end_bytes answer a.end a.ends)));
+    heard = a.heard ∙ ap (λ (xs : List ℕ). past_echo before.request (before.bytes ++ xs)) (sym (bursts_then a.bursts a.end (end_bytes answer a.end a.ends)));
     exact = a.exact;
     ends = a.ends;
   }
 
-  over_then : (old between new : Line W) (answer : List ℕ) → Waits wire.hears old.wire old.hearing between.wire between.hearing → Over wire.hears between.wire between.hearing answer new.wire → Over wire.hears old.wire old.hearing answer new.wire
-  over_then old between new answer w o =
+  over_then : (old : W) (before : Hearing) (between : W) (after : Hearing) (new : W) (answer : List ℕ) → Waits wire.hears old before between after → Over wire.hears between after answer new → Over wire.hears old before answer new
+  over_then old before between after new answer w o =
       let first : List Sound = pieces w.bursts ++ w.last ∷ [] in
-      let came : bytes_in first ≡ concat w.bursts = bursts_then w.bursts (w.last ∷ []) (last_bytes (answer_of between.hearing) w.last w.lasts) in
-      let all : old.hearing.bytes ++ bytes_in (first ++ o.sounds) ≡ (old.hearing.bytes ++ concat w.bursts) ++ bytes_in o.sounds =
-      ap (λ (xs : List ℕ). old.hearing.bytes ++ xs) (bytes-append first o.sounds ∙ ap (λ (xs : List ℕ). xs ++ bytes_in o.sounds) came) ∙ sym (append_assoc old.hearing.bytes (concat w.bursts) (bytes_in o.sounds)) in
+      let came : bytes_in first ≡ concat w.bursts = bursts_then w.bursts (w.last ∷ []) (last_bytes (answer_of after) w.last w.lasts) in
+      let all : before.bytes ++ bytes_in (first ++ o.sounds) ≡ (before.bytes ++ concat w.bursts) ++ bytes_in o.sounds =
+      ap (λ (xs : List ℕ). before.bytes ++ xs) (bytes-append first o.sounds ∙ ap (λ (xs : List ℕ). xs ++ bytes_in o.sounds) came) ∙ sym (append_assoc before.bytes (concat w.bursts) (bytes_in o.sounds)) in
       record {
         sounds = first ++ o.sounds;
-        gave = heard-append wire.hears old.wire between.wire new.wire first o.sounds w.gave o.gave;
+        gave = heard-append wire.hears old between new first o.sounds w.gave o.gave;
         front = first ++ o.front;
         end = o.end;
         parts = ap (λ (xs : List Sound). first ++ xs) o.parts ∙ sym (append_assoc first o.front o.end);
-        heard = o.heard ∙ ap (λ (h : Hearing). past_echo h.request (h.bytes ++ bytes_in o.sounds)) w.kept ∙ ap (past_echo old.hearing.request) (sym all);
+        heard = o.heard ∙ ap (λ (h : Hearing). past_echo h.request (h.bytes ++ bytes_in o.sounds)) w.kept ∙ ap (past_echo before.request) (sym all);
         exact = o.exact;
         ends = o.ends;
       }
 
-  over_all : {old new : Line W} {answer : List ℕ} → GivesOver wire old answer new → old.held ≡ None → new.lost ≡ false → Over wire.hears old.wire old.hearing answer new.wire
-  over_all {old} {new} {answer} (gives_now gives) none well = over_now old new answer (gives.heard well)
-  over_all {old} {new} {answer} (gives_then {between = between} waits more) none well =
-      let w : WaitsOn wire old between = subst (λ (h : Option (List ℕ)). WaitsBy wire h old between) none waits.waits in
-      over_then old between new answer w.waits (over_all more (ap (λ (l : Line W). l.held) w.kept ∙ none) well)
+  -- where no copy can come, none is dropped
+  no_skip : {old between : Line W} → Skips wire old between → old.last ≡ None → between ≡ old
+  no_skip (no_copy same) none = same
+  no_skip {old} (a_copy copy heard is kept) none = absurd (let no : is_copy old.last copy ≡ false = ap (λ (last : Option (List ℕ)). is_copy last copy) none in let both : true ≡ false = sym is ∙ no in cc)
 
-  pub gives_heard : (old new : Line W) (answer : List ℕ) → old.held ≡ None → old.hearing.bytes ≡ [] → GivesOver wire old answer new → new.lost ≡ false → (sounds : List Sound) × AreHeard wire.hears old.wire sounds new.wire × Heard old.hearing.request sounds answer
-  gives_heard old new answer sent none gives well =
-      let o = over_all gives sent well in (
+  by_gives : {old new : Line W} {answer : List ℕ} → Gives wire old answer new → old.held ≡ None → old.kind ≡ One → old.last ≡ None → Over wire.hears old.wire old.hearing answer new.wire
+  by_gives {old} (gives_up held line is silent looks kept) none one plain = absurd (let both : Some held ≡ None = sym is ∙ none in cc)
+  by_gives {old} {new} {answer} (gives_one free kind g) none one plain =
+      let same = no_skip g.skips plain in
+      over_now old.wire old.hearing answer new.wire new.hearing (subst (λ (l : Line W). Answers wire.hears l.wire l.hearing answer new.wire new.hearing) same g.heard)
+  by_gives {old} (gives_all free kind g) none one plain = absurd (let both : Whole_window ≡ One = sym kind ∙ one in cc)
+  by_gives {old} (gives_nothing free kind silent g) none one plain = absurd (let both : Nobody ≡ One = sym kind ∙ one in cc)
+
+  over_all : {old new : Line W} {answer : List ℕ} → GivesOver wire old answer new → old.held ≡ None → old.kind ≡ One → old.last ≡ None → new.lost ≡ false → Over wire.hears old.wire old.hearing answer new.wire
+  over_all (gives_now gives) none one plain well = by_gives (gives.given well) none one plain
+  over_all {old} (gives_then (waits_held held gone runs is quiet looks) more) none one plain well = absurd (let both : Some held ≡ None = sym is ∙ none in cc)
+  over_all {old} {new} {answer} (gives_then {between = between} (waits_one runs free kind w) more) none one plain well =
+      let same = no_skip w.skips plain in
+      over_then old.wire old.hearing between.wire between.hearing new.wire answer
+      (subst (λ (l : Line W). Waits wire.hears l.wire l.hearing between.wire between.hearing) same w.waits)
+      (over_all more (ap (λ (l : Line W). l.held) w.kept ∙ ap (λ (l : Line W). l.held) same ∙ none) (ap (λ (l : Line W). l.kind) w.kept ∙ ap (λ (l : Line W). l.kind) same ∙ one)
+      (ap (λ (l : Line W). l.last) w.kept ∙ ap (λ (l : Line W). l.last) same ∙ plain) well)
+  over_all {old} (gives_then (waits_all runs free kind w) more) none one plain well = absurd (let both : Whole_window ≡ One = sym kind ∙ one in cc)
+  over_all {old} (gives_then (waits_nothing runs free kind w) more) none one plain well = absurd (let both : Nobody ≡ One = sym kind ∙ one in cc)
+
+  pub gives_heard : (old new : Line W) (answer : List ℕ) → old.held ≡ None → old.kind ≡ One → old.last ≡ None → old.hearing.bytes ≡ [] → GivesOver wire old answer new → new.lost ≡ false → (sounds : List Sound) × AreHeard wire.hears old.wire sounds new.wire × Heard old.hearing.request sounds answer
+  gives_heard old new answer sent one plain none gives well =
+      let o = over_all gives sent one plain well in (
         o.sounds,
         o.gave,
         record {
@@ -233,44 +254,3 @@ module _ {W : Type 0} (wire : WireGhosts W) where
           ends = o.ends;
         },
       )
-
-  -- after the gap
-  goes_on : (old between new : Line W) (request answer : List ℕ) (sent : Bool) → Releases wire.hears wire.sends old.wire request sent between.wire → between ≡ released_by sent request old between.wire
-      → old.held ≡ Some request → GivesOver wire between answer new → new.lost ≡ false
-      → (between.held ≡ Some request → IsHeardAfterGap wire between.wire request answer new.wire) → IsHeardAfterGap wire old.wire request answer new.wire
-  goes_on old between new request answer true (goes_out {between = passed} past sent) kept held more well rest =
-      let is : between.hearing ≡ record { request = request; bytes = [] } = ap (λ (l : Line W). l.hearing) kept in
-      let g = gives_heard between new answer (ap (λ (l : Line W). l.held) kept) (ap (λ (h : Hearing). h.bytes) is) more well in
-      record {
-        late = [];
-        waited = old.wire;
-        before = passed;
-        after = between.wire;
-        gave = refl;
-        past = past;
-        sent = sent;
-        sounds = g.0;
-        came = g.1;
-        heard = subst (λ (r : List ℕ). Heard r g.0 answer) (ap (λ (h : Hearing). h.request) is) g.2;
-      }
-  goes_on old between new request answer false (waits_on past) kept held more well rest =
-      let o = rest (ap (λ (l : Line W). l.held) kept ∙ held) in
-      let first : List Sound = pieces past.bursts ++ past.end in
-      record {
-        late = first ++ o.late;
-        waited = o.waited;
-        before = o.before;
-        after = o.after;
-        gave = heard-append wire.hears old.wire between.wire o.waited first o.late past.gave o.gave;
-        past = o.past;
-        sent = o.sent;
-        sounds = o.sounds;
-        came = o.came;
-        heard = o.heard;
-      }
-
-  pub held_heard : {old new : Line W} {answer : List ℕ} → (request : List ℕ) → old.held ≡ Some request → GivesOver wire old answer new → new.lost ≡ false → IsHeardAfterGap wire old.wire request answer new.wire
-  held_heard request held (gives_now gives) well = absurd (let none = gives.sent well in cc)
-  held_heard {old} {new} {answer} request held (gives_then {between = between} waits more) well =
-      let h : IsHeld wire request old between = subst (λ (h : Option (List ℕ)). WaitsBy wire h old between) held waits.waits in
-      goes_on old between new request answer h.sent h.releases h.kept held more well (λ e. held_heard request e more well)

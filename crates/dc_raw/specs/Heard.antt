@@ -1,13 +1,15 @@
 -- What is received as an answer on a wire, on which nothing marks its end (this product; the frames
 -- of EN 13757-2).
 use Rattle.std.specs.Prelude.{◌≡◌, ℕ, ◌-◌, ◌<◌, ◌≤◌, Bool, true, false, List, [], ◌∷◌, ◌++◌, drop}
-use Rattle.std.specs.Prelude.{length, take, min, ◌==◌, nat_eq, if◌then◌else◌}
+use Rattle.std.specs.Prelude.{length, take, min, ◌==◌, nat_eq, if◌then◌else◌, Option, Some, None}
 use Rattle.std.specs.List.{All, concat, starts_with}
 use Rattle.dc_frame.specs.declared.needs.Need.{Need}
 use Rattle.dc_frame.specs.declared.needs.Need.TheVariants.{More, Whole, Bad}
 use Rattle.dc_frame.specs.Need.{need_of}
 use Rattle.dc_bus.specs.Limits.{most_answer}
+use Rattle.dc_raw.specs.Turn.{late_by, state_by}
 use Rattle.dc_raw.specs.Wire.{Sound, nothing, gap, silence, pieces, bytes_in, AreHeard}
+use Rattle.dc_raw.specs.declared.state.State.{State}
 
 -- ---- the bytes
 
@@ -118,43 +120,59 @@ pub record Waits {W : Type 0} (hears : W → Sound → W → Type 0) (old : W) (
   pub lasts : Lasts (answer_of after) last
   pub unfinished : is_over (answer_of after) ≡ false
 
--- ---- a request
+-- ---- what is dropped, and what several meters answer
 
--- The request was sent, where no late bytes had arrived. Otherwise these were dropped, and nothing
--- was sent.
-pub data Puts {W : Type 0} (drops : W → Bool → W → Type 0) (sends : W → List ℕ → W → Type 0)
-    (old : W) (request : List ℕ) : Bool → W → Type 0 where
-  at_once : {between new : W} → drops old false between → sends between request new
-      → Puts drops sends old request false new
-  held_back : {new : W} → drops old true new → Puts drops sends old request true new
+-- maximum number of pieces taken in one call
+abbrev pub most_pieces : ℕ
+most_pieces = 512
 
--- maximum number of pieces that are dropped at once before a request goes out without a gap
-abbrev pub most_drops : ℕ
-most_drops = 64
+abbrev pub state_with : List Sound → State → State
+state_with [] state = state
+state_with (sound ∷ more) state = state_with more (state_by sound state)
 
--- whether a request may go out after these pieces: a gap or silence followed them, or as many came
--- as are dropped; not yet, if nothing followed them
-pub data IsPast (bursts : List (List ℕ)) : Bool → List Sound → Type 0 where
-  not_yet : IsPast bursts false (nothing ∷ [])
-  at_gap : IsPast bursts true (gap ∷ [])
-  at_silence : IsPast bursts true (silence ∷ [])
-  never_quiet : length bursts ≡ most_drops → IsPast bursts true []
+abbrev pub late_with : List Sound → State → ℕ → ℕ
+late_with [] state late = late
+late_with (sound ∷ more) state late = late_with more (state_by sound state) (late_by sound state late)
 
--- LATE BYTES CAME, and were dropped until a gap, or until nothing more came.
-pub record Passes {W : Type 0} (hears : W → Sound → W → Type 0) (old : W) (past : Bool) (new : W)
-    : Type 0 where
+-- bytes still come, or nothing followed them yet
+pub data IsDrained (bursts : List (List ℕ)) : Bool → List Sound → Type 0 where
+  not_yet : IsDrained bursts false (nothing ∷ [])
+  at_gap : IsDrained bursts false (gap ∷ [])
+  at_silence : IsDrained bursts false (silence ∷ [])
+  never_quiet : length bursts ≡ most_pieces → IsDrained bursts true []
+
+-- WHAT CAME WAS DROPPED; each sound moves the line, and bytes where nothing could be under way count.
+pub record Drains {W : Type 0} (hears : W → Sound → W → Type 0) (old : W) (state : State) (late : ℕ)
+    (loud : Bool) (new : W) (after : State) (lates : ℕ) : Type 0 where
   pub bursts : List (List ℕ)
   pub each : All HasByte bursts
   pub end : List Sound
   pub gave : AreHeard hears old (pieces bursts ++ end) new
-  pub ends : IsPast bursts past end
+  pub ends : IsDrained bursts loud end
+  pub moved : after ≡ state_with (pieces bursts ++ end) state
+  pub counted : lates ≡ late_with (pieces bursts ++ end) state late
 
--- the request that waits for a gap was sent after it, or still waits
-pub data Releases {W : Type 0} (hears : W → Sound → W → Type 0) (sends : W → List ℕ → W → Type 0)
-    (old : W) (request : List ℕ) : Bool → W → Type 0 where
-  goes_out : {between new : W} → Passes hears old true between → sends between request new
-      → Releases hears sends old request true new
-  waits_on : {new : W} → Passes hears old false new → Releases hears sends old request false new
+-- whether silence came; not yet, if nothing followed the bytes
+pub data IsGathered (bursts : List (List ℕ)) : Option Bool → List Sound → Type 0 where
+  may_go_on : IsGathered bursts None (nothing ∷ [])
+  goes_on : IsGathered bursts None (gap ∷ [])
+  is_quiet : IsGathered bursts (Some true) (silence ∷ [])
+  is_loud : length bursts ≡ most_pieces → IsGathered bursts (Some false) []
+
+-- the bytes with these pieces; those that don't fit are dropped
+abbrev pub gathered_by : List (List ℕ) → List ℕ → List ℕ
+gathered_by [] bytes = bytes
+gathered_by (burst ∷ more) bytes = gathered_by more (take most_answer (bytes ++ burst))
+
+-- ALL BYTES WERE KEPT, as many as an answer has room for.
+pub record Gathers {W : Type 0} (hears : W → Sound → W → Type 0) (old : W) (before : List ℕ)
+    (quiet : Option Bool) (new : W) (after : List ℕ) : Type 0 where
+  pub bursts : List (List ℕ)
+  pub each : All HasByte bursts
+  pub end : List Sound
+  pub gave : AreHeard hears old (pieces bursts ++ end) new
+  pub ends : IsGathered bursts quiet end
+  pub kept : after ≡ gathered_by bursts before
 
 -- ---- the whole exchange, from the request on
 

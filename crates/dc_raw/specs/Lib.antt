@@ -2,10 +2,14 @@
 
 -- what a wire gives
 pub mod Wire
+-- when a request may go out, and what answers it
+pub mod Turn
 -- what is received as an answer on a wire (this product; the frames of EN 13757-2)
 pub mod Heard
 -- a line over a wire
 pub mod Line
+-- bytes that begin no frame
+pub mod Noise
 -- a wire in memory, as contracts see it
 pub mod Tape
 -- how long a wire is looked at

@@ -1,11 +1,19 @@
--- A line over a wire, until it is lost (this product).
-use Rattle.std.specs.Prelude.{◌≡◌, ℕ, ◌+◌, ◌-◌, ◌^◌, min, Bool, true, false, List, [], Option, Some}
-use Rattle.std.specs.Prelude.{None, if◌then◌else◌}
+-- A line over a wire, on which one request at most is under way, until it is lost (this product).
+use Rattle.std.specs.Prelude.{◌≡◌, ℕ, ◌+◌, Bool, true, false, not, ◌&&◌, ◌==◌, length, List, []}
+use Rattle.std.specs.Prelude.{Option, Some, None, if◌then◌else◌}
 use Rattle.dc_io.specs.Failures.{HasRisen}
+use Rattle.dc_frame.specs.Reading.{frame_of}
 use Rattle.dc_raw.specs.Looks.{most_looks}
-use Rattle.dc_raw.specs.Heard.{Answers, Heard, Passes, Puts, Releases, Waits}
-use Rattle.dc_raw.specs.Wire.{Sound, AreHeard}
+use Rattle.dc_raw.specs.Heard.{Answers, Drains, Gathers, Hearing, Waits, past_echo}
+use Rattle.dc_raw.specs.Turn.{is_answer, is_copy, is_wrong, kind_of, last_behind, may_go, one_more}
+use Rattle.dc_raw.specs.Turn.{quiet_by, state_taken}
+use Rattle.dc_raw.specs.declared.line.Gone.{Gone}
+use Rattle.dc_raw.specs.declared.line.Gone.TheVariants.{Out, Waits as WaitsOn, Loud}
+use Rattle.dc_raw.specs.declared.line.Held.{Held}
 use Rattle.dc_raw.specs.declared.line.Line.{Line}
+use Rattle.dc_raw.specs.declared.state.Kind.TheVariants.{One, All, Nobody}
+use Rattle.dc_raw.specs.declared.state.State.{State}
+use Rattle.dc_raw.specs.declared.state.State.TheVariants.{Listened, Answered, Busy}
 use Rattle.dc_raw.specs.declared.wire.Wire.{Ghosts as WireGhosts}
 
 -- A line is lost only by a failure of its wire, and then it stays as it is.
@@ -15,102 +23,168 @@ pub record IsLostBy {W : Type 0} (failures : W → ℕ) (old new : Line W) : Typ
 
 -- the waits that are left while no request is held, and while one is: those before it goes out are
 -- more
-abbrev pub left_by : Option (List ℕ) → ℕ → ℕ
+abbrev pub left_by : Option Held → ℕ → ℕ
 left_by None left = left
-left_by (Some request) left = most_looks + 1 + left
+left_by (Some held) left = most_looks + 1 + left
 
 -- a lost line has no waits left
 abbrev pub left_of : {W : Type 0} → (W → ℕ) → Line W → ℕ
 left_of left line = if line.lost then 0 else left_by line.held (left line.wire)
 
--- the saturating count of requests before which late bytes were dropped
-abbrev pub one_more : ℕ → ℕ
-one_more count = min (count + 1) (2 ^ 64 - 1)
+-- ---- a request
 
--- the line after a request was put: it listens for the answer, or holds the request until a gap
-abbrev pub put_by : {W : Type 0} → Bool → List ℕ → Line W → W → Line W
-put_by true request line wire = record line {
+abbrev pub hold : {W : Type 0} → List ℕ → Bool → Line W → Line W
+hold request many line = record line { held = Some (record { request = request; many = many }) }
+
+-- the line once this request went out
+abbrev pub out_of : {W : Type 0} → List ℕ → Bool → Line W → W → Line W
+out_of request many line wire = record line {
   wire = wire;
-  held = Some request;
-  dropped = one_more line.dropped;
-}
-put_by false request line wire = record line {
-  wire = wire;
-  held = None;
+  state = Busy;
+  kind = kind_of (frame_of request) many;
   hearing = record { request = request; bytes = [] };
+  gathered = [];
+  held = None;
+  last = last_behind line.state line.last;
+  copied = false;
 }
 
-pub record IsPut {W : Type 0} (wire : WireGhosts W) (old : Line W) (request : List ℕ)
-    (new : Line W) : Type 0 where
-  pub late : Bool
-  pub puts : Puts wire.drops wire.sends old.wire request late new.wire
-  pub kept : new ≡ put_by late request old new.wire
+-- once what had arrived was dropped, the request went out if it may; else it waits on
+pub data Goes {W : Type 0} (wire : WireGhosts W) (request : List ℕ) (many : Bool) (line : Line W)
+    : Gone → Line W → Type 0 where
+  goes_out : {new : Line W} (w : W) → may_go line.state line.hearing.request request many ≡ true
+      → wire.sends line.wire request (record { many = many; late = line.late }) w
+      → new ≡ out_of request many line w → Goes wire request many line Out new
+  waits_on : {new : Line W} → may_go line.state line.hearing.request request many ≡ false → new ≡ line
+      → Goes wire request many line WaitsOn new
+  too_loud : {new : Line W} → new ≡ line → Goes wire request many line Loud new
 
-pub record LineSends {W : Type 0} (wire : WireGhosts W) (old : Line W) (request : List ℕ)
-    (new : Line W) : Type 0 where
+abbrev pub is_loud : Gone → Bool
+is_loud Out = false
+is_loud WaitsOn = false
+is_loud Loud = true
+
+-- ONE LOOK at a line on which a request is held
+pub record Looks {W : Type 0} (wire : WireGhosts W) (request : List ℕ) (many : Bool) (old : Line W)
+    (gone : Gone) (new : Line W) : Type 0 where
+  pub between : W
+  pub state : State
+  pub late : ℕ
+  pub drains : Drains wire.hears old.wire old.state old.late (is_loud gone) between state late
+  pub goes : Goes wire request many (record old { wire = between; state = state; late = late })
+      gone new
+
+pub record LineSends {W : Type 0} (wire : WireGhosts W) (many : Bool) (old : Line W)
+    (request : List ℕ) (new : Line W) : Type 0 where
   pub loss : IsLostBy wire.failures old new
-  pub sent : new.lost ≡ false → IsPut wire old request new
-  pub counted : new.lost ≡ true → new.dropped ≡ old.dropped
+  pub sent : new.lost ≡ false
+      → (gone : Gone) × Looks wire request many (hold request many old) gone new
 
--- no answer is complete yet
-pub record WaitsOn {W : Type 0} (wire : WireGhosts W) (old new : Line W) : Type 0 where
-  pub waits : Waits wire.hears old.wire old.hearing new.wire new.hearing
-  pub kept : new ≡ record old { wire = new.wire; hearing = new.hearing }
+-- ---- the answer of one meter
 
--- the line while a request waits for a gap, and once it is sent
-abbrev pub released_by : {W : Type 0} → Bool → List ℕ → Line W → W → Line W
-released_by true request line wire = record line {
-  wire = wire;
-  held = None;
-  hearing = record { request = request; bytes = [] };
+abbrev pub judged : {W : Type 0} → List ℕ → Line W → Line W
+judged answer line = record line {
+  state = state_taken (length answer == 0)
+      (is_answer (frame_of line.hearing.request) (frame_of answer)) line.copied;
+  last = if is_answer (frame_of line.hearing.request) (frame_of answer) && not line.copied
+      then Some answer else None;
+  late = if is_wrong (frame_of line.hearing.request) (frame_of answer)
+      then one_more line.late else line.late;
 }
-released_by false request line wire = record line { wire = wire }
 
--- the request that is held waits for a gap, and is sent after it
-pub record IsHeld {W : Type 0} (wire : WireGhosts W) (request : List ℕ) (old new : Line W) : Type 0
-  where
-    pub sent : Bool
-    pub releases : Releases wire.hears wire.sends old.wire request sent new.wire
-    pub kept : new ≡ released_by sent request old new.wire
+-- the first answer is dropped where it is a copy of the last
+pub data Skips {W : Type 0} (wire : WireGhosts W) (old new : Line W) : Type 0 where
+  no_copy : new ≡ old → Skips wire old new
+  a_copy : (copy : List ℕ) → Answers wire.hears old.wire old.hearing copy new.wire new.hearing
+      → is_copy old.last copy ≡ true
+      → new ≡ record old { wire = new.wire; hearing = new.hearing; last = None; copied = true }
+      → Skips wire old new
 
-abbrev pub WaitsBy : {W : Type 0} → WireGhosts W → Option (List ℕ) → Line W → Line W → Type 0
-WaitsBy wire None old new = WaitsOn wire old new
-WaitsBy wire (Some request) old new = IsHeld wire request old new
+-- the answer, which is no copy, and how it leaves the line
+pub record GivesOne {W : Type 0} (wire : WireGhosts W) (old : Line W) (answer : List ℕ)
+    (new : Line W) : Type 0 where
+  pub between : Line W
+  pub skips : Skips wire old between
+  pub heard : Answers wire.hears between.wire between.hearing answer new.wire new.hearing
+  pub plain : is_copy between.last answer ≡ false
+  pub kept : new ≡ judged answer (record between { wire = new.wire; hearing = new.hearing })
 
-pub record LineWaits {W : Type 0} (wire : WireGhosts W) (old new : Line W) : Type 0 where
-  pub runs : new.lost ≡ old.lost
-  pub waits : WaitsBy wire old.held old new
+pub record WaitsOne {W : Type 0} (wire : WireGhosts W) (old new : Line W) : Type 0 where
+  pub between : Line W
+  pub skips : Skips wire old between
+  pub waits : Waits wire.hears between.wire between.hearing new.wire new.hearing
+  pub kept : new ≡ record between { wire = new.wire; hearing = new.hearing }
 
--- A lost line is silent. While a request is held, no answer is taken.
+-- ---- the answers of several meters, and of nobody
+
+-- all bytes until silence, but for the echo of the request
+pub record GivesAll {W : Type 0} (wire : WireGhosts W) (old : Line W) (answer : List ℕ)
+    (new : Line W) : Type 0 where
+  pub quiet : Bool
+  pub gathers : Gathers wire.hears old.wire old.gathered (Some quiet) new.wire new.gathered
+  pub heard : answer ≡ past_echo old.hearing.request new.gathered
+  pub kept : new ≡ record old {
+    wire = new.wire;
+    gathered = new.gathered;
+    state = quiet_by quiet Listened old.state;
+  }
+
+pub record WaitsAll {W : Type 0} (wire : WireGhosts W) (old new : Line W) : Type 0 where
+  pub gathers : Gathers wire.hears old.wire old.gathered None new.wire new.gathered
+  pub kept : new ≡ record old { wire = new.wire; gathered = new.gathered }
+
+-- what comes after the reset of all selected meters is dropped
+pub record GivesNothing {W : Type 0} (wire : WireGhosts W) (old new : Line W) : Type 0 where
+  pub quiet : Bool
+  pub dropped : List ℕ
+  pub gathers : Gathers wire.hears old.wire [] (Some quiet) new.wire dropped
+  pub kept : new ≡ record old { wire = new.wire; state = quiet_by quiet Answered old.state }
+
+pub record WaitsNothing {W : Type 0} (wire : WireGhosts W) (old new : Line W) : Type 0 where
+  pub dropped : List ℕ
+  pub gathers : Gathers wire.hears old.wire [] None new.wire dropped
+  pub kept : new ≡ record old { wire = new.wire }
+
+-- ---- one call
+
+-- WHAT A LINE GIVES: silence for a request that is given up, since bytes come without end; or what
+-- was taken by the kind of the request
+pub data Gives {W : Type 0} (wire : WireGhosts W) (old : Line W) (answer : List ℕ) (new : Line W)
+    : Type 0 where
+  gives_up : (held : Held) (line : Line W) → old.held ≡ Some held → answer ≡ []
+      → Looks wire held.request held.many old Loud line → new ≡ record line { held = None }
+      → Gives wire old answer new
+  gives_one : old.held ≡ None → old.kind ≡ One → GivesOne wire old answer new
+      → Gives wire old answer new
+  gives_all : old.held ≡ None → old.kind ≡ All → GivesAll wire old answer new
+      → Gives wire old answer new
+  gives_nothing : old.held ≡ None → old.kind ≡ Nobody → answer ≡ [] → GivesNothing wire old new
+      → Gives wire old answer new
+
+-- A lost line is silent.
 pub record LineGives {W : Type 0} (wire : WireGhosts W) (old : Line W) (answer : List ℕ)
     (new : Line W) : Type 0 where
   pub loss : IsLostBy wire.failures old new
   pub silence : new.lost ≡ true → answer ≡ []
-  pub sent : new.lost ≡ false → old.held ≡ None
-  pub heard : new.lost ≡ false → Answers wire.hears old.wire old.hearing answer new.wire new.hearing
-  pub kept : new.lost ≡ false → new ≡ record old { wire = new.wire; hearing = new.hearing }
-  pub counted : new.dropped ≡ old.dropped
+  pub given : new.lost ≡ false → Gives wire old answer new
+
+-- no answer is complete yet
+pub data LineWaits {W : Type 0} (wire : WireGhosts W) (old new : Line W) : Type 0 where
+  waits_held : (held : Held) (gone : Gone) → old.lost ≡ false → old.held ≡ Some held
+      → is_loud gone ≡ false → Looks wire held.request held.many old gone new
+      → LineWaits wire old new
+  waits_one : old.lost ≡ false → old.held ≡ None → old.kind ≡ One → WaitsOne wire old new
+      → LineWaits wire old new
+  waits_all : old.lost ≡ false → old.held ≡ None → old.kind ≡ All → WaitsAll wire old new
+      → LineWaits wire old new
+  waits_nothing : old.lost ≡ false → old.held ≡ None → old.kind ≡ Nobody → WaitsNothing wire old new
+      → LineWaits wire old new
 
 -- ---- from the request to the answer
 
--- repeated calls of the line return this answer, over a wire that gave these sounds
+-- repeated calls of the line return this answer
 pub data GivesOver {W : Type 0} (wire : WireGhosts W) : Line W → List ℕ → Line W → Type 0 where
   gives_now : {old new : Line W} {answer : List ℕ} → LineGives wire old answer new
       → GivesOver wire old answer new
   gives_then : {old between new : Line W} {answer : List ℕ} → LineWaits wire old between
       → GivesOver wire between answer new → GivesOver wire old answer new
-
--- A held request went out once a gap, silence or as many pieces as are dropped at once had passed,
--- and this is its answer.
-pub record IsHeardAfterGap {W : Type 0} (wire : WireGhosts W) (old : W) (request answer : List ℕ)
-    (new : W) : Type 0 where
-  pub late : List Sound
-  pub waited : W
-  pub before : W
-  pub after : W
-  pub gave : AreHeard wire.hears old late waited
-  pub past : Passes wire.hears waited true before
-  pub sent : wire.sends before request after
-  pub sounds : List Sound
-  pub came : AreHeard wire.hears after sounds new
-  pub heard : Heard request sounds answer

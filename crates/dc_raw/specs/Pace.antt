@@ -1,9 +1,9 @@
--- How long an acknowledgement is waited for (EN 13757-2: a meter answers within 330 bits and 50 ms), in microseconds.
-use Rattle.std.specs.Prelude.{ℕ, ◌+◌, ◌-◌, ◌*◌, ◌/◌, ◌^◌, ◌≤◌, min, max, nat_le, Bool, true, false}
+-- How long a line is listened to (EN 13757-2: a meter begins its answer within 330 bits and 50 ms), in microseconds.
+use Rattle.std.specs.Prelude.{ℕ, ◌+◌, ◌-◌, ◌*◌, ◌/◌, ◌^◌, min, max, nat_le, Bool}
 use Rattle.std.specs.Prelude.{not, ◌==◌, ◌&&◌, List, [], ◌∷◌, length, Option, Some, None, if◌then◌else◌}
-use Rattle.dc_frame.specs.Control.{selected, snd_nke}
-use Rattle.dc_frame.specs.Frame.{FrameSeen, ack, short, long}
+use Rattle.std.specs.Prelude.{true, false}
 use Rattle.dc_frame.specs.Reading.{frame_of}
+use Rattle.dc_raw.specs.Turn.{is_reset, wants_ack}
 use Rattle.dc_raw.specs.declared.pace.Pace.{Pace}
 
 -- 330 bits are 30 bytes of 11 bits
@@ -13,31 +13,46 @@ answering_bytes = 30
 abbrev pub answering_rest : ℕ
 answering_rest = 50_000
 
--- AT MOST THE PATIENCE: as long as a meter may take where a byte takes this long, and the longest
--- delay of the line; before a byte's time is known, the patience
-abbrev pub answer_wait : Option ℕ → ℕ → ℕ → ℕ
-answer_wait None delay patience = patience
-answer_wait (Some byte) delay patience =
-    min patience (byte * answering_bytes + answering_rest + delay)
+-- counts saturate here
+abbrev pub most_count : ℕ
+most_count = 2 ^ 64 - 1
 
--- the reset of all selected meters, which no meter answers where none is selected
-abbrev pub is_reset : Option FrameSeen → Bool
-is_reset None = false
-is_reset (Some ack) = false
-is_reset (Some (short control address)) = control == snd_nke && address == selected
-is_reset (Some (long control address ci body)) = false
+-- a meter begins its answer within this time, where a byte takes so long
+abbrev pub answering : ℕ → ℕ
+answering byte = min (min (byte * answering_bytes) most_count + answering_rest) most_count
 
--- THE TIME-OUT AFTER A REQUEST: the patience; after the reset of all selected meters, how long an
--- acknowledgement takes at most, by the pace of the line
-abbrev pub limit_after : Bool → Option ℕ → ℕ → ℕ → ℕ
-limit_after true byte delay patience = answer_wait byte delay patience
-limit_after false byte delay patience = patience
+-- THE RESET OF ALL SELECTED METERS takes the longest delay of an acknowledgement and 50 ms; at most
+-- as long as a meter may take, and the last delay; at most the patience
+abbrev pub reset_wait : Option ℕ → ℕ → Option ℕ → ℕ → ℕ
+reset_wait None last byte patience = patience
+reset_wait (Some delay) last None patience = min patience (min (delay + answering_rest) most_count)
+reset_wait (Some delay) last (Some byte) patience =
+    min (min patience (min (delay + answering_rest) most_count))
+    (min (answering byte + last) most_count)
 
--- what was known is known still, and is no more
-abbrev pub IsNoMore : Option ℕ → Option ℕ → Type 0
-IsNoMore None now = Unit {0}
-IsNoMore (Some before) None = ⊥
-IsNoMore (Some before) (Some now) = now ≤ before
+-- THE WINDOW in which one of several meters may begin its answer: as long as a meter may take, and
+-- the longest delay; until both are known, the patience
+abbrev pub window_of : Option ℕ → Option ℕ → ℕ → ℕ
+window_of None byte patience = patience
+window_of (Some delay) None patience = patience
+window_of (Some delay) (Some byte) patience = min patience (min (answering byte + delay) most_count)
+
+-- how long nothing comes after the last of several answers: 120 ms, or four bytes' time where that
+-- is longer
+abbrev pub pause_of : Option ℕ → ℕ
+pause_of None = 120_000
+pause_of (Some byte) = max 120_000 (min (byte * 4) most_count)
+
+-- THE PATIENCE after so many times at which bytes came late: each doubles it, to 16 s
+abbrev pub longest_patience : ℕ
+longest_patience = 16_000_000
+
+abbrev pub most_doublings : ℕ
+most_doublings = 14
+
+abbrev pub patience_after : ℕ → ℕ → ℕ
+patience_after late patience =
+    max patience (min longest_patience (patience * 2 ^ min late most_doublings))
 
 -- ---- what is learned of the line
 
@@ -48,60 +63,67 @@ short_frame = 5
 abbrev pub short_start : ℕ
 short_start = 0x10
 
+-- the byte of an acknowledgement
+abbrev pub acknowledged : ℕ
+acknowledged = 0xE5
+
 -- number of bytes of the shortest answer that shows how long a byte takes
 abbrev pub showing : ℕ
 showing = 16
 
--- counts saturate here
-abbrev pub most_count : ℕ
-most_count = 2 ^ 64 - 1
+abbrev pub begins_as : ℕ → List ℕ → Bool
+begins_as start [] = false
+begins_as start (byte ∷ bytes) = byte == start
 
-abbrev pub begins_short : List ℕ → Bool
-begins_short [] = false
-begins_short (byte ∷ bytes) = byte == short_start
-
--- AN ANSWER IS MEASURED if the request was a short frame, and it doesn't begin as one: a line that
+-- an answer is measured if the request was a short frame, and it doesn't begin as one: a line that
 -- echoes isn't measured
 abbrev pub is_measured : List ℕ → Pace → Bool
-is_measured bytes pace = pace.measured && not (pace.came == 0 && begins_short bytes)
+is_measured bytes pace = pace.measured && not (pace.came == 0 && begins_as short_start bytes)
 
--- number of bytes of the answer so far
+abbrev pub or_none : Option ℕ → ℕ
+or_none None = 0
+or_none (Some delay) = delay
+
+-- an acknowledgement that was due shows its delay
+abbrev pub delay_with : ℕ → List ℕ → Pace → Pace
+delay_with spent bytes pace = if pace.acks && begins_as acknowledged bytes
+    then record pace { delay = Some (max (or_none pace.delay) spent); last = spent; acks = false }
+    else record pace { acks = false }
+
+-- a byte of the short request or of the answer took at most this long
 abbrev pub came_with : ℕ → Pace → ℕ
 came_with count pace = min (pace.came + count) most_count
 
--- a byte of the short request or of the answer took at most this long
 abbrev pub each_took : ℕ → ℕ → ℕ
 each_took spent came = spent / min (came + short_frame) most_count
 
--- THESE BYTES CAME this long after the request: the first of them show a delay, and all of them how
--- long a byte takes at most
-abbrev pub pace_with : ℕ → List ℕ → Pace → Pace
-pace_with spent bytes pace = if is_measured bytes pace
+abbrev pub bytes_with : ℕ → List ℕ → Pace → Pace
+bytes_with spent bytes pace = if is_measured bytes pace
     then record pace {
-      delay = if pace.came == 0 then max pace.delay spent else pace.delay;
-      silent = false;
       measured = true;
       came = came_with (length bytes) pace;
       least = min pace.least (each_took spent (came_with (length bytes) pace));
     }
-    else record pace { silent = false; measured = false }
+    else record pace { measured = false }
 
--- how long a byte takes at most, by the answer that is over: one that is long enough shows it while
--- no answer was missed
+-- THESE BYTES CAME this long after the request
+abbrev pub pace_with : ℕ → List ℕ → Pace → Pace
+pace_with spent bytes pace = bytes_with spent bytes (delay_with spent bytes pace)
+
+-- how long a byte takes at most, by the answer that is over: one that is long enough shows it
 abbrev pub or_most : Option ℕ → ℕ
 or_most None = most_count
 or_most (Some byte) = byte
 
 abbrev pub byte_shown : Pace → Option ℕ
-byte_shown pace = if pace.sure && nat_le showing pace.came
+byte_shown pace = if nat_le showing pace.came
     then Some (min (or_most pace.byte) pace.least) else pace.byte
 
 -- A REQUEST BEGINS
 abbrev pub pace_begun : List ℕ → Pace → Pace
 pace_begun request pace = record pace {
   byte = byte_shown pace;
-  resets = is_reset (frame_of request);
-  silent = false;
+  acks = wants_ack (frame_of request) && not (is_reset (frame_of request));
   measured = length request == short_frame;
   came = 0;
   least = most_count;

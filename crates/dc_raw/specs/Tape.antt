@@ -1,8 +1,9 @@
 -- A wire in memory, as contracts see it: the bytes that are still to come, and in which steps (this product).
-use Rattle.std.specs.Prelude.{◌≡◌, ℕ, Bool, not, ◌==◌, List, ◌++◌, length}
+use Rattle.std.specs.Prelude.{◌≡◌, ℕ, List, ◌++◌, length}
 use Rattle.dc_raw.specs.Looks.{waits_of}
 use Rattle.dc_raw.specs.Wire.{Sound, bytes_of}
 use Rattle.dc_raw.specs.declared.tape.Event.{Event}
+use Rattle.dc_raw.specs.declared.wire.Asking.{Asking}
 
 pub record Taped : Type 0 where
   pub bytes : List ℕ
@@ -17,10 +18,6 @@ tape_waits tape = waits_of (length tape.events)
 abbrev pub TapeHears : Taped → Sound → Taped → Type 0
 TapeHears old sound new = old.bytes ≡ bytes_of sound ++ new.bytes
 
--- a prefix of them is dropped, if there is one
-abbrev pub TapeDrops : Taped → Bool → Taped → Type 0
-TapeDrops old dropped new =
-    (late : List ℕ) × (old.bytes ≡ late ++ new.bytes) × (dropped ≡ not (length late == 0))
-
-abbrev pub TapeSends : Taped → List ℕ → Taped → Type 0
-TapeSends old request new = new ≡ old
+-- nothing is written
+abbrev pub TapeSends : Taped → List ℕ → Asking → Taped → Type 0
+TapeSends old request asking new = new ≡ old

@@ -56,6 +56,13 @@ impl Hearing {
         }
     }
 
+    /// The request.
+    pub fn request(&self) -> &FrameBuf
+        ensures { result.now ≡ self.now.request }
+    {
+        &self.request
+    }
+
     /// Number of bytes to read next: 0 if the answer is over.
     pub fn wanted(&self) -> usize
         ensures wanted { result ≡ wanted_of self.now.request self.now.bytes }

@@ -1,72 +1,89 @@
-//! The two halves of an exchange over a wire.
+//! What is taken of a wire: the answer of one meter, those of several, and what is dropped.
 
-ghost use Rattle.std.specs.Prelude.{◌≡◌, ◌≤◌, ◌<◌, false, IfOk, OnOk, OnErr, IfSome, IfNone};
+ghost use Rattle.std.specs.Prelude.{◌≡◌, ◌≤◌, ◌<◌, ◌⊎◌, false, IfOk, OnOk, OnErr, IfSome, IfNone};
 ghost use Rattle.dc_io.specs.Failures.{HasRisen};
-ghost use Rattle.dc_raw.specs.Heard.{Answers, Passes, Puts, Releases, Waits};
+ghost use Rattle.dc_raw.specs.Heard.{Answers, Drains, Gathers, Waits, past_echo};
+ghost use Rattle.dc_raw.specs.Turn.{late_at};
+ghost use Rattle.dc_raw.specs.declared.state.State.TheVariants.{Busy, Quiet};
 
 use crate::hearing::Hearing;
+use crate::state::State;
 use crate::wire::{Came, Wire};
 use dc_bus::{AnswerBuf, MOST_ANSWER};
 use dc_frame::FrameBuf;
 use dc_io::IoFault;
 
-// Maximum number of pieces that are dropped at once before a request goes out without a gap.
-const MOST_DROPS: usize = 64;
+// Maximum number of pieces taken in one call.
+const MOST_PIECES: usize = 512;
 
-/// Drops late bytes, and sends a request if there were none: what follows them may be late too.
-/// Returns whether there were any.
-pub fn send<W: Wire>(wire: &mut W, request: &FrameBuf) -> Result<bool, IoFault>
-    ensures sent { IfOk result (λ late. Puts W.drops W.sends wire.old request.now late wire.new) }
-    ensures well { OnOk result (W.failures wire.new ≡ W.failures wire.old) }
-    ensures failed { OnErr result (HasRisen (W.failures wire.old) (W.failures wire.new)) }
-{
-    let late = wire.discard()?;
-    if late {
-        return Ok(true);
-    }
-    wire.send(request.as_slice())?;
-    Ok(false)
-}
-
-/// Drops what arrives until a gap or silence, and then sends the request that waits for it. Returns
-/// whether it was sent; nothing may have come yet.
-pub fn release<W: Wire>(wire: &mut W, request: &FrameBuf) -> Result<bool, IoFault>
-    ensures sent { IfOk result (λ sent.
-        Releases W.hears W.sends wire.old request.now sent wire.new) }
-    ensures fewer { IfOk result (λ sent. sent ≡ false
-        → W.waits_left wire.new < W.waits_left wire.old) }
-    ensures well { OnOk result (W.failures wire.new ≡ W.failures wire.old) }
-    ensures failed { OnErr result (HasRisen (W.failures wire.old) (W.failures wire.new)) }
-{
-    let past = is_past_gap(wire)?;
-    if !past {
-        return Ok(false);
-    }
-    wire.send(request.as_slice())?;
-    Ok(true)
-}
-
-// Drops what arrives until a gap or silence; false if neither came yet. After `MOST_DROPS` pieces it
-// is waited for no longer.
-fn is_past_gap<W: Wire>(wire: &mut W) -> Result<bool, IoFault>
-    ensures past { IfOk result (λ past. Passes W.hears wire.old past wire.new) }
-    ensures fewer { IfOk result (λ past. past ≡ false
-        → W.waits_left wire.new < W.waits_left wire.old) }
+/// Drops what has arrived, while a request waits. Bytes where nothing could be under way are late,
+/// and make the line busy; silence makes it quiet. Returns whether bytes still come.
+pub fn drain<W: Wire>(wire: &mut W, state: &mut State, late: &mut u64) -> Result<bool, IoFault>
+    ensures drained { IfOk result (λ loud.
+        Drains W.hears wire.old state.old late.old loud wire.new state.new late.new) }
+    ensures fewer { IfOk result (λ loud. loud ≡ false
+        → (state.new ≡ Quiet) ⊎ (W.waits_left wire.new < W.waits_left wire.old)) }
+    ensures no_more { OnOk result (W.waits_left wire.new ≤ W.waits_left wire.old) }
     ensures well { OnOk result (W.failures wire.new ≡ W.failures wire.old) }
     ensures failed { OnErr result (HasRisen (W.failures wire.old) (W.failures wire.new)) }
 {
     let mut room = [0; MOST_ANSWER];
     let mut count = 0;
-    'drops: while count < MOST_DROPS {
+    'drops: while count < MOST_PIECES {
         match wire.hear(&mut room)? {
-            Came::Bytes(_came) => {}
+            Came::Bytes(_came) => {
+                hear_late(state, late);
+            }
             Came::Nothing => return Ok(false),
-            Came::Gap => return Ok(true),
-            Came::Silence => return Ok(true),
+            Came::Gap => return Ok(false),
+            Came::Silence => {
+                *state = State::Quiet;
+                return Ok(false);
+            }
         }
         count += 1;
     }
     Ok(true)
+}
+
+// Bytes came: they are late where nothing could be under way, and make the line busy.
+fn hear_late(state: &mut State, late: &mut u64)
+    ensures state { state.new ≡ Busy }
+    ensures late { late.new ≡ late_at state.old late.old }
+{
+    match state {
+        State::Busy => {}
+        State::Quiet | State::Listened | State::Answered => *late = late.saturating_add(1),
+    }
+    *state = State::Busy;
+}
+
+/// Takes all bytes that have arrived, until silence. Returns whether it came, or nothing where more
+/// may come.
+pub fn gather<W: Wire>(wire: &mut W, all: &mut AnswerBuf) -> Result<Option<bool>, IoFault>
+    ensures gathered { IfOk result (λ quiet.
+        Gathers W.hears wire.old all.old quiet wire.new all.new) }
+    ensures fewer { IfOk result (λ quiet. IfNone quiet
+        (W.waits_left wire.new < W.waits_left wire.old)) }
+    ensures no_more { OnOk result (W.waits_left wire.new ≤ W.waits_left wire.old) }
+    ensures well { OnOk result (W.failures wire.new ≡ W.failures wire.old) }
+    ensures failed { OnErr result (HasRisen (W.failures wire.old) (W.failures wire.new)) }
+{
+    let mut room = [0; MOST_ANSWER];
+    let mut count = 0;
+    'pieces: while count < MOST_PIECES {
+        match wire.hear(&mut room)? {
+            Came::Bytes(came) => {
+                let (given, _) = room.split_at(came);
+                all.append(given);
+            }
+            Came::Nothing => return Ok(None),
+            Came::Gap => return Ok(None),
+            Came::Silence => return Ok(Some(true)),
+        }
+        count += 1;
+    }
+    Ok(Some(false))
 }
 
 /// Takes what has arrived so far, and returns the answer once it is complete.
@@ -103,4 +120,19 @@ pub fn hear<W: Wire>(wire: &mut W, hearing: &mut Hearing) -> Result<Option<Answe
         count = hearing.wanted();
     }
     Ok(Some(hearing.take()))
+}
+
+/// All bytes that came, without the echo of the request.
+pub fn without_echo(request: &FrameBuf, all: &AnswerBuf) -> AnswerBuf
+    ensures { result ≡ past_echo request.now all.now }
+{
+    let bytes = all.as_slice();
+    let mut answer = AnswerBuf::new();
+    if bytes.starts_with(request.as_slice()) {
+        let (_, rest) = bytes.split_at(request.as_slice().len());
+        answer.append(rest);
+    } else {
+        answer.append(bytes);
+    }
+    answer
 }

@@ -1,12 +1,9 @@
 //! How long a bus line takes to answer, as its own answers have shown.
 
-ghost use Rattle.std.specs.Prelude.{◌≡◌, ◌≤◌, None};
-ghost use Rattle.dc_frame.specs.Reading.{frame_of};
-ghost use Rattle.dc_raw.specs.Pace.{IsNoMore, answer_wait, is_reset, limit_after};
-ghost use Rattle.dc_raw.specs.Pace.{pace_begun, pace_with};
+ghost use Rattle.std.specs.Prelude.{◌≡◌, None};
+ghost use Rattle.dc_raw.specs.Pace.{pace_begun, pace_with, pause_of, reset_wait, window_of, answering};
 
-use dc_frame::control::{SELECTED, SND_NKE};
-use dc_frame::{Frame, parse};
+use crate::state::{is_reset, wants_ack};
 
 // A meter answers within 330 bits and 50 ms (EN 13757-2); a byte has 11 bits. In microseconds.
 const ANSWERING_BYTES: u64 = 30;
@@ -21,23 +18,29 @@ const SHORT_FRAME: usize = 5;
 
 const SHORT_START: u8 = 0x10;
 
-/// The longest delay of a line's answers, and how long a byte takes at most, in microseconds.
+// The byte of an acknowledgement.
+const ACKNOWLEDGED: u8 = 0xE5;
+
+// The shortest pause after which nothing more comes of several answers, in microseconds and in bytes.
+const PAUSE: u64 = 120_000;
+
+const PAUSE_BYTES: u64 = 4;
+
+/// How long a line's acknowledgements and its bytes take, in microseconds.
 ///
 /// Answers to short frames are measured. A byte of the request or of the answer takes at most the
 /// time since the request divided by the number of both, also where a converter passes several
-/// bytes on at once. That holds only of the answer to that request; so a byte's time is taken while
-/// no answer was missed since the line was quiet. A line that echoes isn't measured.
+/// bytes on at once. A line that echoes isn't measured.
 #[derive(Drop)]
 pub struct Pace {
-    /// The longest time from a request to the first byte of its answer.
-    pub delay: u64,
+    /// The longest time from a request to its acknowledgement; `None` before the first.
+    pub delay: Option<u64>,
+    /// The time to the last acknowledgement.
+    pub last: u64,
     /// How long a byte takes at most; `None` before the first telegram.
     pub byte: Option<u64>,
-    /// Whether the request is the reset of all selected meters.
-    pub resets: bool,
-    // Whether no answer was missed since two silences in a row, and whether the last was silence.
-    sure: bool,
-    silent: bool,
+    // Whether an acknowledgement is due, of which the delay is taken.
+    acks: bool,
     // Of the answer under way: whether it is measured, the number of its bytes, and how long a byte
     // takes at most by its pieces so far.
     measured: bool,
@@ -48,52 +51,46 @@ pub struct Pace {
 impl Pace {
     /// Returns the pace of a line of which nothing is known.
     pub fn new() -> Self
-        ensures delay { result.delay ≡ 0 }
+        ensures delay { result.delay ≡ None }
         ensures byte { result.byte ≡ None }
     {
         Pace {
-            delay: 0,
+            delay: None,
+            last: 0,
             byte: None,
-            resets: false,
-            sure: false,
-            silent: false,
+            acks: false,
             measured: false,
             came: 0,
             least: u64::MAX,
         }
     }
 
-    /// Begins with this request, so that the answer to the one before it is over.
+    /// Begins with this request, so that the answer to the one before it is over. It learns a byte's
+    /// time from that one.
     pub fn begin(&mut self, request: &[u8])
-        ensures delay { self.new.delay ≡ self.old.delay }
-        ensures byte { IsNoMore self.old.byte self.new.byte }
-        ensures resets { self.new.resets ≡ is_reset (frame_of request.now) }
-        // It learns a byte's time from the answer that is over, and measures the next one.
-        ensures begun { self.new ≡ pace_begun request.now self.old }
+        ensures { self.new ≡ pace_begun request.now self.old }
     {
-        if self.sure && self.came >= SHOWING {
+        if self.came >= SHOWING {
             self.byte = Some(self.byte.unwrap_or(u64::MAX).min(self.least));
         }
-        self.resets = is_reset(request);
-        self.silent = false;
+        self.acks = wants_ack(request) && !is_reset(request);
         self.measured = request.len() == SHORT_FRAME;
         self.came = 0;
         self.least = u64::MAX;
     }
 
-    /// Takes that these bytes came, this long after the request.
+    /// Takes that these bytes came, this long after the request: it learns the delay of an
+    /// acknowledgement, and the time of a byte from an answer that is measured.
     pub fn take(&mut self, spent: u64, bytes: &[u8])
-        ensures delay { self.old.delay ≤ self.new.delay }
-        ensures byte { self.new.byte ≡ self.old.byte }
-        // It learns the delay and the time of a byte from an answer that is measured.
-        ensures learned { self.new ≡ pace_with spent bytes.now self.old }
+        ensures { self.new ≡ pace_with spent bytes.now self.old }
     {
-        self.silent = false;
+        if self.acks && bytes.first() == Some(&ACKNOWLEDGED) {
+            self.delay = Some(self.delay.unwrap_or(0).max(spent));
+            self.last = spent;
+        }
+        self.acks = false;
         if self.came == 0 {
             self.measured = self.measured && bytes.first() != Some(&SHORT_START);
-            if self.measured {
-                self.delay = self.delay.max(spent);
-            }
         }
         if self.measured {
             self.came = self.came.saturating_add(bytes.len() as u64);
@@ -102,57 +99,50 @@ impl Pace {
         }
     }
 
-    /// Takes that the answer was silence.
-    pub fn end_silent(&mut self)
-        ensures delay { self.new.delay ≡ self.old.delay }
-        ensures byte { self.new.byte ≡ self.old.byte }
+    /// How long the reset of all selected meters takes: as long as the slowest acknowledgement, and
+    /// no longer than one may take after the last; before the first, the patience.
+    pub fn reset_wait(&self, patience: u64) -> u64
+        ensures { result ≡ reset_wait self.now.delay self.now.last self.now.byte patience }
     {
-        self.sure = self.silent || self.sure && self.resets;
-        self.silent = true;
-    }
-
-    /// Takes that an answer broke off, or that late bytes came.
-    pub fn end_broken(&mut self)
-        ensures delay { self.new.delay ≡ self.old.delay }
-        ensures byte { self.new.byte ≡ self.old.byte }
-    {
-        self.sure = false;
-        self.silent = false;
-    }
-
-    /// The time-out after the request: the patience. After the reset of all selected meters it is
-    /// as long as a meter may take, and the longest delay of this line besides, but no longer than
-    /// the patience; before the first telegram it is the patience.
-    pub fn limit(&self, patience: u64) -> u64
-        ensures { result ≡ limit_after self.now.resets self.now.byte self.now.delay patience }
-    {
-        if self.resets {
-            self.answer_wait(patience)
-        } else {
-            patience
+        let Some(delay) = self.delay else {
+            return patience;
+        };
+        let wait = patience.min(delay.saturating_add(ANSWERING_REST));
+        match self.byte {
+            Some(byte) => wait.min(answering(byte).saturating_add(self.last)),
+            None => wait,
         }
     }
 
-    fn answer_wait(&self, patience: u64) -> u64
-        ensures { result ≡ answer_wait self.now.byte self.now.delay patience }
+    /// How long one of several meters may take to begin its answer; the patience, until an
+    /// acknowledgement and a telegram came.
+    pub fn window(&self, patience: u64) -> u64
+        ensures { result ≡ window_of self.now.delay self.now.byte patience }
+    {
+        let Some(delay) = self.delay else {
+            return patience;
+        };
+        match self.byte {
+            Some(byte) => patience.min(answering(byte).saturating_add(delay)),
+            None => patience,
+        }
+    }
+
+    /// How long nothing comes after the last of several answers.
+    pub fn pause(&self) -> u64
+        ensures { result ≡ pause_of self.now.byte }
     {
         match self.byte {
-            Some(byte) => {
-                let meter = byte
-                    .saturating_mul(ANSWERING_BYTES)
-                    .saturating_add(ANSWERING_REST);
-                patience.min(meter.saturating_add(self.delay))
-            }
-            None => patience,
+            Some(byte) => PAUSE.max(byte.saturating_mul(PAUSE_BYTES)),
+            None => PAUSE,
         }
     }
 }
 
-fn is_reset(request: &[u8]) -> bool
-    ensures { result ≡ is_reset (frame_of request.now) }
+// How long a meter may take to begin its answer where a byte takes this long.
+fn answering(byte: u64) -> u64
+    ensures { result ≡ answering byte }
 {
-    match parse(request) {
-        Ok(Frame::Short { control, address }) => control == SND_NKE && address == SELECTED,
-        _ => false,
-    }
+    byte.saturating_mul(ANSWERING_BYTES)
+        .saturating_add(ANSWERING_REST)
 }

@@ -2,12 +2,18 @@
 
 ghost use Rattle.std.specs.Prelude.{◌≡◌, ◌*◌, ◌≤◌, ◌<◌, [], length, IfOk, OnOk};
 ghost use Rattle.dc_raw.specs.Looks.{waits_of};
-ghost use Rattle.dc_raw.specs.PollWire.{WireDrops, WireHears, WireSends};
+ghost use Rattle.dc_raw.specs.Pace.{patience_after};
+ghost use Rattle.dc_raw.specs.PollWire.{Ends, IsHeard, IsStill, WireHears, WireSends, limit_by};
+ghost use Rattle.dc_raw.specs.PollWire.{until_by};
+ghost use Rattle.dc_raw.specs.Turn.{is_reset, wants_ack};
+ghost use Rattle.dc_frame.specs.Reading.{frame_of};
+ghost use Rattle.dc_raw.specs.declared.poll_wire.Until.TheVariants.{Still};
 ghost use Rattle.dc_raw.specs.Wire.{FitsRoom, Wanes, sound_of};
 
 use crate::pace::Pace;
-use crate::polling::{drop_late, elapsed, millis_of, now, read_within};
-use crate::wire::{Came, Wire};
+use crate::polling::{between, now, read_past_noise, wait_millis};
+use crate::state::{is_reset, wants_ack};
+use crate::wire::{Asking, Came, Wire};
 use dc_io::{IoFault, one_failure_more};
 use std::io;
 use std::io::{Read, Write};
@@ -27,32 +33,51 @@ const MOST_PATIENCES: u64 = 10;
 
 const LONGEST_ANSWER: u64 = 15_000_000;
 
+// The longest patience to which late bytes lead, in microseconds, and the number of times that they
+// double it.
+const LONGEST_PATIENCE: u64 = 16_000_000;
+
+const MOST_DOUBLINGS: u64 = 14;
+
 // Maximum number of times that nothing may come after a request, before the wire itself waits for
 // the rest of its time-out.
 const MOST_WAITS: u16 = 32_767;
 
+/// When silence comes after a request.
+#[derive(Clone, Copy, Debug, PartialEq, Eq)]
+pub enum Until {
+    /// Nothing came for the time-out, since the request or the last byte.
+    Still,
+    /// The time-out is over since the request, whatever comes.
+    Over,
+    /// The time-out is over since the request, and nothing came for a pause.
+    Paused,
+}
+
 /// A TCP stream or a terminal as a wire, by polls that don't wait: its reader and its writer. A read
 /// that returns no byte when the descriptor is readable means the end of the stream.
 ///
-/// After a request the time-out is the patience. Where no meter is selected, none answers the reset
-/// of all selected meters, so it is shorter after that one: as long as an acknowledgement takes at
-/// most, by the [`Pace`] of the line. A line on which bytes keep coming for ten patiences, or 15 s
-/// where that is longer, without a request or silence between them, fails.
+/// After a request the time-out is the patience. After the reset of all selected meters it is as long
+/// as an acknowledgement takes, by the [`Pace`] of the line; after a request that several meters may
+/// answer, as long as one of them may take to begin. Bytes that begin no frame are dropped where no
+/// answer has begun, and time goes on as if they hadn't come. A line on which bytes keep coming for
+/// ten patiences, or 15 s where that is longer, without a request or silence between them, fails.
 #[derive(Drop)]
 pub struct PollWire<R: Read + AsRawFd + Drop, W: Write + Drop, C: Clock + Drop> {
     reader: R,
     writer: W,
     clock: C,
-    // The time-outs of the line and of the request, and for how long nothing had come at the last
-    // call, in microseconds.
+    // The time-out that was stated, that of the line and that of the request, in microseconds.
+    stated: u64,
     patience: u64,
     limit: u64,
-    waited: u64,
+    until: Until,
     // The time at which the request was sent.
     asked: Instant,
-    // The time at which the request was sent, the last byte came or was dropped, or the last silence
-    // was returned.
+    // The time at which the request was sent, the last byte came, or the last silence was returned.
     since: Instant,
+    // The time at which the wire was looked at last.
+    at: Instant,
     // Whether a byte came since, and no gap after it was returned.
     begun: bool,
     pace: Pace,
@@ -63,15 +88,16 @@ pub struct PollWire<R: Read + AsRawFd + Drop, W: Write + Drop, C: Clock + Drop> 
 }
 
 impl<R: Read + AsRawFd + Drop, W: Write + Drop, C: Clock + Drop> PollWire<R, W, C> {
-    /// Returns the reader and the writer of a stream as a wire with a time-out of this many
+    /// Returns the reader and the writer of a stream as a wire with a patience of this many
     /// milliseconds.
     ///
     /// # Errors
     /// The clock fails.
     pub fn new(reader: R, writer: W, clock: C, patience: u16) -> io::Result<Self>
         ensures failures { IfOk result (λ wire. wire.failures ≡ 0) }
-        ensures patience { IfOk result (λ wire. wire.patience ≡ patience * 1_000) }
+        ensures stated { IfOk result (λ wire. wire.stated ≡ patience * 1_000) }
         ensures limit { IfOk result (λ wire. wire.limit ≡ patience * 1_000) }
+        ensures until { IfOk result (λ wire. wire.until ≡ Still) }
     {
         let since = Instant::now(&clock)?;
         let micros = u64::from(patience) * 1_000;
@@ -79,11 +105,13 @@ impl<R: Read + AsRawFd + Drop, W: Write + Drop, C: Clock + Drop> PollWire<R, W, 
             reader,
             writer,
             clock,
+            stated: micros,
             patience: micros,
             limit: micros,
-            waited: 0,
+            until: Until::Still,
             asked: since,
             since,
+            at: since,
             begun: false,
             pace: Pace::new(),
             noise: 0,
@@ -99,14 +127,33 @@ impl<R: Read + AsRawFd + Drop, W: Write + Drop, C: Clock + Drop> PollWire<R, W, 
 
     /// The time until the next gap or silence, if no byte comes; zero if the clock fails.
     pub fn left(&self) -> Duration {
-        let limit = if self.begun {
-            GAP_MICROS.min(self.limit)
-        } else {
-            self.limit
+        let Ok(at) = now(&self.clock) else {
+            return Duration::ZERO;
         };
-        match elapsed(self.since, &self.clock) {
-            Ok(spent) => Duration::from_micros(limit.saturating_sub(spent)),
-            Err(_) => Duration::ZERO,
+        let rest = self.rest(at);
+        if self.begun && self.until == Until::Still {
+            let gap = GAP_MICROS.saturating_sub(between(self.since, at));
+            return Duration::from_micros(rest.min(gap));
+        }
+        Duration::from_micros(rest)
+    }
+
+    // The time from this moment to silence, if no byte comes.
+    fn rest(&self, at: Instant) -> u64
+        ensures { result ≡ 0 → Ends self.now at }
+    {
+        let spent = between(self.since, at);
+        let left = self.limit.saturating_sub(between(self.asked, at));
+        match self.until {
+            Until::Still => self.limit.saturating_sub(spent),
+            Until::Over => left,
+            Until::Paused => {
+                if self.begun {
+                    left.max(self.pace.pause().saturating_sub(spent))
+                } else {
+                    left
+                }
+            }
         }
     }
 
@@ -121,31 +168,36 @@ impl<R: Read + AsRawFd + Drop, W: Write + Drop, C: Clock + Drop> PollWire<R, W, 
         ensures step { IfOk result (λ came.
             WireHears R.remaining self.old (sound_of came room.new) self.new) }
     {
-        let spent = elapsed(self.since, &self.clock)?;
         let wait = if self.waits == 0 {
-            self.limit.saturating_sub(spent)
+            self.rest(now(&self.clock)?)
         } else {
             0
         };
-        let count = read_within(&mut self.reader, millis_of(wait), room)?;
-        if count == 0 {
-            return self.nothing(spent.saturating_add(wait));
+        let begun = self.begun;
+        let count = read_past_noise(&mut self.reader, wait_millis(wait), begun, room)?;
+        self.at = now(&self.clock)?;
+        if count > 0 {
+            let (given, _) = room.split_at(count);
+            self.heard(given)?;
+            return Ok(Came::Bytes(count));
         }
-        let (given, _) = room.split_at(count);
-        self.heard(given, spent)?;
-        Ok(Came::Bytes(count))
+        let still = self.nothing()?;
+        match still {
+            Came::Bytes(_) => Err(IoFault),
+            Came::Nothing => Ok(Came::Nothing),
+            Came::Gap => Ok(Came::Gap),
+            Came::Silence => Ok(Came::Silence),
+        }
     }
 
-    // Some bytes came, this long after the last ones. A longer time than the patience counts as one:
-    // the line wasn't looked at.
-    fn heard(&mut self, bytes: &[u8], spent: u64) -> Result<(), IoFault>
+    // Some bytes came. A longer time than the patience since the last ones counts as one: the line
+    // wasn't looked at.
+    fn heard(&mut self, bytes: &[u8]) -> Result<(), IoFault>
         ensures well { self.new.failures ≡ self.old.failures }
         ensures waits { self.new.waits ≡ self.old.waits }
-        ensures reader { self.new.reader ≡ self.old.reader }
-        ensures writer { self.new.writer ≡ self.old.writer }
-        ensures patience { self.new.patience ≡ self.old.patience }
-        ensures limit { OnOk result (self.new.limit ≡ self.old.patience) }
+        ensures kept { OnOk result (IsHeard self.old self.new) }
     {
+        let spent = between(self.since, self.at);
         self.noise = self.noise.saturating_add(spent.min(self.patience));
         if self.noise
             > self
@@ -155,81 +207,101 @@ impl<R: Read + AsRawFd + Drop, W: Write + Drop, C: Clock + Drop> PollWire<R, W, 
         {
             return Err(IoFault);
         }
-        self.pace.take(elapsed(self.asked, &self.clock)?, bytes);
-        self.since = now(&self.clock)?;
+        self.pace.take(between(self.asked, self.at), bytes);
+        self.since = self.at;
         self.begun = true;
-        self.limit = self.patience;
+        match self.until {
+            Until::Still => self.limit = self.patience,
+            Until::Over => {}
+            Until::Paused => self.limit = self.pace.window(self.patience),
+        }
         Ok(())
     }
 
-    // The result where nothing has come for this long.
-    fn nothing(&mut self, spent: u64) -> Result<Came, IoFault>
-        requires { self.old.waits ≡ 0 → self.old.limit ≤ spent }
-        ensures waited { OnOk result (self.new.waited ≡ spent) }
+    // The result where nothing has come.
+    fn nothing(&mut self) -> Result<Came, IoFault>
         ensures fits { IfOk result (λ came. FitsRoom came 0) }
         ensures fewer { IfOk result (λ came. Wanes came
             (waits_of self.old.waits) (waits_of self.new.waits)) }
         ensures well { self.new.failures ≡ self.old.failures }
-        ensures reader { self.new.reader ≡ self.old.reader }
-        ensures step { IfOk result (λ came.
-            WireHears R.remaining self.old (sound_of came []) self.new) }
+        ensures step { IfOk result (λ came. IsStill self.old (sound_of came []) self.new) }
     {
-        self.waited = spent;
-        if spent >= self.limit {
-            self.since = now(&self.clock)?;
+        if self.rest(self.at) == 0 {
+            self.since = self.at;
             self.begun = false;
             self.noise = 0;
-            self.pace.end_silent();
+            self.until = Until::Still;
             self.limit = self.patience;
             return Ok(Came::Silence);
         }
+        if self.waits == 0 {
+            return Err(IoFault);
+        }
         self.waits = self.waits.min(MOST_WAITS) - 1;
-        if self.begun && spent >= GAP_MICROS {
+        if self.begun && self.until == Until::Still && between(self.since, self.at) >= GAP_MICROS {
             self.begun = false;
-            self.pace.end_broken();
             return Ok(Came::Gap);
         }
         Ok(Came::Nothing)
     }
 
-    // Drops what has arrived; then a gap is awaited, as after a byte that was heard.
-    fn drop_late(&mut self) -> Result<bool, IoFault>
+    fn put(&mut self, bytes: &[u8], asking: Asking) -> Result<(), IoFault>
         ensures well { self.new.failures ≡ self.old.failures }
-        ensures step { IfOk result (λ dropped. WireDrops self.old dropped self.new) }
-    {
-        let dropped = drop_late(&mut self.reader)?;
-        if dropped {
-            self.since = now(&self.clock)?;
-            self.begun = true;
-            self.pace.end_broken();
-            self.limit = self.patience;
-            self.waits = MOST_WAITS;
-        }
-        Ok(dropped)
-    }
-
-    fn put(&mut self, bytes: &[u8]) -> Result<(), IoFault>
-        ensures well { self.new.failures ≡ self.old.failures }
-        ensures step { OnOk result (WireSends W.contents self.old bytes.now self.new) }
+        ensures step { OnOk result (WireSends W.contents self.old bytes.now asking self.new) }
     {
         if self.writer.write_all(bytes).is_err() {
             return Err(IoFault);
         }
-        self.since = now(&self.clock)?;
-        self.asked = self.since;
+        self.asked = now(&self.clock)?;
+        self.since = self.asked;
         self.begun = false;
         self.noise = 0;
         self.waits = MOST_WAITS;
         self.pace.begin(bytes);
-        self.limit = self.pace.limit(self.patience);
+        self.patience = patience_after(self.stated, asking.late);
+        self.until = until_by(is_reset(bytes), asking.many);
+        self.limit = self.limit_by(bytes, asking.many);
         Ok(())
     }
+
+    // The time-out after this request.
+    fn limit_by(&self, request: &[u8], many: bool) -> u64
+        ensures { result ≡ limit_by (is_reset (frame_of request.now)) many
+            (wants_ack (frame_of request.now)) self.now.pace self.now.patience }
+    {
+        if is_reset(request) {
+            return self.pace.reset_wait(self.patience);
+        }
+        if many && wants_ack(request) {
+            return self.pace.window(self.patience);
+        }
+        self.patience
+    }
+}
+
+// When silence comes after a request: the reset of all selected meters, or one that several meters
+// may answer, or another one.
+fn until_by(resets: bool, many: bool) -> Until
+    ensures { result ≡ until_by resets many }
+{
+    if resets {
+        return Until::Over;
+    }
+    if many { Until::Paused } else { Until::Still }
+}
+
+// The patience after so many times at which bytes came late.
+fn patience_after(stated: u64, late: u64) -> u64
+    ensures { result ≡ patience_after late stated }
+{
+    let doubled = stated.saturating_mul(1 << late.min(MOST_DOUBLINGS));
+    stated.max(doubled.min(LONGEST_PATIENCE))
 }
 
 impl<R: Read + AsRawFd + Drop, W: Write + Drop, C: Clock + Drop> Wire for PollWire<R, W, C> {
     ghost use Rattle.std.proofs.Math.Nat.{min-le_right};
     ghost use Rattle.dc_raw.specs.Looks.{most_looks, waits_of};
-    ghost use Rattle.dc_raw.specs.PollWire.{WireDrops, WireHears, WireSends};
+    ghost use Rattle.dc_raw.specs.PollWire.{WireHears, WireSends};
 
     ghost failures = { λ wire. wire.failures };
 
@@ -241,10 +313,8 @@ impl<R: Read + AsRawFd + Drop, W: Write + Drop, C: Clock + Drop> Wire for PollWi
 
     ghost hears = { WireHears R.remaining };
 
-    ghost drops = { WireDrops };
-
-    fn send(&mut self, bytes: &[u8]) -> Result<(), IoFault> {
-        let sent = self.put(bytes);
+    fn send(&mut self, bytes: &[u8], asking: Asking) -> Result<(), IoFault> {
+        let sent = self.put(bytes, asking);
         if sent.is_err() {
             self.failures = one_failure_more(self.failures);
         }
@@ -257,13 +327,5 @@ impl<R: Read + AsRawFd + Drop, W: Write + Drop, C: Clock + Drop> Wire for PollWi
             self.failures = one_failure_more(self.failures);
         }
         came
-    }
-
-    fn discard(&mut self) -> Result<bool, IoFault> {
-        let dropped = self.drop_late();
-        if dropped.is_err() {
-            self.failures = one_failure_more(self.failures);
-        }
-        dropped
     }
 }

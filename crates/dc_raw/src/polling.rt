@@ -1,7 +1,11 @@
 //! Reads that wait at most so long, and the clock.
 
-ghost use Rattle.std.specs.Prelude.{◌≤◌, length, take, IfOk};
+ghost use Rattle.std.specs.Prelude.{◌≡◌, ◌+◌, ◌-◌, ◌*◌, ◌/◌, ◌^◌, ◌≤◌, ◌<◌, min, ℕ, List, ◌++◌, [], true};
+ghost use Rattle.std.specs.Prelude.{length, take, IfOk};
+ghost use Rattle.std.specs.List.{All};
 ghost use Rattle.std.specs.Io.KnownBytes.{Consumes};
+ghost use Rattle.std.specs.Time.{instant_nanos};
+ghost use Rattle.dc_raw.specs.Noise.{IsNoise, IsPast, begins_frame};
 
 use dc_io::IoFault;
 use libc::net::{POLLIN, poll};
@@ -11,8 +15,15 @@ use std::os::fd::AsRawFd;
 use std::rt::Clock;
 use std::time::Instant;
 
-// Maximum number of reads that drop late bytes.
-const MOST_DISCARDS: usize = 64;
+// The bytes that begin a frame: a long one, a short one, an acknowledgement.
+const LONG_START: u8 = 0x68;
+
+const SHORT_START: u8 = 0x10;
+
+const ACKNOWLEDGED: u8 = 0xE5;
+
+// Maximum number of bytes read at once: as many as an answer has room for.
+const MOST_READ: usize = 300;
 
 // Maximum number of polls repeated because a signal interrupted a poll or a read.
 const MOST_POLLS: usize = 1_000;
@@ -21,16 +32,16 @@ pub(crate) fn now<C: Clock>(clock: &C) -> Result<Instant, IoFault> {
     Instant::now(clock).map_err(|_| IoFault)
 }
 
-// The time since then, in microseconds.
-pub(crate) fn elapsed<C: Clock>(since: Instant, clock: &C) -> Result<u64, IoFault> {
-    match since.elapsed(clock) {
-        Ok(spent) => Ok(u64::try_from(spent.as_micros()).unwrap_or(u64::MAX)),
-        Err(_) => Err(IoFault),
-    }
+// The time between two moments, in microseconds.
+pub(crate) fn between(since: Instant, at: Instant) -> u64
+    ensures { result ≡ min ((instant_nanos at - instant_nanos since) / 1_000) (2 ^ 64 - 1) }
+{
+    let spent = at.duration_since(since).as_micros();
+    u64::try_from(spent).unwrap_or(u64::MAX)
 }
 
 // A number of microseconds in milliseconds, rounded up: the time is over when the wait ends.
-pub(crate) fn millis_of(micros: u64) -> i32 {
+pub(crate) fn wait_millis(micros: u64) -> i32 {
     if micros == 0 {
         return 0;
     }
@@ -74,15 +85,48 @@ pub(crate) fn read_within<R: Read + AsRawFd>(
     Err(IoFault)
 }
 
-// Drops what has arrived already, and returns whether there was anything.
-pub(crate) fn drop_late<R: Read + AsRawFd>(reader: &mut R) -> Result<bool, IoFault> {
-    let mut room = [0; 300];
-    let mut dropped = false;
-    for _ in 0..MOST_DISCARDS {
-        if read_within(reader, 0, &mut room)? == 0 {
-            return Ok(dropped);
-        }
-        dropped = true;
+// Number of bytes at the front that begin no frame; none where an answer has begun.
+fn noise_len(bytes: &[u8], begun: bool) -> usize
+    ensures fits { result ≤ length bytes.now }
+    ensures none { All IsNoise (take result bytes.now) }
+    ensures first { begun ≡ true → result ≡ 0 }
+{
+    let mut count = 0;
+    if begun {
+        return count;
     }
-    Ok(dropped)
+    'noise: while count < bytes.len() && !begins_frame(bytes[count]) {
+        count += 1;
+    }
+    count
+}
+
+// Whether a frame begins with this byte.
+fn begins_frame(byte: u8) -> bool
+    ensures { result ≡ begins_frame byte }
+{
+    byte == LONG_START || byte == SHORT_START || byte == ACKNOWLEDGED
+}
+
+// Reads what comes within this many milliseconds. Where no answer has begun, bytes that begin none
+// are dropped before it.
+pub(crate) fn read_past_noise<R: Read + AsRawFd>(
+    reader: &mut R,
+    millis: i32,
+    begun: bool,
+    room: &mut [u8],
+) -> Result<usize, IoFault>
+    ensures count { IfOk result (λ n. n ≤ length room.old) }
+    ensures bytes { IfOk result (λ n. IsPast (R.remaining reader.old)
+        (R.remaining reader.new) begun (take n room.new)) }
+{
+    let mut own = [0; MOST_READ];
+    let most = room.len().min(MOST_READ);
+    let (part, _) = own.split_at_mut(most);
+    let count = read_within(reader, millis, part)?;
+    let (given, _) = own.split_at(count);
+    let noise = noise_len(given, begun);
+    let (_, rest) = given.split_at(noise);
+    room[..rest.len()].copy_from_slice(rest);
+    Ok(rest.len())
 }

@@ -6,7 +6,7 @@ ghost use Rattle.dc_raw.specs.Looks.{most_looks};
 ghost use Rattle.dc_raw.specs.Tape.{TapeHears, tape_waits};
 ghost use Rattle.dc_raw.specs.Wire.{FitsRoom, Wanes, sound_of};
 
-use crate::wire::{Came, Wire};
+use crate::wire::{Asking, Came, Wire};
 use dc_io::{IoFault, one_failure_more};
 use std::marker::Model;
 
@@ -111,7 +111,7 @@ impl<'a> Wire for Tape<'a> {
     ghost use Rattle.std.specs.Prelude.{length};
     ghost use Rattle.std.proofs.Math.Nat.{min-le_right};
     ghost use Rattle.dc_raw.specs.Looks.{most_looks};
-    ghost use Rattle.dc_raw.specs.Tape.{TapeDrops, TapeHears, TapeSends, tape_waits};
+    ghost use Rattle.dc_raw.specs.Tape.{TapeHears, TapeSends, tape_waits};
 
     ghost failures = { λ tape. tape.failures };
 
@@ -123,9 +123,7 @@ impl<'a> Wire for Tape<'a> {
 
     ghost hears = { TapeHears };
 
-    ghost drops = { TapeDrops };
-
-    fn send(&mut self, _bytes: &[u8]) -> Result<(), IoFault> {
+    fn send(&mut self, _bytes: &[u8], _asking: Asking) -> Result<(), IoFault> {
         match self.events.first() {
             Some(Event::Loss) => Err(self.fail()),
             _ => Ok(()),
@@ -151,21 +149,6 @@ impl<'a> Wire for Tape<'a> {
                 Ok(Came::Silence)
             }
             Event::Loss => Err(self.fail()),
-        }
-    }
-
-    fn discard(&mut self) -> Result<bool, IoFault> {
-        match self.events.split_first() {
-            Some((Event::Loss, _)) => Err(self.fail()),
-            Some((Event::Bytes(count), more)) => {
-                let late = count.saturating_sub(self.came).min(self.bytes.len());
-                let (_, left) = self.bytes.split_at(late);
-                self.bytes = left;
-                self.events = more;
-                self.came = 0;
-                Ok(late > 0)
-            }
-            _ => Ok(false),
         }
     }
 }

@@ -1,9 +1,10 @@
 //! A wire: bytes are sent on it, and bytes arrive on it.
 
-ghost use Rattle.std.specs.Prelude.{◌≡◌, ℕ, ◌≤◌, ◌<◌, Bool, List, length, IfOk, OnOk, OnErr};
+ghost use Rattle.std.specs.Prelude.{◌≡◌, ℕ, ◌≤◌, ◌<◌, List, length, IfOk, OnOk, OnErr};
 ghost use Rattle.dc_io.specs.Failures.{HasRisen};
 ghost use Rattle.dc_raw.specs.Looks.{most_looks};
 ghost use Rattle.dc_raw.specs.Wire.{FitsRoom, Sound, Wanes, sound_of};
+ghost use Rattle.dc_raw.specs.declared.wire.Asking.{Asking as Asks};
 
 use dc_io::IoFault;
 
@@ -17,8 +18,19 @@ pub enum Came {
     /// Nothing since the last byte for as long as ends an answer that has begun. It is returned
     /// once after a byte.
     Gap,
-    /// Nothing for the wire's whole time-out since the request, the last byte or the last silence.
+    /// The wire's time-out is over: nothing came for its patience since the request, the last byte
+    /// or the last silence; or the time is over that an [`Asking`] gives.
     Silence,
+}
+
+/// How long a wire listens after a request.
+#[derive(Clone, Copy, Debug, PartialEq, Eq)]
+pub struct Asking {
+    /// Whether several meters may answer: the wire listens while one of them may begin to, and then
+    /// to the end of what comes.
+    pub many: bool,
+    /// Number of times that bytes came late on the line: each doubles the patience.
+    pub late: u64,
 }
 
 /// The wire of a line. No call waits.
@@ -31,17 +43,14 @@ pub trait Wire {
 
     ghost few: { (wire : Self) → waits_left wire ≤ most_looks };
 
-    // The effect of a call that succeeds on the wire: these bytes were sent; this arrived; late
-    // bytes were dropped, if there were any.
-    ghost sends: { Self → List ℕ → Self → Type 0 };
+    // The effect of a call that succeeds on the wire: these bytes were sent; this arrived.
+    ghost sends: { Self → List ℕ → Asks → Self → Type 0 };
 
     ghost hears: { Self → Sound → Self → Type 0 };
 
-    ghost drops: { Self → Bool → Self → Type 0 };
-
     /// Sends all of the bytes.
-    fn send(&mut self, bytes: &[u8]) -> Result<(), IoFault>
-        ensures step { OnOk result (sends self.old bytes.now self.new) }
+    fn send(&mut self, bytes: &[u8], asking: Asking) -> Result<(), IoFault>
+        ensures step { OnOk result (sends self.old bytes.now asking self.new) }
         ensures well { OnOk result (failures self.new ≡ failures self.old) }
         ensures failed { OnErr result (HasRisen (failures self.old) (failures self.new)) };
 
@@ -52,13 +61,6 @@ pub trait Wire {
         ensures step { IfOk result (λ came. hears self.old (sound_of came room.new) self.new) }
         ensures fewer { IfOk result (λ came. Wanes came
             (waits_left self.old) (waits_left self.new)) }
-        ensures well { OnOk result (failures self.new ≡ failures self.old) }
-        ensures failed { OnErr result (HasRisen (failures self.old) (failures self.new)) };
-
-    /// Drops late bytes that have arrived already, and returns whether there were any. A gap after
-    /// them is returned like one after a byte that was heard.
-    fn discard(&mut self) -> Result<bool, IoFault>
-        ensures step { IfOk result (λ dropped. drops self.old dropped self.new) }
         ensures well { OnOk result (failures self.new ≡ failures self.old) }
         ensures failed { OnErr result (HasRisen (failures self.old) (failures self.new)) };
 }

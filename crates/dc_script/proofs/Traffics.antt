@@ -2,9 +2,8 @@
 use Rattle.std.proofs.Common.{◌≡◌, ◌⊎◌, ◌<◌, ℕ, zero, suc, Bool, true, Result, Ok, Err, Option, None, Some, List, [], ◌∷◌, ◌++◌, length, get_or, set, refl, ap, sym, subst, ◌∙◌, arith, ⊎_elim}
 use Rattle.std.specs.Prelude.{IfOk}
 use Rattle.std.proofs.lemmas.List.{get_or-set_same, get_or-set_other}
-use Rattle.dc_bus.specs.Bus.{Exchange}
+use Rattle.dc_bus.specs.Bus.{AreExchanged, Exchange}
 use Rattle.dc_script.specs.Link.{LineLink}
-use Rattle.dc_script.specs.Poll.{IsPolled}
 use Rattle.dc_script.specs.Script.{Deed, AreDone, traffic_of, moment_behind}
 use Rattle.dc_script.specs.ScriptLine.{LineSeen}
 use Rattle.dc_script.specs.Traffic.{AreCarried, Carries, CarriesAll, GoesOver, IsCarried, IsSearchedFor, OnNamed, PollsOver, SearchesOver, Traffic}
@@ -67,29 +66,29 @@ goes_over {B} lost does old slot bus is so untouched =
 pub goes_nowhere : {B : Type 0} (lost : B → Bool) (does : Bool → B → B → Type 0) (old : Option (Slot B)) → old ≡ None → GoesOver lost does old old
 goes_nowhere {B} lost does old is = subst (λ (s : Option (Slot B)). GoesOver lost does s s) (sym is) refl
 
-module _ {B : Type 0} (lost : B → Bool) (asks : B → List ℕ → List ℕ → B → Type 0) (settles : B → B → Type 0) (ready : B → Bool) where
-  pub polls_over : (line : ℕ) (exchanges : List Exchange) (old : Option (Slot B)) (slot : Slot B) (bus : B) → old ≡ Some slot → IsPolled settles ready asks (record { line = line; is_gateway = slot.is_gateway }) slot.bus exchanges bus → (lost slot.bus ≡ true → bus ≡ slot.bus)
-      → PollsOver lost asks settles ready line old (Some (record { bus = bus; is_gateway = slot.is_gateway })) exchanges
-  polls_over line exchanges old slot bus is so untouched =
-      goes_over lost (λ is_gateway before after. IsPolled settles ready asks (record { line = line; is_gateway = is_gateway }) before exchanges after) old slot bus is so untouched
+module _ {B : Type 0} (lost : B → Bool) (asks : B → List ℕ → List ℕ → B → Type 0) (asks_all : B → List ℕ → List ℕ → B → Type 0) where
+  pub polls_over : (exchanges : List Exchange) (old : Option (Slot B)) (slot : Slot B) (bus : B) → old ≡ Some slot → AreExchanged asks slot.bus exchanges bus → (lost slot.bus ≡ true → bus ≡ slot.bus)
+      → PollsOver lost asks old (Some (record { bus = bus; is_gateway = slot.is_gateway })) exchanges
+  polls_over exchanges old slot bus is so untouched =
+      goes_over lost (λ is_gateway before after. AreExchanged asks before exchanges after) old slot bus is so untouched
 
-  pub searches_over : (exchanges : List Exchange) (old : Option (Slot B)) (slot : Slot B) (bus : B) → old ≡ Some slot → IsSearchedFor asks settles ready slot.bus exchanges bus → (lost slot.bus ≡ true → bus ≡ slot.bus)
-      → SearchesOver lost asks settles ready old (Some (record { bus = bus; is_gateway = slot.is_gateway })) exchanges
-  searches_over exchanges old slot bus is so untouched = goes_over lost (λ is_gateway before after. IsSearchedFor asks settles ready before exchanges after) old slot bus is so untouched
+  pub searches_over : (exchanges : List Exchange) (old : Option (Slot B)) (slot : Slot B) (bus : B) → old ≡ Some slot → IsSearchedFor slot.is_gateway asks asks_all slot.bus exchanges bus → (lost slot.bus ≡ true → bus ≡ slot.bus)
+      → SearchesOver lost asks asks_all old (Some (record { bus = bus; is_gateway = slot.is_gateway })) exchanges
+  searches_over exchanges old slot bus is so untouched = goes_over lost (λ is_gateway before after. IsSearchedFor is_gateway asks asks_all before exchanges after) old slot bus is so untouched
 
   -- ---- the lines of a script
 
-  carries_both : (line : ℕ) (first more : List Traffic) (old between new : Option (Slot B)) → CarriesAll lost asks settles ready line first old between → CarriesAll lost asks settles ready line more between new
-      → CarriesAll lost asks settles ready line (first ++ more) old new
-  carries_both line [] more old between new is rest = subst (λ (s : Option (Slot B)). CarriesAll lost asks settles ready line more s new) is rest
+  carries_both : (line : ℕ) (first more : List Traffic) (old between new : Option (Slot B)) → CarriesAll lost asks asks_all line first old between → CarriesAll lost asks asks_all line more between new
+      → CarriesAll lost asks asks_all line (first ++ more) old new
+  carries_both line [] more old between new is rest = subst (λ (s : Option (Slot B)). CarriesAll lost asks asks_all line more s new) is rest
   carries_both line (t ∷ first) more old between new is rest = (is.0, is.1, carries_both line first more is.0 between new is.2 rest)
 
-  pub carried_both : (old between new : List (Option (Slot B))) (first more : List Traffic) → AreCarried lost asks settles ready old between first → AreCarried lost asks settles ready between new more
-      → AreCarried lost asks settles ready old new (first ++ more)
+  pub carried_both : (old between new : List (Option (Slot B))) (first more : List Traffic) → AreCarried lost asks asks_all old between first → AreCarried lost asks asks_all between new more
+      → AreCarried lost asks asks_all old new (first ++ more)
   carried_both old between new first more one two = λ n. carries_both (suc n) first more (get_or old n None) (get_or between n None) (get_or new n None) (one n) (two n)
 
-  pub is_one : (asked : LineSeen) (old new : List (Option (Slot B))) (exchanges : List Exchange) → ((n : ℕ) → Carries lost asks settles ready (suc n) asked exchanges (get_or old n None) (get_or new n None))
-      → IsCarried lost asks settles ready asked old new exchanges
+  pub is_one : (asked : LineSeen) (old new : List (Option (Slot B))) (exchanges : List Exchange) → ((n : ℕ) → Carries lost asks asks_all (suc n) asked exchanges (get_or old n None) (get_or new n None))
+      → IsCarried lost asks asks_all asked old new exchanges
   is_one asked old new exchanges each = λ n. (get_or new n None, each n, refl)
 
 -- ---- a bus that doesn't come back

@@ -72,22 +72,6 @@ loss_in port false false exchange stays = refl
 loss_in port true true exchange stays = refl
 loss_in port true false exchange stays = absurd_bool (stays refl)
 
--- what happens where a bus settles
-abbrev pub settle_happening : Bool → Bool → List Happening
-settle_happening false true = loses ∷ []
-settle_happening false false = []
-settle_happening true is = []
-
-pub settles_unasked : (was is : Bool) → happened_exchanges (settle_happening was is) ≡ []
-settles_unasked false true = refl
-settles_unasked false false = refl
-settles_unasked true is = refl
-
--- a bus that isn't touched isn't lost
-pub not_a_gateway : {B : Type 0} (lost_is : B → Bool) (gateway : Bool) (old new : B) → (gateway ≡ true → new ≡ old) → lost_is old ≡ false → lost_is new ≡ true → gateway ≡ false
-not_a_gateway lost_is true old new untouched linked_before lost_after = absurd_bool (sym linked_before ∙ sym (ap lost_is (untouched refl)) ∙ lost_after)
-not_a_gateway lost_is false old new untouched linked_before lost_after = refl
-
 -- ---- what is due
 
 pub is_full : (answer : Result LineHeard HearFault) (fault : HearFault) → answer ≡ Err fault → fault ≡ PendingFull → answer ≡ Err PendingFull
@@ -152,13 +136,6 @@ module _ {W : Type 0} (sink : SinkGhosts W) (port : Port) where
       subst (FailsInLast sink port old new) (sym same) (fails_after old old new (talks exchange ∷ []) (loses ∷ []) (puts-none (sink.written old)) refl (fails_in_one old new loses failed))
   loss_fails old new false false exchange happened linked_before lost_after same failed = absurd_bool lost_after
   loss_fails old new true is exchange happened linked_before lost_after same failed = absurd_bool (sym linked_before)
-
-  -- over the loss of a bus that settled
-  pub settle_fails : (old new : W) (was is : Bool) (happened : List Happening) → was ≡ false → is ≡ true → happened ≡ settle_happening was is
-      → HasRisen (sink.put_failures old) (sink.put_failures new) → FailsInLast sink port old new happened
-  settle_fails old new false true happened linked_before lost_after same failed = subst (FailsInLast sink port old new) (sym same) (fails_in_one old new loses failed)
-  settle_fails old new false false happened linked_before lost_after same failed = absurd_bool lost_after
-  settle_fails old new true is happened linked_before lost_after same failed = absurd_bool (sym linked_before)
 
   pub if_fails_after : {X E : Type 0} (result : Result X E) (old mid new : W) (one more : List Happening) → Puts (sink.written old) (sink.written mid) (happened_text port one) → sink.put_failures mid ≡ sink.put_failures old
       → OnErr result (FailsInLast sink port mid new more) → OnErr result (FailsInLast sink port old new (one ++ more))
@@ -292,25 +269,6 @@ module _ {D : Type 0} (g : Ghosts D) (origin : D) where
         text = subst wrote (sym (append-nil (loss_line port))) text;
       }
   way_exchange budget state before port moment meter true false request answer wrote machine went stays short over text = absurd_bool (stays refl)
-
-  -- A bus settles, which may be lost over it; a gateway isn't.
-  pub way_settled : (budget : ℕ) (state : State) (before : List Turn) (port : Port) (moment : ℕ) (meter : Identity) (was is : Bool) (wrote : List ℕ → Type 0) (machine : Machine D)
-      → Went g origin budget state before [] machine machine → (was ≡ true → is ≡ true) → (was ≡ false → is ≡ true → port.is_gateway ≡ false) → wrote (loss_text port (link_by was) (link_by is))
-      → Way g (run_of origin budget state before machine machine) port moment meter (record { due = to_start; link = link_by was }) (λ happened last. (happened ≡ settle_happening was is) × (last ≡ record { due = to_start; link = link_by is })) wrote
-  way_settled budget state before port moment meter false false wrote machine went stays other text =
-      record { happened = []; last = record { due = to_start; link = linked }; way = refl; ends_so = (refl, refl); went = went; text = text }
-  way_settled budget state before port moment meter true true wrote machine went stays other text =
-      record { happened = []; last = record { due = to_start; link = lost }; way = refl; ends_so = (refl, refl); went = went; text = text }
-  way_settled budget state before port moment meter false true wrote machine went stays other text =
-      record {
-        happened = loses ∷ [];
-        last = record { due = to_start; link = lost };
-        way = ((refl, other refl refl), refl);
-        ends_so = (refl, refl);
-        went = went;
-        text = subst wrote (sym (append-nil (loss_line port))) text;
-      }
-  way_settled budget state before port moment meter true false wrote machine went stays other text = absurd_bool (stays refl)
 
   -- a turn, and no more
   pub turn_last : (budget : ℕ) (state : State) (before : List Turn) (port : Port) (moment : ℕ) (meter : Identity) (due : Due) (link : Link) (event : Event) (such : Answer → Type 0) (told : Answer) (ends : List Happening → Phase → Type 0) (wrote : List ℕ → Type 0) (first new : Machine D)

@@ -12,7 +12,7 @@ use Rattle.dc_concentrator.specs.declared.fault.HearFault.TheVariants.{PendingFu
 use Rattle.dc_concentrator.specs.declared.line_heard.LineHeard.{LineHeard}
 use Rattle.dc_concentrator.specs.declared.line_heard.LineHeard.TheVariants.{Again, Ready, Accepted, Failed}
 use Rattle.dc_bus.specs.Limits.{most_answer}
-use Rattle.dc_bus.specs.Bus.{AreExchanged, Exchange}
+use Rattle.dc_bus.specs.Bus.{Exchange}
 use Rattle.dc_script.specs.Link.{Link, linked, lost, IsHeardOver, loss_line}
 use Rattle.dc_script.specs.declared.port.Port.{Port}
 
@@ -54,17 +54,16 @@ IsDueEvent port moment meter (to_make_room bytes) event = event ≡ commits
 IsDueEvent port moment meter (to_hear_again bytes) event = event ≡ hears port.line moment bytes
 IsDueEvent port moment meter is_over event = ⊥
 
--- A bus is lost over a request, whose answer is silence; other buses than a gateway also while they
--- settle before the start.
-abbrev pub MayBeLost : Port → Due → Type 0
-MayBeLost port to_start = port.is_gateway ≡ false
-MayBeLost port to_ask = ⊥
-MayBeLost port (to_send request) = ⊥
-MayBeLost port (to_hear bytes) = bytes ≡ []
-MayBeLost port to_commit = ⊥
-MayBeLost port (to_make_room bytes) = ⊥
-MayBeLost port (to_hear_again bytes) = ⊥
-MayBeLost port is_over = ⊥
+-- A bus is lost over a request, whose answer is silence.
+abbrev pub MayBeLost : Due → Type 0
+MayBeLost to_start = ⊥
+MayBeLost to_ask = ⊥
+MayBeLost (to_send request) = ⊥
+MayBeLost (to_hear bytes) = bytes ≡ []
+MayBeLost to_commit = ⊥
+MayBeLost (to_make_room bytes) = ⊥
+MayBeLost (to_hear_again bytes) = ⊥
+MayBeLost is_over = ⊥
 
 -- The request is sent. A lost bus answers with silence, and a bus is lost at most once.
 abbrev pub IsDue : Port → ℕ → Identity → Phase → Happening → Type 0
@@ -72,7 +71,7 @@ IsDue port moment meter phase (does turn) = IsDueEvent port moment meter phase.d
 IsDue port moment meter phase (talks exchange) =
     (phase.due ≡ to_send exchange.request) × (length exchange.answer ≤ most_answer)
     × IsHeardOver phase.link exchange.answer
-IsDue port moment meter phase loses = (phase.link ≡ linked) × MayBeLost port phase.due
+IsDue port moment meter phase loses = (phase.link ≡ linked) × MayBeLost phase.due
 
 -- ---- what is next after it
 
@@ -166,15 +165,3 @@ pub record PollsPart (port : Port) (moment : ℕ) (meter : Identity) (link : Lin
   pub way : IsWay port moment meter (record { due = to_start; link = link }) happened last
   pub turns_are : turns ≡ happened_turns happened
   pub exchanges_are : exchanges ≡ happened_exchanges happened
-
--- ---- over the bus
-
--- What a poll does to its bus: unless it is a gateway, it settles, so that no answer is under way; then these
--- exchanges happen, and nothing else.
-pub record IsPolled {B : Type 0} (settles : B → B → Type 0) (ready : B → Bool)
-    (asks_of : B → List ℕ → List ℕ → B → Type 0) (port : Port) (old : B) (exchanges : List Exchange)
-    (new : B) : Type 0 where
-  pub between : B
-  pub gateway : port.is_gateway ≡ true → between ≡ old
-  pub settled : port.is_gateway ≡ false → settles old between × (ready between ≡ true)
-  pub exchanged : AreExchanged asks_of between exchanges new

@@ -28,23 +28,23 @@ OnLine lost_is line old new holds = (links : List LineLink)
 
 -- A line of a script is done over the buses of these slots, and this was written.
 abbrev pub RanOver : {D B : Type 0} → Ghosts D → Run D → ℕ → LineSeen → (B → Bool)
-    → (B → List ℕ → List ℕ → B → Type 0) → (B → B → Type 0) → (B → Bool)
+    → (B → List ℕ → List ℕ → B → Type 0) → (B → List ℕ → List ℕ → B → Type 0)
     → List (Option (Slot B)) → List (Option (Slot B)) → (List ℕ → Type 0) → Type 0
-RanOver g run moment asked lost asks settles ready old new wrote =
+RanOver g run moment asked lost asks asks_all old new wrote =
     LineRan g run moment asked (links_of lost old) (links_of lost new) wrote
-    (IsCarried lost asks settles ready asked old new)
+    (IsCarried lost asks asks_all asked old new)
 
 -- A write failed on it.
 abbrev pub CutOver : {D B : Type 0} → Ghosts D → Run D → ℕ → LineSeen → (B → Bool)
-    → (B → List ℕ → List ℕ → B → Type 0) → (B → B → Type 0) → (B → Bool)
+    → (B → List ℕ → List ℕ → B → Type 0) → (B → List ℕ → List ℕ → B → Type 0)
     → List (Option (Slot B)) → List (Option (Slot B)) → Type 0
-CutOver g run moment asked lost asks settles ready old new =
-    LineCut g run moment asked (links_of lost old) (IsCarried lost asks settles ready asked old new)
+CutOver g run moment asked lost asks asks_all old new =
+    LineCut g run moment asked (links_of lost old) (IsCarried lost asks asks_all asked old new)
 
 -- Memory ran out in it.
 abbrev pub StarvedOver : {D B : Type 0} → Ghosts D → Run D → LineSeen → (B → Bool)
-    → (B → List ℕ → List ℕ → B → Type 0) → (B → B → Type 0) → (B → Bool)
+    → (B → List ℕ → List ℕ → B → Type 0) → (B → List ℕ → List ℕ → B → Type 0)
     → List (Option (Slot B)) → List (Option (Slot B)) → (List ℕ → Type 0) → Type 0
-StarvedOver g run asked lost asks settles ready old new wrote =
+StarvedOver g run asked lost asks asks_all old new wrote =
     LineStarved g run asked (links_of lost old) wrote
-    (IsCarried lost asks settles ready asked old new)
+    (IsCarried lost asks asks_all asked old new)

@@ -2,12 +2,11 @@
 use Rattle.std.specs.Prelude.{◌≡◌, ◌⊎◌, ℕ, suc, Bool, true, false, Option, None, Some, List, [], ◌∷◌}
 use Rattle.std.specs.Prelude.{get_or}
 use Rattle.dc_blocks.specs.Asking.{Asks}
-use Rattle.dc_bus.specs.Bus.{Exchange}
-use Rattle.dc_bus.specs.Late.{HeardQuietly}
+use Rattle.dc_bus.specs.Bus.{AreExchanged, Exchange}
+use Rattle.dc_bus.specs.Windows.{Questions}
 use Rattle.dc_blocks.specs.declared.gateway.Gateway.{Gateway}
 use Rattle.dc_io.specs.declared.stream.Sink.{Ghosts as SinkGhosts}
 use Rattle.dc_io.specs.declared.stream.Source.{Ghosts as SourceGhosts}
-use Rattle.dc_script.specs.Poll.{IsPolled}
 use Rattle.dc_script.specs.ScriptLine.{LineSeen, nothing, at, start, ask, hear, commit, office}
 use Rattle.dc_script.specs.ScriptLine.{poll, search}
 use Rattle.dc_script.specs.declared.slot.Slot.{Slot}
@@ -33,28 +32,33 @@ abbrev pub GoesOver : {B : Type 0} → (B → Bool) → (Bool → B → B → Ty
 GoesOver lost does None new = new ≡ None
 GoesOver lost does (Some slot) new = IsLeftBy lost (does slot.is_gateway) slot new
 
--- A POLL of a line: its bus settles, and then these exchanges are all that happens to it.
+-- A POLL of a line: these exchanges are all that happens to its bus.
 abbrev pub PollsOver : {B : Type 0} → (B → Bool) → (B → List ℕ → List ℕ → B → Type 0)
-    → (B → B → Type 0) → (B → Bool) → ℕ → Option (Slot B) → Option (Slot B) → List Exchange → Type 0
-PollsOver lost asks settles ready line old new exchanges =
-    GoesOver lost (λ is_gateway before after.
-    IsPolled settles ready asks (record { line = line; is_gateway = is_gateway }) before
-    exchanges after) old new
+    → Option (Slot B) → Option (Slot B) → List Exchange → Type 0
+PollsOver lost asks old new exchanges =
+    GoesOver lost (λ is_gateway before after. AreExchanged asks before exchanges after) old new
 
--- Nothing happened to a bus; or it settled, and then a search took these exchanges, and dropped others
--- while an answer may have been under way.
-abbrev pub IsSearchedFor : {B : Type 0} → (B → List ℕ → List ℕ → B → Type 0) → (B → B → Type 0)
-    → (B → Bool) → B → List Exchange → B → Type 0
-IsSearchedFor asks settles ready before exchanges after =
+-- The questions of a search: a gateway's answers are taken as they come; a line is searched by windows.
+abbrev pub AreQuestions : {B : Type 0} → Bool → (B → List ℕ → List ℕ → B → Type 0)
+    → (B → List ℕ → List ℕ → B → Type 0) → B → List Exchange → B → Type 0
+AreQuestions true asks asks_all before exchanges after = AreExchanged asks before exchanges after
+AreQuestions false asks asks_all before exchanges after = (has_several : Bool)
+    × AreExchanged (Questions asks_all) (record { bus = before; has_several = false }) exchanges
+    (record { bus = after; has_several = has_several })
+
+-- Nothing happened to a bus; or these were the questions of a search.
+abbrev pub IsSearchedFor : {B : Type 0} → Bool → (B → List ℕ → List ℕ → B → Type 0)
+    → (B → List ℕ → List ℕ → B → Type 0) → B → List Exchange → B → Type 0
+IsSearchedFor is_gateway asks asks_all before exchanges after =
     ((exchanges ≡ []) × (after ≡ before))
-    ⊎ HeardQuietly asks settles ready before exchanges after
+    ⊎ AreQuestions is_gateway asks asks_all before exchanges after
 
 -- A SEARCH of a line: a refused one does nothing to its bus.
 abbrev pub SearchesOver : {B : Type 0} → (B → Bool) → (B → List ℕ → List ℕ → B → Type 0)
-    → (B → B → Type 0) → (B → Bool) → Option (Slot B) → Option (Slot B) → List Exchange → Type 0
-SearchesOver lost asks settles ready old new exchanges =
+    → (B → List ℕ → List ℕ → B → Type 0) → Option (Slot B) → Option (Slot B) → List Exchange → Type 0
+SearchesOver lost asks asks_all old new exchanges =
     GoesOver lost (λ is_gateway before after.
-    IsSearchedFor asks settles ready before exchanges after) old new
+    IsSearchedFor is_gateway asks asks_all before exchanges after) old new
 
 -- the line that is named goes on like that, and any other stays as it is
 abbrev pub OnNamed : {B : Type 0} → (Option (Slot B) → Option (Slot B) → Type 0) → ℕ → ℕ
@@ -63,47 +67,47 @@ OnNamed does named line old new = (named ≡ line → does old new) × (¬ (name
 
 -- What one line of a script does to the bus of a bus line.
 abbrev pub Carries : {B : Type 0} → (B → Bool) → (B → List ℕ → List ℕ → B → Type 0)
-    → (B → B → Type 0) → (B → Bool) → ℕ → LineSeen → List Exchange → Option (Slot B)
+    → (B → List ℕ → List ℕ → B → Type 0) → ℕ → LineSeen → List Exchange → Option (Slot B)
     → Option (Slot B) → Type 0
-Carries lost asks settles ready line nothing exchanges old new = new ≡ old
-Carries lost asks settles ready line (at seconds) exchanges old new = new ≡ old
-Carries lost asks settles ready line (start named meter) exchanges old new = new ≡ old
-Carries lost asks settles ready line (ask named) exchanges old new = new ≡ old
-Carries lost asks settles ready line (hear named answer) exchanges old new = new ≡ old
-Carries lost asks settles ready line commit exchanges old new = new ≡ old
-Carries lost asks settles ready line (office text) exchanges old new = new ≡ old
-Carries lost asks settles ready line (poll named meter) exchanges old new =
-    OnNamed (λ before after. PollsOver lost asks settles ready named before after exchanges)
+Carries lost asks asks_all line nothing exchanges old new = new ≡ old
+Carries lost asks asks_all line (at seconds) exchanges old new = new ≡ old
+Carries lost asks asks_all line (start named meter) exchanges old new = new ≡ old
+Carries lost asks asks_all line (ask named) exchanges old new = new ≡ old
+Carries lost asks asks_all line (hear named answer) exchanges old new = new ≡ old
+Carries lost asks asks_all line commit exchanges old new = new ≡ old
+Carries lost asks asks_all line (office text) exchanges old new = new ≡ old
+Carries lost asks asks_all line (poll named meter) exchanges old new =
+    OnNamed (λ before after. PollsOver lost asks before after exchanges)
     named line old new
-Carries lost asks settles ready line (search budget named) exchanges old new =
-    OnNamed (λ before after. SearchesOver lost asks settles ready before after exchanges)
+Carries lost asks asks_all line (search budget named) exchanges old new =
+    OnNamed (λ before after. SearchesOver lost asks asks_all before after exchanges)
     named line old new
 
 -- and some lines of a script, one after the other
 abbrev pub CarriesAll : {B : Type 0} → (B → Bool) → (B → List ℕ → List ℕ → B → Type 0)
-    → (B → B → Type 0) → (B → Bool) → ℕ → List Traffic → Option (Slot B) → Option (Slot B) → Type 0
-CarriesAll lost asks settles ready line [] old new = new ≡ old
-CarriesAll {B} lost asks settles ready line (traffic ∷ more) old new =
-    (between : Option (Slot B)) × Carries lost asks settles ready line traffic.asked
-    traffic.exchanges old between × CarriesAll lost asks settles ready line more between new
+    → (B → List ℕ → List ℕ → B → Type 0) → ℕ → List Traffic → Option (Slot B) → Option (Slot B) → Type 0
+CarriesAll lost asks asks_all line [] old new = new ≡ old
+CarriesAll {B} lost asks asks_all line (traffic ∷ more) old new =
+    (between : Option (Slot B)) × Carries lost asks asks_all line traffic.asked
+    traffic.exchanges old between × CarriesAll lost asks asks_all line more between new
 
 -- ---- all bus lines
 
 -- THE BUSES GO FROM HERE TO THERE BY THIS TRAFFIC: over the bus of each bus line go the exchanges of the script's
 -- lines that name it, in their order, and nothing else.
 abbrev pub AreCarried : {B : Type 0} → (B → Bool) → (B → List ℕ → List ℕ → B → Type 0)
-    → (B → B → Type 0) → (B → Bool) → List (Option (Slot B)) → List (Option (Slot B)) → List Traffic
+    → (B → List ℕ → List ℕ → B → Type 0) → List (Option (Slot B)) → List (Option (Slot B)) → List Traffic
     → Type 0
-AreCarried lost asks settles ready old new traffic =
-    (n : ℕ) → CarriesAll lost asks settles ready (suc n) traffic (get_or old n None)
+AreCarried lost asks asks_all old new traffic =
+    (n : ℕ) → CarriesAll lost asks asks_all (suc n) traffic (get_or old n None)
     (get_or new n None)
 
 -- one line of a script
 abbrev pub IsCarried : {B : Type 0} → (B → Bool) → (B → List ℕ → List ℕ → B → Type 0)
-    → (B → B → Type 0) → (B → Bool) → LineSeen → List (Option (Slot B)) → List (Option (Slot B))
+    → (B → List ℕ → List ℕ → B → Type 0) → LineSeen → List (Option (Slot B)) → List (Option (Slot B))
     → List Exchange → Type 0
-IsCarried lost asks settles ready asked old new exchanges =
-    AreCarried lost asks settles ready old new
+IsCarried lost asks asks_all asked old new exchanges =
+    AreCarried lost asks asks_all old new
     (record { asked = asked; exchanges = exchanges } ∷ [])
 
 -- ---- a gateway alone
@@ -120,8 +124,7 @@ gateway_slot (Some ends) = Some (record {
 abbrev pub AreOverGateway : {R W : Type 0} → SourceGhosts R → SinkGhosts W → Option (R × W)
     → List (Option (Slot (Gateway R W))) → List Traffic → Type 0
 AreOverGateway reader writer ends left =
-    AreCarried (λ gateway. gateway.lost) (Asks reader writer) (λ old new. new ≡ old)
-    (λ _. true) (gateway_slot ends ∷ []) left
+    AreCarried (λ gateway. gateway.lost) (Asks reader writer) (Asks reader writer) (gateway_slot ends ∷ []) left
 
 -- This holds of what goes over it, however it is left: its ends don't come back.
 abbrev pub OverGateway : {R W : Type 0} → SourceGhosts R → SinkGhosts W → Option (R × W)

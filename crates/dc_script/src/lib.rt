@@ -2,7 +2,7 @@
 //!
 //! [`run_script_over`] reads the lines of a script ([`ScriptLine`]), opens an image and executes
 //! them: a line is one event of a concentrator, the poll of a meter over a bus line, or a search
-//! for meters over it. The buses of the lines are any [`ScriptBus`](dc_bus::ScriptBus); [`run_script`] has only a
+//! for meters over it. The buses of the lines are any [`Bus`](dc_bus::Bus); [`run_script`] has only a
 //! gateway, on line 1. What it writes, and what it leaves of the image at every moment, is what the
 //! run of these events writes and leaves (`specs/Script.antt`, `specs/Poll.antt`,
 //! `specs/Search.antt`, `specs/ImageRun.antt`). Over the bus of a bus line go the exchanges of the

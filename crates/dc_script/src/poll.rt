@@ -10,7 +10,7 @@ ghost use Rattle.dc_concentrator.specs.Step.{longest_request};
 ghost use Rattle.dc_bus.specs.Limits.{most_answer};
 ghost use Rattle.dc_io.specs.Written.{Wrote};
 ghost use Rattle.dc_script.specs.Link.{Link, link_by, loss_text, IsHeardOver};
-ghost use Rattle.dc_script.specs.Poll.{IsPolled, to_start, to_ask, to_send, to_hear};
+ghost use Rattle.dc_script.specs.Poll.{to_start, to_ask, to_send, to_hear};
 ghost use Rattle.dc_script.specs.Poll.{to_commit, to_make_room, to_hear_again, behind_heard};
 ghost use Rattle.dc_script.specs.Way.{phase_at, Polled, PollEnds, RoundEnds, Spends, WentOver};
 ghost use Rattle.dc_script.specs.declared.port.Port.{Port};
@@ -19,7 +19,7 @@ ghost use Rattle.dc_script.specs.Run.{AnyRun};
 use crate::port::{Port, put_lost};
 use crate::told::{told_ask, told_commit, told_hear, told_start};
 use dc_address::Identity;
-use dc_bus::{AnswerBuf, ScriptBus};
+use dc_bus::{AnswerBuf, Bus};
 use dc_change::Moment;
 use dc_concentrator::{Concentrator, HearFault, LineHeard};
 use dc_disk::Disk;
@@ -27,55 +27,9 @@ use dc_frame::FrameBuf;
 use dc_io::{IoFault, Sink};
 use std::alloc::Allocator;
 
-/// Reads a meter over a bus line, with this time stamp. The bus settles first, so that no answer is
-/// under way when the readout begins.
-pub fn poll<D: Disk + Drop, A: Allocator + Copy, B: ScriptBus, W: Sink>(
-    port: Port,
-    concentrator: &mut Concentrator<D, A>,
-    bus: &mut B,
-    meter: &Identity,
-    moment: Moment,
-    out: &mut W,
-) -> Result<(), IoFault>
-    ensures went { AnyRun D.Disk concentrator.old concentrator.new (λ run.
-        Polled D.Disk run port moment.seconds meter.now (phase_at to_start (B.lost bus.old))
-        W.Sink out.old out.new result (PollEnds result (link_by (B.lost bus.new))) (λ exchanges.
-        IsPolled B.settles B.ready B.asks port bus.old exchanges bus.new)) }
-    ensures fault { OnErr result (HasRisen (W.put_failures out.old) (W.put_failures out.new)) }
-    ensures well { OnOk result (W.put_failures out.new ≡ W.put_failures out.old) }
-    ensures budget { concentrator.new.house.budget ≡ concentrator.old.house.budget }
-    ensures untouched { B.lost bus.old ≡ true → bus.new ≡ bus.old }
-{
-    settle_bus(port, bus, out)?;
-    start_and_read(port, concentrator, bus, meter, moment, out)
-}
-
-// Blocks mark the end of a gateway's answer, so none is under way. If another bus is lost, that is
-// printed.
-fn settle_bus<B: ScriptBus, W: Sink>(port: Port, bus: &mut B, out: &mut W) -> Result<(), IoFault>
-    ensures gateway { port.is_gateway ≡ true → bus.new ≡ bus.old }
-    ensures settled { port.is_gateway ≡ false
-        → B.settles bus.old bus.new × (B.ready bus.new ≡ true) }
-    ensures lost { B.lost bus.old ≡ true → B.lost bus.new ≡ true }
-    ensures untouched { B.lost bus.old ≡ true → bus.new ≡ bus.old }
-    ensures told { Wrote W.Sink result out.old out.new
-        (loss_text port (link_by (B.lost bus.old)) (link_by (B.lost bus.new))) }
-    ensures unwritten { OnErr result ((port.is_gateway ≡ false)
-        × (B.lost bus.old ≡ false) × (B.lost bus.new ≡ true)) }
-{
-    if port.is_gateway {
-        return Ok(());
-    }
-    let was = bus.is_lost();
-    bus.settle();
-    if was || !bus.is_lost() {
-        return Ok(());
-    }
-    put_lost(port, out)
-}
-
-// Reads a meter, over a bus that has settled.
-fn start_and_read<D: Disk + Drop, A: Allocator + Copy, B: ScriptBus, W: Sink>(
+/// Reads a meter over a bus line, with this time stamp. Each request waits by itself until no other answer is under
+/// way.
+pub fn poll<D: Disk + Drop, A: Allocator + Copy, B: Bus, W: Sink>(
     port: Port,
     concentrator: &mut Concentrator<D, A>,
     bus: &mut B,
@@ -101,7 +55,7 @@ fn start_and_read<D: Disk + Drop, A: Allocator + Copy, B: ScriptBus, W: Sink>(
 
 // Goes from round to round, until the session has no request left: each takes one away of those that it may make
 // (`a_readout_makes_few_requests` of dc_readout), so no readout is cut off.
-fn read_parts<D: Disk + Drop, A: Allocator + Copy, B: ScriptBus, W: Sink>(
+fn read_parts<D: Disk + Drop, A: Allocator + Copy, B: Bus, W: Sink>(
     port: Port,
     concentrator: &mut Concentrator<D, A>,
     bus: &mut B,
@@ -127,7 +81,7 @@ fn read_parts<D: Disk + Drop, A: Allocator + Copy, B: ScriptBus, W: Sink>(
 
 // One round: a request and its answer, which is committed if it is a part. Returns whether the poll
 // goes on.
-fn ask_and_hear<D: Disk + Drop, A: Allocator + Copy, B: ScriptBus, W: Sink>(
+fn ask_and_hear<D: Disk + Drop, A: Allocator + Copy, B: Bus, W: Sink>(
     port: Port,
     concentrator: &mut Concentrator<D, A>,
     bus: &mut B,
@@ -152,7 +106,7 @@ fn ask_and_hear<D: Disk + Drop, A: Allocator + Copy, B: ScriptBus, W: Sink>(
 }
 
 // Sends a request over the bus, and takes the answer.
-fn exchange<D: Disk + Drop, A: Allocator + Copy, B: ScriptBus, W: Sink>(
+fn exchange<D: Disk + Drop, A: Allocator + Copy, B: Bus, W: Sink>(
     port: Port,
     concentrator: &mut Concentrator<D, A>,
     bus: &mut B,
@@ -176,7 +130,7 @@ fn exchange<D: Disk + Drop, A: Allocator + Copy, B: ScriptBus, W: Sink>(
 }
 
 // Sends the request, and returns the bus's answer. If the bus is lost, that is printed.
-fn ask_bus<B: ScriptBus, W: Sink>(
+fn ask_bus<B: Bus, W: Sink>(
     port: Port,
     bus: &mut B,
     request: &FrameBuf,

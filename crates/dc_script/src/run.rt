@@ -20,7 +20,7 @@ use crate::halt::Halt;
 use crate::script::run_lines;
 use crate::slot::Slot;
 use dc_blocks::Gateway;
-use dc_bus::{Bus, ScriptBus};
+use dc_bus::Bus;
 use dc_concentrator::Concentrator;
 use dc_disk::Disk;
 use dc_ending::ProgramFault;
@@ -56,13 +56,7 @@ use std::alloc::Allocator;
 /// of the bus is written; [`ProgramFault::Open`] if the image wasn't opened, with the writer
 /// unchanged; [`ProgramFault::Write`] if the writer failed: the line at which it did is done, and
 /// none after it.
-pub fn run_script_over<
-    D: Disk + Drop,
-    A: Allocator + Copy,
-    R: Source,
-    W: Sink,
-    B: ScriptBus + Drop,
->(
+pub fn run_script_over<D: Disk + Drop, A: Allocator + Copy, R: Source, W: Sink, B: Bus + Drop>(
     alloc: A,
     disk: D,
     reader: &mut R,
@@ -74,17 +68,16 @@ pub fn run_script_over<
     // the script's lines that name it, in their order, and nothing else; a lost bus is untouched.
     ensures ran { Stands D.Disk disk → IfOk result.1 (λ faulty.
         ImageRan D.Disk (links_of B.lost lines.old) (R.left reader.old) faulty
-        (PutsInto W.Sink writer.old writer.new) (AreCarried B.lost B.asks B.settles B.ready
+        (PutsInto W.Sink writer.old writer.new) (AreCarried B.lost B.asks B.asks_all
         lines.old lines.new) disk result.0) }
     ensures cut { Stands D.Disk disk → IsErrOf result.1 ProgramFault.Write → ImageCut D.Disk
-        (links_of B.lost lines.old) (R.left reader.old) (AreCarried B.lost B.asks B.settles
-        B.ready lines.old lines.new) disk result.0 }
+        (links_of B.lost lines.old) (R.left reader.old) (AreCarried B.lost B.asks B.asks_all lines.old lines.new) disk result.0 }
     // If memory runs out before the image is opened, or in a search, the image and the text are
     // those of the run up to it.
     ensures starved { Stands D.Disk disk → IsErrOf result.1 ProgramFault.NoMemory
         → ((result.0 ≡ disk) × (writer.new ≡ writer.old)) ⊎ ImageStarved D.Disk
         (links_of B.lost lines.old) (R.left reader.old) (PutsInto W.Sink writer.old writer.new)
-        (AreCarried B.lost B.asks B.settles B.ready lines.old lines.new) disk result.0 }
+        (AreCarried B.lost B.asks B.asks_all lines.old lines.new) disk result.0 }
 
     // An image that isn't opened is refused as by the store, and nothing is lost of it.
     ensures small { D.sectors disk < fewest_sectors → MatchResult result.1 (λ faulty. ⊥) (λ fault.

@@ -25,7 +25,7 @@ use crate::script_line::ScriptLine;
 use crate::searching::search_on;
 use crate::slot::Slot;
 use dc_address::Identity;
-use dc_bus::ScriptBus;
+use dc_bus::Bus;
 use dc_change::Moment;
 use dc_concentrator::{Concentrator, Event, WriteFault};
 use dc_disk::Disk;
@@ -34,7 +34,7 @@ use std::alloc::Allocator;
 
 /// Executes the lines of an input, up to the first that spells nothing, and returns whether there
 /// was one. `bytes` is room for an answer.
-pub fn run_lines<D: Disk + Drop, A: Allocator + Copy, B: ScriptBus + Drop, W: Sink>(
+pub fn run_lines<D: Disk + Drop, A: Allocator + Copy, B: Bus + Drop, W: Sink>(
     alloc: A,
     concentrator: &mut Concentrator<D, A>,
     slots: &mut [Option<Slot<B>>],
@@ -46,15 +46,16 @@ pub fn run_lines<D: Disk + Drop, A: Allocator + Copy, B: ScriptBus + Drop, W: Si
     ensures ran { AnyRun D.Disk concentrator.old concentrator.new (λ run.
         IfOk result (λ faulty.
         ScriptRan D.Disk run (links_of B.lost slots.old) (lines_of input.now) faulty
-        (PutsInto W.Sink out.old out.new) (AreCarried B.lost B.asks B.settles B.ready slots.old
+        (PutsInto W.Sink out.old out.new) (AreCarried B.lost B.asks B.asks_all slots.old
         slots.new))) }
     ensures cut { AnyRun D.Disk concentrator.old concentrator.new (λ run.
         OnWrite result (ScriptCut D.Disk run (links_of B.lost slots.old) (lines_of input.now)
-        (AreCarried B.lost B.asks B.settles B.ready slots.old slots.new))) }
+        (AreCarried B.lost B.asks
+        B.asks_all slots.old slots.new))) }
     ensures starved { AnyRun D.Disk concentrator.old concentrator.new (λ run.
         OnNoMemory result (ScriptStarved D.Disk run (links_of B.lost slots.old)
-        (lines_of input.now) (PutsInto W.Sink out.old out.new) (AreCarried B.lost B.asks B.settles
-        B.ready slots.old slots.new))) }
+        (lines_of input.now) (PutsInto W.Sink out.old out.new) (AreCarried B.lost B.asks
+        B.asks_all slots.old slots.new))) }
     // Memory is refused to a search alone, which needs a line that has a bus.
     ensures through { OnNoMemory result (¬ (AreAbsent (links_of B.lost slots.old))) }
     ensures counted { IsCounted result (W.put_failures out.old) (W.put_failures out.new) }
@@ -81,7 +82,7 @@ pub fn run_lines<D: Disk + Drop, A: Allocator + Copy, B: ScriptBus + Drop, W: Si
 }
 
 // Executes a line, at the script's time.
-fn run_line<D: Disk + Drop, A: Allocator + Copy, B: ScriptBus + Drop, W: Sink>(
+fn run_line<D: Disk + Drop, A: Allocator + Copy, B: Bus + Drop, W: Sink>(
     alloc: A,
     concentrator: &mut Concentrator<D, A>,
     slots: &mut [Option<Slot<B>>],
@@ -90,13 +91,13 @@ fn run_line<D: Disk + Drop, A: Allocator + Copy, B: ScriptBus + Drop, W: Sink>(
     out: &mut W,
 ) -> Result<(), Halt>
     ensures ran { AnyRun D.Disk concentrator.old concentrator.new (λ run.
-        OnOk result (RanOver D.Disk run moment.seconds (seen asked.now) B.lost B.asks B.settles
-        B.ready slots.old slots.new (PutsInto W.Sink out.old out.new))) }
+        OnOk result (RanOver D.Disk run moment.seconds (seen asked.now) B.lost B.asks
+        B.asks_all slots.old slots.new (PutsInto W.Sink out.old out.new))) }
     ensures cut { AnyRun D.Disk concentrator.old concentrator.new (λ run.
-        OnWrite result (CutOver D.Disk run moment.seconds (seen asked.now) B.lost B.asks B.settles
-        B.ready slots.old slots.new)) }
+        OnWrite result (CutOver D.Disk run moment.seconds (seen asked.now) B.lost B.asks
+        B.asks_all slots.old slots.new)) }
     ensures starved { AnyRun D.Disk concentrator.old concentrator.new (λ run.
-        OnNoMemory result (StarvedOver D.Disk run (seen asked.now) B.lost B.asks B.settles B.ready
+        OnNoMemory result (StarvedOver D.Disk run (seen asked.now) B.lost B.asks B.asks_all
         slots.old slots.new (PutsInto W.Sink out.old out.new))) }
     ensures through { OnNoMemory result (¬ (AreAbsent (links_of B.lost slots.old))) }
     ensures absent { AreAbsent (links_of B.lost slots.old) → AreAbsent (links_of B.lost slots.new) }
@@ -112,7 +113,7 @@ fn run_line<D: Disk + Drop, A: Allocator + Copy, B: ScriptBus + Drop, W: Sink>(
 }
 
 // Executes a line that is no search, at the script's time.
-fn run_plain<D: Disk + Drop, A: Allocator + Copy, B: ScriptBus + Drop, W: Sink>(
+fn run_plain<D: Disk + Drop, A: Allocator + Copy, B: Bus + Drop, W: Sink>(
     concentrator: &mut Concentrator<D, A>,
     slots: &mut [Option<Slot<B>>],
     asked: &ScriptLine<'_>,
@@ -121,11 +122,11 @@ fn run_plain<D: Disk + Drop, A: Allocator + Copy, B: ScriptBus + Drop, W: Sink>(
 ) -> Result<(), IoFault>
     requires { IsPlain (seen asked.now) }
     ensures ran { AnyRun D.Disk concentrator.old concentrator.new (λ run.
-        OnOk result (RanOver D.Disk run moment.seconds (seen asked.now) B.lost B.asks B.settles
-        B.ready slots.old slots.new (PutsInto W.Sink out.old out.new))) }
+        OnOk result (RanOver D.Disk run moment.seconds (seen asked.now) B.lost B.asks
+        B.asks_all slots.old slots.new (PutsInto W.Sink out.old out.new))) }
     ensures cut { AnyRun D.Disk concentrator.old concentrator.new (λ run.
-        OnErr result (CutOver D.Disk run moment.seconds (seen asked.now) B.lost B.asks B.settles
-        B.ready slots.old slots.new)) }
+        OnErr result (CutOver D.Disk run moment.seconds (seen asked.now) B.lost B.asks
+        B.asks_all slots.old slots.new)) }
     ensures fault { OnErr result (HasRisen (W.put_failures out.old) (W.put_failures out.new)) }
     ensures well { OnOk result (W.put_failures out.new ≡ W.put_failures out.old) }
     ensures absent { AreAbsent (links_of B.lost slots.old) → AreAbsent (links_of B.lost slots.new) }
@@ -156,7 +157,7 @@ fn run_plain<D: Disk + Drop, A: Allocator + Copy, B: ScriptBus + Drop, W: Sink>(
 // ---- over the bus of a line
 
 // Executes a `POLL`.
-fn poll_line<D: Disk + Drop, A: Allocator + Copy, B: ScriptBus + Drop, W: Sink>(
+fn poll_line<D: Disk + Drop, A: Allocator + Copy, B: Bus + Drop, W: Sink>(
     concentrator: &mut Concentrator<D, A>,
     slots: &mut [Option<Slot<B>>],
     line: u8,
@@ -166,10 +167,10 @@ fn poll_line<D: Disk + Drop, A: Allocator + Copy, B: ScriptBus + Drop, W: Sink>(
 ) -> Result<(), IoFault>
     ensures ran { AnyRun D.Disk concentrator.old concentrator.new (λ run.
         OnOk result (RanOver D.Disk run moment.seconds (polls line meter.now) B.lost B.asks
-        B.settles B.ready slots.old slots.new (PutsInto W.Sink out.old out.new))) }
+        B.asks_all slots.old slots.new (PutsInto W.Sink out.old out.new))) }
     ensures cut { AnyRun D.Disk concentrator.old concentrator.new (λ run.
         OnErr result (CutOver D.Disk run moment.seconds (polls line meter.now) B.lost B.asks
-        B.settles B.ready slots.old slots.new)) }
+        B.asks_all slots.old slots.new)) }
     ensures fault { OnErr result (HasRisen (W.put_failures out.old) (W.put_failures out.new)) }
     ensures well { OnOk result (W.put_failures out.new ≡ W.put_failures out.old) }
     ensures absent { AreAbsent (links_of B.lost slots.old) → AreAbsent (links_of B.lost slots.new) }
@@ -182,7 +183,7 @@ fn poll_line<D: Disk + Drop, A: Allocator + Copy, B: ScriptBus + Drop, W: Sink>(
 }
 
 // Executes a `POLL` over a line that may have a bus.
-fn poll_slot<D: Disk + Drop, A: Allocator + Copy, B: ScriptBus + Drop, W: Sink>(
+fn poll_slot<D: Disk + Drop, A: Allocator + Copy, B: Bus + Drop, W: Sink>(
     concentrator: &mut Concentrator<D, A>,
     slot: &mut Option<Slot<B>>,
     line: u8,
@@ -193,12 +194,12 @@ fn poll_slot<D: Disk + Drop, A: Allocator + Copy, B: ScriptBus + Drop, W: Sink>(
     ensures ran { OnLine B.lost line slot.old slot.new (λ links left.
         AnyRun D.Disk concentrator.old concentrator.new (λ run.
         OnOk result (LineRan D.Disk run moment.seconds (polls line meter.now) links left
-        (PutsInto W.Sink out.old out.new) (PollsOver B.lost B.asks B.settles B.ready line slot.old
+        (PutsInto W.Sink out.old out.new) (PollsOver B.lost B.asks slot.old
         slot.new)))) }
     ensures cut { OnLine B.lost line slot.old slot.new (λ links left.
         AnyRun D.Disk concentrator.old concentrator.new (λ run.
         OnErr result (LineCut D.Disk run moment.seconds (polls line meter.now) links (PollsOver
-        B.lost B.asks B.settles B.ready line slot.old slot.new)))) }
+        B.lost B.asks slot.old slot.new)))) }
     ensures fault { OnErr result (HasRisen (W.put_failures out.old) (W.put_failures out.new)) }
     ensures well { OnOk result (W.put_failures out.new ≡ W.put_failures out.old) }
     ensures kept { IsKept B.lost slot.old slot.new }
@@ -217,7 +218,7 @@ fn poll_slot<D: Disk + Drop, A: Allocator + Copy, B: ScriptBus + Drop, W: Sink>(
 }
 
 // Executes a `SEARCH`.
-fn search_line<D: Disk + Drop, A: Allocator + Copy, B: ScriptBus + Drop, W: Sink>(
+fn search_line<D: Disk + Drop, A: Allocator + Copy, B: Bus + Drop, W: Sink>(
     alloc: A,
     concentrator: &mut Concentrator<D, A>,
     slots: &mut [Option<Slot<B>>],
@@ -226,14 +227,14 @@ fn search_line<D: Disk + Drop, A: Allocator + Copy, B: ScriptBus + Drop, W: Sink
     out: &mut W,
 ) -> Result<(), Halt>
     ensures ran { (moment : ℕ) → AnyRun D.Disk concentrator.old concentrator.new (λ run.
-        OnOk result (RanOver D.Disk run moment (searches budget line) B.lost B.asks B.settles
-        B.ready slots.old slots.new (PutsInto W.Sink out.old out.new))) }
+        OnOk result (RanOver D.Disk run moment (searches budget line) B.lost B.asks
+        B.asks_all slots.old slots.new (PutsInto W.Sink out.old out.new))) }
     ensures cut { (moment : ℕ) → AnyRun D.Disk concentrator.old concentrator.new (λ run.
-        OnWrite result (CutOver D.Disk run moment (searches budget line) B.lost B.asks B.settles
-        B.ready slots.old slots.new)) }
+        OnWrite result (CutOver D.Disk run moment (searches budget line) B.lost B.asks
+        B.asks_all slots.old slots.new)) }
     ensures starved { AnyRun D.Disk concentrator.old concentrator.new (λ run.
-        OnNoMemory result (StarvedOver D.Disk run (searches budget line) B.lost B.asks B.settles
-        B.ready slots.old slots.new (PutsInto W.Sink out.old out.new))) }
+        OnNoMemory result (StarvedOver D.Disk run (searches budget line) B.lost B.asks
+        B.asks_all slots.old slots.new (PutsInto W.Sink out.old out.new))) }
     ensures through { OnNoMemory result (¬ (AreAbsent (links_of B.lost slots.old))) }
     ensures absent { AreAbsent (links_of B.lost slots.old) → AreAbsent (links_of B.lost slots.new) }
     ensures counted { IsCounted result (W.put_failures out.old) (W.put_failures out.new) }
@@ -246,7 +247,7 @@ fn search_line<D: Disk + Drop, A: Allocator + Copy, B: ScriptBus + Drop, W: Sink
 }
 
 // Executes a `SEARCH` over a line that may have a bus.
-fn search_slot<D: Disk + Drop, A: Allocator + Copy, B: ScriptBus + Drop, W: Sink>(
+fn search_slot<D: Disk + Drop, A: Allocator + Copy, B: Bus + Drop, W: Sink>(
     alloc: A,
     concentrator: &mut Concentrator<D, A>,
     slot: &mut Option<Slot<B>>,
@@ -257,16 +258,16 @@ fn search_slot<D: Disk + Drop, A: Allocator + Copy, B: ScriptBus + Drop, W: Sink
     ensures ran { (moment : ℕ) → OnLine B.lost line slot.old slot.new (λ links left.
         AnyRun D.Disk concentrator.old concentrator.new (λ run.
         OnOk result (LineRan D.Disk run moment (searches budget line) links left
-        (PutsInto W.Sink out.old out.new) (SearchesOver B.lost B.asks B.settles B.ready slot.old
+        (PutsInto W.Sink out.old out.new) (SearchesOver B.lost B.asks B.asks_all slot.old
         slot.new)))) }
     ensures cut { (moment : ℕ) → OnLine B.lost line slot.old slot.new (λ links left.
         AnyRun D.Disk concentrator.old concentrator.new (λ run.
         OnWrite result (LineCut D.Disk run moment (searches budget line) links (SearchesOver
-        B.lost B.asks B.settles B.ready slot.old slot.new)))) }
+        B.lost B.asks B.asks_all slot.old slot.new)))) }
     ensures starved { OnLine B.lost line slot.old slot.new (λ links left.
         AnyRun D.Disk concentrator.old concentrator.new (λ run.
         OnNoMemory result (LineStarved D.Disk run (searches budget line) links
-        (PutsInto W.Sink out.old out.new) (SearchesOver B.lost B.asks B.settles B.ready slot.old
+        (PutsInto W.Sink out.old out.new) (SearchesOver B.lost B.asks B.asks_all slot.old
         slot.new)))) }
     ensures through { OnNoMemory result (¬ ((line_of B.lost slot.old).link ≡ absent)) }
     ensures kept { IsKept B.lost slot.old slot.new }

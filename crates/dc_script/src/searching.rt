@@ -1,11 +1,12 @@
 //! `SEARCH`: searches for meters over a bus line.
 
-ghost use Rattle.std.specs.Prelude.{◌≡◌, ◌++◌, true};
+ghost use Rattle.std.specs.Prelude.{◌≡◌, ◌++◌, true, List, IfOk, OnErr};
+ghost use Rattle.dc_bus.specs.Bus.{Exchange};
 ghost use Rattle.dc_io.specs.Written.{PutsInto, Wrote};
 ghost use Rattle.dc_script.specs.Halt.{IsCounted};
 ghost use Rattle.dc_script.specs.Link.{gateway_port, link_by};
-ghost use Rattle.dc_script.specs.Search.{ComesOver, late_by, late_text, Talked};
-ghost use Rattle.dc_script.specs.Traffic.{IsSearchedFor};
+ghost use Rattle.dc_script.specs.Search.{AreOfSearch, ComesOver, IsOver, late_by, late_text, Talked};
+ghost use Rattle.dc_script.specs.Traffic.{AreQuestions, IsSearchedFor};
 ghost use Rattle.dc_search.specs.Found.{search_text};
 ghost use Rattle.dc_script.specs.Run.{AnyRun, SomeTurns};
 
@@ -13,7 +14,7 @@ use crate::halt::{Halt, written};
 use crate::late::put_late;
 use crate::port::{GATEWAY, Port, put_loss};
 use crate::quiet::{quiet_ask, quiet_commit};
-use dc_bus::{ScriptBus, search_late};
+use dc_bus::{Bus, search_over, search_windows};
 use dc_concentrator::{Concentrator, StartFault, put_committed, put_started};
 use dc_disk::Disk;
 use dc_io::{IoFault, NoMemory, Sink};
@@ -22,9 +23,8 @@ use std::alloc::Allocator;
 
 /// Searches for meters over a bus, with at most `budget` selections. The pending changes are
 /// committed first, and while a readout of the bus's line is pending nothing is selected, since a
-/// selection would restart that readout. Else the bus settles first, and what was met by silence is
-/// selected again where a late answer shows.
-pub fn search<D: Disk + Drop, A: Allocator + Copy, B: ScriptBus, W: Sink>(
+/// selection would restart that readout. The answers of a gateway are taken as they come.
+pub fn search<D: Disk + Drop, A: Allocator + Copy, B: Bus, W: Sink>(
     alloc: A,
     concentrator: &mut Concentrator<D, A>,
     bus: &mut B,
@@ -33,7 +33,7 @@ pub fn search<D: Disk + Drop, A: Allocator + Copy, B: ScriptBus, W: Sink>(
 ) -> Result<(), Halt>
     ensures went { AnyRun D.Disk concentrator.old concentrator.new (λ run.
         SomeTurns D.Disk run (ComesOver B.meters B.lost B.late gateway_port budget bus.old bus.new
-        (λ exchanges. IsSearchedFor B.asks B.settles B.ready bus.old exchanges bus.new)
+        (λ exchanges. IsSearchedFor true B.asks B.asks_all bus.old exchanges bus.new)
         (PutsInto W.Sink out.old out.new) result)) }
     ensures counted { IsCounted result (W.put_failures out.old) (W.put_failures out.new) }
     ensures budget { concentrator.new.house.budget ≡ concentrator.old.house.budget }
@@ -42,8 +42,8 @@ pub fn search<D: Disk + Drop, A: Allocator + Copy, B: ScriptBus, W: Sink>(
     search_on(alloc, GATEWAY, concentrator, bus, budget, out)
 }
 
-/// Searches for meters over the bus of a line, as [`search`] does.
-pub fn search_on<D: Disk + Drop, A: Allocator + Copy, B: ScriptBus, W: Sink>(
+/// Searches for meters over the bus of a line, as [`search`] does; over a line that isn't a gateway's by windows.
+pub fn search_on<D: Disk + Drop, A: Allocator + Copy, B: Bus, W: Sink>(
     alloc: A,
     port: Port,
     concentrator: &mut Concentrator<D, A>,
@@ -53,7 +53,7 @@ pub fn search_on<D: Disk + Drop, A: Allocator + Copy, B: ScriptBus, W: Sink>(
 ) -> Result<(), Halt>
     ensures went { AnyRun D.Disk concentrator.old concentrator.new (λ run.
         SomeTurns D.Disk run (ComesOver B.meters B.lost B.late port budget bus.old bus.new
-        (λ exchanges. IsSearchedFor B.asks B.settles B.ready bus.old exchanges bus.new)
+        (λ exchanges. IsSearchedFor port.is_gateway B.asks B.asks_all bus.old exchanges bus.new)
         (PutsInto W.Sink out.old out.new) result)) }
     ensures counted { IsCounted result (W.put_failures out.old) (W.put_failures out.new) }
     ensures budget { concentrator.new.house.budget ≡ concentrator.old.house.budget }
@@ -70,7 +70,7 @@ pub fn search_on<D: Disk + Drop, A: Allocator + Copy, B: ScriptBus, W: Sink>(
 
 // Runs the search and writes its result. A loss of the bus is printed before it, and the number of
 // late answers after it.
-fn search_bus<A: Allocator + Copy, B: ScriptBus, W: Sink>(
+fn search_bus<A: Allocator + Copy, B: Bus, W: Sink>(
     alloc: A,
     port: Port,
     bus: &mut B,
@@ -80,14 +80,14 @@ fn search_bus<A: Allocator + Copy, B: ScriptBus, W: Sink>(
     ensures talked { Talked (B.meters bus.old) port budget
         (late_by port.is_gateway (B.late bus.old) (B.late bus.new))
         (link_by (B.lost bus.old)) (link_by (B.lost bus.new))
-        (λ exchanges. IsSearchedFor B.asks B.settles B.ready bus.old exchanges bus.new)
+        (λ exchanges. IsSearchedFor port.is_gateway B.asks B.asks_all bus.old exchanges bus.new)
         (PutsInto W.Sink out.old out.new) result }
     ensures counted { IsCounted result (W.put_failures out.old) (W.put_failures out.new) }
     ensures untouched { B.lost bus.old ≡ true → bus.new ≡ bus.old }
 {
     let was_lost = bus.is_lost();
     let before = bus.late();
-    let searched = search_late(alloc, budget, bus);
+    let searched = look(alloc, port.is_gateway, budget, bus);
     match put_loss(port, was_lost, bus.is_lost(), out) {
         Ok(()) => match searched {
             Ok(search) => written(put_found_late(
@@ -99,6 +99,27 @@ fn search_bus<A: Allocator + Copy, B: ScriptBus, W: Sink>(
             Err(NoMemory) => Err(Halt::NoMemory),
         },
         Err(IoFault) => Err(Halt::Write),
+    }
+}
+
+// Searches a gateway as it answers, and a line by windows.
+fn look<A: Allocator + Copy, B: Bus>(
+    alloc: A,
+    is_gateway: bool,
+    budget: u32,
+    bus: &mut B,
+) -> Result<Search<A>, NoMemory>
+    ensures found { IfOk result (λ search. (exchanges : List Exchange)
+        × IsOver (B.meters bus.old) budget (link_by (B.lost bus.old)) exchanges search
+        × AreQuestions is_gateway B.asks B.asks_all bus.old exchanges bus.new) }
+    ensures stopped { OnErr result ((exchanges : List Exchange) × AreOfSearch budget exchanges
+        × AreQuestions is_gateway B.asks B.asks_all bus.old exchanges bus.new) }
+    ensures untouched { B.lost bus.old ≡ true → bus.new ≡ bus.old }
+{
+    if is_gateway {
+        search_over(alloc, budget, bus)
+    } else {
+        search_windows(alloc, budget, bus)
     }
 }
 

@@ -1,10 +1,10 @@
 //! A bus line of a script.
 
-use dc_bus::ScriptBus;
+use dc_bus::Bus;
 
 /// A bus line that has a bus.
 #[derive(Drop)]
-pub struct Slot<B: ScriptBus + Drop> {
+pub struct Slot<B: Bus + Drop> {
     /// The bus.
     pub bus: B,
     /// Whether it is the line of `--gateway`, on which no answer is late.

@@ -1,6 +1,4 @@
 -- the definitions that contracts cite
 
--- a bus whose answers come over a late link
-pub mod LateLink
--- how many selections a search made on its bus
-pub mod Made
+-- a search whose windows these meters answer
+pub mod Answered

@@ -1,1 +1,4 @@
 -- lemmas by topic
+
+-- what silence and room mean
+mod Room

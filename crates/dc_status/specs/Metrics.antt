@@ -1,35 +1,23 @@
 -- The lines of `status` as metrics, in the text format of Prometheus (this product): of each metric its help and type,
 -- and a sample of each meter that has one.
-use Rattle.std.specs.Prelude.{ℕ, if◌then◌else◌, Bool, true, false, List, [], ◌++◌, codes, decimal}
-use Rattle.std.specs.Prelude.{Option, None, Some, Result, Ok, Err, option_map}
+use Rattle.std.specs.Prelude.{ℕ, Bool, true, false, List, [], ◌++◌, codes, Option, None, Some}
 use Rattle.std.specs.List.{flat_map}
+use Rattle.dc_io.specs.Words.{number_word}
 use Rattle.dc_address.specs.Text.{text_of}
-use Rattle.dc_record.specs.declared.fault.BodyFault.{BodyFault}
-use Rattle.dc_record.specs.Telegram.{Parsed, telegram_at}
 use Rattle.dc_change.specs.Size.{size_of}
-use Rattle.dc_change.specs.State.{State, Held, PartRow}
+use Rattle.dc_change.specs.State.{State, Held}
 use Rattle.dc_register.specs.Places.{by_flat}
 use Rattle.dc_register.specs.declared.place.Place.{Place}
-use Rattle.dc_latest.specs.Values.{last_reading}
-use Rattle.dc_status.specs.Heard.{ago, heard, is_silent, part_in}
-use Rattle.dc_status.specs.Object.{text_field}
+use Rattle.dc_status.specs.Row.{row_at}
 use Rattle.dc_status.specs.Status.{readings_left}
+use Rattle.dc_status.specs.declared.row.Row.{Row}
 use Rattle.dc_status.specs.declared.metrics.Metric.{Metric}
 use Rattle.dc_status.specs.declared.metrics.Metric.TheVariants.{Silent, Age, Code}
 
--- a text after another
-unfoldable pub after : List ℕ → List ℕ → List ℕ
-after before text = before ++ text
-
-unfoldable pub help_line : List ℕ → List ℕ → List ℕ
-help_line name help = after (codes "# HELP ") name ++ (after (codes " ") help ++ codes "\n")
-
-unfoldable pub type_line : List ℕ → List ℕ
-type_line name = after (codes "# TYPE ") name ++ codes " gauge\n"
-
 -- a gauge: its help and its type
 unfoldable pub head_of : List ℕ → List ℕ → List ℕ
-head_of name help = help_line name help ++ type_line name
+head_of name help = codes "# HELP " ++ (name ++ (codes " " ++ (help ++ (codes "\n# TYPE "
+    ++ (name ++ codes " gauge\n")))))
 
 -- ---- of the meters
 
@@ -47,32 +35,25 @@ abbrev pub one_or_none : Bool → ℕ
 one_or_none true = 1
 one_or_none false = 0
 
-abbrev pub code_in : Result Parsed BodyFault → Option ℕ
-code_in (Ok telegram) = Some telegram.header.status
-code_in (Err fault) = None
+-- the value of a meter
+unfoldable pub value_of : Metric → Row → Option ℕ
+value_of Silent row = Some (one_or_none row.is_silent)
+value_of Age row = row.age
+value_of Code row = row.status
 
-unfoldable pub code_of : Option PartRow → Option ℕ
-code_of None = None
-code_of (Some part) = code_in (telegram_at part.body)
+-- up to the quotation mark that ends them
+unfoldable pub labels_of : Row → List ℕ
+labels_of row = codes "{flat=\"" ++ (row.flat ++ (codes "\",meter=\"" ++ text_of row.meter))
 
--- the value of a meter at a clock
-unfoldable pub value_of : Metric → ℕ → ℕ → State → Place → Option ℕ
-value_of Silent patience now s place =
-    Some (one_or_none (is_silent patience now s.confirmed (heard s place.meter)))
-value_of Age patience now s place = option_map (ago now) (heard s place.meter)
-value_of Code patience now s place = code_of (part_in (last_reading place.meter s))
+unfoldable pub sample_of : List ℕ → Row → Option ℕ → List ℕ
+sample_of name row None = []
+sample_of name row (Some value) = name
+    ++ (labels_of row ++ (codes "\"}" ++ (number_word value ++ codes "\n")))
 
-unfoldable pub labels_of : Place → List ℕ
-labels_of place = text_field (codes "{flat=\"") place.flat
-    ++ (text_field (codes ",meter=\"") (text_of place.meter) ++ codes "} ")
-
-unfoldable pub sample_of : List ℕ → Place → Option ℕ → List ℕ
-sample_of name place None = []
-sample_of name place (Some value) = name ++ (labels_of place ++ (decimal value ++ codes "\n"))
-
+-- at a clock
 abbrev pub meter_sample : Metric → ℕ → ℕ → State → Place → List ℕ
 meter_sample metric patience now s place =
-    sample_of (name_of metric) place (value_of metric patience now s place)
+    sample_of (name_of metric) (row_at patience now s place) (value_of metric (row_at patience now s place))
 
 unfoldable pub meter_samples : Metric → ℕ → ℕ → State → List ℕ
 meter_samples metric patience now s =
@@ -89,7 +70,7 @@ metric_text metric patience now s =
 unfoldable pub gauge_text : List ℕ → List ℕ → Option ℕ → List ℕ
 gauge_text name help None = head_of name help
 gauge_text name help (Some value) =
-    head_of name help ++ (name ++ (codes " " ++ (decimal value ++ codes "\n")))
+    head_of name help ++ (name ++ (number_word value ++ codes "\n"))
 
 unfoldable pub image_text : ℕ → State → List ℕ
 image_text budget s =

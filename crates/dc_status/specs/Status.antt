@@ -1,33 +1,31 @@
 -- The lines of `status` (this product): of each registered meter when it was last heard, and how full the image is.
 use Rattle.std.specs.Prelude.{ℕ, ◌-◌, ◌/◌, max, ◌==◌, if◌then◌else◌, Bool, true, false, List, [], ◌∷◌, ◌++◌}
-use Rattle.std.specs.Prelude.{codes, length, slice_get, Option, None, Some, Result, Ok, Err}
+use Rattle.std.specs.Prelude.{codes, length, slice_get, Option, None, Some}
 use Rattle.std.specs.List.{flat_map, list_any}
 use Rattle.dc_io.specs.Words.{number_word}
 use Rattle.dc_address.specs.Text.{text_of}
 use Rattle.dc_value.specs.Text.{value_text}
-use Rattle.dc_record.specs.declared.fault.BodyFault.{BodyFault}
-use Rattle.dc_record.specs.Telegram.{Parsed, telegram_at}
 use Rattle.dc_names.specs.Fields.{application_name}
 use Rattle.dc_change.specs.Size.{size_of, empty_size}
-use Rattle.dc_change.specs.State.{State, Held, ReadingRow, PartRow}
+use Rattle.dc_change.specs.State.{State, Held, ReadingRow}
 use Rattle.dc_register.specs.Places.{by_flat}
 use Rattle.dc_register.specs.declared.place.Place.{Place}
 use Rattle.dc_latest.specs.Utc.{minute_of}
-use Rattle.dc_latest.specs.Values.{bits_words, last_reading}
-use Rattle.dc_status.specs.Heard.{ago, heard, is_silent, moment_of, part_in}
+use Rattle.dc_latest.specs.Values.{bits_words}
+use Rattle.dc_status.specs.Heard.{ago, heard, is_silent, moment_of}
+use Rattle.dc_status.specs.Row.{row_at}
+use Rattle.dc_status.specs.declared.row.Row.{Row}
 
 -- ---- the line of a meter
 
 -- the minute (UTC), and the seconds since
-unfoldable pub moment_words : ℕ → ℕ → List ℕ
-moment_words now moment = codes " " ++ (value_text (minute_of moment)
-    ++ (codes "Z" ++ number_word (ago now moment)))
+unfoldable pub heard_words : Option ℕ → Option ℕ → List ℕ
+heard_words None age = codes " NONE"
+heard_words (Some moment) None = codes " NONE"
+heard_words (Some moment) (Some age) = codes " " ++ (value_text (minute_of moment)
+    ++ (codes "Z" ++ number_word age))
 
-unfoldable pub heard_words : ℕ → Option ℕ → List ℕ
-heard_words now None = codes " NONE"
-heard_words now (Some moment) = moment_words now moment
-
-unfoldable pub silent_words : Bool → List ℕ
+abbrev pub silent_words : Bool → List ℕ
 silent_words true = codes " SILENT"
 silent_words false = []
 
@@ -35,23 +33,17 @@ silent_words false = []
 unfoldable pub byte_words : ℕ → List ℕ
 byte_words status = codes " " ++ (application_name status ++ bits_words status)
 
-abbrev pub telegram_words : Result Parsed BodyFault → List ℕ
-telegram_words (Ok telegram) = byte_words telegram.header.status
-telegram_words (Err fault) = []
-
-unfoldable pub state_words : Option PartRow → List ℕ
+unfoldable pub state_words : Option ℕ → List ℕ
 state_words None = []
-state_words (Some part) = telegram_words (telegram_at part.body)
+state_words (Some status) = byte_words status
 
-unfoldable pub meter_words : Place → List ℕ
-meter_words place = codes "METER " ++ (place.flat ++ (codes " " ++ text_of place.meter))
+unfoldable pub meter_words : Row → List ℕ
+meter_words row = codes "METER " ++ (row.flat ++ (codes " " ++ text_of row.meter))
 
--- a meter at a clock, which is silent after so many seconds
-unfoldable pub meter_line : ℕ → ℕ → State → Place → List ℕ
-meter_line patience now s place = meter_words place
-    ++ (heard_words now (heard s place.meter)
-    ++ (silent_words (is_silent patience now s.confirmed (heard s place.meter))
-    ++ (state_words (part_in (last_reading place.meter s)) ++ codes "\n")))
+unfoldable pub row_text : Row → List ℕ
+row_text row = meter_words row
+    ++ (heard_words row.heard row.age
+    ++ (silent_words row.is_silent ++ (state_words row.status ++ codes "\n")))
 
 -- ---- how full it is
 
@@ -78,9 +70,13 @@ days_left budget now s =
     if bytes_a_day now s (first_moment s) == 0 then None
     else Some ((budget - size_of s) / bytes_a_day now s (first_moment s))
 
+-- a number after its name
+unfoldable pub number_line : List ℕ → Option ℕ → List ℕ
+number_line name None = name ++ codes " NONE\n"
+number_line name (Some number) = name ++ (number_word number ++ codes "\n")
+
 unfoldable pub days_words : Option ℕ → List ℕ
-days_words None = codes "DAYS NONE\n"
-days_words (Some days) = codes "DAYS" ++ (number_word days ++ codes "\n")
+days_words days = number_line (codes "DAYS") days
 
 unfoldable pub size_line : ℕ → State → List ℕ
 size_line budget s = codes "SIZE" ++ (number_word (size_of s) ++ (number_word budget ++ codes "\n"))
@@ -98,17 +94,20 @@ readings_left budget s =
     else Some ((budget - size_of s) / bytes_a_reading s)
 
 unfoldable pub room_words : Option ℕ → List ℕ
-room_words None = codes "ROOM NONE\n"
-room_words (Some readings) = codes "ROOM" ++ (number_word readings ++ codes "\n")
+room_words readings = number_line (codes "ROOM") readings
 
 -- ---- all
 
-unfoldable pub meter_lines : ℕ → ℕ → State → List ℕ
-meter_lines patience now s = flat_map (meter_line patience now s) (by_flat s.meters)
+-- a meter at a clock, which is silent after so many seconds
+abbrev pub row_line : ℕ → ℕ → State → Place → List ℕ
+row_line patience now s place = row_text (row_at patience now s place)
+
+unfoldable pub row_lines : ℕ → ℕ → State → List ℕ
+row_lines patience now s = flat_map (row_line patience now s) (by_flat s.meters)
 
 -- THE TEXT at a clock, where a meter is silent after so many seconds
 unfoldable pub status_text : ℕ → ℕ → Held → List ℕ
-status_text patience now house = meter_lines patience now house.state
+status_text patience now house = row_lines patience now house.state
     ++ (size_line house.budget house.state
     ++ (days_words (days_left house.budget now house.state)
     ++ room_words (readings_left house.budget house.state)))

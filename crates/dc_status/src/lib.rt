@@ -6,15 +6,21 @@
 //! [`put_status_objects`] writes the same as JSON objects, [`put_metrics`] as metrics for Prometheus. [`any_silent`]
 //! says whether a meter is silent.
 //!
-//! Proved: each text is exactly the one that `specs/` defines of the state and the clock.
+//! What is told of a meter is one row (`specs/Row.antt`), which each form writes.
+//!
+//! Proved: each text is exactly the one that `specs/` defines of the state and the clock. What its rows mean is a law:
+//! [`rows_mean_what_they_say`].
 #![tactic(auto)]
 
 mod full;
+mod laws;
 mod lines;
 mod metrics;
 mod object;
+mod row;
 mod silence;
 
+pub use laws::rows_mean_what_they_say;
 pub use lines::{put_room_left, put_status};
 pub use metrics::put_metrics;
 pub use object::put_status_objects;

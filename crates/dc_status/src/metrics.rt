@@ -1,18 +1,17 @@
 //! The lines of `status` as metrics, in the text format of Prometheus.
 
-ghost use Rattle.std.specs.Prelude.{◌≡◌, Some, option_copied, option_map};
+ghost use Rattle.std.specs.Prelude.{◌≡◌};
 ghost use Rattle.dc_io.specs.Written.{Wrote};
-ghost use Rattle.dc_status.specs.Heard.{ago};
-ghost use Rattle.dc_status.specs.Metrics.{after, code_of, gauge_text, head_of, help_line, help_of};
-ghost use Rattle.dc_status.specs.Metrics.{image_text, labels_of, meter_samples, metric_text, metrics_text};
-ghost use Rattle.dc_status.specs.Metrics.{name_of, sample_of, type_line, value_of};
+ghost use Rattle.dc_status.specs.Metrics.{gauge_text, head_of, help_of, image_text, labels_of};
+ghost use Rattle.dc_status.specs.Metrics.{meter_samples, metric_text, metrics_text};
+ghost use Rattle.dc_status.specs.Metrics.{name_of, sample_of, value_of};
 
 use crate::full::readings_left;
-use crate::object::put_text;
-use crate::silence::{Clock, heard, is_silent, part_in};
-use dc_io::{IoFault, Sink, put_number};
-use dc_latest::last_reading;
-use dc_register::{House, Part, Place};
+use crate::row::{Row, row_at};
+use crate::silence::Clock;
+use dc_io::{IoFault, Sink, put_number_word};
+use dc_register::House;
+use dc_tokens::{Piece, put_pieces};
 use std::alloc::Allocator;
 
 // What a meter is measured by.
@@ -91,50 +90,24 @@ fn put_samples<A: Allocator + Copy, W: Sink>(
         (meter_samples metric clock.patience clock.now house.now.state) }
 {
     for place in house.meters_by_flat() {
-        let value = value_of(house, clock, metric, place);
-        put_sample(out, metric.name(), place, value)?;
+        let row = row_at(house, clock, place);
+        put_sample(out, metric.name(), &row, value_of(metric, &row))?;
     }
     Ok(())
 }
 
 // The value of a meter.
 #[tactic(auto, unfolding(crate::specs::Metrics::value_of))]
-fn value_of<A: Allocator + Copy>(
-    house: &House<A>,
-    clock: Clock,
-    metric: Metric,
-    place: &Place,
-) -> Option<u64>
-    ensures { result ≡ value_of metric clock.patience clock.now house.now.state place.now }
+fn value_of(metric: Metric, row: &Row) -> Option<u64>
+    ensures { result ≡ value_of metric row.now }
 {
     match metric {
-        Metric::Silent => {
-            let moment = heard(house, &place.meter);
-            Some(u64::from(is_silent(clock, house.confirmed(), moment)))
-        }
-        Metric::Age => age(clock.now, heard(house, &place.meter)),
-        Metric::Code => code_of(part_in(last_reading(house, &place.meter))),
-    }
-}
-
-// Seconds since a moment.
-fn age(now: u64, moment: Option<u64>) -> Option<u64>
-    ensures { result ≡ option_map (ago now) moment }
-{
-    match moment {
-        Some(moment) => Some(now.saturating_sub(moment)),
-        None => None,
-    }
-}
-
-// The status byte of a part.
-#[tactic(auto, unfolding(crate::specs::Metrics::code_of))]
-fn code_of<A: Allocator>(part: Option<&Part<A>>) -> Option<u64>
-    ensures { result ≡ code_of (option_copied part.entry) }
-{
-    match part {
-        Some(part) => Some(u64::from(part.telegram().header().status)),
-        None => None,
+        Metric::Silent => Some(u64::from(row.is_silent)),
+        Metric::Age => row.age,
+        Metric::Code => match row.status {
+            Some(status) => Some(u64::from(status)),
+            None => None,
+        },
     }
 }
 
@@ -143,67 +116,56 @@ fn code_of<A: Allocator>(part: Option<&Part<A>>) -> Option<u64>
 fn put_sample<W: Sink>(
     out: &mut W,
     name: &[u8],
-    place: &Place,
+    row: &Row,
     value: Option<u64>,
 ) -> Result<(), IoFault>
-    ensures { Wrote W.Sink result out.old out.new (sample_of name.now place.now value) }
+    ensures { Wrote W.Sink result out.old out.new (sample_of name.now row.now value) }
 {
     match value {
         Some(value) => {
             out.put(name)?;
-            put_labels(out, place)?;
-            put_number(out, value)?;
+            put_labels(out, row)?;
+            out.put(b"\"}")?;
+            put_number_word(out, value)?;
             out.put(b"\n")
         }
         None => Ok(()),
     }
 }
 
-// Writes the labels of a meter.
-#[tactic(auto, using(dc_io::proofs::Pieces::written), unfolding(crate::specs::Metrics::labels_of))]
-fn put_labels<W: Sink>(out: &mut W, place: &Place) -> Result<(), IoFault>
-    ensures { Wrote W.Sink result out.old out.new (labels_of place.now) }
+// Writes the labels of a meter, up to the quotation mark that ends them.
+#[tactic(auto, unfolding(crate::specs::Metrics::labels_of))]
+fn put_labels<W: Sink>(out: &mut W, row: &Row) -> Result<(), IoFault>
+    ensures { Wrote W.Sink result out.old out.new (labels_of row.now) }
 {
-    put_text(out, b"{flat=\"", place.flat.as_slice())?;
-    put_text(out, b",meter=\"", &place.meter.text())?;
-    out.put(b"} ")
-}
-
-// Writes a text after another.
-#[tactic(auto, using(dc_io::proofs::Pieces::written), unfolding(crate::specs::Metrics::after))]
-fn put_after<W: Sink>(out: &mut W, before: &[u8], text: &[u8]) -> Result<(), IoFault>
-    ensures { Wrote W.Sink result out.old out.new (after before.now text.now) }
-{
-    out.put(before)?;
-    out.put(text)
-}
-
-// Writes the help of a metric.
-#[tactic(auto, using(dc_io::proofs::Pieces::written), unfolding(crate::specs::Metrics::help_line))]
-fn put_help<W: Sink>(out: &mut W, name: &[u8], help: &[u8]) -> Result<(), IoFault>
-    ensures { Wrote W.Sink result out.old out.new (help_line name.now help.now) }
-{
-    put_after(out, b"# HELP ", name)?;
-    put_after(out, b" ", help)?;
-    out.put(b"\n")
-}
-
-// Writes the type of a metric.
-#[tactic(auto, using(dc_io::proofs::Pieces::written), unfolding(crate::specs::Metrics::type_line))]
-fn put_type<W: Sink>(out: &mut W, name: &[u8]) -> Result<(), IoFault>
-    ensures { Wrote W.Sink result out.old out.new (type_line name.now) }
-{
-    put_after(out, b"# TYPE ", name)?;
-    out.put(b" gauge\n")
+    put_pieces(
+        out,
+        &[
+            Piece::Text(b"{flat=\""),
+            Piece::Text(row.flat.as_slice()),
+            Piece::Text(b"\",meter=\""),
+            Piece::Text(&row.meter.text()),
+        ],
+    )
 }
 
 // Writes the help and the type of a metric.
-#[tactic(auto, using(dc_io::proofs::Pieces::written), unfolding(crate::specs::Metrics::head_of))]
-fn put_head<W: Sink>(out: &mut W, name: &[u8], help: &[u8]) -> Result<(), IoFault>
+#[tactic(auto, unfolding(crate::specs::Metrics::head_of))]
+fn put_head<W: Sink>(out: &mut W, name: &'static [u8], help: &'static [u8]) -> Result<(), IoFault>
     ensures { Wrote W.Sink result out.old out.new (head_of name.now help.now) }
 {
-    put_help(out, name, help)?;
-    put_type(out, name)
+    put_pieces(
+        out,
+        &[
+            Piece::Text(b"# HELP "),
+            Piece::Text(name),
+            Piece::Text(b" "),
+            Piece::Text(help),
+            Piece::Text(b"\n# TYPE "),
+            Piece::Text(name),
+            Piece::Text(b" gauge\n"),
+        ],
+    )
 }
 
 // Writes the metrics of the image.
@@ -234,20 +196,18 @@ fn put_image<A: Allocator + Copy, W: Sink>(out: &mut W, house: &House<A>) -> Res
 #[tactic(auto, using(dc_io::proofs::Pieces::written), unfolding(crate::specs::Metrics::gauge_text))]
 fn put_gauge<W: Sink>(
     out: &mut W,
-    name: &[u8],
-    help: &[u8],
+    name: &'static [u8],
+    help: &'static [u8],
     value: Option<u64>,
 ) -> Result<(), IoFault>
     ensures { Wrote W.Sink result out.old out.new (gauge_text name.now help.now value) }
 {
     put_head(out, name, help)?;
     match value {
-        Some(value) => {
-            out.put(name)?;
-            out.put(b" ")?;
-            put_number(out, value)?;
-            out.put(b"\n")
-        }
+        Some(value) => put_pieces(
+            out,
+            &[Piece::Text(name), Piece::Word(value), Piece::Text(b"\n")],
+        ),
         None => Ok(()),
     }
 }

@@ -2,7 +2,7 @@
 
 use crate::reason::put_reason;
 use crate::tally::Tally;
-use dc_bus::QuietBus;
+use dc_bus::HalfBus;
 use dc_io::{FixedSink, IoFault};
 use dc_poll::{Event, Phase, Station, Teller};
 use std::cell::Cell;
@@ -41,7 +41,7 @@ impl<'h, R: Clock + Eprint> Progress<'h, R> {
     }
 
     /// Shows the progress, if it isn't what the terminal shows.
-    pub fn show<B: QuietBus + Drop>(&self, stations: &[Station<'_, B>]) {
+    pub fn show<B: HalfBus + Drop>(&self, stations: &[Station<'_, B>]) {
         if !self.is_terminal {
             return;
         }
@@ -86,7 +86,7 @@ impl<'h, R: Clock + Eprint> Progress<'h, R> {
 }
 
 // The meters that aren't done with.
-fn meters_of<B: QuietBus + Drop>(stations: &[Station<'_, B>]) -> u64 {
+fn meters_of<B: HalfBus + Drop>(stations: &[Station<'_, B>]) -> u64 {
     let mut count: u64 = 0;
     for station in stations {
         count = count.saturating_add(station.left.len() as u64);

@@ -1,4 +1,4 @@
-//! The lives, and the faults that are tested on them.
+//! The lives, and the faults that are tested on them; worked examples.
 
 mod failures;
 mod files;
@@ -7,6 +7,7 @@ mod growths;
 mod images;
 mod life;
 mod lives;
+mod rows;
 mod stops;
 mod turns;
 mod writes;

@@ -4,5 +4,7 @@ pub mod Adding
 mod Escapes
 -- the tokens of objects and arrays
 pub mod Objects
+-- the text of a row is that of its first piece and of the others
+mod Rows
 -- tokens that a loop writes
 pub mod Rests

@@ -17,7 +17,7 @@ pub record Gives {B O : Type 0} (lost : B → Bool) (gives : B → List ℕ → 
   pub given : gives old.bus answer new.bus
   pub seen : lost old.bus ≡ false → sees old.observer answer new.observer
 
--- the bus waits or settles, and the observer sees nothing
+-- the bus waits, and the observer sees nothing
 pub record Unseen {B O : Type 0} (goes : B → B → Type 0) (old new : Observed B O) : Type 0 where
   pub went : goes old.bus new.bus
   pub same : new.observer ≡ old.observer

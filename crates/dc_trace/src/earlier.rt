@@ -1,9 +1,9 @@
 //! Which files a trace may be written over: those that hold nothing, or an earlier trace.
 
 use std::fs::File;
-use std::io::{ErrorKind, Read};
-use std::rt::Files;
-use std::{fs, io, str};
+use std::io::ErrorKind;
+use std::os::unix::fs::FileExt;
+use std::{io, str};
 
 // Number of bytes of a file that are looked at: a line of a trace has fewer before its bytes.
 const LOOKED_AT: usize = 32;
@@ -11,28 +11,32 @@ const LOOKED_AT: usize = 32;
 // The greatest number of a bus line.
 const GREATEST_LINE: u8 = 8;
 
-/// Refuses a file that holds anything but an earlier trace. What is no regular file holds nothing.
+/// Empties the open file of an earlier trace.
 ///
 /// # Errors
-/// It holds something else, or can't be looked at.
-pub(crate) fn spare_others<R: Files<File = File>>(rt: &R, name: &str) -> io::Result<()> {
-    match fs::metadata(rt, name) {
-        Ok(about) if about.is_file() && about.len() > 0 => {}
-        Ok(_) => return Ok(()),
-        Err(error) if error.kind() == ErrorKind::NotFound => return Ok(()),
-        Err(error) => return Err(error),
+/// It is no regular file, it holds anything else, or can't be looked at. It stays as it is then.
+pub(crate) fn empty_earlier(file: &File) -> io::Result<()> {
+    let about = file.metadata()?;
+    if !about.is_file() {
+        return Err(no_file());
     }
-    let mut file = fs::open(rt, name)?;
+    if about.len() == 0 {
+        return Ok(());
+    }
     let mut bytes = [0; LOOKED_AT];
-    let count = file.read(&mut bytes)?.min(LOOKED_AT);
+    let count = file.read_at(&mut bytes, 0)?.min(LOOKED_AT);
     if is_trace(&bytes[..count]) {
-        Ok(())
-    } else {
-        Err(io::Error::new(
-            ErrorKind::AlreadyExists,
-            "it holds something else than a trace",
-        ))
+        return file.set_len(0);
     }
+    Err(io::Error::new(
+        ErrorKind::AlreadyExists,
+        "it holds something else than a trace",
+    ))
+}
+
+/// The refusal of a pipe, a device or a folder.
+pub(crate) fn no_file() -> io::Error {
+    io::Error::new(ErrorKind::InvalidInput, "it is no regular file")
 }
 
 // Whether these bytes begin as a trace does: milliseconds, a bus line, and a request or an answer.

@@ -3,7 +3,7 @@
 ghost use Rattle.std.specs.Prelude.{◌≡◌, true};
 
 use crate::observer::Observer;
-use dc_bus::{AnswerBuf, HalfBus, QuietBus};
+use dc_bus::{AnswerBuf, HalfBus};
 use dc_frame::FrameBuf;
 
 /// A bus with an observer, which sees each request and each answer. A lost bus is untouched, and so is its observer.
@@ -24,11 +24,13 @@ impl<B: HalfBus + Drop, O: Observer + Drop> HalfBus for Observed<B, O> {
 
     ghost sends = { Sends B.lost B.sends O.sees_request };
 
+    ghost opens = { Sends B.lost B.opens O.sees_request };
+
     ghost waits = { Unseen B.waits };
 
     ghost gives = { Gives B.lost B.gives O.sees_answer };
 
-    ghost dropped = { λ observed. B.dropped observed.bus };
+    ghost late = { λ observed. B.late observed.bus };
 
     fn is_lost(&self) -> bool {
         self.bus.is_lost()
@@ -41,6 +43,13 @@ impl<B: HalfBus + Drop, O: Observer + Drop> HalfBus for Observed<B, O> {
         self.bus.send(request);
     }
 
+    fn send_open(&mut self, request: &FrameBuf) {
+        if !self.bus.is_lost() {
+            self.observer.see_request(request.as_slice());
+        }
+        self.bus.send_open(request);
+    }
+
     fn hear(&mut self) -> Option<AnswerBuf> {
         let was_lost = self.bus.is_lost();
         let answer = self.bus.hear()?;
@@ -48,30 +57,6 @@ impl<B: HalfBus + Drop, O: Observer + Drop> HalfBus for Observed<B, O> {
             self.observer.see_answer(answer.as_slice());
         }
         Some(answer)
-    }
-
-    fn dropped(&self) -> u64 {
-        self.bus.dropped()
-    }
-}
-
-impl<B: QuietBus + Drop, O: Observer + Drop> QuietBus for Observed<B, O> {
-    ghost use Rattle.dc_trace.specs.Observed.{Unseen};
-
-    ghost ready = { λ observed. B.ready observed.bus };
-
-    ghost settles = { Unseen B.settles };
-
-    ghost settles_left = { λ observed. B.settles_left observed.bus };
-
-    ghost late = { λ observed. B.late observed.bus };
-
-    fn is_ready(&self) -> bool {
-        self.bus.is_ready()
-    }
-
-    fn settle(&mut self) {
-        self.bus.settle();
     }
 
     fn late(&self) -> u64 {

@@ -3,7 +3,7 @@
 ghost use Rattle.std.specs.Prelude.{◌≡◌, OnOk, OnErr, None};
 ghost use Rattle.dc_io.specs.Failures.{HasRisen};
 
-use crate::earlier::spare_others;
+use crate::earlier::{empty_earlier, no_file};
 use crate::tracer::TraceSink;
 use dc_io::{FixedSink, IoFault, Sink, one_failure_more};
 use std::cell::Cell;
@@ -11,10 +11,13 @@ use std::fs::{File, OpenOptions};
 use std::io::{ErrorKind, Write};
 use std::rt::{Clock, Files};
 use std::time::Instant;
-use std::{io, str};
+use std::{fs, io, str};
 
 // The name that stands for standard error.
 const DASH: &str = "-";
+
+// The system's message for a full drive.
+const FULL: &str = "No space left on device";
 
 // Room for a line of the longest answer, 300 bytes as hex digits.
 const ROOM: usize = 700;
@@ -35,7 +38,7 @@ impl<'h, R: Clock + Eprint> TraceFile<'h, R> {
     /// holds anything else stays as it is.
     ///
     /// # Errors
-    /// It can't be made, it holds something else than a trace, or the clock fails.
+    /// It can't be made, it is no regular file, it holds something else than a trace, or the clock fails.
     pub fn open(rt: &'h R, name: &'h str) -> io::Result<Self>
     where
         R: Files<File = File>,
@@ -61,10 +64,18 @@ impl<'h, R: Clock + Eprint> TraceFile<'h, R> {
         }
         if let Err(error) = self.put(line) {
             self.has_failed.set(true);
-            let _ = eprint!(self.rt; "mbdc: trace: {}: {error}\n", self.name);
+            self.name_failure(error.kind());
             return Err(IoFault);
         }
         Ok(())
+    }
+
+    // Says why the trace ends, without the number that the system's message has.
+    fn name_failure(&self, kind: ErrorKind) {
+        let _ = match kind {
+            ErrorKind::StorageFull => eprint!(self.rt; "mbdc: trace: {}: {FULL}\n", self.name),
+            kind => eprint!(self.rt; "mbdc: trace: {}: {kind}\n", self.name),
+        };
     }
 
     fn put(&self, line: &[u8]) -> io::Result<()> {
@@ -92,10 +103,17 @@ fn file_of<R: Files<File = File>>(rt: &R, name: &str) -> io::Result<Option<File>
     if name == DASH {
         return Ok(None);
     }
-    spare_others(rt, name)?;
+    // Opening a device or a pipe may do something.
+    if let Ok(about) = fs::metadata(rt, name)
+        && !about.is_file()
+    {
+        return Err(no_file());
+    }
     let mut options = OpenOptions::new();
-    options.write(true).create(true).truncate(true);
-    Ok(Some(options.open(rt, name)?))
+    options.read(true).write(true).create(true);
+    let file = options.open(rt, name)?;
+    empty_earlier(&file)?;
+    Ok(Some(file))
 }
 
 /// The lines of one bus line for that file, each of which is written once it is whole; without a file nothing is.

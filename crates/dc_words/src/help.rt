@@ -30,6 +30,8 @@ Bill:
 Maintain:
   format   Makes an image that holds an empty register
   fit      Adds the meters of a list to an image's register, all of them or none
+  copy     Copies an image as it is at one instant, also while mbdc writes it
+  rescue   Writes what an image reads as, or what is left of it, to a new image
   address  Gives one meter on one bus another primary address
   demo     Reads a simulated meter in this process, and reports its value
 
@@ -204,10 +206,34 @@ All rows are checked before the first is done. Printed of each row:
   line i: n FIT ident line addr flat  a new meter: its command and its number
   line i: ident stands already        the register has it at this place
   line i: reason                      the row is wrong: nothing is done
-Then the office's reply to each command: OK n once it is on the disk. After a
-power cut the same list adds what is missing.
-Status: 0 every meter stands, 1 a row is wrong or a command wasn't done, 3 the
-  image, 4 a file or memory.";
+The whole list is written at once: after a power cut all of it is done, or
+nothing.
+Status: 0 every meter stands, 1 a row is wrong, 3 the image or its disk, 4 a
+  file or memory.";
+
+/// Of `copy`.
+pub const COPY: &str = "Example:
+  mbdc copy house.image backup.image
+
+The copy is what the image's file held at one instant; a poll or a run may go on
+meanwhile. It is made under a name of its own, and gets its name once it is
+whole and on the disk.
+Status: 0 done, 3 a sector can't be read, 4 a file or memory.";
+
+/// Of `rescue`.
+pub const RESCUE: &str = "Example:
+  mbdc rescue house.image new.image
+
+For an image that mbdc doesn't open, or says of that a sector is ahead. It isn't
+changed, and the new one has as many sectors. Printed, a fact a line:
+  WHOLE               the image reads as a state, and the new image has it
+  WITHOUT sector      the state before the group at this damaged sector
+  OLDER sector slot   the root in this slot is left out too: a whole state,
+                      written when a half was full, may be lost
+  LOST n              of the groups after it this many left a trace, at least
+Then what inspect prints of the new image.
+Status: 0 the new image has the state, 3 nothing can be rescued or written, 4 a
+  file or memory.";
 
 /// Of `inspect`.
 pub const INSPECT: &str = "Example:

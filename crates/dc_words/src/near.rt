@@ -1,8 +1,9 @@
 //! The command that a mistyped word is nearly.
 
 // The commands, the shortest words first among those that begin alike.
-const COMMANDS: [&str; 14] = [
+const COMMANDS: [&str; 16] = [
     "consumption",
+    "copy",
     "decode",
     "demo",
     "fit",
@@ -12,6 +13,7 @@ const COMMANDS: [&str; 14] = [
     "poll",
     "read",
     "report",
+    "rescue",
     "run",
     "scan",
     "status",

@@ -168,6 +168,20 @@ pub enum Task<'a> {
         /// The list's file.
         list: &'a str,
     },
+    /// A copy of an image, in a new file.
+    Copy {
+        /// The image's file.
+        image: &'a str,
+        /// The new file.
+        file: &'a str,
+    },
+    /// What an image reads as, or what is left of it, in a new image.
+    Rescue {
+        /// The image's file.
+        image: &'a str,
+        /// The new image's file.
+        file: &'a str,
+    },
     /// The readout of the registered meters over an image.
     Poll(PollTask<'a>),
     /// A search for meters on one bus, without an image.

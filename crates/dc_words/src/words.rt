@@ -44,6 +44,14 @@ fn image_arg<'a>(alloc: Global) -> Arg<'a> {
     required_arg(alloc, "IMAGE", "The image's file")
 }
 
+fn new_arg<'a>(alloc: Global) -> Arg<'a> {
+    required_arg(
+        alloc,
+        "FILE",
+        "The new image's file: nothing has its name yet",
+    )
+}
+
 fn sectors_arg<'a>(alloc: Global) -> Arg<'a> {
     required_arg(
         alloc,
@@ -286,6 +294,18 @@ fn fit_command<'a>(alloc: Global) -> Result<Command<'a>, AllocError> {
     command_of(alloc, "fit", about, help::FIT, args)
 }
 
+fn copy_command<'a>(alloc: Global) -> Result<Command<'a>, AllocError> {
+    let args = vec![in alloc; image_arg(alloc), new_arg(alloc)]?;
+    let about = "Copies an image as it is at one instant, also while mbdc writes it";
+    command_of(alloc, "copy", about, help::COPY, args)
+}
+
+fn rescue_command<'a>(alloc: Global) -> Result<Command<'a>, AllocError> {
+    let args = vec![in alloc; image_arg(alloc), new_arg(alloc)]?;
+    let about = "Writes what an image reads as, or what is left of it, to a new image";
+    command_of(alloc, "rescue", about, help::RESCUE, args)
+}
+
 fn scan_command<'a>(alloc: Global) -> Result<Command<'a>, AllocError> {
     let primary = "Asks each primary address from 1 to 250 in place of the wildcard search";
     let primary = flag_arg(alloc, "PRIMARY", "primary", primary).conflicts_with("BUDGET")?;
@@ -340,6 +360,8 @@ fn program<'a>(alloc: Global) -> Result<Command<'a>, AllocError> {
     let program = with_command(program, poll_command(alloc));
     let program = with_command(program, run_command(alloc));
     let program = with_command(program, fit_command(alloc));
+    let program = with_command(program, copy_command(alloc));
+    let program = with_command(program, rescue_command(alloc));
     let program = with_command(program, report_command(alloc));
     let program = with_command(program, values_command(alloc));
     let program = with_command(program, status_command(alloc));
@@ -513,6 +535,14 @@ fn image_task<'a>(
         "fit" => Ok(Task::Fit {
             image,
             list: file_of(inner, "LIST")?,
+        }),
+        "copy" => Ok(Task::Copy {
+            image,
+            file: file_of(inner, "FILE")?,
+        }),
+        "rescue" => Ok(Task::Rescue {
+            image,
+            file: file_of(inner, "FILE")?,
         }),
         "run" => run_task(image, inner),
         _ => poll_task(alloc, image, inner),

@@ -108,6 +108,7 @@ fn both(one: Reply, other: Reply) -> Reply
 
 impl<A: Allocator> Bus for SimulatedBus<A> {
     ghost use Rattle.std.specs.Prelude.{None, [], false};
+    ghost use Rattle.dc_world.specs.NeverLost.{never_lost};
 
     // Its meters aren't known to contracts: they may have several telegrams, and bodies that are no
     // telegram.
@@ -120,11 +121,25 @@ impl<A: Allocator> Bus for SimulatedBus<A> {
 
     ghost asks = { λ old request answer new. Hears request old new answer };
 
+    ghost asks_all = { λ old request answer new. Hears request old new answer };
+
+    ghost late = { λ _. 0 };
+
+    ghost silent = { λ old new request answer asked is_lost. never_lost answer is_lost };
+
     fn is_lost(&self) -> bool {
         false
     }
 
     fn ask(&mut self, request: &FrameBuf) -> AnswerBuf {
         self.hear(request.as_slice())
+    }
+
+    fn ask_all(&mut self, request: &FrameBuf) -> AnswerBuf {
+        self.hear(request.as_slice())
+    }
+
+    fn late(&self) -> u64 {
+        0
     }
 }

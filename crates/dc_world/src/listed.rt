@@ -7,7 +7,7 @@ ghost use Rattle.dc_search.specs.Bus.{IsMatching};
 
 use crate::order::{Order, order_of};
 use dc_address::{Identity, Mask};
-use dc_bus::{AnswerBuf, Bus, ScriptBus};
+use dc_bus::{AnswerBuf, Bus};
 use dc_frame::{ACK, FrameBuf};
 use dc_search::bus::{Matching, matches_on, telegram_of};
 use std::marker::Model;
@@ -82,6 +82,7 @@ impl<'a> ListedBus<'a> {
 
 impl<'a> Bus for ListedBus<'a> {
     ghost use Rattle.std.specs.Prelude.{Some, false};
+    ghost use Rattle.dc_world.specs.NeverLost.{never_lost};
 
     ghost meters = { λ bus. Some bus.meters };
 
@@ -92,6 +93,13 @@ impl<'a> Bus for ListedBus<'a> {
 
     ghost asks = { λ old request answer new.
         IsHeard old.meters (chosen old) (chosen new) request answer };
+
+    ghost asks_all = { λ old request answer new.
+        IsHeard old.meters (chosen old) (chosen new) request answer };
+
+    ghost late = { λ _. 0 };
+
+    ghost silent = { λ old new request answer asked is_lost. never_lost answer is_lost };
 
     fn is_lost(&self) -> bool {
         false
@@ -107,30 +115,10 @@ impl<'a> Bus for ListedBus<'a> {
             Order::Other => AnswerBuf::new(),
         }
     }
-}
 
-// A bus in memory answers at once.
-impl<'a> ScriptBus for ListedBus<'a> {
-    ghost use Rattle.std.specs.Prelude.{◌≡◌, refl, true};
-    ghost use Rattle.dc_world.specs.NeverLost.{never_lost};
-
-    ghost ready = { λ _. true };
-
-    ghost settles = { λ old new. new ≡ old };
-
-    ghost late = { λ _. 0 };
-
-    ghost listed = { λ bus told is. refl };
-
-    ghost ended = { λ bus is. refl };
-
-    ghost silent = { λ old new request answer asked is_lost. never_lost answer is_lost };
-
-    fn is_ready(&self) -> bool {
-        true
+    fn ask_all(&mut self, request: &FrameBuf) -> AnswerBuf {
+        self.ask(request)
     }
-
-    fn settle(&mut self) {}
 
     fn late(&self) -> u64 {
         0

@@ -2,7 +2,7 @@
 
 use crate::tracing::{shows_progress, trace_file_of, tracer_of};
 use crate::watching::{Addresses, Cleared, Progress, Show, Unseen};
-use dc_bus::{Both, Bus, QuietBus, ScriptBus};
+use dc_bus::{Both, Bus, TRIES};
 use dc_ending::{Ending, STREAM};
 use dc_files::{Host, Noted, Why};
 use dc_installer::{
@@ -10,7 +10,7 @@ use dc_installer::{
     put_addressing, put_unfound, read, scan, scan_primary, set_address,
 };
 use dc_io::{FixedSink, IoFault, Sink, WriteSink, put_number_word};
-use dc_links::{Peer, ScriptLink, SystemBus, Waiter};
+use dc_links::{Peer, SystemBus, Waiter};
 use dc_misses::{Misses, Owner, put_reason};
 use dc_trace::{Observed, Observer, Pair, TraceFile};
 use dc_words::{LinkName, MeterName, Scan};
@@ -22,7 +22,7 @@ use std::rt::{Clock, Files};
 use std::{io, str};
 
 // A bus that is used alone, with an observer.
-type OneBus<'a, C, O> = ScriptLink<Observed<SystemBus<'a, C>, O>, Waiter>;
+type OneBus<'a, C, O> = Both<Observed<SystemBus<'a, C>, O>, Waiter>;
 
 // The one bus line of a command without an image.
 const LINE: u8 = 1;
@@ -77,7 +77,7 @@ where
         Scan::Wildcards(_) => None,
         Scan::Primary => Some(Addresses {
             last: GREATEST,
-            each: patience,
+            each: u32::from(patience) * u32::from(TRIES),
         }),
     };
     let progress = Progress::new(host.rt, shows_progress(host, trace), addresses);
@@ -101,7 +101,7 @@ where
         first: tracer_of(trace, LINE),
         second: Show { progress },
     };
-    let mut bus = match quiet_bus(host.rt, peer, patience, observer) {
+    let mut bus = match bus_of(host.rt, peer, patience, observer) {
         Ok(bus) => bus,
         Err(error) => return host.why.link(None, error),
     };
@@ -131,7 +131,7 @@ fn scan_on<'a, R, B>(
 ) -> Ending<'a>
 where
     R: Clock + Copy + Print + Eprint + AllocGlobal,
-    B: ScriptBus,
+    B: Bus,
 {
     let printer = Cleared {
         writer: Noted::new(io::writer(host.rt), host.why),
@@ -160,7 +160,7 @@ where
 }
 
 // Searches, and prints what is found; how much that is isn't counted of primary addresses.
-fn search<B: ScriptBus, W: Sink>(
+fn search<B: Bus, W: Sink>(
     alloc: Global,
     what: Scan,
     bus: &mut B,
@@ -225,7 +225,7 @@ fn read_over<'a, R>(
 where
     R: Clock + Copy + Print + Eprint + AllocGlobal,
 {
-    let mut bus = match quiet_bus(host.rt, peer, patience, tracer_of(trace, LINE)) {
+    let mut bus = match bus_of(host.rt, peer, patience, tracer_of(trace, LINE)) {
         Ok(bus) => bus,
         Err(error) => return host.why.link(None, error),
     };
@@ -249,7 +249,7 @@ where
 fn read_on<'a, R, B>(host: &Host<'_, R>, bus: &mut B, meter: &MeterName) -> Ending<'a>
 where
     R: Clock + Copy + Print + Eprint + AllocGlobal,
-    B: ScriptBus,
+    B: Bus,
 {
     let printer = Noted::new(io::writer(host.rt), host.why);
     let Ok(printer) = LineWriter::new(host.rt.alloc(), printer) else {
@@ -319,7 +319,7 @@ where
     R: Clock + Copy + Print + Eprint + AllocGlobal,
 {
     let (from, to) = addresses;
-    let mut bus = match quiet_bus(host.rt, peer, patience, Unseen) {
+    let mut bus = match bus_of(host.rt, peer, patience, Unseen) {
         Ok(bus) => bus,
         Err(error) => return host.why.link(None, error),
     };
@@ -339,22 +339,20 @@ where
     end_of(host.why, &bus, writer, ending)
 }
 
-// Returns the bus of a link with an observer, once no answer is under way on it.
-fn quiet_bus<'b, C: Clock + Copy, O: Observer + Drop>(
+// Returns the bus of a link with an observer.
+fn bus_of<'b, C: Clock + Copy, O: Observer + Drop>(
     clock: &C,
     peer: &'b Peer<C>,
     patience: u16,
     observer: O,
 ) -> io::Result<OneBus<'b, C, O>> {
-    let mut both = Both {
+    Ok(Both {
         bus: Observed {
             bus: peer.bus(*clock, patience)?,
             observer,
         },
         pause: Waiter,
-    };
-    both.make_ready();
-    Ok(ScriptLink { both })
+    })
 }
 
 // Finds a meter that is named by its primary address, or by its number.

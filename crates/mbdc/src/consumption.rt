@@ -1,6 +1,6 @@
 //! The command `consumption`: what places consumed between moments, from a file of readings.
 
-use crate::tasks::{ROOM, ended, flushed};
+use crate::tasks::{ROOM, flushed};
 use dc_consumption_table::{Boundaries, consumption_lines};
 use dc_ending::{Ending, ProgramFault};
 use dc_files::{Host, Noted};
@@ -19,7 +19,8 @@ pub fn consumption_of_file<'a, R: Files<File = File> + Print + AllocGlobal>(
     match fs::open(host.rt, name) {
         Ok(file) => {
             let mut reader = ReadSource::new(Noted::new(file, host.why));
-            ended(host.why, print_table(host, &mut reader, boundaries), name)
+            host.why
+                .ended(print_table(host, &mut reader, boundaries), name)
         }
         Err(error) => host.why.file(name, error),
     }

@@ -2,11 +2,10 @@
 
 use crate::names::meters_in;
 use crate::tasks::{ROOM, flushed};
-use dc_disk::FileDisk;
 use dc_dry::{Dry, LINES, put_dry};
 use dc_ending::{Ending, ProgramFault, STREAM, ending_of};
-use dc_files::{Host, Noted, copy_image};
-use dc_inspect::register_of;
+use dc_files::{Host, Noted, look_disk};
+use dc_inspect::{register_of, scan};
 use dc_io::{Buffered, WriteSink};
 use dc_log::OpenFault;
 use dc_register::House;
@@ -21,20 +20,21 @@ pub fn dry_run<'a, R>(host: &Host<'_, R>, task: &PollTask<'a>) -> Ending<'a>
 where
     R: Files<File = File> + Print + AllocGlobal,
 {
-    let copy = match copy_image(host, task.image) {
-        Ok(copy) => copy,
+    let mut disk = match look_disk(host, task.image) {
+        Ok(disk) => disk,
         Err(ending) => return ending,
     };
     // A poll doesn't open an image with a sector that can't be read.
     if host.why.has_unreadable() {
         return Ending::Open(OpenFault::Device);
     }
-    let mut disk = match FileDisk::new(copy) {
-        Ok(disk) => disk,
-        Err(error) => return host.why.file(task.image, error),
+    let greatest = match scan(&mut disk) {
+        Ok(greatest) => greatest,
+        Err(fault) => return ending_of(Err(fault), task.image),
     };
-    match register_of(host.rt.alloc(), &mut disk) {
-        Ok(house) => foresee(host, &house, task),
+    match register_of(host.rt.alloc(), &mut disk, &greatest) {
+        Ok((house, None)) => foresee(host, &house, task),
+        Ok((_, Some(sector))) => Ending::Behind(sector),
         Err(fault) => ending_of(Err(fault), task.image),
     }
 }

@@ -91,7 +91,7 @@ pub fn told_why(rt: &HostRuntime, ending: &Ending, why: &Why, is_watched: bool) 
 pub fn told_disk(rt: &HostRuntime, ending: &Ending, why: &Why) {
     let is_told = match ending {
         Ending::Clean | Ending::Faulty => true,
-        Ending::Open(_) => why.has_unreadable(),
+        Ending::Open(_) | Ending::Behind(_) => why.has_unreadable(),
         _ => false,
     };
     if is_told

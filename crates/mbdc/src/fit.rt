@@ -1,14 +1,11 @@
 //! The command `fit`: the meters of a list, added to the register of an image in a file.
 
-use crate::tasks::ended;
-use dc_disk::FileDisk;
+use dc_commands::fit_over;
 use dc_ending::{Ending, ProgramFault};
-use dc_files::{Host, Noted, open_image};
-use dc_fit::fit_on;
-use dc_io::{CHUNK, MOST, ReadSource, WriteSink, read_input, room};
-use std::fs::{File, OpenFile};
-use std::io::{LineWriter, Read};
-use std::os::unix::fs::FileExt;
+use dc_files::{Host, Noted, open_disk};
+use dc_io::{CHUNK, MOST, ReadSource, read_input, room};
+use std::fs::File;
+use std::io::Read;
 use std::rt::Files;
 use std::{fs, io};
 
@@ -21,34 +18,17 @@ where
         Ok(rows) => Noted::new(rows, host.why),
         Err(error) => return host.why.file(list, error),
     };
-    let file = match open_image(host.rt, image) {
-        Ok(file) => file,
-        Err(error) => return host.why.file(image, error),
+    let disk = match open_disk(host, image) {
+        Ok(disk) => disk,
+        Err(ending) => return ending,
     };
-    match FileDisk::new(Noted::new(file, host.why)) {
-        Ok(disk) => ended(host.why, work(host, disk, rows), list),
-        Err(error) => host.why.file(image, error),
-    }
-}
-
-// Fits the meters, and prints each reply as it is given.
-fn work<F: Read + Drop, D: FileExt + OpenFile + Drop, R: Print + AllocGlobal>(
-    host: &Host<'_, R>,
-    disk: FileDisk<D>,
-    rows: F,
-) -> Result<bool, ProgramFault> {
-    let alloc = host.rt.alloc();
-    let list = read_list(host, rows)?;
-    let printer = Noted::new(io::writer(host.rt), host.why);
-    let Ok(printer) = LineWriter::new(alloc, printer) else {
-        return Err(ProgramFault::NoMemory);
+    let rows = match read_list(host, rows) {
+        Ok(rows) => rows,
+        Err(fault) => return host.why.ended(Err(fault), list),
     };
-    let mut writer = WriteSink::new(printer);
-    let (_, outcome) = fit_on(alloc, disk, list.as_slice(), &mut writer);
-    if !matches!(outcome, Err(ProgramFault::Write)) && writer.flush().is_err() {
-        return Err(ProgramFault::Write);
-    }
-    outcome
+    let out = Noted::new(io::writer(host.rt), host.why);
+    let (_, ending) = fit_over(host.rt.alloc(), disk, rows.as_slice(), out);
+    ending
 }
 
 // The whole list, of at most 1 MiB.

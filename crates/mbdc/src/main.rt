@@ -15,7 +15,7 @@ mod loose;
 mod names;
 mod pointing;
 mod poll;
-mod report;
+mod rescue;
 mod script;
 mod tasks;
 mod tracing;

@@ -6,6 +6,7 @@ use dc_ending::{Ending, ending_of};
 use dc_files::Host;
 use dc_inspect::register_of;
 use dc_io::NoMemory;
+use dc_log::Greatest;
 use dc_named::{NameFault, Named, having, resolve_all};
 use dc_register::House;
 use std::alloc::Global;
@@ -26,8 +27,9 @@ pub fn meters_of<'a, R: AllocGlobal, D: Disk>(
     if names.is_empty() {
         return Ok(Vec::new(alloc));
     }
-    let house = match register_of(alloc, disk) {
-        Ok(house) => house,
+    let house = match register_of(alloc, disk, &Greatest::NONE) {
+        // A poll refuses an image that is behind by itself.
+        Ok((house, _)) => house,
         Err(fault) => return Err(ending_of(Err(fault), image)),
     };
     meters_in(alloc, &house, names)

@@ -1,13 +1,15 @@
 //! The command `poll`: the registered meters of an image are read over the bus lines.
 
+use crate::clock::moment;
 use crate::connecting::{reached, released};
 use crate::names::meters_of;
 use crate::tracing::{TracedBus, shows_progress, trace_file_of, tracer_of};
 use dc_address::Identity;
+use dc_change::Moment;
 use dc_commands::{Printing, poll_over};
 use dc_disk::FileDisk;
 use dc_ending::Ending;
-use dc_files::{Host, Noted, open_image};
+use dc_files::{Host, Patient, open_disk};
 use dc_links::{LinkBus, Peer, Watch};
 use dc_poll::Plan;
 use dc_trace::{Observed, TraceFile};
@@ -25,13 +27,13 @@ pub fn poll_on_image<'a, R>(host: &Host<'_, R>, task: &PollTask<'a>) -> Ending<'
 where
     R: Files<File = File> + Net<Stream = TcpStream> + Clock + Copy + Print + Eprint + AllocGlobal,
 {
-    let file = match open_image(host.rt, task.image) {
-        Ok(file) => file,
-        Err(error) => return host.why.file(task.image, error),
+    // No reading gets a stamp that is no time.
+    let Some(begun) = moment(host.rt) else {
+        return Ending::Clock;
     };
-    let mut disk = match FileDisk::new(Noted::new(file, host.why)) {
+    let mut disk = match open_disk(host, task.image) {
         Ok(disk) => disk,
-        Err(error) => return host.why.file(task.image, error),
+        Err(ending) => return ending,
     };
     let only = match meters_of(host, &mut disk, task.only.as_slice(), task.image) {
         Ok(only) => only,
@@ -51,6 +53,7 @@ where
         peers.as_slice(),
         trace.as_ref(),
         only.as_slice(),
+        begun,
         task,
     );
     released(host, peers.as_slice());
@@ -64,11 +67,12 @@ fn poll_peers<'a, D, R>(
     peers: &[Option<Peer<R>>],
     trace: Option<&TraceFile<'_, R>>,
     only: &[Identity],
+    begun: Moment,
     task: &PollTask<'a>,
 ) -> Ending<'a>
 where
     D: FileExt + OpenFile + Drop,
-    R: Clock + Copy + Print + Eprint + AllocGlobal,
+    R: Files<File = File> + Clock + Copy + Print + Eprint + AllocGlobal,
 {
     let buses = match buses_of(host, peers, trace, task.patience) {
         Ok(buses) => buses,
@@ -80,10 +84,12 @@ where
         tries: task.tries.max(1),
     };
     let printing = Printing {
+        begun,
         is_json: task.is_json,
         is_shown: shows_progress(host, trace),
     };
-    let out = Noted::new(io::writer(host.rt), host.why);
+    // The readings go on where nobody takes what is printed.
+    let out = Patient::new(io::writer(host.rt), host);
     let (_, ending) = poll_over(
         host.rt.alloc(),
         host.rt,

@@ -1,13 +1,12 @@
 //! The command `run`: a script over an image in a file.
 
 use crate::connecting::{connected, released};
-use crate::tasks::ended;
 use dc_bus::Both;
 use dc_commands::{run_over, run_over_gateway};
 use dc_disk::FileDisk;
 use dc_ending::Ending;
-use dc_files::{Host, Noted, open_image};
-use dc_links::{Connection, Peer, ScriptLink, SystemBus, Waiter};
+use dc_files::{Host, Noted, open_disk};
+use dc_links::{Connection, Peer, SystemBus, Waiter};
 use dc_script::Slot;
 use dc_words::RunTask;
 use std::fs::{File, OpenFile};
@@ -18,7 +17,7 @@ use std::rt::{Clock, Files};
 use std::{fs, io};
 
 // A bus line that has a link.
-type LineSlot<'a, C> = Slot<ScriptLink<SystemBus<'a, C>, Waiter>>;
+type LineSlot<'a, C> = Slot<Both<SystemBus<'a, C>, Waiter>>;
 
 /// Runs the script over the image, from file to file, over the links of the bus lines, or the
 /// gateway of bus line 1.
@@ -26,13 +25,9 @@ pub fn run_on_image<'a, R>(host: &Host<'_, R>, task: &RunTask<'a>) -> Ending<'a>
 where
     R: Files<File = File> + Net<Stream = TcpStream> + Clock + Copy + Print + Eprint + AllocGlobal,
 {
-    let file = match open_image(host.rt, task.image) {
-        Ok(file) => file,
-        Err(error) => return host.why.file(task.image, error),
-    };
-    let disk = match FileDisk::new(Noted::new(file, host.why)) {
+    let disk = match open_disk(host, task.image) {
         Ok(disk) => disk,
-        Err(error) => return host.why.file(task.image, error),
+        Err(ending) => return ending,
     };
     let lines = match fs::open(host.rt, task.script) {
         Ok(lines) => Noted::new(lines, host.why),
@@ -66,8 +61,9 @@ where
     };
     let ends = connection.as_ref().map(Connection::ends);
     let out = Noted::new(io::writer(host.rt), host.why);
-    let (_, outcome) = run_over_gateway(host.rt.alloc(), disk, lines, out, ends);
-    ended(host.why, outcome, task.script)
+    let alloc = host.rt.alloc();
+    let (_, ending) = run_over_gateway(alloc, host.why, disk, lines, out, ends, task.script);
+    ending
 }
 
 // Runs the lines of a file over a disk, with the links of the bus lines.
@@ -109,8 +105,9 @@ where
         Err(ending) => return ending,
     };
     let out = Noted::new(io::writer(host.rt), host.why);
-    let (_, outcome) = run_over(host.rt.alloc(), disk, lines, out, slots.as_mut_slice());
-    ended(host.why, outcome, task.script)
+    let (alloc, slots) = (host.rt.alloc(), slots.as_mut_slice());
+    let (_, ending) = run_over(alloc, host.why, disk, lines, out, slots, task.script);
+    ending
 }
 
 // The bus of each line that has a link.
@@ -136,9 +133,8 @@ fn slots_of<'p, 'e, R: Clock + Copy + AllocGlobal>(
 }
 
 fn slot_of<C: Clock + Copy>(bus: SystemBus<'_, C>) -> LineSlot<'_, C> {
-    let both = Both { bus, pause: Waiter };
     Slot {
-        bus: ScriptLink { both },
+        bus: Both { bus, pause: Waiter },
         is_gateway: false,
     }
 }

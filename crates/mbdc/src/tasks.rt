@@ -2,20 +2,20 @@
 
 use crate::bench::{address_on_bus, read_on_bus, scan_bus};
 use crate::consumption::consumption_of_file;
+use crate::demo;
 use crate::dry::dry_run;
 use crate::fit::fit_on_image;
-use crate::inspect::{Look, look_into, tell_status};
+use crate::inspect::{form_of, look_into, report_on_image, tell_status};
 use crate::loose::decode_pasted;
 use crate::pointing::Pointed;
 use crate::poll::poll_on_image;
-use crate::report::report_on_image;
+use crate::rescue::rescue_image;
 use crate::script::run_on_image;
-use crate::{clock, demo};
 use dc_decode::decode_lines;
-use dc_ending::{Ending, ProgramFault, STREAM, ending_of};
-use dc_files::{Host, Noted, Why, format_image};
+use dc_ending::{Ending, ProgramFault, STREAM};
+use dc_files::{Host, Noted, back_up, format_image};
 use dc_frame_json::json_lines;
-use dc_inspect::ValuesForm;
+use dc_inspect::Asked;
 use dc_io::{Buffered, ReadSource, Source, WriteSink};
 use dc_json::explain_lines;
 use dc_script::fold_lines;
@@ -56,14 +56,9 @@ where
             table,
             is_json,
         } => report_on_image(host, image, table, *is_json),
-        Task::Inspect { image } => look_into(host, Look::Inspect, image),
+        Task::Inspect { image } => look_into(host, Asked::Contents, image),
         Task::Values { image, is_json } => {
-            let form = if *is_json {
-                ValuesForm::Json
-            } else {
-                ValuesForm::Text
-            };
-            look_into(host, Look::Values(form), image)
+            look_into(host, Asked::Values(form_of(*is_json)), image)
         }
         Task::Status {
             image,
@@ -71,6 +66,8 @@ where
             form,
         } => tell_status(host, image, *silent, *form),
         Task::Fit { image, list } => fit_on_image(host, image, list),
+        Task::Copy { image, file } => back_up(host, image, file),
+        Task::Rescue { image, file } => rescue_image(host, image, file),
         Task::Scan {
             link,
             scan,
@@ -90,8 +87,6 @@ where
             patience,
         } => address_on_bus(host, link, *from, *to, *patience),
         Task::Poll(task) if task.is_dry => dry_run(host, task),
-        // No reading gets a stamp that is no time.
-        Task::Poll(_) if clock::moment(host.rt).is_none() => Ending::Clock,
         Task::Poll(task) => poll_on_image(host, task),
         Task::Demo => demo::play(host),
     }
@@ -117,18 +112,10 @@ fn work_on<'a, R: Print + Eprint + AllocGlobal, F: Read + Drop>(
     let noted = Noted::new(file, host.why);
     if host.is_watched && matches!(engine, Engine::Decode(_)) {
         let mut reader = ReadSource::new(Pointed::new(noted, host.rt));
-        return ended(host.why, work(host, engine, &mut reader), name);
+        return host.why.ended(work(host, engine, &mut reader), name);
     }
     let mut reader = ReadSource::new(noted);
-    ended(host.why, work(host, engine, &mut reader), name)
-}
-
-/// The ending of a run over this input. An input that is too long is no fault of the system.
-pub fn ended<'a>(why: &Why, outcome: Result<bool, ProgramFault>, input: &'a str) -> Ending<'a> {
-    if let Err(ProgramFault::TooLong) = outcome {
-        why.say("it has more than 1 MiB");
-    }
-    ending_of(outcome, input)
+    host.why.ended(work(host, engine, &mut reader), name)
 }
 
 // Runs the engine from what the source has left to standard output. It writes in large pieces.

@@ -26,7 +26,7 @@ pub struct Addresses {
     /// The greatest one; the first is 1.
     pub last: u8,
     /// Milliseconds.
-    pub each: u16,
+    pub each: u32,
 }
 
 /// The line on standard error that shows how far a search is: `37 selections, 2 found, 41 s`, or with primary
@@ -108,7 +108,7 @@ impl<'h, R: Clock + Eprint> Progress<'h, R> {
         self.show();
     }
 
-    // A meter is shown once, though it may be asked again where an answer may have been late.
+    // A meter is shown once, though it is asked twice.
     fn see_answer(&self, answer: &[u8]) {
         let before = self.course.get();
         let course = before.after_answer(answer);
@@ -164,7 +164,7 @@ impl<'h, R: Clock + Eprint> Progress<'h, R> {
 }
 
 // The time that this many silent addresses take, with its unit: whole minutes, or seconds below one.
-fn time_of(count: u8, each: u16) -> (u64, &'static str) {
+fn time_of(count: u8, each: u32) -> (u64, &'static str) {
     let millis = u64::from(count).saturating_mul(u64::from(each));
     let seconds = millis.div_ceil(1_000);
     if seconds < 60 {

@@ -155,38 +155,24 @@ fn opens_in_the_end(
     Ok(Some(each_opens_as(rt, heap, &stopped, state)?))
 }
 
-/// How many calls are tried at the front of an opening, and at its end. Those between read sectors, and fail alike.
-const TRIED_CALLS: u64 = 16;
-
-/// Number of calls of the disk that opening this image makes.
-fn calls_of_open(heap: Global, image: &MemoryDisk<Global>) -> Result<u64, Fail> {
-    match open(heap, image.copy()?) {
-        Ok(core) => Ok(core.close().calls().saturating_sub(image.calls())),
-        Err((fault, _)) => Err(Fail::from(fault)),
-    }
-}
-
-/// Faults at the first and last calls of an open of the image.
+/// Faults at each call of an open of the image.
 fn faults_in_the_open(
     rt: &impl Abort,
     heap: Global,
     image: &MemoryDisk<Global>,
 ) -> Result<u64, Fail> {
     let state = state_of(heap, image.copy()?)?;
-    let calls = calls_of_open(heap, image)?;
     let mut images = 0u64;
-    for passes in 0..calls {
-        if passes < TRIED_CALLS || passes.saturating_add(TRIED_CALLS) >= calls {
-            match opens_in_the_end(rt, heap, image, passes, state.as_slice())? {
-                Some(more) => images = images.saturating_add(more),
-                None => return Err(Fail::from("a call fails in each open")),
-            }
+    for passes in 0..100u64 {
+        match opens_in_the_end(rt, heap, image, passes, state.as_slice())? {
+            Some(more) => images = images.saturating_add(more),
+            None => return Ok(images),
         }
     }
-    Ok(images)
+    Err(Fail::from("a call fails in each open"))
 }
 
-/// Faults at calls of the opening of each image of a crash.
+/// Faults at each call of the opening of each image of a crash.
 fn faults_after(rt: &impl Abort, heap: Global, disk: &MemoryDisk<Global>) -> Result<u64, Fail> {
     let mut images = 0u64;
     for left in &images_of(heap, disk)? {

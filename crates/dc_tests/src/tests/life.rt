@@ -6,7 +6,7 @@ use dc_change::{Change, Moment};
 use dc_concentrator::{Concentrator, Event};
 use dc_disk::{Disk, MemoryDisk};
 use dc_io::Bytes;
-use dc_log::{FormatFault, OpenFault, Store};
+use dc_log::{FormatFault, OpenFault, Store, first_ahead};
 use dc_register::House;
 use std::alloc::{Allocator, Global};
 use std::test::Fail;
@@ -68,7 +68,7 @@ pub fn event_of<'a>(deed: &Deed<'a>) -> Result<Event<'a>, Fail> {
     })
 }
 
-// Three calls of the store and of the concentrator as they are. They have no contract: what a test
+// Four calls of the store and of the concentrator as they are. They have no contract: what a test
 // needs it compares, and its proof doesn't go through what the calls promise.
 
 /// [`Concentrator::open`].
@@ -92,6 +92,11 @@ pub fn format<D: Disk + Drop>(disk: D) -> Result<D, (FormatFault, D)> {
     Store::format::<House<Global>>(disk)
 }
 
+/// [`first_ahead`], of a house.
+pub fn ahead_of<D: Disk>(heap: Global, disk: &mut D) -> Result<Option<u32>, OpenFault> {
+    first_ahead::<House<Global>, D>(heap, disk)
+}
+
 /// The image, opened.
 pub fn opened<D: Disk + Drop>(heap: Global, disk: D) -> Result<Concentrator<D, Global>, Fail> {
     match open(heap, disk) {
@@ -113,8 +118,12 @@ pub fn blank_on<A: Allocator + Copy>(heap: Global, alloc: A) -> Result<MemoryDis
     }
 }
 
-/// The bytes of the state that an image is opened as.
-pub fn state_of<D: Disk + Drop>(heap: Global, disk: D) -> Result<Bytes<Global>, Fail> {
+/// The bytes of the state that an image is opened as. An open refuses no image that reads, so it is looked here whether
+/// one has a sector that is ahead of its state, which nothing but the loss of a synced one leaves.
+pub fn state_of<D: Disk + Drop>(heap: Global, mut disk: D) -> Result<Bytes<Global>, Fail> {
+    if ahead_of(heap, &mut disk)?.is_some() {
+        return Err(Fail::from("a sector is ahead of the state"));
+    }
     match open_store(heap, disk) {
         Ok((_, house)) => encoded(heap, &house),
         Err((fault, _)) => Err(Fail::from(fault)),
@@ -137,7 +146,7 @@ pub fn states_of(heap: Global, life: &Life<'_>) -> Result<Vec<Bytes<Global>, Glo
 }
 
 /// The house after the change that the line spells.
-fn replay(heap: Global, house: &mut House<Global>, line: &[u8]) -> Result<(), Fail> {
+pub fn replay(heap: Global, house: &mut House<Global>, line: &[u8]) -> Result<(), Fail> {
     let mut room = [0; 2048];
     let change = Change::parse_line(line, &mut room).ok_or("no change")?;
     let mut bytes = Bytes::new(heap);

@@ -10,4 +10,4 @@ pub returns : goal.returns
 unfolding record_json record_fields
 returns g c =
     said (json_tokens (record_json (view c.args.found.now)))
-    (c.begin_object.ensures >> c.put_about.ensures >> c.put_sent.ensures >> c.put_quantity.ensures >> c.put_seen.ensures >> c.end_object.ensures >> unchanged) (simp (members_are, items_are, fields-append, append_assoc, append-nil))
+    (c.begin_object.ensures >> c.put_about.ensures >> c.put_names.ensures >> c.put_seen.ensures >> c.end_object.ensures >> unchanged) (simp (members_are, items_are, fields-append, append_assoc, append-nil))

@@ -18,7 +18,7 @@ returns-in-None-clause-read g c kept =
     record {
       enough = first_of (search rules, omega (arith, c.if-sectors-lt-FEWEST_SECTORS.false, c.count-sectors.ensures));
       seen = seen;
-      look = subst (λ (n : ℕ). IsLook n reads (Some seen) None) half (c.in-Ok.ensures.all kept, c.in-None.ensures);
+      look = subst (λ (n : ℕ). IsLook n c.args.greatest.now reads (Some seen) (record { refusal = None; ahead = c.ahead_of-ahead.result })) half (c.in-Ok.ensures.all kept, c.ahead_of-ahead.ensures c.half_len_of.result, c.in-None.ensures);
       state_is = refl;
       budget_is = c.in-Ok.ensures.budget ∙ ap budget_of half;
     }

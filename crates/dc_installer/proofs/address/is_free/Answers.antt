@@ -1,19 +1,20 @@
-use Rattle.std.proofs.Common.{ℕ, ◌==◌, ap, ◌∙◌, rules}
-use Rattle.dc_installer.proofs.Changes.{request_answered, reset_answered, silent_both}
+use Rattle.std.proofs.Common.{◌≡◌, ◌≢◌, ℕ, List, [], ap, sym, ◌∙◌, subst, rules}
+use Rattle.dc_bus.specs.Windows.{Insists, most_tries}
+use Rattle.dc_frame.specs.Control.{reset_to}
+use Rattle.dc_frame.specs.Frame.{spelling}
+use Rattle.dc_installer.specs.Address.{answers_reset, is_requested}
+use Rattle.dc_installer.specs.Scan.{is_none}
 use Rattle.dc_installer.proofs.address.is_free.Goals as goal
 
-pub returns-then-not-is_reset_silent : goal.returns-then-not-is_reset_silent
-returns-then-not-is_reset_silent g c =
-    reset_answered g.B.Bus.asks g.B.ScriptBus.settles g.B.ScriptBus.late c.args.address c.args.bus.now c.is_reset_silent.new.bus
-    c.is_reset_silent.result c.is_reset_silent.ensures (search rules)
-
-pub returns-then-not-is_request_silent : goal.returns-then-not-is_request_silent
-returns-then-not-is_request_silent g c =
-    request_answered g.B.Bus.asks g.B.ScriptBus.settles g.B.ScriptBus.late c.args.address c.args.bus.now c.is_reset_silent.new.bus c.is_request_silent.new.bus
-    c.is_reset_silent.result c.is_request_silent.result c.is_reset_silent.ensures (search rules) c.is_request_silent.ensures (search rules)
+pub returns-then-not-is_empty : goal.returns-then-not-is_empty
+returns-then-not-is_empty g c =
+    let some : c.ask_reset-answer.result ≢ [] = search rules in
+    answers_reset c.ask_reset-answer.result some c.ask_reset-answer.ensures
 
 pub returns : goal.returns
 returns g c =
-    silent_both g.B.Bus.asks g.B.ScriptBus.settles g.B.ScriptBus.late c.args.address c.args.bus.now c.is_reset_silent.new.bus c.is_request_silent.new.bus c.settle.new.self
-    c.is_reset_silent.result c.is_request_silent.result c.has_count.result c.is_reset_silent.ensures (search rules) c.is_request_silent.ensures (search rules)
-    c.settle.ensures.step (c.has_count.ensures ∙ ap (λ (n : ℕ). g.B.ScriptBus.late c.settle.new.self == n) c.late-late.ensures)
+    let none : c.ask_reset-answer.result ≡ [] = search rules in
+    let silent : c.is_empty-2.result ≡ is_none c.ask_data-telegram.result = search rules in
+    is_requested c.ask_data-telegram.result
+    (subst (λ (bytes : List ℕ). Insists g.B.Bus.asks_all (spelling (reset_to c.args.address)) most_tries c.args.bus.now bytes c.ask_reset-answer.new.bus) none c.ask_reset-answer.ensures)
+    c.ask_data-telegram.ensures silent

@@ -11,7 +11,7 @@ use Rattle.dc_installer.proofs.primary.+scan_range.Goals as goal
 pub returns-then-count-eq0-clause-asked : goal.returns-then-count-eq0-clause-asked
 returns-then-count-eq0-clause-asked g t c =
     let none : c.args.count ≡ 0 = search rules in
-    let P : ℕ → Type 0 = λ count. AsksEach g.B.Bus.asks g.B.ScriptBus.settles g.B.ScriptBus.ready (range_with_len c.args.first count) c.args.bus.now [] c.args.bus.now in
+    let P : ℕ → Type 0 = λ count. AsksEach g.B.Bus.asks_all (range_with_len c.args.first count) c.args.bus.now [] c.args.bus.now in
     ([], subst P (sym none) (refl, refl), puts-none (g.W.Sink.written c.args.out.now))
 
 pub returns-in-Ok-clause-asked : goal.returns-in-Ok-clause-asked
@@ -19,7 +19,7 @@ returns-in-Ok-clause-asked g t c =
     let some : 1 ≤ c.args.count = grind (arith, common_steps) in
     let first = c.in-Ok.ensures.asked in
     let split = first_of_range c.args.first c.args.count some in
-    let Q : List ℕ → Type 0 = λ addresses. (x : List ℕ) × AsksEach g.B.Bus.asks g.B.ScriptBus.settles g.B.ScriptBus.ready addresses c.args.bus.now x c.scan_range.new.bus
+    let Q : List ℕ → Type 0 = λ addresses. (x : List ℕ) × AsksEach g.B.Bus.asks_all addresses c.args.bus.now x c.scan_range.new.bus
     × Puts (g.W.Sink.written c.args.out.now) (g.W.Sink.written c.scan_range.new.out) x in
     on_ok c.scan_range.result (λ rest. subst Q (sym split) (
       first.0 ++ rest.0,

@@ -1,18 +1,14 @@
-use Rattle.std.proofs.Common.{[], refl}
-use Rattle.dc_io.proofs.Pieces.{puts-none}
-use Rattle.dc_installer.specs.Scan.{address_line, prints_none}
-use Rattle.dc_installer.specs.declared.primary.Acknowledgement.TheVariants.{Late, Missing}
-use Rattle.dc_installer.proofs.Addresses.{printed}
+use Rattle.std.proofs.Common.{refl}
+use Rattle.dc_installer.specs.Scan.{AsksOne, line_of}
 use Rattle.dc_installer.proofs.Results.{on_ok}
 use Rattle.dc_installer.proofs.primary.scan_one.Goals as goal
 
-pub returns-in-Late-clause-asked : goal.returns-in-Late-clause-asked
-returns-in-Late-clause-asked g c = ([], prints_none Late c.in-Late.ensures refl, puts-none (g.W.Sink.written c.args.out.now))
-
-pub returns-in-Missing-clause-asked : goal.returns-in-Missing-clause-asked
-returns-in-Missing-clause-asked g c = ([], prints_none Missing c.in-Missing.ensures refl, puts-none (g.W.Sink.written c.args.out.now))
-
-pub returns-in-Certain-clause-asked : goal.returns-in-Certain-clause-asked
-returns-in-Certain-clause-asked g c =
-    let one = printed g.B.Bus.asks g.B.ScriptBus.settles g.B.ScriptBus.ready c.args.bus.now c.acknowledged.new.bus c.requests-meter.new.bus c.args.address c.requests-meter.result c.in-Certain.ensures c.requests-meter.ensures in
-    on_ok c.put_address.result (λ wrote. (address_line c.args.address c.requests-meter.result, one, wrote)) c.put_address.ensures.0
+pub returns-clause-asked : goal.returns-clause-asked
+returns-clause-asked g c =
+    let one : AsksOne g.B.Bus.asks_all c.args.address c.args.bus.now (line_of c.args.address c.ask_address-asked.result.answer c.ask_address-asked.result.telegram) c.ask_address-asked.new.bus = record {
+      answer = c.ask_address-asked.result.answer;
+      telegram = c.ask_address-asked.result.telegram;
+      asked = c.ask_address-asked.ensures;
+      line_is = refl;
+    } in
+    on_ok c.put_asked.result (λ wrote. (line_of c.args.address c.ask_address-asked.result.answer c.ask_address-asked.result.telegram, one, wrote)) c.put_asked.ensures.0

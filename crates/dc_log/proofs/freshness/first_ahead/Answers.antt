@@ -1,58 +1,25 @@
-use Rattle.std.proofs.Common.{◌≡◌, ◌∙◌, ◌+◌, ◌*◌, ℕ, Bool, true, false, arith, subst, sym, refl}
-use Rattle.dc_disk.specs.Disk.{Image}
-use Rattle.dc_disk.proofs.Moments.{counted_on}
-use Rattle.dc_log.specs.Stands.{IsAhead}
-use Rattle.dc_log.proofs.Ahead.{NoneBefore, none_before_more, none_is_fresh}
-use Rattle.dc_log.proofs.ReadMoments.{looked_never, looked_on}
+use Rattle.std.proofs.Common.{◌≡◌, ◌≤◌, ◌∙◌, ℕ, None, ap, subst}
+use Rattle.dc_log.specs.Behind.{IsBehindAt}
+use Rattle.dc_log.specs.Halves.{half_of, half_len_of}
+use Rattle.dc_log.proofs.Behinds.{one_behind, read_tells}
+use Rattle.dc_log.proofs.freshness.first_ahead.Given.{Over}
+use Rattle.dc_log.proofs.freshness.first_ahead.Goals.{In_ok-ahead}
 use Rattle.dc_log.proofs.freshness.first_ahead.Goals as goal
 
-apart : (b : Bool) → b ≡ true → b ≡ false → ⊥
-apart b is not = (let both : true ≡ false = sym is ∙ not in absurd (cc both))
-
-pub loop-n-init : goal.loop-n-init
-loop-n-init g c = record {
-  from = omega arith;
-  none = λ h k low lt. absurd (omega arith);
-  looked = looked_never g.D.Disk c.args.disk.now (g.met.D.Disk.only_now c.args.disk.now);
-  counts = record { count = refl; later = omega arith; passed = λ _. refl; failed = λ is. absurd is };
-}
-
-pub returns-in_err-reads_ahead-clause-looked : goal.returns-in_err-reads_ahead-clause-looked
-returns-in_err-reads_ahead-clause-looked g c =
-    looked_on g.D.Disk c.args.disk.now c.loop-n.disk c.reads_ahead.new.disk c.loop-n.invariant.looked c.reads_ahead.ensures.looked
-
-pub returns-then-branch-clause-looked : goal.returns-then-branch-clause-looked
-returns-then-branch-clause-looked g c =
-    looked_on g.D.Disk c.args.disk.now c.loop-n.disk c.reads_ahead.new.disk c.loop-n.invariant.looked c.reads_ahead.ensures.looked
-
-pub returns-then-branch-clause-first : goal.returns-then-branch-clause-first
-returns-then-branch-clause-first g c h =
-    let so_far = c.loop-n.invariant in
-    let told = c.in_ok-reads_ahead.ensures.ahead h in
-    record {
-      from = so_far.from;
-      within = omega arith;
-      here = subst (λ (i : Image). IsAhead c.args.session (c.args.last + 1) (i c.loop-n.n)) so_far.looked.reads_same (told.0 c.if-branch.true);
-      before = so_far.none (c.reads_ahead.ensures.looked.before h);
-    }
-
-pub loop-n-preserved : goal.loop-n-preserved
-loop-n-preserved g c =
-    let so_far = c.loop-n.invariant in
-    let disk = c.args.disk.now in
-    record {
-      from = omega arith;
-      none = λ h.
-          let told = c.in_ok-reads_ahead.ensures.ahead h in
-          none_before_more c.args.session (c.args.last + 1) c.loop-n.n (g.D.Disk.reads disk) (so_far.none (c.reads_ahead.ensures.looked.before h))
-          (λ is. apart _ (told.1 (subst (λ (i : Image). IsAhead c.args.session (c.args.last + 1) (i c.loop-n.n)) (sym so_far.looked.reads_same) is)) c.if-branch.false);
-      looked = looked_on g.D.Disk disk c.loop-n.disk c.reads_ahead.new.disk so_far.looked c.reads_ahead.ensures.looked;
-      counts = counted_on g.D.Disk disk c.loop-n.disk c.reads_ahead.new.disk ⊥ _ ⊥ so_far.counts (λ is. is) c.in_ok-reads_ahead.ensures.counts (λ is. cc is) (λ is. absurd is);
-    }
-
-pub returns-clause-first : goal.returns-clause-first
-returns-clause-first g c h =
+-- what was read of the image, and what is ahead of that
+told : (g : Over) (c : In_ok-ahead g) → g.D.Disk.keeps c.read_image.new.disk → IsBehindAt g.K.Language (half_of g.D.Disk c.args.disk.now) c.in_ok-ahead.ahead (g.D.Disk.reads c.args.disk.now)
+told g c h =
+    let at : c.half_len_of.result ≡ half_of g.D.Disk c.args.disk.now = c.half_len_of.ensures.exact ∙ ap half_len_of c.count-count.ensures in
+    let found = c.in_ok-ahead.field-0-0 in
     let image = g.D.Disk.reads c.args.disk.now in
-    let end : c.loop-n.n ≡ 3 + 2 * c.args.half_len = omega arith in
-    none_is_fresh c.args.half_len c.args.session (c.args.last + 1) image
-    (subst (λ (n : ℕ). NoneBefore c.args.session (c.args.last + 1) n image) end (c.loop-n.invariant.none h))
+    subst (λ (n : ℕ). IsBehindAt g.K.Language n c.in_ok-ahead.ahead image) at
+    (read_tells g.K.Language c.half_len_of.result found.root found.place found.last (g.K.Language.state found.house) image c.in_ok-ahead.ahead (c.in_ok-ahead.ensures.all h) (c.in_ok-ahead.ensures.ahead h))
+
+pub returns-clause-told : goal.returns-clause-told
+returns-clause-told g c h = told g (goal.at.returns-clause-told g c).In_ok-ahead h
+
+pub returns-clause-none : goal.returns-clause-none
+returns-clause-none g c state stands h =
+    let at : c.half_len_of.result ≡ half_of g.D.Disk c.args.disk.now = c.half_len_of.ensures.exact ∙ ap half_len_of c.count-count.ensures in
+    let most = subst (λ (n : ℕ). n ≤ 65536) at c.half_len_of.ensures.most in
+    one_behind g.K.Language (half_of g.D.Disk c.args.disk.now) most (g.D.Disk.reads c.args.disk.now) c.in_ok-ahead.ahead None (told g (goal.at.returns-clause-none g c).In_ok-ahead h) (state, stands)

@@ -4,46 +4,46 @@ use Rattle.dc_disk.specs.Runs.{LeavesOnly, IsSettled}
 use Rattle.dc_log.specs.Halves.{SparesRest}
 use Rattle.dc_log.specs.Roots.{IsOpenedRoot}
 use Rattle.dc_log.specs.Refusal.{IsSpent}
-use Rattle.dc_log.specs.Stands.{IsFresh, IsRead, IsBegun, ReadsBy, Reads, StandsBy, Stands, EachStands, StandsForOne}
+use Rattle.dc_log.specs.Stands.{IsRead, IsBegun, ReadsBy, Reads, StandsBy, Stands, EachStands, StandsForOne}
 use Rattle.dc_log.proofs.Opened.{before_writing, after_session}
 use Rattle.dc_log.proofs.ReadMoments.{if_err, synced, synced_read}
+use Rattle.dc_log.proofs.Once.{stands_as_read}
 use Rattle.dc_log.proofs.Refusals.{not_worn}
-use Rattle.dc_log.proofs.Steps.{read_fresh}
 use Rattle.dc_log.proofs.Spared.{spared_same, spared_through}
 use Rattle.dc_log.proofs.opening.open_on.Given.{Over}
-use Rattle.dc_log.proofs.opening.open_on.Goals.{After-read_image, After-is_spent, After-begin}
+use Rattle.dc_log.proofs.opening.open_on.Goals.{After-read_chain, After-is_spent, After-begin}
 use Rattle.dc_log.proofs.opening.open_on.Goals as goal
 use Rattle.std.proofs.lemmas.Result.{err_from_is_err_and}
 use Rattle.dc_disk.proofs.Moments.{counted_on}
 use Rattle.dc_log.specs.declared.fault.OpenFault.TheVariants.{Device}
 
 -- the sync and the reading wrote nothing
-looked : (g : Over) (c : After-read_image g) → LeavesOnly g.D.Disk c.args.disk.now c.read_image.new.disk (IsImage (g.D.Disk.choices c.args.disk.now))
+looked : (g : Over) (c : After-read_chain g) → LeavesOnly g.D.Disk c.args.disk.now c.read_chain.new.disk (IsImage (g.D.Disk.choices c.args.disk.now))
 looked g c =
     let disk = c.args.disk.now in
-    synced_read g.D.Disk disk (g.met.D.Disk.only_now disk) c.sync.new.self c.read_image.new.disk (g.met.D.Disk.reads_a_choice disk) c.sync.ensures.time c.in-Ok.ensures.choices c.read_image.ensures.looked.any_moment
+    synced_read g.D.Disk disk (g.met.D.Disk.only_now disk) c.sync.new.self c.read_chain.new.disk (g.met.D.Disk.reads_a_choice disk) c.sync.ensures.time c.in-Ok.ensures.choices c.read_chain.ensures.looked.any_moment
 
 -- what was found is what the disk read from the first
-read : (g : Over) (c : After-is_spent g) → g.D.Disk.keeps c.read_image.new.disk
+read : (g : Over) (c : After-is_spent g) → g.D.Disk.keeps c.read_chain.new.disk
     → IsRead g.K.Language c.args.half_len c.in_ok-found.found.root c.in_ok-found.found.place c.in_ok-found.found.last (g.K.Language.state c.in_ok-found.found.house) (g.D.Disk.reads c.args.disk.now)
 read g c h =
     let found = c.in_ok-found.found in
     subst (λ (i : Image). IsRead g.K.Language c.args.half_len found.root found.place found.last (g.K.Language.state found.house) i) c.sync.ensures.reads (c.in_ok-found.ensures.all h)
 
--- and it stands for the state
-stood : (g : Over) (c : After-is_spent g) (h : g.D.Disk.keeps c.read_image.new.disk)
+-- and where the image stands for a state, it does for this one
+stood : (g : Over) (c : After-is_spent g) (h : g.D.Disk.keeps c.read_chain.new.disk) (was : g.K.Language.State)
+    → Stands g.K.Language c.args.half_len was (g.D.Disk.reads c.args.disk.now)
     → StandsBy g.K.Language c.args.half_len c.in_ok-found.found.root (read g c h).m c.in_ok-found.found.place (g.K.Language.state c.in_ok-found.found.house) (g.D.Disk.reads c.args.disk.now)
-stood g c h =
+stood g c h was stands =
     let found = c.in_ok-found.found in
-    read_fresh g.K.Language c.args.half_len found.root found.place found.last (g.K.Language.state found.house) (g.D.Disk.reads c.args.disk.now) (read g c h)
-    (subst (λ (i : Image). IsFresh c.args.half_len found.root.session (found.last + 1) i) c.sync.ensures.reads (c.in_ok-found.ensures.fresh h))
+    stands_as_read g.K.Language c.args.half_len c.requires.most found.root (read g c h).m found.place (g.K.Language.state found.house) was (g.D.Disk.reads c.args.disk.now) (read g c h).by stands
 
 -- WHAT THE SESSION BEGINS ON: a settled disk that stands for the state that was read, as the old one did.
 record IsFound (g : Over) (c : After-begin g) : Type 0 where
-  is_settled : IsSettled g.D.Disk c.read_image.new.disk
+  is_settled : IsSettled g.D.Disk c.read_chain.new.disk
   m : ℕ
   stood : StandsBy g.K.Language c.args.half_len c.in_ok-found.found.root m c.in_ok-found.found.place (g.K.Language.state c.in_ok-found.found.house) (g.D.Disk.reads c.args.disk.now)
-  stands : StandsBy g.K.Language c.args.half_len c.in_ok-found.found.root m c.in_ok-found.found.place (g.K.Language.state c.in_ok-found.found.house) (g.D.Disk.reads c.read_image.new.disk)
+  stands : StandsBy g.K.Language c.args.half_len c.in_ok-found.found.root m c.in_ok-found.found.place (g.K.Language.state c.in_ok-found.found.house) (g.D.Disk.reads c.read_chain.new.disk)
   last_is : c.in_ok-found.found.last ≡ c.in_ok-found.found.root.base_sequence + m
 
 is_found : (g : Over) (c : After-begin g) (m : ℕ)
@@ -52,9 +52,9 @@ is_found : (g : Over) (c : After-begin g) (m : ℕ)
 is_found g c m by last_is =
     let disk = c.args.disk.now in
     let found = c.in_ok-found.found in
-    let same : g.D.Disk.reads c.read_image.new.disk ≡ g.D.Disk.reads disk = c.read_image.ensures.looked.reads_same ∙ c.sync.ensures.reads in
+    let same : g.D.Disk.reads c.read_chain.new.disk ≡ g.D.Disk.reads disk = c.read_chain.ensures.looked.reads_same ∙ c.sync.ensures.reads in
     record {
-      is_settled = c.read_image.ensures.looked.choices_same ∙ c.in-Ok.ensures.choices ∙ ap settled (sym same);
+      is_settled = c.read_chain.ensures.looked.choices_same ∙ c.in-Ok.ensures.choices ∙ ap settled (sym same);
       m = m;
       stood = by;
       stands = subst (λ (i : Image). StandsBy g.K.Language c.args.half_len found.root m found.place (g.K.Language.state found.house) i) (sym same) by;
@@ -63,12 +63,12 @@ is_found g c m by last_is =
 
 -- whatever the beginning answers
 begun : (g : Over) (c : After-begin g) → EachStands g.K.Language c.args.half_len (g.D.Disk.choices c.args.disk.now) → IsFound g c
-    → LeavesOnly g.D.Disk c.args.disk.now c.read_image.new.disk (IsImage (g.D.Disk.choices c.args.disk.now))
+    → LeavesOnly g.D.Disk c.args.disk.now c.read_chain.new.disk (IsImage (g.D.Disk.choices c.args.disk.now))
     → LeavesOnly g.D.Disk c.args.disk.now c.begin.new.disk (StandsForOne g.K.Language c.args.half_len (g.D.Disk.choices c.args.disk.now))
 begun g c each is reading =
     let disk = c.args.disk.now in
     let found = c.in_ok-found.found in
-    after_session g.K.Language g.D.Disk c.args.half_len disk each c.read_image.new.disk c.begin.new.disk (g.K.Language.state found.house) (g.D.Disk.reads disk) (g.met.D.Disk.reads_a_choice disk)
+    after_session g.K.Language g.D.Disk c.args.half_len disk each c.read_chain.new.disk c.begin.new.disk (g.K.Language.state found.house) (g.D.Disk.reads disk) (g.met.D.Disk.reads_a_choice disk)
     (record { root = found.root; m = is.m; place = found.place; by = is.stood }) reading (c.begin.ensures.any_moment is.is_settled is.m is.stands is.last_is)
 
 pub returns-in-Err-clause-any_moment : goal.returns-in-Err-clause-any_moment
@@ -79,32 +79,34 @@ returns-in-Err-clause-any_moment g c h each =
 
 pub returns-in_err-found-clause-any_moment : goal.returns-in_err-found-clause-any_moment
 returns-in_err-found-clause-any_moment g c h each =
-    before_writing g.K.Language g.D.Disk c.args.half_len c.args.disk.now each c.read_image.new.disk (looked g (goal.at.returns-in_err-found-clause-any_moment g c).After-read_image)
+    before_writing g.K.Language g.D.Disk c.args.half_len c.args.disk.now each c.read_chain.new.disk (looked g (goal.at.returns-in_err-found-clause-any_moment g c).After-read_chain)
 
 pub returns-then-is_spent-clause-any_moment : goal.returns-then-is_spent-clause-any_moment
 returns-then-is_spent-clause-any_moment g c h each =
-    before_writing g.K.Language g.D.Disk c.args.half_len c.args.disk.now each c.read_image.new.disk (looked g (goal.at.returns-then-is_spent-clause-any_moment g c).After-read_image)
+    before_writing g.K.Language g.D.Disk c.args.half_len c.args.disk.now each c.read_chain.new.disk (looked g (goal.at.returns-then-is_spent-clause-any_moment g c).After-read_chain)
 
 pub returns-in_err-begin-clause-any_moment : goal.returns-in_err-begin-clause-any_moment
 returns-in_err-begin-clause-any_moment g c h each =
     let at = goal.at.returns-in_err-begin-clause-any_moment g c in
     let kept = c.begin.ensures.before h in
     let was = read g at.After-is_spent kept in
-    begun g at.After-begin each (is_found g at.After-begin was.m (stood g at.After-is_spent kept) was.last_is) (looked g at.After-read_image)
+    let one = each (g.D.Disk.reads c.args.disk.now) (g.met.D.Disk.reads_a_choice c.args.disk.now) in
+    begun g at.After-begin each (is_found g at.After-begin was.m (stood g at.After-is_spent kept one.0 one.1) was.last_is) (looked g at.After-read_chain)
 
 pub returns-clause-any_moment : goal.returns-clause-any_moment
 returns-clause-any_moment g c h each =
     let at = goal.at.returns-clause-any_moment g c in
     let kept = c.begin.ensures.before h in
     let was = read g at.After-is_spent kept in
-    begun g at.After-begin each (is_found g at.After-begin was.m (stood g at.After-is_spent kept) was.last_is) (looked g at.After-read_image)
+    let one = each (g.D.Disk.reads c.args.disk.now) (g.met.D.Disk.reads_a_choice c.args.disk.now) in
+    begun g at.After-begin each (is_found g at.After-begin was.m (stood g at.After-is_spent kept one.0 one.1) was.last_is) (looked g at.After-read_chain)
 
 pub returns-clause-ready : goal.returns-clause-ready
-returns-clause-ready g c h =
+returns-clause-ready g c h state stands =
     let at = goal.at.returns-clause-ready g c in
     let kept = c.begin.ensures.before h in
     let was = read g at.After-is_spent kept in
-    let is = is_found g at.After-begin was.m (stood g at.After-is_spent kept) was.last_is in
+    let is = is_found g at.After-begin was.m (stood g at.After-is_spent kept state stands) was.last_is in
     let house = c.begin.ensures.house in
     subst (λ (held : g.row.K.Denot). IsBegun g.K.Language c.args.half_len c.begin.new.found.root c.begin.new.found.place c.begin.new.found.last (g.K.Language.state held) (g.D.Disk.reads c.begin.new.disk)) (sym house)
     (c.in_ok-begin.ensures.ready is.is_settled is.m is.stands is.last_is)
@@ -132,18 +134,11 @@ returns-clause-reads g c h =
     let was = read g (goal.at.returns-clause-reads g c).After-is_spent (c.begin.ensures.before h) in
     subst (λ (held : g.row.K.Denot). Reads g.K.Language c.args.half_len (g.K.Language.state held) (g.D.Disk.reads c.args.disk.now)) (sym c.begin.ensures.house) (record { root = c.in_ok-found.found.root; m = was.m; place = c.in_ok-found.found.place; by = was.by })
 
-pub returns-clause-stands : goal.returns-clause-stands
-returns-clause-stands g c h =
-    let at = (goal.at.returns-clause-stands g c).After-is_spent in
-    let kept = c.begin.ensures.before h in
-    subst (λ (held : g.row.K.Denot). Stands g.K.Language c.args.half_len (g.K.Language.state held) (g.D.Disk.reads c.args.disk.now)) (sym c.begin.ensures.house)
-    (record { root = c.in_ok-found.found.root; m = (read g at kept).m; place = c.in_ok-found.found.place; by = stood g at kept })
-
 pub returns-in_err-found-clause-spares_images : goal.returns-in_err-found-clause-spares_images
-returns-in_err-found-clause-spares_images g c = if_err _ c.from_residual.result (λ fault other. looked g (goal.at.returns-in_err-found-clause-spares_images g c).After-read_image)
+returns-in_err-found-clause-spares_images g c = if_err _ c.from_residual.result (λ fault other. looked g (goal.at.returns-in_err-found-clause-spares_images g c).After-read_chain)
 
 pub returns-then-is_spent-clause-spares_images : goal.returns-then-is_spent-clause-spares_images
-returns-then-is_spent-clause-spares_images g c other = looked g (goal.at.returns-then-is_spent-clause-spares_images g c).After-read_image
+returns-then-is_spent-clause-spares_images g c other = looked g (goal.at.returns-then-is_spent-clause-spares_images g c).After-read_chain
 
 pub returns-then-is_spent-clause-refused : goal.returns-then-is_spent-clause-refused
 returns-then-is_spent-clause-refused g c h =
@@ -151,36 +146,36 @@ returns-then-is_spent-clause-refused g c h =
     let at = (goal.at.returns-then-is_spent-clause-refused g c).After-is_spent in
     let was = read g at h in
     let spent : IsSpent found.root found.last = c.if-is_spent.ensures.0 refl in
-    record { root = found.root; m = was.m; place = found.place; state = (g.K.Language.state found.house); by = stood g at h; spent = subst (λ (n : ℕ). IsSpent found.root n) was.last_is spent }
+    record { root = found.root; m = was.m; place = found.place; state = (g.K.Language.state found.house); by = was.by; spent = subst (λ (n : ℕ). IsSpent found.root n) was.last_is spent }
 
 -- the sectors outside stay: while the image is read, and when a session begins
 
-read_spares : (g : Over) (c : After-read_image g) → SparesRest c.args.half_len (g.D.Disk.reads c.args.disk.now) (g.D.Disk.reads c.read_image.new.disk)
-read_spares g c = spared_same c.args.half_len (g.D.Disk.reads c.args.disk.now) (g.D.Disk.reads c.read_image.new.disk) (c.read_image.ensures.looked.reads_same ∙ c.sync.ensures.reads)
+read_spares : (g : Over) (c : After-read_chain g) → SparesRest c.args.half_len (g.D.Disk.reads c.args.disk.now) (g.D.Disk.reads c.read_chain.new.disk)
+read_spares g c = spared_same c.args.half_len (g.D.Disk.reads c.args.disk.now) (g.D.Disk.reads c.read_chain.new.disk) (c.read_chain.ensures.looked.reads_same ∙ c.sync.ensures.reads)
 
-begin_spares : (g : Over) (c : After-begin g) → SparesRest c.args.half_len (g.D.Disk.reads c.args.disk.now) (g.D.Disk.reads c.read_image.new.disk)
+begin_spares : (g : Over) (c : After-begin g) → SparesRest c.args.half_len (g.D.Disk.reads c.args.disk.now) (g.D.Disk.reads c.read_chain.new.disk)
     → SparesRest c.args.half_len (g.D.Disk.reads c.args.disk.now) (g.D.Disk.reads c.begin.new.disk)
 begin_spares g c reading =
-    spared_through c.args.half_len (g.D.Disk.reads c.args.disk.now) (g.D.Disk.reads c.read_image.new.disk) (g.D.Disk.reads c.begin.new.disk) reading c.begin.ensures.elsewhere
+    spared_through c.args.half_len (g.D.Disk.reads c.args.disk.now) (g.D.Disk.reads c.read_chain.new.disk) (g.D.Disk.reads c.begin.new.disk) reading c.begin.ensures.elsewhere
 
 pub returns-in-Err-clause-elsewhere : goal.returns-in-Err-clause-elsewhere
 returns-in-Err-clause-elsewhere g c = spared_same c.args.half_len (g.D.Disk.reads c.args.disk.now) (g.D.Disk.reads c.sync.new.self) c.sync.ensures.reads
 
 pub returns-in_err-found-clause-elsewhere : goal.returns-in_err-found-clause-elsewhere
-returns-in_err-found-clause-elsewhere g c = read_spares g (goal.at.returns-in_err-found-clause-elsewhere g c).After-read_image
+returns-in_err-found-clause-elsewhere g c = read_spares g (goal.at.returns-in_err-found-clause-elsewhere g c).After-read_chain
 
 pub returns-then-is_spent-clause-elsewhere : goal.returns-then-is_spent-clause-elsewhere
-returns-then-is_spent-clause-elsewhere g c = read_spares g (goal.at.returns-then-is_spent-clause-elsewhere g c).After-read_image
+returns-then-is_spent-clause-elsewhere g c = read_spares g (goal.at.returns-then-is_spent-clause-elsewhere g c).After-read_chain
 
 pub returns-in_err-begin-clause-elsewhere : goal.returns-in_err-begin-clause-elsewhere
 returns-in_err-begin-clause-elsewhere g c =
     let at = goal.at.returns-in_err-begin-clause-elsewhere g c in
-    begin_spares g at.After-begin (read_spares g at.After-read_image)
+    begin_spares g at.After-begin (read_spares g at.After-read_chain)
 
 pub returns-clause-elsewhere : goal.returns-clause-elsewhere
 returns-clause-elsewhere g c =
     let at = goal.at.returns-clause-elsewhere g c in
-    begin_spares g at.After-begin (read_spares g at.After-read_image)
+    begin_spares g at.After-begin (read_spares g at.After-read_chain)
 
 pub returns-in_err-begin-clause-counts : goal.returns-in_err-begin-clause-counts
 returns-in_err-begin-clause-counts g c =
@@ -189,6 +184,6 @@ returns-in_err-begin-clause-counts g c =
     let fault = c.in_err-begin.field-0.0 in
     let same : told.result ≡ Err fault = cc (p.1, p.2) in
     let disk = c.args.disk.now in
-    counted_on g.D.Disk disk c.read_image.new.disk c.begin.new.disk ⊥ _ _
-    (counted_on g.D.Disk disk c.sync.new.self c.read_image.new.disk _ _ ⊥ c.in-Ok.ensures.counts (λ is. cc is) c.in_ok-found.ensures.counts (λ is. cc is) (λ is. absurd is)) (λ is. is)
+    counted_on g.D.Disk disk c.read_chain.new.disk c.begin.new.disk ⊥ _ _
+    (counted_on g.D.Disk disk c.sync.new.self c.read_chain.new.disk _ _ ⊥ c.in-Ok.ensures.counts (λ is. cc is) c.in_ok-found.ensures.counts (λ is. cc is) (λ is. absurd is)) (λ is. is)
     c.in_err-begin.ensures.counts (λ is. let e : fault ≡ Device = cc is in same ∙ ap Err e) (λ is. let e : fault ≡ Device = cc (is, same) in ap Err e)

@@ -4,7 +4,7 @@ use Rattle.dc_disk.specs.Disk.{Image}
 use Rattle.dc_disk.specs.Runs.{OnlyLooked}
 use Rattle.dc_roots.specs.declared.root.Root.{Root}
 use Rattle.dc_log.specs.declared.fault.OpenFault.TheVariants.{Device}
-use Rattle.dc_log.specs.Refusal.{IsRefused}
+use Rattle.dc_log.specs.Refusal.{IsUnread}
 use Rattle.dc_log.specs.Stands.{IsCurrent, IsReached, IsRead}
 use Rattle.dc_log.proofs.ReadMoments.{looked_on}
 use Rattle.dc_log.proofs.reading.read_chain.Given.{Over}
@@ -75,4 +75,4 @@ returns-in_err-read_groups-clause-refused g c h =
     let p = err_from_is_err_and told.result told.ensures.1 in
     let fault = c.in_err-read_groups.field-0.0 in
     let same : told.result ≡ Err fault = cc (p.1, p.2) in
-    rw same (subst (λ (i : Image). IsRefused g.K.Language c.args.half_len i fault) based.reads_same (c.in_err-read_groups.ensures.refused h c.in_ok-found.ensures.budget based.reached))
+    rw same (subst (λ (i : Image). IsUnread g.K.Language c.args.half_len i fault) based.reads_same (c.in_err-read_groups.ensures.refused h c.in_ok-found.ensures.budget based.reached))

@@ -14,7 +14,6 @@ use Rattle.dc_poll.specs.declared.station.Station.{Station}
 use Rattle.dc_poll.proofs.Exhausting.{all_fresh}
 use Rattle.dc_poll.proofs.Planning.{planned_by}
 use Rattle.dc_poll.proofs.Running.{runs_from, runs_none}
-use Rattle.dc_poll.proofs.Whole.{whole}
 use Rattle.dc_poll.proofs.image.poll.Goals as goal
 
 pub returns-in-Err-clause-went : goal.returns-in-Err-clause-went
@@ -82,7 +81,7 @@ returns-in-Ok-read_on-clause-went g c =
       refuses = subst (λ (ms : List Identity). TakesAll takes old between (refused_events (has_bus lost (take most_lines all)) (present core) ms)) wanted_is
           (subst (λ (s : State). TakesAll takes old between (refused_events (has_bus lost (take most_lines all)) s c.as_slice-3.result.now)) state-3
           (subst (λ (bs : List g.row.B.Denot). TakesAll takes old between (refused_events (has_bus lost bs) c.house-3.result.now.state c.as_slice-3.result.now)) seen c.in-Ok-refuse_others.ensures.told));
-      polls = subst (λ (n : ℕ). PollsAll (whole g.B.HalfBus g.B.QuietBus) g.T.Timer.tells g.T.Timer.passes c.args.plan.tries c.as_mut_slice-2.result.now c.read_on.new.stations c.compare_clock.new.timer c.read_on.new.timer (TakesAll takes between c.read_on.new.teller) (record { read = 0; failed = n }) c.in-Ok-read_on.outcome core happened)
+      polls = subst (λ (n : ℕ). PollsAll g.B.HalfBus g.T.Timer.tells g.T.Timer.passes c.args.plan.tries c.as_mut_slice-2.result.now c.read_on.new.stations c.compare_clock.new.timer c.read_on.new.timer (TakesAll takes between c.read_on.new.teller) (record { read = 0; failed = n }) c.in-Ok-read_on.outcome core happened)
           (c.in-Ok-refuse_others.ensures.count
           ∙ ap (λ (bs : List g.row.B.Denot). min 4294967295 (refused_count (has_bus lost bs) c.house-3.result.now.state c.as_slice-3.result.now)) seen
           ∙ ap (λ (s : State). min 4294967295 (refused_count (has_bus lost (take most_lines all)) s c.as_slice-3.result.now)) state-3
@@ -107,4 +106,4 @@ read_on-requires-clause-sound g c =
     let each : AreStations (λ v. v.items) lost c.in-Ok.queues.items stations = subst (λ qs. AreStations (λ v. v.items) lost qs stations) lent c.in-Ok-stations_of.ensures.each in
     let planned : ArePlanned lost c.house.result.now.state only all stations =
     planned_by (λ v. v.items) lost c.house.result.now.state only all c.truncate.new.self.items c.in-Ok.queues.items stations cut queues count buses each in
-    all_fresh (whole g.B.HalfBus g.B.QuietBus) c.args.plan.tries c.as_mut_slice-2.result.now c.requires (subst (λ (xs : List (Station g.row.B.Denot)). All IsFresh xs) (sym slice) (λ k d below. (planned.each k d below).fresh))
+    all_fresh g.B.HalfBus c.args.plan.tries c.as_mut_slice-2.result.now c.requires (subst (λ (xs : List (Station g.row.B.Denot)). All IsFresh xs) (sym slice) (λ k d below. (planned.each k d below).fresh))

@@ -4,7 +4,7 @@ use Rattle.dc_concentrator.specs.OpenedOn.{IsOpenedOn}
 use Rattle.dc_log.specs.Halves.{half_of}
 use Rattle.dc_pending.specs.Images.{EachStands}
 use Rattle.dc_poll.specs.Happening.{Happening}
-use Rattle.dc_poll.proofs.ImagePolls.{turned, turned_ok}
+use Rattle.dc_poll.proofs.ImagePolls.{none_opened, turned, turned_ok}
 use Rattle.dc_poll.proofs.Running.{runs_as}
 use Rattle.dc_poll.proofs.image.poll_image.Given.{Over}
 use Rattle.dc_poll.proofs.image.poll_image.Goals.{After-poll-polled}
@@ -42,3 +42,22 @@ returns-clause-starved g c premise starved =
     let opens = opening g (goal.at.returns-clause-starved g c).After-poll-polled premise in
     let none = c.poll-polled.ensures.starved starved in
     (none.0, turned g.D.Disk c.args.disk c.close.result first.house.state first c.poll-polled.new.concentrator _ opens (none.1 first.store.disk first.house.state [] tt opens.at) c.close.ensures.disk)
+
+-- once it is open, no fault is of the opening
+pub returns-clause-refused : goal.returns-clause-refused
+returns-clause-refused g c keeps size = none_opened c.poll-polled.result _ c.poll-polled.ensures.opened
+
+pub returns-clause-premise : goal.returns-clause-premise
+returns-clause-premise g c keeps size each = none_opened c.poll-polled.result _ c.poll-polled.ensures.opened
+
+pub returns-clause-unwritten : goal.returns-clause-unwritten
+returns-clause-unwritten g c = none_opened c.poll-polled.result _ c.poll-polled.ensures.opened
+
+pub returns-clause-device : goal.returns-clause-device
+returns-clause-device g c = none_opened c.poll-polled.result _ c.poll-polled.ensures.opened
+
+pub returns-clause-any_moment : goal.returns-clause-any_moment
+returns-clause-any_moment g c keeps each = none_opened c.poll-polled.result _ c.poll-polled.ensures.opened
+
+pub returns-clause-unopened : goal.returns-clause-unopened
+returns-clause-unopened g c = none_opened c.poll-polled.result _ c.poll-polled.ensures.opened

@@ -6,7 +6,6 @@ use Rattle.dc_poll.specs.Station.{IsSound, rounds_of}
 use Rattle.dc_poll.specs.declared.station.Station.{Station}
 use Rattle.dc_poll.proofs.Rounds.{get_or_any, all_none, all_step, all_set, becomes_none, becomes_step, becomes_all}
 use Rattle.dc_poll.proofs.Running.{runs_none, runs_then}
-use Rattle.dc_poll.proofs.Whole.{whole}
 use Rattle.dc_poll.proofs.lines.ask_all.Goals as goal
 
 pub lines-init : goal.lines-init
@@ -22,7 +21,7 @@ lines-init g c = record {
 pub lines-preserved : goal.lines-preserved
 lines-preserved g c =
     let at : ℕ = c.lines.at in
-    let b = whole g.B.HalfBus g.B.QuietBus in
+    let b = g.B.HalfBus in
     let mids : List (Station g.row.B.Denot) = c.lines.stations in
     let new : Station g.row.B.Denot = c.step.new.station in
     let within : at < length mids = omega (arith, c.lines-test.true, c.lines.invariant.count) in

@@ -6,14 +6,13 @@ use Rattle.dc_poll.specs.Keeping.{IsAsking}
 use Rattle.dc_poll.specs.Round.{Runs, AllSteps}
 use Rattle.dc_poll.specs.Station.{IsSound, rounds_of}
 use Rattle.dc_poll.proofs.Rounds.{Becomes}
-use Rattle.dc_poll.proofs.Whole.{whole}
 use Rattle.dc_poll.proofs.lines.ask_all.Given as goal
 
 abbrev pub invariant-lines : goal.invariant-lines
 invariant-lines g l = record {
   budget : l.concentrator.house.budget ≡ l.fn.concentrator.house.budget;
   count : length l.stations ≡ length l.fn.stations;
-  sound : All (IsSound (whole g.B.HalfBus g.B.QuietBus) l.tries) l.stations;
-  becomes : Becomes (λ old new. rounds_of (whole g.B.HalfBus g.B.QuietBus) 0 0 0 l.tries new ≤ rounds_of (whole g.B.HalfBus g.B.QuietBus) 1 1 1 l.tries old - 1) l.at l.fn.stations l.stations;
-  so_far : Runs g.D.Disk (λ (core : Core) (happened : List Happening). AllSteps (whole g.B.HalfBus g.B.QuietBus) l.tries (All IsAsking) l.fn.stations l.stations happened) l.fn.concentrator l.concentrator;
+  sound : All (IsSound g.B.HalfBus l.tries) l.stations;
+  becomes : Becomes (λ old new. rounds_of g.B.HalfBus 0 0 0 l.tries new ≤ rounds_of g.B.HalfBus 1 1 1 l.tries old - 1) l.at l.fn.stations l.stations;
+  so_far : Runs g.D.Disk (λ (core : Core) (happened : List Happening). AllSteps g.B.HalfBus l.tries (All IsAsking) l.fn.stations l.stations happened) l.fn.concentrator l.concentrator;
 }

@@ -8,7 +8,6 @@ use Rattle.dc_poll.specs.declared.station.Station.{Station}
 use Rattle.dc_poll.proofs.Rounds.{get_or_any, all_as, all_none, all_then, all_set, falls_none, falls_then, falls_step, falls_all}
 use Rattle.dc_poll.proofs.Hearing.{all_heard, heard_none, room_made}
 use Rattle.dc_poll.proofs.Running.{runs_as, runs_none, runs_then}
-use Rattle.dc_poll.proofs.Whole.{whole}
 use Rattle.dc_poll.proofs.lines.hear_all.Goals as goal
 
 pub lines-init : goal.lines-init
@@ -24,7 +23,7 @@ lines-init g c = record {
 pub lines-preserved : goal.lines-preserved
 lines-preserved g c =
     let at : ℕ = c.lines.at in
-    let b = whole g.B.HalfBus g.B.QuietBus in
+    let b = g.B.HalfBus in
     let m : ℕ = c.args.moment.seconds in
     let olds : List (Station g.row.B.Denot) = c.args.stations.now in
     let mids : List (Station g.row.B.Denot) = c.lines.stations in

@@ -4,7 +4,6 @@ use Rattle.dc_poll.specs.Station.{rounds_of}
 use Rattle.dc_poll.proofs.Rounds.{all_then, all_as, fewer_both}
 use Rattle.dc_poll.proofs.Running.{runs_then, runs_as}
 use Rattle.dc_poll.proofs.Storing.{on_any}
-use Rattle.dc_poll.proofs.Whole.{whole}
 use Rattle.dc_poll.proofs.lines.hear_and_commit.Goals as goal
 
 pub returns-in-Ok-clause-went : goal.returns-in-Ok-clause-went
@@ -25,7 +24,7 @@ returns-in-Ok-clause-sound g c = c.commit_all.ensures.sound c.args.tries c.hear_
 
 pub returns-in-Ok-clause-fewer : goal.returns-in-Ok-clause-fewer
 returns-in-Ok-clause-fewer g c =
-    let b = whole g.B.HalfBus g.B.QuietBus in
+    let b = g.B.HalfBus in
     on_any c.commit_all.result _
     (fewer_both (rounds_of b 0 0 0 c.args.tries) (rounds_of b 1 0 0 c.args.tries) (rounds_of b 1 1 0 c.args.tries) 0 0 c.args.stations.now c.hear_all.new.stations c.commit_all.new.stations c.hear_all.auto.stations
     c.in-Ok.ensures.fewer (c.commit_all.ensures.fewer c.args.tries 1 1 c.hear_all.ensures.sound))

@@ -6,17 +6,16 @@ use Rattle.dc_poll.specs.declared.station.Station.{Station}
 use Rattle.dc_poll.proofs.Exhausting.{all_done, all_less, all_over, all_silent, most_rounds, over_one}
 use Rattle.dc_poll.proofs.Polling.{polled_none, polled_over, polled_unkept, polls_first, polls_kept}
 use Rattle.dc_poll.proofs.Running.{runs_as, runs_then}
-use Rattle.dc_poll.proofs.Whole.{whole}
 use Rattle.dc_poll.proofs.readout.read_rounds.Goals as goal
 
 pub returns-in-Err-clause-went : goal.returns-in-Err-clause-went
 returns-in-Err-clause-went g c =
     runs_as g.D.Disk _ _ c.args.concentrator.now c.commit_all.new.concentrator (c.in-Err.ensures.went c.args.tries c.requires.sound)
-    (λ core happened a. polled_none (whole g.B.HalfBus g.B.QuietBus) g.T.Timer.tells g.T.Timer.passes g.N.Teller.takes c.args.tries c.in-Err.fault c.args.stations.now c.commit_all.new.stations c.args.timer.now c.args.teller.now c.args.before c.outcome_of.result core happened c.outcome_of.ensures a)
+    (λ core happened a. polled_none g.B.HalfBus g.T.Timer.tells g.T.Timer.passes g.N.Teller.takes c.args.tries c.in-Err.fault c.args.stations.now c.commit_all.new.stations c.args.timer.now c.args.teller.now c.args.before c.outcome_of.result core happened c.outcome_of.ensures a)
 
 pub rounds-init : goal.rounds-init
 rounds-init g c =
-    let b = whole g.B.HalfBus g.B.QuietBus in
+    let b = g.B.HalfBus in
     let t = c.args.tries in
     record {
       budget = c.commit_all.ensures.budget;
@@ -35,7 +34,7 @@ rounds-init g c =
 
 pub returns-then-is_over-clause-went : goal.returns-then-is_over-clause-went
 returns-then-is_over-clause-went g c =
-    let b = whole g.B.HalfBus g.B.QuietBus in
+    let b = g.B.HalfBus in
     let over = all_done c.rounds.stations (sym c.is_over.ensures ∙ c.if-is_over.true) in
     runs_as g.D.Disk _ _ c.args.concentrator.now c.rounds.concentrator c.rounds.invariant.so_far
     (λ core happened a. polled_over b g.T.Timer.tells g.T.Timer.passes g.N.Teller.takes c.args.tries c.args.stations.now c.rounds.stations c.args.timer.now c.rounds.timer (TakesAll g.N.Teller.takes c.args.teller.now c.rounds.teller) c.args.before c.rounds.counts c.outcome_of-then-is_over.result core happened c.outcome_of-then-is_over.ensures a
@@ -44,7 +43,7 @@ returns-then-is_over-clause-went g c =
 pub returns-in-Ok-Some-clause-went : goal.returns-in-Ok-Some-clause-went
 returns-in-Ok-Some-clause-went g c =
     runs_then g.D.Disk _ _ _ c.args.concentrator.now c.rounds.concentrator c.round.new.concentrator c.rounds.invariant.so_far c.rounds.invariant.budget c.in-Ok-Some.ensures.went
-    (λ core happened more a r. polled_unkept (whole g.B.HalfBus g.B.QuietBus) g.T.Timer.tells g.T.Timer.passes g.N.Teller.takes c.args.tries c.in-Ok-Some.field-0 c.in-Ok-Some.fault c.args.stations.now c.rounds.stations c.round.new.stations
+    (λ core happened more a r. polled_unkept g.B.HalfBus g.T.Timer.tells g.T.Timer.passes g.N.Teller.takes c.args.tries c.in-Ok-Some.field-0 c.in-Ok-Some.fault c.args.stations.now c.rounds.stations c.round.new.stations
     c.args.timer.now c.rounds.timer c.round.new.timer c.args.teller.now c.rounds.teller c.round.new.teller c.args.before c.rounds.counts c.round.new.counts c.outcome_of-in-Ok-Some.result core happened more c.rounds.invariant.count c.in-Ok-Some.field-0-is c.outcome_of-in-Ok-Some.ensures a r)
 
 pub returns-in-Err-round-clause-went : goal.returns-in-Err-round-clause-went
@@ -54,7 +53,7 @@ returns-in-Err-round-clause-went g c =
 
 pub rounds-preserved : goal.rounds-preserved
 rounds-preserved g c =
-    let b = whole g.B.HalfBus g.B.QuietBus in
+    let b = g.B.HalfBus in
     let more = c.in-Ok-None.ensures.few in
     let was = c.rounds.invariant.few in
     record {
@@ -75,7 +74,7 @@ rounds-preserved g c =
 
 pub returns-clause-went : goal.returns-clause-went
 returns-clause-went g c =
-    let b = whole g.B.HalfBus g.B.QuietBus in
+    let b = g.B.HalfBus in
     let olds : List (Station g.row.B.Denot) = c.args.stations.now in
     let news : List (Station g.row.B.Denot) = c.rounds.stations in
     runs_as g.D.Disk _ _ c.args.concentrator.now c.rounds.concentrator c.rounds.invariant.so_far

@@ -9,12 +9,11 @@ use Rattle.dc_poll.specs.declared.station.Station.{Station}
 use Rattle.dc_poll.proofs.Polling.{Asked, goes_round, none_of}
 use Rattle.dc_poll.proofs.Rounds.{fewer_both}
 use Rattle.dc_poll.proofs.Running.{runs_then}
-use Rattle.dc_poll.proofs.Whole.{whole}
 use Rattle.dc_poll.proofs.readout.round.Goals as goal
 
 pub returns-in-Ok-clause-went : goal.returns-in-Ok-clause-went
 returns-in-Ok-clause-went g c =
-    let b = whole g.B.HalfBus g.B.QuietBus in
+    let b = g.B.HalfBus in
     let m : ℕ = c.now-moment.result.seconds in
     let stored = c.hear_and_commit-stored.result in
     let olds : List (Station g.row.B.Denot) = c.args.stations.now in
@@ -43,7 +42,7 @@ returns-in-Err-clause-went g c =
 
 pub returns-in-Ok-clause-fewer : goal.returns-in-Ok-clause-fewer
 returns-in-Ok-clause-fewer g c kept =
-    let b = whole g.B.HalfBus g.B.QuietBus in
+    let b = g.B.HalfBus in
     let t = c.args.tries in
     let olds : List (Station g.row.B.Denot) = c.args.stations.now in
     let asked : List (Station g.row.B.Denot) = c.ask_all.new.stations in

@@ -5,7 +5,6 @@ use Rattle.dc_poll.specs.Station.{rounds_of}
 use Rattle.dc_poll.proofs.Becoming.{free_pass, line_passed, passed_left, passed_phase, rounds_passed, sound_passed}
 use Rattle.dc_poll.proofs.Queues.{steps_none, steps_both}
 use Rattle.dc_poll.proofs.Running.{runs_as}
-use Rattle.dc_poll.proofs.Whole.{whole}
 use Rattle.dc_poll.proofs.stepping.go_on.Goals as goal
 
 pub returns-clause-went : goal.returns-clause-went
@@ -14,25 +13,25 @@ returns-clause-went g c =
     runs_as g.D.Disk _ _ c.args.concentrator.now c.prepare.new.concentrator c.prepare.ensures.went
     (λ core happened b. steps_both c.args.tries c.args.line IsAsking c.args.station.now c.pass_on.new.self c.prepare.new.station [] happened
     (steps_none c.args.tries c.args.line IsAsking c.args.station.now c.pass_on.new.self
-    (line_passed (whole g.B.HalfBus g.B.QuietBus) c.args.tries c.args.line c.args.station.now c.pass_on.new.self c.requires.free some c.requires.sound c.pass_on.ensures.after c.pass_on.ensures.misses)) b)
+    (line_passed g.B.HalfBus c.args.tries c.args.line c.args.station.now c.pass_on.new.self c.requires.free some c.requires.sound c.pass_on.ensures.after c.pass_on.ensures.misses)) b)
 
 pub returns-clause-fewer : goal.returns-clause-fewer
 returns-clause-fewer g c =
     let some : 0 < length c.args.station.now.left.now = let count = ap length c.requires.first in omega (arith, count) in
-    subst (λ (n : ℕ). rounds_of (whole g.B.HalfBus g.B.QuietBus) 0 0 0 c.args.tries c.prepare.new.station ≤ n - 1)
-    (rounds_passed (whole g.B.HalfBus g.B.QuietBus) 1 1 1 c.args.tries c.args.station.now c.pass_on.new.self c.requires.free some c.requires.sound c.pass_on.ensures.after)
+    subst (λ (n : ℕ). rounds_of g.B.HalfBus 0 0 0 c.args.tries c.prepare.new.station ≤ n - 1)
+    (rounds_passed g.B.HalfBus 1 1 1 c.args.tries c.args.station.now c.pass_on.new.self c.requires.free some c.requires.sound c.pass_on.ensures.after)
     c.prepare.ensures.fewer
 
 pub pass_on-requires : goal.pass_on-requires
 pass_on-requires g c none =
     let count = ap length c.requires.first in
-    let less = (free_pass (whole g.B.HalfBus g.B.QuietBus) c.args.tries c.args.station.now c.requires.free c.requires.sound).3 (omega (arith, none, count)) in
+    let less = (free_pass g.B.HalfBus c.args.tries c.args.station.now c.requires.free c.requires.sound).3 (omega (arith, none, count)) in
     omega (arith, less, c.ranges.tries.fits)
 
 pub prepare-requires-clause-sound : goal.prepare-requires-clause-sound
 prepare-requires-clause-sound g c =
     let some : 0 < length c.args.station.now.left.now = let count = ap length c.requires.first in omega (arith, count) in
-    (sound_passed (whole g.B.HalfBus g.B.QuietBus) c.args.tries c.args.station.now c.pass_on.new.self c.requires.free some c.requires.sound c.pass_on.ensures.after).0
+    (sound_passed g.B.HalfBus c.args.tries c.args.station.now c.pass_on.new.self c.requires.free some c.requires.sound c.pass_on.ensures.after).0
 
 pub prepare-requires-clause-free : goal.prepare-requires-clause-free
 prepare-requires-clause-free g c =
@@ -42,7 +41,7 @@ prepare-requires-clause-free g c =
 pub prepare-requires-clause-due : goal.prepare-requires-clause-due
 prepare-requires-clause-due g c =
     let some : 0 < length c.args.station.now.left.now = let count = ap length c.requires.first in omega (arith, count) in
-    (sound_passed (whole g.B.HalfBus g.B.QuietBus) c.args.tries c.args.station.now c.pass_on.new.self c.requires.free some c.requires.sound c.pass_on.ensures.after).1
+    (sound_passed g.B.HalfBus c.args.tries c.args.station.now c.pass_on.new.self c.requires.free some c.requires.sound c.pass_on.ensures.after).1
 
 pub prepare-requires-clause-first : goal.prepare-requires-clause-first
 prepare-requires-clause-first g c =

@@ -4,12 +4,11 @@ use Rattle.dc_poll.specs.declared.phase.Request.TheVariants.{Answered}
 use Rattle.dc_poll.proofs.Becoming.{busy_due, first_of, taken_is, line_judged}
 use Rattle.dc_poll.proofs.Hearing.{hears_one}
 use Rattle.dc_poll.proofs.Running.{runs_as}
-use Rattle.dc_poll.proofs.Whole.{whole}
 use Rattle.dc_poll.proofs.stepping.judge.Goals as goal
 
 pub returns-clause-went : goal.returns-clause-went
 returns-clause-went g c =
-    let b = whole g.B.HalfBus g.B.QuietBus in
+    let b = g.B.HalfBus in
     let old = c.args.station.now in
     let bytes = c.taken.result.now in
     let first : old.left.now ≡ c.in-Some.meter ∷ drop 1 old.left.now = first_of old.left.now c.in-Some.meter (sym c.present.ensures ∙ c.in-Some.is) in
@@ -19,4 +18,4 @@ returns-clause-went g c =
     (line_judged b c.args.tries c.args.line c.args.moment.seconds c.in-Busy.asks c.in-Some.meter bytes c.hear-answer.result old c.judged.new.self c.in-Busy.is took first c.requires.sound c.judged.ensures.after (c.judged.ensures.misses ∙ ap (λ (xs : List ℕ). misses_heard xs c.hear-answer.result old.misses) (sym c.taken.ensures))))
 
 pub judged-requires-clause-due : goal.judged-requires-clause-due
-judged-requires-clause-due g c = busy_due (whole g.B.HalfBus g.B.QuietBus) c.args.tries c.in-Busy.asks c.args.station.now c.in-Busy.is c.requires.sound
+judged-requires-clause-due g c = busy_due g.B.HalfBus c.args.tries c.in-Busy.asks c.args.station.now c.in-Busy.is c.requires.sound

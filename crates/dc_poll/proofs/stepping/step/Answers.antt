@@ -4,7 +4,6 @@ use Rattle.dc_poll.proofs.Becoming.{none_first}
 use Rattle.dc_poll.proofs.Idling.{fewer_out, fewer_empty}
 use Rattle.dc_poll.proofs.Queues.{line_stays, steps_none}
 use Rattle.dc_poll.proofs.Running.{runs_none}
-use Rattle.dc_poll.proofs.Whole.{whole}
 use Rattle.dc_poll.proofs.stepping.step.Goals as goal
 
 pub returns-in_default : goal.returns-in_default
@@ -12,7 +11,7 @@ returns-in_default g c = record {
   went = runs_none g.D.Disk _ c.args.concentrator.now (λ image left. g.met.D.Disk.only_now c.args.concentrator.now.store.disk image left)
       (λ core. steps_none c.args.tries c.args.line IsAsking c.args.station.now c.args.station.now (line_stays c.args.tries c.args.line c.args.station.now));
   sound = c.requires;
-  fewer = fewer_out (whole g.B.HalfBus g.B.QuietBus) c.args.tries c.args.station.now c.requires c.in_default.not-Quiet;
+  fewer = fewer_out g.B.HalfBus c.args.tries c.args.station.now c.requires c.in_default.not-Quiet;
   budget = refl;
 }
 
@@ -31,5 +30,5 @@ returns-in_default-phase-clause-went g c =
 
 pub returns-in_default-present-clause-fewer : goal.returns-in_default-present-clause-fewer
 returns-in_default-present-clause-fewer g c =
-    fewer_empty (whole g.B.HalfBus g.B.QuietBus) c.args.tries c.args.station.now c.requires
+    fewer_empty g.B.HalfBus c.args.tries c.args.station.now c.requires
     (none_first c.args.station.now.left.now (λ m is. c.in_default-present.not-Some m (c.present.ensures ∙ is)))

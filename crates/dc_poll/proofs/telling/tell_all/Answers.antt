@@ -4,7 +4,6 @@ use Rattle.dc_poll.specs.Station.{IsSound, rounds_of}
 use Rattle.dc_poll.specs.declared.station.Station.{Station}
 use Rattle.dc_poll.proofs.Rounds.{get_or_any, rounds_none, rounds_step, becomes_none, becomes_step, becomes_all}
 use Rattle.dc_poll.proofs.Running.{runs_none, runs_then}
-use Rattle.dc_poll.proofs.Whole.{whole}
 use Rattle.dc_poll.proofs.Taking.{told_none, told_then}
 use Rattle.dc_poll.proofs.telling.tell_all.Goals as goal
 
@@ -24,7 +23,7 @@ tell-requires g c = let few = c.requires.few in let so_far = c.lines.invariant.f
 pub lines-preserved : goal.lines-preserved
 lines-preserved g c =
     let at : ℕ = c.lines.at in
-    let b = whole g.B.HalfBus g.B.QuietBus in
+    let b = g.B.HalfBus in
     let olds : List (Station g.row.B.Denot) = c.args.stations.now in
     let mids : List (Station g.row.B.Denot) = c.lines.stations in
     let new : Station g.row.B.Denot = c.tell.new.station in

@@ -5,7 +5,6 @@ use Rattle.dc_poll.specs.Happening.{Happening}
 use Rattle.dc_poll.specs.Round.{AllTells, Runs}
 use Rattle.dc_poll.specs.Station.{IsSound, rounds_of}
 use Rattle.dc_poll.proofs.Rounds.{Becomes}
-use Rattle.dc_poll.proofs.Whole.{whole}
 use Rattle.dc_poll.proofs.telling.tell_all.Given as goal
 
 abbrev pub invariant-lines : goal.invariant-lines
@@ -13,7 +12,7 @@ invariant-lines g l = record {
   well : g.N.Teller.failures l.teller ≡ g.N.Teller.failures l.fn.teller;
   count : length l.stations ≡ length l.fn.stations;
   few : l.outcome.read + l.outcome.failed ≤ l.fn.outcome.read + l.fn.outcome.failed + l.at;
-  becomes : Becomes (λ old new. (tries : ℕ) → (IsSound (whole g.B.HalfBus g.B.QuietBus) tries old → IsSound (whole g.B.HalfBus g.B.QuietBus) tries new)
-      × (rounds_of (whole g.B.HalfBus g.B.QuietBus) 1 1 1 tries new ≤ rounds_of (whole g.B.HalfBus g.B.QuietBus) 1 1 0 tries old)) l.at l.fn.stations l.stations;
-  so_far : Runs g.D.Disk (λ (core : Core) (happened : List Happening). AllTells (whole g.B.HalfBus g.B.QuietBus) l.fn.stations l.stations (TakesAll g.N.Teller.takes l.fn.teller l.teller) l.fn.outcome l.outcome core happened) l.fn.concentrator l.fn.concentrator;
+  becomes : Becomes (λ old new. (tries : ℕ) → (IsSound g.B.HalfBus tries old → IsSound g.B.HalfBus tries new)
+      × (rounds_of g.B.HalfBus 1 1 1 tries new ≤ rounds_of g.B.HalfBus 1 1 0 tries old)) l.at l.fn.stations l.stations;
+  so_far : Runs g.D.Disk (λ (core : Core) (happened : List Happening). AllTells g.B.HalfBus l.fn.stations l.stations (TakesAll g.N.Teller.takes l.fn.teller l.teller) l.fn.outcome l.outcome core happened) l.fn.concentrator l.fn.concentrator;
 }

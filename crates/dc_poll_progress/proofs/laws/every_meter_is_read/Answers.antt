@@ -1,6 +1,5 @@
-use Rattle.dc_poll.proofs.Whole.{whole}
 use Rattle.dc_poll_progress.proofs.Every.{each_is_read}
 use Rattle.dc_poll_progress.proofs.laws.every_meter_is_read.Goals as goal
 
 pub returns : goal.returns
-returns g c = each_is_read {D = g.row.D.Denot} {B = g.row.B.Denot} {T = g.row.T.Denot} {N = g.row.N.Denot} g.D.Disk (whole g.B.HalfBus g.B.QuietBus) g.T.Timer.tells g.T.Timer.passes g.T.Timer.warns g.N.Teller.takes
+returns g c = each_is_read {D = g.row.D.Denot} {B = g.row.B.Denot} {T = g.row.T.Denot} {N = g.row.N.Denot} g.D.Disk g.B.HalfBus g.T.Timer.tells g.T.Timer.passes g.T.Timer.warns g.N.Teller.takes

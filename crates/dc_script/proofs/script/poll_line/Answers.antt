@@ -19,8 +19,8 @@ returns-in-Some-clause-ran g c origin state before chain at =
     let links = links_of lost slots in
     let found = c.in-Some.ensures.found in
     ran_as g.D.Disk origin c.poll_slot.result c.args.concentrator.now.house.budget state before c.args.moment.seconds (polls c.args.line c.args.meter.now) links _ (Puts (g.W.Sink.written c.args.out.now) (g.W.Sink.written c.poll_slot.new.out)) _ _ c.args.concentrator.now c.poll_slot.new.concentrator
-    (λ exchanges goes. is_one g.B.Bus.lost g.B.Bus.asks g.B.ScriptBus.settles g.B.ScriptBus.ready (polls c.args.line c.args.meter.now) slots _ exchanges (named_set (λ old new. PollsOver g.B.Bus.lost g.B.Bus.asks g.B.ScriptBus.settles g.B.ScriptBus.ready c.args.line old new exchanges) slots c.in-Some.at c.index-slots-at.result c.poll_slot.new.slot c.args.line found.0 found.1 goes))
-    (subst (λ (left : List LineLink). OnOk c.poll_slot.result (LineRan g.D.Disk (run_of origin c.args.concentrator.now.house.budget state before c.args.concentrator.now c.poll_slot.new.concentrator) c.args.moment.seconds (polls c.args.line c.args.meter.now) links left (Puts (g.W.Sink.written c.args.out.now) (g.W.Sink.written c.poll_slot.new.out)) (PollsOver g.B.Bus.lost g.B.Bus.asks g.B.ScriptBus.settles g.B.ScriptBus.ready c.args.line (get_or slots c.in-Some.at c.index-slots-at.result) c.poll_slot.new.slot)))
+    (λ exchanges goes. is_one g.B.Bus.lost g.B.Bus.asks g.B.Bus.asks_all (polls c.args.line c.args.meter.now) slots _ exchanges (named_set (λ old new. PollsOver g.B.Bus.lost g.B.Bus.asks old new exchanges) slots c.in-Some.at c.index-slots-at.result c.poll_slot.new.slot c.args.line found.0 found.1 goes))
+    (subst (λ (left : List LineLink). OnOk c.poll_slot.result (LineRan g.D.Disk (run_of origin c.args.concentrator.now.house.budget state before c.args.concentrator.now c.poll_slot.new.concentrator) c.args.moment.seconds (polls c.args.line c.args.meter.now) links left (Puts (g.W.Sink.written c.args.out.now) (g.W.Sink.written c.poll_slot.new.out)) (PollsOver g.B.Bus.lost g.B.Bus.asks (get_or slots c.in-Some.at c.index-slots-at.result) c.poll_slot.new.slot)))
     (slot_left lost slots c.in-Some.at c.index-slots-at.result c.poll_slot.new.slot c.args.line found.0 found.1 c.poll_slot.ensures.kept)
     (c.poll_slot.ensures.ran links (slot_found lost slots c.in-Some.at c.index-slots-at.result c.args.line found.0 found.1) origin state before chain at))
 
@@ -31,7 +31,7 @@ returns-in-Some-clause-cut g c origin state before chain at =
     let links = links_of lost slots in
     let found = c.in-Some.ensures.found in
     cut_as g.D.Disk origin c.poll_slot.result c.args.concentrator.now.house.budget state before c.args.moment.seconds (polls c.args.line c.args.meter.now) links _ _ c.args.concentrator.now c.poll_slot.new.concentrator
-    (λ exchanges goes. is_one g.B.Bus.lost g.B.Bus.asks g.B.ScriptBus.settles g.B.ScriptBus.ready (polls c.args.line c.args.meter.now) slots _ exchanges (named_set (λ old new. PollsOver g.B.Bus.lost g.B.Bus.asks g.B.ScriptBus.settles g.B.ScriptBus.ready c.args.line old new exchanges) slots c.in-Some.at c.index-slots-at.result c.poll_slot.new.slot c.args.line found.0 found.1 goes))
+    (λ exchanges goes. is_one g.B.Bus.lost g.B.Bus.asks g.B.Bus.asks_all (polls c.args.line c.args.meter.now) slots _ exchanges (named_set (λ old new. PollsOver g.B.Bus.lost g.B.Bus.asks old new exchanges) slots c.in-Some.at c.index-slots-at.result c.poll_slot.new.slot c.args.line found.0 found.1 goes))
     (c.poll_slot.ensures.cut links (slot_found lost slots c.in-Some.at c.index-slots-at.result c.args.line found.0 found.1) origin state before chain at)
 
 pub returns-in-Some-clause-absent : goal.returns-in-Some-clause-absent
@@ -46,7 +46,7 @@ returns-in-None-clause-ran g c origin state before chain at =
     let links = links_of g.B.Bus.lost c.args.slots.now in
     said_ran g.D.Disk origin c.args.concentrator.now.house.budget state before c.args.moment.seconds (polls c.args.line c.args.meter.now) links links no_gateway (Puts (g.W.Sink.written c.args.out.now) (g.W.Sink.written c.put_no_bus.new.out)) _ c.args.concentrator.now c.put_no_bus.result
     (inr (record { no_bus = none_absent (link_in links c.args.line) (no_line g.B.Bus.lost c.args.slots.now c.args.line c.in-None.ensures.none); says = record { no_turns = refl; text_is = refl }; unasked = refl; left_is = refl }))
-    (is_one g.B.Bus.lost g.B.Bus.asks g.B.ScriptBus.settles g.B.ScriptBus.ready (polls c.args.line c.args.meter.now) c.args.slots.now c.args.slots.now [] (named_none g.B.Bus.lost _ c.args.slots.now c.args.line c.in-None.ensures.none))
+    (is_one g.B.Bus.lost g.B.Bus.asks g.B.Bus.asks_all (polls c.args.line c.args.meter.now) c.args.slots.now c.args.slots.now [] (named_none g.B.Bus.lost _ c.args.slots.now c.args.line c.in-None.ensures.none))
     (went_none g.D.Disk origin c.args.concentrator.now.house.budget state before c.args.concentrator.now chain at (λ h image left. g.met.D.Disk.only_now c.args.concentrator.now.store.disk image left)) c.put_no_bus.ensures.0
 
 pub returns-in-None-clause-cut : goal.returns-in-None-clause-cut
@@ -54,5 +54,5 @@ returns-in-None-clause-cut g c origin state before chain at =
     let links = links_of g.B.Bus.lost c.args.slots.now in
     said_cut g.D.Disk origin c.args.concentrator.now.house.budget state before c.args.moment.seconds (polls c.args.line c.args.meter.now) links _ c.args.concentrator.now c.put_no_bus.result
     (inr (none_absent (link_in links c.args.line) (no_line g.B.Bus.lost c.args.slots.now c.args.line c.in-None.ensures.none), refl, refl))
-    (is_one g.B.Bus.lost g.B.Bus.asks g.B.ScriptBus.settles g.B.ScriptBus.ready (polls c.args.line c.args.meter.now) c.args.slots.now c.args.slots.now [] (named_none g.B.Bus.lost _ c.args.slots.now c.args.line c.in-None.ensures.none))
+    (is_one g.B.Bus.lost g.B.Bus.asks g.B.Bus.asks_all (polls c.args.line c.args.meter.now) c.args.slots.now c.args.slots.now [] (named_none g.B.Bus.lost _ c.args.slots.now c.args.line c.in-None.ensures.none))
     (went_none g.D.Disk origin c.args.concentrator.now.house.budget state before c.args.concentrator.now chain at (λ h image left. g.met.D.Disk.only_now c.args.concentrator.now.store.disk image left))

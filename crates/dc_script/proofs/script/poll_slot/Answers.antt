@@ -15,13 +15,13 @@ returns-in-Some-clause-ran g c links same origin state before chain at =
     let lost = g.B.Bus.lost in
     polled_ran g.D.Disk origin c.args.concentrator.now.house.budget state before c.args.moment.seconds c.args.line c.args.meter.now links _ (link_by (lost c.poll.new.bus)) _
     (Puts (g.W.Sink.written c.args.out.now) (g.W.Sink.written c.poll.new.out)) _ c.args.concentrator.now c.poll.new.concentrator c.poll.result (same ∙ ap (line_of lost) c.in-Some.is) (has_bus_by (lost c.in-Some.slot.bus))
-    (c.poll.ensures.went origin state before chain at) (λ happened last e. e.0) (λ happened last e. polls_over g.B.Bus.lost g.B.Bus.asks g.B.ScriptBus.settles g.B.ScriptBus.ready c.args.line (happened_exchanges happened) c.args.slot.now c.in-Some.slot c.poll.new.bus c.in-Some.is e.2 c.poll.ensures.untouched)
+    (c.poll.ensures.went origin state before chain at) (λ happened last e. e.0) (λ happened last e. polls_over g.B.Bus.lost g.B.Bus.asks g.B.Bus.asks_all (happened_exchanges happened) c.args.slot.now c.in-Some.slot c.poll.new.bus c.in-Some.is e.2 c.poll.ensures.untouched)
 
 pub returns-in-Some-clause-cut : goal.returns-in-Some-clause-cut
 returns-in-Some-clause-cut g c links same origin state before chain at =
     let lost = g.B.Bus.lost in
     polled_cut g.D.Disk origin c.args.concentrator.now.house.budget state before c.args.moment.seconds c.args.line c.args.meter.now links _ _ _ _ c.args.concentrator.now c.poll.new.concentrator c.poll.result (same ∙ ap (line_of lost) c.in-Some.is) (has_bus_by (lost c.in-Some.slot.bus))
-    (c.poll.ensures.went origin state before chain at) (λ happened last e. polls_over g.B.Bus.lost g.B.Bus.asks g.B.ScriptBus.settles g.B.ScriptBus.ready c.args.line (happened_exchanges happened) c.args.slot.now c.in-Some.slot c.poll.new.bus c.in-Some.is e.2 c.poll.ensures.untouched)
+    (c.poll.ensures.went origin state before chain at) (λ happened last e. polls_over g.B.Bus.lost g.B.Bus.asks g.B.Bus.asks_all (happened_exchanges happened) c.args.slot.now c.in-Some.slot c.poll.new.bus c.in-Some.is e.2 c.poll.ensures.untouched)
 
 pub returns-in-Some-clause-kept : goal.returns-in-Some-clause-kept
 returns-in-Some-clause-kept g c =

@@ -16,7 +16,7 @@ invariant-lines g l = record {
   moment : l.moment.0 ≤ last_moment;
   absent : AreAbsent (links_of g.B.Bus.lost l.fn.slots) → AreAbsent (links_of g.B.Bus.lost l.slots);
   so_far : (origin : g.row.D.Denot) → SoFar g.D.Disk origin l.fn.concentrator.house.budget (links_of g.B.Bus.lost l.fn.slots) (links_of g.B.Bus.lost l.slots) (lines_of l.input) (lines_of l.rest) l.moment.0 l.count
-      (Puts (g.W.Sink.written l.fn.out) (g.W.Sink.written l.out)) (AreCarried g.B.Bus.lost g.B.Bus.asks g.B.ScriptBus.settles g.B.ScriptBus.ready l.fn.slots l.slots) l.fn.concentrator l.concentrator;
+      (Puts (g.W.Sink.written l.fn.out) (g.W.Sink.written l.out)) (AreCarried g.B.Bus.lost g.B.Bus.asks g.B.Bus.asks_all l.fn.slots l.slots) l.fn.concentrator l.concentrator;
 }
 
 abbrev pub decreases-lines : goal.decreases-lines

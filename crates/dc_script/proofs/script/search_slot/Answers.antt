@@ -15,16 +15,16 @@ pub returns-in-Some-clause-ran : goal.returns-in-Some-clause-ran
 returns-in-Some-clause-ran g c moment links same origin state before chain at =
     let lost = g.B.Bus.lost in
     ran_as g.D.Disk origin c.search_on.result c.args.concentrator.now.house.budget state before moment (searches c.args.budget c.args.line) links _ (Puts (g.W.Sink.written c.args.out.now) (g.W.Sink.written c.search_on.new.out)) _ _ c.args.concentrator.now c.search_on.new.concentrator
-    (λ exchanges so. searches_over g.B.Bus.lost g.B.Bus.asks g.B.ScriptBus.settles g.B.ScriptBus.ready exchanges c.args.slot.now c.in-Some.slot c.search_on.new.bus c.in-Some.is so c.search_on.ensures.untouched)
+    (λ exchanges so. searches_over g.B.Bus.lost g.B.Bus.asks g.B.Bus.asks_all exchanges c.args.slot.now c.in-Some.slot c.search_on.new.bus c.in-Some.is so c.search_on.ensures.untouched)
     (searched_ran g.D.Disk origin c.args.concentrator.now.house.budget state before moment c.args.budget c.args.line _ (g.B.Bus.meters c.in-Some.slot.bus) links _ (link_by (lost c.search_on.new.bus)) _
     (Puts (g.W.Sink.written c.args.out.now) (g.W.Sink.written c.search_on.new.out)) c.args.concentrator.now c.search_on.new.concentrator c.search_on.result (same ∙ ap (line_of lost) c.in-Some.is) (has_bus_by (lost c.in-Some.slot.bus))
-    (prompt_by c.in-Some.slot.is_gateway (g.B.ScriptBus.late c.in-Some.slot.bus) (g.B.ScriptBus.late c.search_on.new.bus)) (c.search_on.ensures.went origin state before chain at))
+    (prompt_by c.in-Some.slot.is_gateway (g.B.Bus.late c.in-Some.slot.bus) (g.B.Bus.late c.search_on.new.bus)) (c.search_on.ensures.went origin state before chain at))
 
 pub returns-in-Some-clause-cut : goal.returns-in-Some-clause-cut
 returns-in-Some-clause-cut g c moment links same origin state before chain at =
     let lost = g.B.Bus.lost in
     halted_as g.D.Disk origin c.search_on.result c.args.concentrator.now.house.budget state before moment (searches c.args.budget c.args.line) links _ _ c.args.concentrator.now c.search_on.new.concentrator
-    (λ exchanges so. searches_over g.B.Bus.lost g.B.Bus.asks g.B.ScriptBus.settles g.B.ScriptBus.ready exchanges c.args.slot.now c.in-Some.slot c.search_on.new.bus c.in-Some.is so c.search_on.ensures.untouched)
+    (λ exchanges so. searches_over g.B.Bus.lost g.B.Bus.asks g.B.Bus.asks_all exchanges c.args.slot.now c.in-Some.slot c.search_on.new.bus c.in-Some.is so c.search_on.ensures.untouched)
     (searched_cut g.D.Disk origin c.args.concentrator.now.house.budget state before moment c.args.budget c.args.line _ (g.B.Bus.meters c.in-Some.slot.bus) links _ (link_by (lost c.search_on.new.bus)) _
     (Puts (g.W.Sink.written c.args.out.now) (g.W.Sink.written c.search_on.new.out)) c.args.concentrator.now c.search_on.new.concentrator c.search_on.result (same ∙ ap (line_of lost) c.in-Some.is) (has_bus_by (lost c.in-Some.slot.bus))
     (c.search_on.ensures.went origin state before chain at))
@@ -33,7 +33,7 @@ pub returns-in-Some-clause-starved : goal.returns-in-Some-clause-starved
 returns-in-Some-clause-starved g c links same origin state before chain at =
     let lost = g.B.Bus.lost in
     starved_as g.D.Disk origin c.search_on.result c.args.concentrator.now.house.budget state before (searches c.args.budget c.args.line) links (Puts (g.W.Sink.written c.args.out.now) (g.W.Sink.written c.search_on.new.out)) _ _ c.args.concentrator.now c.search_on.new.concentrator
-    (λ exchanges so. searches_over g.B.Bus.lost g.B.Bus.asks g.B.ScriptBus.settles g.B.ScriptBus.ready exchanges c.args.slot.now c.in-Some.slot c.search_on.new.bus c.in-Some.is so c.search_on.ensures.untouched)
+    (λ exchanges so. searches_over g.B.Bus.lost g.B.Bus.asks g.B.Bus.asks_all exchanges c.args.slot.now c.in-Some.slot c.search_on.new.bus c.in-Some.is so c.search_on.ensures.untouched)
     (searched_starved g.D.Disk origin c.args.concentrator.now.house.budget state before c.args.budget c.args.line _ (g.B.Bus.meters c.in-Some.slot.bus) links _ (link_by (lost c.search_on.new.bus)) _
     (Puts (g.W.Sink.written c.args.out.now) (g.W.Sink.written c.search_on.new.out)) c.args.concentrator.now c.search_on.new.concentrator c.search_on.result (same ∙ ap (line_of lost) c.in-Some.is) (has_bus_by (lost c.in-Some.slot.bus))
     (c.search_on.ensures.went origin state before chain at))

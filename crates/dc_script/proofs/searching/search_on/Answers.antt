@@ -12,8 +12,8 @@ pub returns-in-Some-clause-went : goal.returns-in-Some-clause-went
 returns-in-Some-clause-went g c origin state before chain at =
     let link = link_by (g.B.Bus.lost c.args.bus.now) in
     let meters = g.B.Bus.meters c.args.bus.now in
-    let late = late_by c.args.port.is_gateway (g.B.ScriptBus.late c.args.bus.now) (g.B.ScriptBus.late c.args.bus.now) in
-    let talked : List Exchange → Type 0 = λ exchanges. IsSearchedFor g.B.Bus.asks g.B.ScriptBus.settles g.B.ScriptBus.ready c.args.bus.now exchanges c.args.bus.now in
+    let late = late_by c.args.port.is_gateway (g.B.Bus.late c.args.bus.now) (g.B.Bus.late c.args.bus.now) in
+    let talked : List Exchange → Type 0 = λ exchanges. IsSearchedFor c.args.port.is_gateway g.B.Bus.asks g.B.Bus.asks_all c.args.bus.now exchanges c.args.bus.now in
     let wrote : List ℕ → Type 0 = Puts (g.W.Sink.written c.args.out.now) (g.W.Sink.written c.put_started.new.out) in
     commit_and_look g.D.Disk origin c.args.concentrator.now.house.budget state before c.args.port.line c.quiet_commit.result c.in-Ok.field-0 (Some c.in-Some.field-0)
     (Comes meters c.args.port c.args.budget late link link talked wrote c.written.result) c.args.concentrator.now c.quiet_commit.new.concentrator
@@ -26,8 +26,8 @@ returns-in-None-clause-went g c origin state before chain at =
     let link = link_by (g.B.Bus.lost c.args.bus.now) in
     let left = link_by (g.B.Bus.lost c.search_bus.new.bus) in
     let meters = g.B.Bus.meters c.args.bus.now in
-    let late = late_by c.args.port.is_gateway (g.B.ScriptBus.late c.args.bus.now) (g.B.ScriptBus.late c.search_bus.new.bus) in
-    let talked : List Exchange → Type 0 = λ exchanges. IsSearchedFor g.B.Bus.asks g.B.ScriptBus.settles g.B.ScriptBus.ready c.args.bus.now exchanges c.search_bus.new.bus in
+    let late = late_by c.args.port.is_gateway (g.B.Bus.late c.args.bus.now) (g.B.Bus.late c.search_bus.new.bus) in
+    let talked : List Exchange → Type 0 = λ exchanges. IsSearchedFor c.args.port.is_gateway g.B.Bus.asks g.B.Bus.asks_all c.args.bus.now exchanges c.search_bus.new.bus in
     let wrote : List ℕ → Type 0 = Puts (g.W.Sink.written c.args.out.now) (g.W.Sink.written c.search_bus.new.out) in
     commit_and_look g.D.Disk origin c.args.concentrator.now.house.budget state before c.args.port.line c.quiet_commit.result c.in-Ok.field-0 None
     (Comes meters c.args.port c.args.budget late link left talked wrote c.search_bus.result) c.args.concentrator.now c.quiet_commit.new.concentrator
@@ -39,8 +39,8 @@ pub returns-in-Err-clause-went : goal.returns-in-Err-clause-went
 returns-in-Err-clause-went g c origin state before chain at =
     let link = link_by (g.B.Bus.lost c.args.bus.now) in
     let meters = g.B.Bus.meters c.args.bus.now in
-    let late = late_by c.args.port.is_gateway (g.B.ScriptBus.late c.args.bus.now) (g.B.ScriptBus.late c.args.bus.now) in
-    let talked : List Exchange → Type 0 = λ exchanges. IsSearchedFor g.B.Bus.asks g.B.ScriptBus.settles g.B.ScriptBus.ready c.args.bus.now exchanges c.args.bus.now in
+    let late = late_by c.args.port.is_gateway (g.B.Bus.late c.args.bus.now) (g.B.Bus.late c.args.bus.now) in
+    let talked : List Exchange → Type 0 = λ exchanges. IsSearchedFor c.args.port.is_gateway g.B.Bus.asks g.B.Bus.asks_all c.args.bus.now exchanges c.args.bus.now in
     let wrote : List ℕ → Type 0 = Puts (g.W.Sink.written c.args.out.now) (g.W.Sink.written c.put_committed.new.out) in
     let one = c.quiet_commit.ensures.went origin state before chain at in
     let is : one.answer ≡ committed (Err c.in-Err.fault) = one.is_such ∙ ap committed c.in-Err.is in

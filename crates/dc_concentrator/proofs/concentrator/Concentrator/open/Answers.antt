@@ -12,6 +12,11 @@ returns-clause-at g c each =
     let new : Machine (g.row.D.Denot) = record { store = c.in_ok-store.store; house = c.in_ok-store.house; waiting = c.new.result; lines = c.new-2.result } in
     at_opened g.D.Disk c.in_ok-store.store.disk new c.in_ok-store.ensures.running (λ h. c.in_ok-store.ensures.kept (each h) h) c.new.ensures c.new-2.ensures
 
+pub returns-clause-at_look : goal.returns-clause-at_look
+returns-clause-at_look g c one =
+    let new : Machine (g.row.D.Denot) = record { store = c.in_ok-store.store; house = c.in_ok-store.house; waiting = c.new.result; lines = c.new-2.result } in
+    at_opened g.D.Disk c.in_ok-store.store.disk new c.in_ok-store.ensures.running (λ h. c.in_ok-store.ensures.keeps (one h).0 (one h).1 h) c.new.ensures c.new-2.ensures
+
 pub returns-clause-the_headline : goal.returns-clause-the_headline
 returns-clause-the_headline g c state done more was =
     let disk = c.args.disk in

@@ -10,18 +10,13 @@ use Rattle.dc_log.proofs.ReadMoments.{not_read}
 use Rattle.dc_log.proofs.Opened.{before_writing}
 use Rattle.dc_log.proofs.store.Store.open.Goals as goal
 
-pub returns-in-Ok-clause-stands : goal.returns-in-Ok-clause-stands
-returns-in-Ok-clause-stands g c h =
-    let at : c.half_len_of.result ≡ half_of g.D.Disk c.args.disk = c.half_len_of.ensures.exact ∙ ap half_len_of c.count-count.ensures in
-    subst (λ (n : ℕ). Stands g.K.Language n (g.K.Language.state c.in-Ok.found.house) (g.D.Disk.reads c.args.disk)) at (c.in-Ok.ensures.stands h)
-
 pub returns-in-Ok-clause-keeps : goal.returns-in-Ok-clause-keeps
-returns-in-Ok-clause-keeps g c h =
+returns-in-Ok-clause-keeps g c was stands h =
     let found = c.in-Ok.found in
     let disk = c.open_on.new.disk in
     let at : c.half_len_of.result ≡ half_of g.D.Disk c.args.disk = c.half_len_of.ensures.exact ∙ ap half_len_of c.count-count.ensures in
     let same : c.half_len_of.result ≡ half_of g.D.Disk disk = at ∙ ap half_len_of (sym c.open_on.ensures.counts.count) in
-    let ready = c.in-Ok.ensures.ready h in
+    let ready = c.in-Ok.ensures.ready h was (subst (λ (n : ℕ). Stands g.K.Language n was (g.D.Disk.reads c.args.disk)) (sym at) stands) in
     record {
       running = refl;
       version = c.in-Ok.ensures.version;
@@ -37,7 +32,8 @@ returns-in-Ok-clause-kept g c each h =
     let disk = c.open_on.new.disk in
     let at : c.half_len_of.result ≡ half_of g.D.Disk c.args.disk = c.half_len_of.ensures.exact ∙ ap half_len_of c.count-count.ensures in
     let same : c.half_len_of.result ≡ half_of g.D.Disk disk = at ∙ ap half_len_of (sym c.open_on.ensures.counts.count) in
-    let ready = c.in-Ok.ensures.ready h in
+    let one = each (g.D.Disk.reads c.args.disk) (g.met.D.Disk.reads_a_choice c.args.disk) in
+    let ready = c.in-Ok.ensures.ready h one.0 (subst (λ (n : ℕ). Stands g.K.Language n one.0 (g.D.Disk.reads c.args.disk)) (sym at) one.1) in
     record {
       running = refl;
       version = c.in-Ok.ensures.version;

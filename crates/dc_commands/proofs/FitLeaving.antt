@@ -1,0 +1,37 @@
+-- What `fit` leaves of a disk, by what is said of its text.
+use Rattle.std.proofs.Common.{◌≡◌, ℕ, Bool, false, List, Option, Result, Ok, Err, refl}
+use Rattle.std.specs.Prelude.{IfOk}
+use Rattle.dc_commands.specs.FitOver.{FitsOver}
+use Rattle.dc_disk.proofs.Moments.{started}
+use Rattle.dc_disk.specs.Disk.{Image, IsImage}
+use Rattle.dc_ending.specs.Unopened.{Stands}
+use Rattle.dc_ending.specs.declared.ending.Ending.TheVariants.{Memory}
+use Rattle.dc_fit.specs.declared.fault.FitFault.TheVariants.{NoMemory}
+use Rattle.dc_log.specs.Halves.{half_of}
+use Rattle.dc_pending.specs.Images.{StandsForOne}
+use Rattle.dc_disk.specs.declared.device.Disk.{Ghosts}
+use Rattle.dc_fit.specs.Fit.{FitsAll}
+use Rattle.dc_fit.specs.declared.fault.FitFault.{FitFault}
+
+-- memory ran out before anything was done
+module _ {D O : Type 0} (g : Ghosts D) (list : List ℕ) (contents : O → Option (List ℕ)) (out : O) (disk : D) where
+  pub none_done : ((d : D) (image : Image) → g.images_since d (g.moment d) image → IsImage (g.choices d) image) → Stands g disk → FitsOver g list contents out disk disk Memory
+  none_done only stands = record {
+    outcome = Err NoMemory;
+    is_printed = false;
+    ends = refl;
+    fitted = tt;
+    broken = tt;
+    before = λ is h. started g disk (StandsForOne (half_of g disk) (g.choices disk)) (λ image left.
+        let now = only disk image left in
+        let one = stands h image now in
+        record { state = one.0; stands = one.1; was = image; was_image = now; stood = one.1 });
+  }
+
+module _ {D : Type 0} (g : Ghosts D) (list : List ℕ) (disk left : D) (wrote written : List ℕ → Type 0) (shows : (text : List ℕ) → wrote text → written text) where
+  fits_as : (wrong : Bool) → FitsAll g list wrote wrong disk left → FitsAll g list written wrong disk left
+  fits_as wrong a = record { fits = a.fits; wrong_is = a.wrong_is; text = shows _ a.text; stands = a.stands; durable = a.durable }
+
+  pub fitted_as : (outcome : Result Bool FitFault) → IfOk outcome (λ wrong. FitsAll g list wrote wrong disk left) → IfOk outcome (λ wrong. FitsAll g list written wrong disk left)
+  fitted_as (Ok wrong) a = fits_as wrong a
+  fitted_as (Err fault) a = tt

@@ -1,0 +1,110 @@
+-- What is printed of an image that is looked at (this product).
+use Rattle.std.specs.Prelude.{◌≡◌, ◌⊎◌, ◌<◌, ◌≤◌, ℕ, Bool, false, List, [], ◌++◌, Option, Some, None, codes}
+use Rattle.dc_disk.specs.Disk.{Image}
+use Rattle.dc_change.specs.State.{Held, State}
+use Rattle.dc_roots.specs.declared.chooser.Held.{Held as Slot}
+use Rattle.dc_roots.specs.Held.{IsHeld}
+use Rattle.dc_log.specs.Halves.{budget_of, half_len_of, fewest_sectors}
+use Rattle.dc_log.specs.declared.greatest.Greatest.{Greatest}
+use Rattle.dc_log.specs.declared.fault.OpenFault.TheVariants.{NotImage}
+use Rattle.dc_value.specs.Text.{day_text}
+use Rattle.dc_table.specs.DueTable.{due_text}
+use Rattle.dc_table.specs.RegisterTable.{register_text}
+use Rattle.dc_json.specs.Report.{due_lines, register_lines}
+use Rattle.dc_json.specs.Values.{values_lines}
+use Rattle.dc_latest.specs.Values.{values_text}
+use Rattle.dc_status.specs.Metrics.{metrics_text}
+use Rattle.dc_status.specs.Object.{status_objects}
+use Rattle.dc_status.specs.Status.{any_silent, status_text}
+use Rattle.dc_status.specs.declared.silence.Clock.{Clock}
+use Rattle.dc_inspect.specs.declared.asking.Asked.{Asked}
+use Rattle.dc_inspect.specs.declared.asking.Asked.TheVariants.{Contents, Values, Status, Table}
+use Rattle.dc_inspect.specs.declared.asking.Form.{Form}
+use Rattle.dc_inspect.specs.declared.asking.Form.TheVariants.{Text, Json}
+use Rattle.dc_inspect.specs.declared.asking.StatusForm.{StatusForm}
+use Rattle.dc_inspect.specs.declared.asking.StatusForm.TheVariants.{Text as Lines, Json as Objects, Metrics}
+use Rattle.dc_inspect.specs.declared.asking.Report.{Report}
+use Rattle.dc_inspect.specs.declared.asking.Report.TheVariants.{Register, Due}
+use Rattle.dc_inspect.specs.declared.look.Outlook.{Outlook}
+use Rattle.dc_inspect.specs.Text.{image_text, number_line, refused_line}
+use Rattle.dc_inspect.specs.Told.{Seen, IsLook, no_image}
+
+-- the word that asks for a table
+abbrev pub report_word : Report → List ℕ
+report_word Register = codes "register"
+report_word (Due date) = day_text date
+
+abbrev pub values_in : Form → State → List ℕ
+values_in Text state = values_text state
+values_in Json state = values_lines state
+
+abbrev pub status_in : StatusForm → Clock → Held → List ℕ
+status_in Lines clock house = status_text clock.patience clock.now house
+status_in Objects clock house = status_objects clock.patience clock.now house
+status_in Metrics clock house = metrics_text clock.patience clock.now house
+
+abbrev pub table_text : Form → Report → State → List ℕ
+table_text Text Register state = register_text state
+table_text Text (Due date) state = due_text date state
+table_text Json Register state = register_lines state
+table_text Json (Due date) state = due_lines date state
+
+-- what is printed of the register of a state
+abbrev pub house_text : Asked → Held → List ℕ
+house_text Contents house = []
+house_text (Values form) house = values_in form house.state
+house_text (Status form clock) house = status_in form clock house
+house_text (Table report form) house = table_text form report house.state
+
+abbrev pub seen_house : Asked → ℕ → Option Seen → List ℕ
+seen_house asked budget None = []
+seen_house asked budget (Some seen) = house_text asked (record { state = seen.state; budget = budget })
+
+-- and of the image
+abbrev pub contents_text : Asked → ℕ → Slot → Slot → Option Seen → Outlook → List ℕ
+contents_text Contents sectors first second seen outlook =
+    number_line (codes "DISK") sectors ++ image_text (half_len_of sectors) first second seen outlook
+contents_text (Values form) sectors first second seen outlook = []
+contents_text (Status form clock) sectors first second seen outlook = []
+contents_text (Table report form) sectors first second seen outlook = []
+
+-- of a disk that is too small for an image
+abbrev pub small_text : Asked → ℕ → List ℕ
+small_text Contents sectors = number_line (codes "DISK") sectors ++ refused_line NotImage
+small_text (Values form) sectors = []
+small_text (Status form clock) sectors = []
+small_text (Table report form) sectors = []
+
+-- whether a meter is silent; only who asks for the status hears of it
+abbrev pub is_silent : Asked → Option Seen → Bool
+is_silent asked None = false
+is_silent Contents (Some seen) = false
+is_silent (Values form) (Some seen) = false
+is_silent (Status form clock) (Some seen) = any_silent clock.patience clock.now seen.state
+is_silent (Table report form) (Some seen) = false
+
+pub record IsSmall (asked : Asked) (sectors : ℕ) (text : List ℕ) (outlook : Outlook) (silent : Bool)
+    : Type 0 where
+  pub small : sectors < fewest_sectors
+  pub text_is : text ≡ small_text asked sectors
+  pub outlook_is : outlook ≡ no_image
+  pub silent_is : silent ≡ false
+
+pub record IsSeen (asked : Asked) (sectors : ℕ) (greatest : Greatest) (image : Image) (text : List ℕ)
+    (outlook : Outlook) (silent : Bool) : Type 0 where
+  pub enough : fewest_sectors ≤ sectors
+  pub first : Slot
+  pub second : Slot
+  pub first_is : IsHeld 1 (image 1) first
+  pub second_is : IsHeld 2 (image 2) second
+  pub seen : Option Seen
+  pub look : IsLook (half_len_of sectors) greatest image seen outlook
+  pub text_is : text ≡ contents_text asked sectors first second seen outlook
+      ++ seen_house asked (budget_of (half_len_of sectors)) seen
+  pub silent_is : silent ≡ is_silent asked seen
+
+-- WHAT IS PRINTED of a disk of this many sectors with that image, what opening would make of it, and whether a meter is
+-- silent; `greatest` is what a scan of the halves found
+abbrev pub IsAnswer : Asked → ℕ → Greatest → Image → List ℕ → Outlook → Bool → Type 0
+IsAnswer asked sectors greatest image text outlook silent =
+    IsSmall asked sectors text outlook silent ⊎ IsSeen asked sectors greatest image text outlook silent

@@ -1,0 +1,12 @@
+use Rattle.std.proofs.Common.{◌≡◌, refl, sym, ◌∙◌}
+use Rattle.dc_raw.specs.PollWire.{at_gap, at_silence, not_yet}
+use Rattle.dc_raw.proofs.poll_wire.PollWire.nothing.Goals as goal
+
+pub returns-then-rest-eq0-clause-step : goal.returns-then-rest-eq0-clause-step
+returns-then-rest-eq0-clause-step g c = at_silence (c.rest.ensures c.if-rest-eq0.true) refl
+
+pub returns-then-between-ge-GAP_MICROS-clause-step : goal.returns-then-between-ge-GAP_MICROS-clause-step
+returns-then-between-ge-GAP_MICROS-clause-step g c = at_gap refl
+
+pub returns-clause-step : goal.returns-clause-step
+returns-clause-step g c = not_yet refl

@@ -1,0 +1,73 @@
+//! The command `rescue`: what is left of an image, in a new one.
+
+use dc_commands::{put_rescued, rescue_over};
+use dc_disk::{Disk, FileDisk};
+use dc_ending::{Ending, ProgramFault, STREAM, ending_of};
+use dc_files::{HalfMade, Host, Noted, begin_image, end_image, look_disk};
+use dc_inspect::{Asked, answer, scan};
+use dc_io::{Sink, WriteSink};
+use dc_log::Rescued;
+use dc_register::House;
+use std::alloc::Global;
+use std::fs::File;
+use std::io;
+use std::rt::Files;
+
+// Number of bytes of a sector.
+const SECTOR: u64 = 512;
+
+/// Writes what the image reads as, or what is left of it, to a new image in that file, and prints what that is.
+pub fn rescue_image<'a, R>(host: &Host<'_, R>, image: &'a str, file: &'a str) -> Ending<'a>
+where
+    R: Files<File = File> + Print + AllocGlobal,
+{
+    let mut copy = match look_disk(host, image) {
+        Ok(copy) => copy,
+        Err(ending) => return ending,
+    };
+    let half_made = match begin_image(host, file, SECTOR * u64::from(copy.count())) {
+        Ok(half_made) => half_made,
+        Err(ending) => return ending,
+    };
+    let new = match half_made.disk(host.why) {
+        Ok(new) => new,
+        Err(error) => return given_up(host, half_made, host.why.file(file, error)),
+    };
+    match rescue_over(host.rt.alloc(), &mut copy, new) {
+        Ok((rescued, new)) => match end_image(host, half_made, file) {
+            Ending::Clean => ending_of(print(host, &rescued, new), STREAM),
+            ending => ending,
+        },
+        Err(ending) => given_up(host, half_made, ending),
+    }
+}
+
+// Removes what was begun.
+fn given_up<'a, R: Files<File = File>>(
+    host: &Host<'_, R>,
+    half_made: HalfMade,
+    ending: Ending<'a>,
+) -> Ending<'a> {
+    half_made.unlink(host.rt);
+    ending
+}
+
+// Prints what was rescued, and what the new image holds.
+fn print<R: Print + AllocGlobal>(
+    host: &Host<'_, R>,
+    rescued: &Rescued<House<Global>>,
+    new: FileDisk<Noted<'_, File>>,
+) -> Result<bool, ProgramFault> {
+    let alloc = host.rt.alloc();
+    let mut new = new;
+    let greatest = scan(&mut new)?;
+    let shown = answer(alloc, &mut new, &greatest, Asked::Contents)?;
+    let mut out = WriteSink::new(Noted::new(io::writer(host.rt), host.why));
+    if put_rescued(rescued, &mut out).is_err()
+        || out.put(shown.text.as_slice()).is_err()
+        || out.flush().is_err()
+    {
+        return Err(ProgramFault::Write);
+    }
+    Ok(false)
+}

@@ -1,0 +1,231 @@
+"""Cases of demo/losses: images that rot, are replaced or killed into, and output that nobody takes."""
+
+import fcntl
+import os
+import pathlib
+import random
+import resource
+import subprocess
+import time
+from collections.abc import Sequence
+from typing import Any, Protocol
+
+from world.bus import Bus
+from world.cases import wants
+from world.gateways import TransparentGateway
+from world.meters import Meter
+
+SECTOR, SECTORS = 512, 131
+METERS, KILLS = 900, 60
+GIVEN_UP, MARGIN = 5, 10  # seconds
+
+
+class Program(Protocol):
+    """What demo/losses gives a case."""
+    path: pathlib.Path
+    folder: pathlib.Path
+
+    def start(self, *words: str, **how: Any) -> "subprocess.Popen[bytes]": ...
+    def run(self, *words: str, seconds: float = 60, **how: Any) -> tuple[int, str]: ...
+    def formats(self, name: str) -> None: ...
+
+
+def printed(program: Program, *words: str) -> tuple[int, str, str]:
+    """Its status, what it prints, and what it says on standard error."""
+    ended = subprocess.run([program.path, *words], cwd=program.folder, capture_output=True, text=True, timeout=60)
+    return ended.returncode, ended.stdout, ended.stderr
+
+
+def meters_in(program: Program, image: str) -> int:
+    """How many meters its register has."""
+    text = printed(program, "inspect", image)[1]
+    return next((int(line.split()[1]) for line in text.splitlines() if line.startswith("METERS")), -1)
+
+
+def list_of(folder: pathlib.Path, count: int) -> str:
+    """A list of that many meters, in a file."""
+    rows = "".join(f"{number:08}.PAD.01.07,1,S,A{number}\n" for number in range(1, count + 1))
+    (folder / "meters.csv").write_text("meter,line,address,flat\n" + rows)
+    return "meters.csv"
+
+
+def rot(image: pathlib.Path, sector: int) -> None:
+    """Other bytes come into a sector."""
+    with open(image, "r+b") as file:
+        file.seek(SECTOR * sector)
+        file.write(random.Random(sector).randbytes(SECTOR))
+
+
+def overtaken(program: Program, folder: pathlib.Path) -> pathlib.Path:
+    """An image whose second of three groups is damaged: it reads as the state before it, and the third is ahead."""
+    program.formats("house.image")
+    for number in (1, 2, 3):
+        (folder / "day.txt").write_text(f"OFFICE {number} FIT {number:08}.PAD.01.07 1 S A{number}\n")
+        wants(program.run("run", "house.image", "day.txt")[0] == 0, f"command {number} isn't done")
+    rot(folder / "house.image", 7)
+    return folder / "house.image"
+
+
+def a_rotted_root_loses_nothing(program: Program, folder: pathlib.Path) -> None:
+    """A root rots, the newest one or the one before: the whole state is shown, and the image opens or is rescued."""
+    for slot in (1, 2):
+        program.formats("house.image")
+        wants(program.run("fit", "house.image", list_of(folder, 3))[0] == 0, "the list isn't done")
+        rot(folder / "house.image", slot)
+        _, text, line = printed(program, "report", "house.image", "register")
+        wants(text.count("PAD") == 3, f"slot {slot}: shown is {text!r}, {line!r}")
+        if program.run("fit", "house.image", "meters.csv")[0]:
+            status, text, _ = printed(program, "rescue", "house.image", "new.image")
+            wants(status == 0 and text.startswith("WHOLE\nLOST 0\n"), f"slot {slot}: {text[:60]!r}")
+            wants(meters_in(program, "new.image") == 3, f"slot {slot}: meters are lost")
+        (folder / "house.image").unlink()
+
+
+def an_image_that_is_behind_is_shown_and_not_written(program: Program, folder: pathlib.Path) -> None:
+    image = overtaken(program, folder)
+    before, line = image.read_bytes(), "mbdc: behind: sector 9 is ahead of what the image reads as; see mbdc rescue --help\n"
+    for words in (["inspect"], ["values"], ["status"], ["report"]):
+        status, text, said = printed(program, *words, "house.image", *(["register"] if words == ["report"] else []))
+        wants((status, said) == (3, line), f"{words[0]}: status {status}, {said!r}")
+        wants("00000001" in text or "METERS 1\n" in text, f"{words[0]} shows nothing: {text[:60]!r}")
+    bus = TransparentGateway(Bus([], random.Random(1)))
+    bus.start()
+    for words in (["run", "house.image", "day.txt"], ["fit", "house.image", list_of(folder, 3)],
+                  ["poll", "house.image", "--line", f"1=tcp://{bus.address}"],
+                  ["poll", "house.image", "--line", f"1=tcp://{bus.address}", "--dry-run"]):
+        wants(program.run(*words) == (3, line), f"{words[0]} isn't refused")
+    wants(image.read_bytes() == before, "it was written")
+
+
+def what_reads_is_rescued(program: Program, folder: pathlib.Path) -> None:
+    image = overtaken(program, folder)
+    before = image.read_bytes()
+    status, text, _ = printed(program, "rescue", "house.image", "new.image")
+    wants(status == 0 and text.startswith("WHOLE\nLOST 2\n"), f"status {status}, {text[:60]!r}")
+    wants(meters_in(program, "new.image") == 1, "the meter isn't there")
+    wants(program.run("fit", "new.image", list_of(folder, 3)) == (0, ""), "the new image isn't opened")
+    wants(program.run("rescue", "house.image", "new.image")[0] == 4, "another file is written over")
+    wants(meters_in(program, "new.image") == 3 and image.read_bytes() == before, "an image has changed")
+
+
+def a_killed_fit_is_all_or_nothing(program: Program, folder: pathlib.Path) -> None:
+    rng, words = random.Random(2), ("fit", "house.image", list_of(folder, METERS))
+    subprocess.run([program.path, "format", "empty.image", "2051"], cwd=folder, check=True)
+    empty, image = (folder / "empty.image").read_bytes(), folder / "house.image"
+    image.write_bytes(empty)
+    began = time.monotonic()
+    wants(program.run(*words)[0] == 0, "the list isn't done")
+    took, found = time.monotonic() - began, []
+    for _ in range(KILLS):
+        image.write_bytes(empty)
+        with program.start(*words, stdout=subprocess.DEVNULL) as fitting:
+            time.sleep(rng.uniform(0, took))
+            fitting.kill()
+        found.append(meters_in(program, "house.image"))
+    wants(set(found) <= {0, METERS}, f"meters after a kill: {sorted(set(found))}")
+    wants(program.run(*words)[0] == 0 and meters_in(program, "house.image") == METERS, "the same list doesn't do the rest")
+    image.write_bytes(empty)
+    subprocess.run(f"{program.path} {' '.join(words)} | head -1", shell=True, cwd=folder, stdout=subprocess.DEVNULL)
+    wants(meters_in(program, "house.image") in (0, METERS), "a closed pipe leaves a part")
+
+
+# Polls
+
+
+def bus_of(program: Program, folder: pathlib.Path, count: int) -> str:
+    """The link of a bus with that many meters, which the image has."""
+    rng = random.Random(3)
+    meters = [Meter(number, number, f"A{number}", rng) for number in range(1, count + 1)]
+    for it in meters:
+        it.begin_readout(0)
+    gateway = TransparentGateway(Bus(meters, rng))
+    gateway.start()
+    program.formats("house.image")
+    rows = "".join(f"{it.name},1,{it.address},{it.flat}\n" for it in meters)
+    (folder / "meters.csv").write_text("meter,line,address,flat\n" + rows)
+    wants(program.run("fit", "house.image", "meters.csv") == (0, ""), "the list isn't done")
+    return f"1=tcp://{gateway.address}"
+
+
+def readings_in(program: Program, image: str = "house.image") -> int:
+    text = printed(program, "inspect", image)[1]
+    return next((int(line.split()[1]) for line in text.splitlines() if line.startswith("READINGS")), -1)
+
+
+def a_poll_into_a_replaced_image_stops(program: Program, folder: pathlib.Path) -> None:
+    """Another file gets the image's name, or none has it: no reading is told that is in no file with a name."""
+    for replaces in (True, False):
+        link = bus_of(program, folder, 5)
+        copy = (folder / "house.image").read_bytes()
+        with program.start("poll", "house.image", "--line", link, stdout=subprocess.PIPE) as polling:
+            assert polling.stdout and polling.stderr
+            first = polling.stdout.readline()
+            if replaces:
+                (folder / "copy").write_bytes(copy)
+                (folder / "copy").rename(folder / "house.image")
+            else:
+                (folder / "house.image").unlink()
+            rest, line = polling.stdout.read(), polling.stderr.read()
+        wants(first.startswith(b"READ"), f"the first line is {first!r}")
+        wants(polling.returncode == 3 and b"mbdc: disk: 1 Device" in line, f"status {polling.returncode}, {line!r}")
+        wants(rest.count(b"READ") < 4, f"all was told to be read: {rest!r}")
+        (folder / "house.image").unlink(missing_ok=True)
+
+
+def a_poll_outlives_its_output(program: Program, folder: pathlib.Path) -> None:
+    """A pipe that nobody empties, and a log that is as long as a file may be."""
+    link = bus_of(program, folder, 3)
+    reading, writing = os.pipe()
+    flags = fcntl.fcntl(writing, fcntl.F_GETFL)
+    fcntl.fcntl(writing, fcntl.F_SETFL, flags | os.O_NONBLOCK)
+    try:
+        while True:
+            os.write(writing, bytes(4096))
+    except BlockingIOError:
+        fcntl.fcntl(writing, fcntl.F_SETFL, flags)
+    words = ("poll", "house.image", "--line", link)
+    with program.start(*words, stdout=writing) as polling:
+        _, line = polling.communicate(timeout=GIVEN_UP + MARGIN)
+    wants((polling.returncode, line) == (4, b"mbdc: file: -\n"), f"status {polling.returncode}, {line!r}")
+    wants(readings_in(program) == 3, f"{readings_in(program)} of 3 readings")
+    os.close(reading)
+    os.close(writing)
+    (folder / "house.image").unlink()
+    link = bus_of(program, folder, 3)
+    limit = SECTOR * SECTORS
+    (folder / "log").write_bytes(bytes(limit))
+    with open(folder / "log", "ab") as log, program.start(
+            "poll", "house.image", "--line", link, stdout=log,
+            preexec_fn=lambda: resource.setrlimit(resource.RLIMIT_FSIZE, (limit, limit))) as polling:
+        polling.communicate(timeout=MARGIN)
+    wants(polling.returncode == 4, f"a full log: status {polling.returncode}")
+    wants(readings_in(program) == 3, f"a full log: {readings_in(program)} of 3 readings")
+
+
+def a_trace_is_a_regular_file(program: Program, folder: pathlib.Path) -> None:
+    """And a pipe that nobody reads stops no poll."""
+    link = bus_of(program, folder, 1)
+    os.mkfifo(folder / "pipe")
+    before = (folder / "house.image").read_bytes()
+    for name in ("pipe", "/dev/null", "/dev/full", "house.image"):
+        ended = program.run("poll", "house.image", "--line", link, "--trace", name, seconds=MARGIN)
+        wants(ended == (4, f"mbdc: file: {name}\n"), f"{name}: {ended}")
+    wants((folder / "house.image").read_bytes() == before, "the image was written")
+
+
+def a_copy_beside_a_poll_is_whole(program: Program, folder: pathlib.Path) -> None:
+    link = bus_of(program, folder, 60)
+    copies: list[int] = []
+    with program.start("poll", "house.image", "--line", link, stdout=subprocess.DEVNULL) as polling:
+        while polling.poll() is None:
+            name = f"copy{len(copies)}.image"
+            wants(program.run("copy", "house.image", name) == (0, ""), "no copy is made")
+            copies.append(readings_in(program, name))
+    wants(polling.returncode == 0 and len(copies) > 1, f"status {polling.returncode}, {len(copies)} copies")
+    wants(copies == sorted(copies) and copies[0] >= 0, f"readings in the copies: {copies}")
+
+
+CASES: Sequence[Any] = [
+    a_rotted_root_loses_nothing, an_image_that_is_behind_is_shown_and_not_written, what_reads_is_rescued,
+    a_killed_fit_is_all_or_nothing, a_poll_into_a_replaced_image_stops, a_poll_outlives_its_output,
+    a_trace_is_a_regular_file, a_copy_beside_a_poll_is_whole]
