@@ -155,7 +155,7 @@ module _ {D : Type 0} (g : Ghosts D) (disk left : D) where
 
   -- memory ran out before anything was done
   pub none_polled : (polls : Outcome → Core → List Happening → Type 0) → PollLeaves g polls disk disk (Err NoMemory)
-  none_polled polls = record { polled = λ stands. tt; starved = λ stands full. inl refl; small = λ few. tt; unopened = tt; faults = tt }
+  none_polled polls = record { polled = tt; starved = λ full. inl refl; unopened = tt; faults = tt }
 
 module _ {D B W : Type 0} (R : Type 0) (g : Ghosts D) (bus : Bus B) (buses : List B) (only : List Identity) (tries : ℕ) (waits : W) (disk left : D) where
   -- more is said of the events

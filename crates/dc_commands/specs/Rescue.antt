@@ -14,11 +14,19 @@ use Rattle.dc_pending.specs.Images.{Stands}
 use Rattle.dc_roots.specs.declared.root.Root.{Root}
 use Rattle.dc_register.specs.Language.{register}
 
+-- a name and a sector
+unfoldable pub sector_line : List ℕ → ℕ → List ℕ
+sector_line name sector = name ++ number_word sector ++ codes "\n"
+
+-- without this sector, and by the root before the one in force, which is in this slot
+unfoldable pub older_line : (sector slot : ℕ) → List ℕ
+older_line sector slot = codes "OLDER" ++ number_word sector ++ number_word slot ++ codes "\n"
+
 -- the part of the image that the state is read from
-unfoldable pub source_line : Source → List ℕ
+abbrev pub source_line : Source → List ℕ
 source_line Whole = codes "WHOLE\n"
-source_line (Without sector) = codes "WITHOUT" ++ number_word sector ++ codes "\n"
-source_line (OtherRoot sector slot) = codes "OLDER" ++ number_word sector ++ number_word slot ++ codes "\n"
+source_line (Without sector) = sector_line (codes "WITHOUT") sector
+source_line (OtherRoot sector slot) = older_line sector slot
 
 -- and how many groups after the last one of the state left a trace
 unfoldable pub rescued_text : Source → (last greatest : ℕ) → List ℕ

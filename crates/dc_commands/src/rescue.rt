@@ -2,7 +2,7 @@
 
 ghost use Rattle.std.specs.Prelude.{IfOk};
 ghost use Rattle.dc_io.specs.Written.{Wrote};
-ghost use Rattle.dc_commands.specs.Rescue.{Renews, rescued_text, source_line};
+ghost use Rattle.dc_commands.specs.Rescue.{Renews, older_line, rescued_text, sector_line, source_line};
 
 use crate::fit::commit_fault;
 use dc_disk::Disk;
@@ -49,6 +49,7 @@ fn open_ending<'a>(fault: OpenFault) -> Ending<'a> {
 }
 
 /// Writes what was rescued: the part of the image that the state is read from, and how many groups after it left a trace.
+#[tactic(auto, using(dc_io::proofs::Pieces::written), unfolding(crate::specs::Rescue::rescued_text))]
 pub fn put_rescued<W: Sink>(rescued: &Rescued<House<Global>>, out: &mut W) -> Result<(), IoFault>
     ensures { Wrote W.Sink result out.old out.new (rescued_text rescued.now.source
         rescued.now.found.last rescued.now.greatest.sequence.number) }
@@ -72,16 +73,28 @@ fn put_source<W: Sink>(source: Source, out: &mut W) -> Result<(), IoFault>
 {
     match source {
         Source::Whole => out.put(b"WHOLE\n"),
-        Source::Without(sector) => {
-            out.put(b"WITHOUT")?;
-            put_number_word(out, u64::from(sector))?;
-            out.put(b"\n")
-        }
-        Source::OtherRoot(sector, slot) => {
-            out.put(b"OLDER")?;
-            put_number_word(out, u64::from(sector))?;
-            put_number_word(out, u64::from(slot))?;
-            out.put(b"\n")
-        }
+        Source::Without(sector) => put_sector_line(b"WITHOUT", sector, out),
+        Source::OtherRoot(sector, slot) => put_older(sector, slot, out),
     }
+}
+
+// Writes a line of a name and a sector.
+#[tactic(auto, using(dc_io::proofs::Pieces::written), unfolding(crate::specs::Rescue::sector_line))]
+fn put_sector_line<W: Sink>(name: &[u8], sector: u32, out: &mut W) -> Result<(), IoFault>
+    ensures { Wrote W.Sink result out.old out.new (sector_line name.now sector) }
+{
+    out.put(name)?;
+    put_number_word(out, u64::from(sector))?;
+    out.put(b"\n")
+}
+
+// Writes that the state was read without a sector and the root in force.
+#[tactic(auto, using(dc_io::proofs::Pieces::written), unfolding(crate::specs::Rescue::older_line))]
+fn put_older<W: Sink>(sector: u32, slot: u32, out: &mut W) -> Result<(), IoFault>
+    ensures { Wrote W.Sink result out.old out.new (older_line sector slot) }
+{
+    out.put(b"OLDER")?;
+    put_number_word(out, u64::from(sector))?;
+    put_number_word(out, u64::from(slot))?;
+    out.put(b"\n")
 }

@@ -145,7 +145,7 @@ impl Sectors for Noted<'_, File> {
 impl Copied {
     /// Number of its sectors.
     pub fn count(&self) -> u32 {
-        self.sectors.len() as u32
+        u32::try_from(self.sectors.len()).unwrap_or(u32::MAX)
     }
 
     fn at(&self, place: u64) -> Option<&Cell<Sector>> {
