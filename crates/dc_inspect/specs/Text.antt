@@ -124,22 +124,3 @@ unfoldable pub image_text : ℕ → Held → Held → Option Seen → Outlook �
 image_text half_len first second seen outlook =
     slot_line 1 first ++ (slot_line 2 second ++ (seen_text half_len seen
     ++ (ahead_text outlook.ahead ++ refusal_text outlook.refusal)))
-
--- ---- a rescued state
-
--- the sector that was left out, and the slot of the root that was left out
-abbrev pub source_text : Source → List ℕ
-source_text Whole = []
-source_text (Without n) = number_line (codes "WITHOUT") n
-source_text (OtherRoot n slot) = pair_line (codes "WITHOUT") n slot
-
--- the sequences of groups that were written, as far as sectors show it, and aren't in the state
-abbrev pub lost_text : ℕ → ℕ → List ℕ
-lost_text last greatest = if nat_lt last greatest then pair_line (codes "LOST") (last + 1) greatest else []
-
--- WHAT IS PRINTED OF A RESCUED STATE: what it was read without, the sequence of its last group, its place and its
--- summary as `inspect` prints them, and what is lost
-unfoldable pub rescue_text : ℕ → Source → Greatest → Seen → List ℕ
-rescue_text half_len source greatest seen =
-    source_text source ++ (number_line (codes "GROUP") seen.last
-    ++ (seen_text half_len (Some seen) ++ lost_text seen.last greatest.sequence.number))

@@ -8,7 +8,6 @@
 //! found one ([`Outlook`]).
 //!
 //! [`register_of`] reads the register of an image in that way, for a command that only needs to know its meters.
-//! [`put_rescued`] writes what was rescued of a damaged image.
 #![tactic(auto)]
 
 mod answering;
@@ -22,4 +21,3 @@ pub use answering::{Shown, answer, scan};
 pub use asking::{Asked, Form, Report, StatusForm};
 pub use look::Outlook;
 pub use register::register_of;
-pub use text::put_rescued;

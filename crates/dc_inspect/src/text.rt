@@ -8,12 +8,12 @@ ghost use Rattle.dc_inspect.specs.Look.{IsPlaced, seen_of};
 ghost use Rattle.dc_inspect.specs.Text.{ahead_text, held_words, number_line, pair_line, place_text};
 ghost use Rattle.dc_inspect.specs.Text.{readings_words, fault_words, refused_line, refusal_text};
 ghost use Rattle.dc_inspect.specs.Text.{root_words, sector_word, serial_word, slot_line};
-ghost use Rattle.dc_inspect.specs.Text.{image_text, lost_text, rescue_text, seen_text, source_text, summary_text};
+ghost use Rattle.dc_inspect.specs.Text.{image_text, seen_text, summary_text};
 
 use crate::look::{Look, Slots};
 use crate::summary::{Summary, summary_of};
 use dc_io::{IoFault, Sink, put_fault, put_number_word};
-use dc_log::{Found, OpenFault, Rescued, Source, half_end, half_start};
+use dc_log::{Found, OpenFault, half_end, half_start};
 use dc_register::House;
 use dc_roots::{Held, Root};
 use std::alloc::Allocator;
@@ -268,47 +268,4 @@ pub(crate) fn put_small<W: Sink>(out: &mut W, sectors: u32) -> Result<(), IoFaul
 {
     put_number_line(out, b"DISK", u64::from(sectors))?;
     put_refused_line(out, OpenFault::NotImage)
-}
-
-// Writes what a state was rescued without.
-fn put_source<W: Sink>(out: &mut W, source: Source) -> Result<(), IoFault>
-    ensures { Wrote W.Sink result out.old out.new (source_text source) }
-{
-    match source {
-        Source::Whole => Ok(()),
-        Source::Without(n) => put_number_line(out, b"WITHOUT", u64::from(n)),
-        Source::OtherRoot(n, slot) => {
-            put_pair_line(out, b"WITHOUT", u64::from(n), u64::from(slot))
-        }
-    }
-}
-
-// Writes the sequences of the groups that were written and aren't in a state.
-fn put_lost<W: Sink>(out: &mut W, last: u64, greatest: u64) -> Result<(), IoFault>
-    ensures { Wrote W.Sink result out.old out.new (lost_text last greatest) }
-{
-    if last < greatest {
-        return put_pair_line(out, b"LOST", last + 1, greatest);
-    }
-    Ok(())
-}
-
-/// Writes what was rescued of an image: the sector that it was read without, and the slot of the root in force where that
-/// was left out too; the sequence of the last group that was read; the place and the summary of the state, as for an
-/// image that reads; and the sequences of the groups that were written after it, as far as sectors show them.
-#[tactic(auto, using(dc_io::proofs::Pieces::written), unfolding(crate::specs::Text::rescue_text))]
-pub fn put_rescued<A: Allocator + Copy, W: Sink>(
-    out: &mut W,
-    half_len: u32,
-    rescued: &Rescued<House<A>>,
-) -> Result<(), IoFault>
-    requires most { half_len ≤ longest_half }
-    requires placed { IsPlaced half_len (Some rescued.now.found) }
-    ensures { Wrote W.Sink result out.old out.new
-        (rescue_text half_len rescued.now.source rescued.now.greatest (seen_of rescued.now.found)) }
-{
-    put_source(out, rescued.source)?;
-    put_number_line(out, b"GROUP", rescued.found.last)?;
-    put_seen(out, half_len, &rescued.found)?;
-    put_lost(out, rescued.found.last, rescued.greatest.sequence.number)
 }

@@ -1,6 +1,6 @@
 -- the definitions that contracts cite
 
--- what two readings gave
-pub mod Twice
+-- the readings of a sample, and whether they stand
+pub mod Readings
 -- a file over time
 pub mod Instant
