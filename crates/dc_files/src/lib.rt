@@ -1,8 +1,9 @@
 //! The files of images, as the commands open and make them, and what failed on the way.
 //!
 //! [`open_image`] opens an image for one program that changes it; its first read goes to the drive. [`open_disk`] makes a
-//! disk of it, which fails once the file has lost its name. [`copy_image`]
-//! copies an image as it is at one instant, also while a program changes it ([`Copied`]). [`format_image`] makes an
+//! disk of it, which fails once the file has lost its name. [`LookedAt`] is an image that is looked at, also while a
+//! program changes it: what a look reads is of one instant ([`LookDisk`]); [`copy_image`] copies all of it ([`Copied`]).
+//! [`format_image`] makes an
 //! image in a file of its own ([`HalfMade`]), which gets the name once it is whole; no file that holds anything but
 //! zeros is touched. [`hold`] gives each closed standard stream to `/dev/null`, so that no image gets its number.
 //!
@@ -21,18 +22,20 @@ mod holder;
 mod host;
 mod image;
 mod image_file;
+mod looking;
 mod patient;
 mod streams;
 mod why;
 
 pub use backup::back_up;
-pub use copied::{Copied, copy_image, look_disk};
+pub use copied::{Copied, copy_disk, copy_image};
 pub use format::format_image;
 pub use half_made::{HalfMade, begin_image, end_image, is_same_file};
 pub use holder::{holder_in, holder_of};
 pub use host::Host;
 pub use image::{lock, no_file, open_image, open_to_look, within_limit};
 pub use image_file::{ImageFile, open_disk};
+pub use looking::{LookDisk, LookedAt, ROUNDS};
 pub use patient::Patient;
 pub use streams::{NOWHERE, hold};
 pub use why::{DiskReason, Noted, Reason, Why};

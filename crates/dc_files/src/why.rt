@@ -3,7 +3,6 @@
 ghost use Rattle.std.specs.Prelude.{◌≡◌, true, false};
 ghost use Rattle.dc_ending.specs.Outcome.{EndsAs, IsOfFile};
 
-use crate::image::read_anew;
 use dc_ending::{Ending, ProgramFault, ending_of};
 use libc::EIO;
 use std::cell::Cell;
@@ -66,6 +65,11 @@ impl Why {
     /// Whether the drive couldn't read a sector of the image.
     pub fn has_unreadable(&self) -> bool {
         self.has_unreadable.get()
+    }
+
+    /// Forgets the sectors that the drive couldn't read.
+    pub fn forget_unreadable(&self) {
+        self.has_unreadable.set(false);
     }
 
     fn note_disk(&self, sector: Option<u64>, error: io::Error) {
@@ -150,11 +154,6 @@ impl<'w, T: Drop> Noted<'w, T> {
 
 // The calls of a disk.
 impl Noted<'_, File> {
-    /// Makes what was written durable, and lets the next read go to the drive.
-    pub(crate) fn read_anew(&self) {
-        read_anew(&self.inner);
-    }
-
     // Notes a call that failed.
     pub(crate) fn noted<V: Drop>(&self, answer: io::Result<V>) -> io::Result<V> {
         if let Err(error) = answer {

@@ -1,5 +1,5 @@
 -- A file in which no sector returns to what it held.
-use Rattle.std.proofs.Common.{◌≡◌, ℕ, ◌*◌, List, [], ◌∷◌, length, Option, ◌∙◌, refl, sym, subst, arith}
+use Rattle.std.proofs.Common.{◌≡◌, ℕ, List, [], ◌∷◌, Option, ◌∙◌, refl, sym, subst, arith}
 use Rattle.std.proofs.lemmas.List.Elements.{All-head, All-tail}
 use Rattle.std.specs.List.{All}
 use Rattle.dc_disk.specs.Disk.{Image}
@@ -36,9 +36,9 @@ keeps_more file instant [] earlier never across none keeps = keeps
 keeps_more file instant (reading ∷ kept) earlier never across none keeps =
     let image = file instant in
     let here : AnswersAs image (call_of reading.0 reading.1) =
-        answered image reading.0 reading.1 (at_instant file instant reading never (All-head (StandsAcross file instant) reading kept across)) in
+    answered image reading.0 reading.1 (at_instant file instant reading never (All-head (StandsAcross file instant) reading kept across)) in
     let then : AnswersAs (reads_after image (events_of earlier)) (call_of reading.0 reading.1) =
-        subst (λ (events : List Event). AnswersAs (reads_after image events) (call_of reading.0 reading.1)) (sym none) here in
+    subst (λ (events : List Event). AnswersAs (reads_after image events) (call_of reading.0 reading.1)) (sym none) here in
     keeps_more file instant kept (call_of reading.0 reading.1 ∷ earlier) never (All-tail (StandsAcross file instant) reading kept across)
     (no_event (events_of earlier) reading.0 reading.1 ∙ none) (keeps, then)
 

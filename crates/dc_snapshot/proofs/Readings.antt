@@ -1,5 +1,5 @@
 -- One reading more.
-use Rattle.std.proofs.Common.{◌≡◌, ◌≢◌, ◌<◌, ℕ, ◌+◌, List, [], ◌∷◌, ◌++◌, true, length, suc, take, drop, Option, Some, None, Result, Ok, Err}
+use Rattle.std.proofs.Common.{◌≡◌, ◌<◌, ℕ, ◌+◌, List, [], ◌∷◌, ◌++◌, length, suc, take, drop, Option, Some, None, Result, Ok, Err}
 use Rattle.std.proofs.Common.{◌∙◌, ap, refl, sym, subst, arith}
 use Rattle.std.specs.List.{All}
 use Rattle.std.proofs.lemmas.List.Elements.{All-cons, All-nil, All-append}
@@ -7,7 +7,7 @@ use Rattle.std.proofs.Math.ListN.{get_or}
 use Rattle.std.proofs.Math.Seq.{split_at, take-suc}
 use Rattle.std.proofs.lemmas.Option.{none-some}
 use Rattle.dc_disk.specs.File.{FileState, IsReadOf}
-use Rattle.dc_disk.specs.FileCalls.{Call, Measured, Synced}
+use Rattle.dc_disk.specs.FileCalls.{Call, Measured}
 use Rattle.dc_disk.specs.declared.sector.Sector.{Sector}
 use Rattle.dc_disk.specs.declared.sector.Sector.TheVariants.{Bytes, Unreadable}
 use Rattle.dc_disk.specs.declared.sector.ReadFault.{ReadFault}
@@ -68,6 +68,6 @@ pub again_push : (kept : List Reading) (i : ℕ) (before : List Call) → i < le
 again_push kept i before below =
     let one : i + 1 ≡ suc i = omega arith in
     let next : take (i + 1) kept ≡ take i kept ++ get_or kept i (0, Bytes []) ∷ [] =
-        ap (λ (k : ℕ). take k kept) one ∙ take-suc kept i (0, Bytes []) below in
+    ap (λ (k : ℕ). take k kept) one ∙ take-suc kept i (0, Bytes []) below in
     ap (λ (readings : List Reading). calls_after readings before) next
     ∙ calls_push (take i kept) (get_or kept i (0, Bytes [])).0 (get_or kept i (0, Bytes [])).1 before

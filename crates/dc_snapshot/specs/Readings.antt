@@ -1,5 +1,5 @@
 -- Readings of the sectors of a file, as calls of the file (this product).
-use Rattle.std.specs.Prelude.{◌≡◌, ◌≢◌, ◌<◌, ◌*◌, ℕ, true, List, [], ◌∷◌, ◌++◌, Option, Some, None}
+use Rattle.std.specs.Prelude.{◌≡◌, ◌≢◌, ◌<◌, ◌*◌, ℕ, List, [], ◌∷◌, ◌++◌, Option, Some, None}
 use Rattle.std.specs.Prelude.{Result, Ok, Err}
 use Rattle.std.specs.List.{All}
 use Rattle.dc_disk.specs.File.{FileState}
@@ -43,9 +43,9 @@ pub record IsSampled (kept : List Reading) (disk : FileState) : Type 0 where
   pub calls : disk.calls ≡ calls_after kept (Measured (measured disk.calls) ∷ [])
   pub within : All (λ reading. reading.0 < disk.sectors) kept
 
--- THE READINGS STAND: after a sync each was made again, once, and gave the same.
+-- THE READINGS STAND: each was made again, once, and gave the same.
 abbrev pub StandsAgain : List Reading → List Call → List Call → Type 0
-StandsAgain kept old new = new ≡ calls_after kept (Synced true ∷ old)
+StandsAgain kept old new = new ≡ calls_after kept old
 
 -- One of them gave something else, and those before it the same.
 pub record HasChanged (kept : List Reading) (old new : List Call) : Type 0 where
@@ -56,4 +56,4 @@ pub record HasChanged (kept : List Reading) (old new : List Call) : Type 0 where
   pub later : List Reading
   pub kept_is : kept ≡ same ++ (n, was) ∷ later
   pub differs : was ≢ is
-  pub calls : new ≡ call_of n is ∷ calls_after same (Synced true ∷ old)
+  pub calls : new ≡ call_of n is ∷ calls_after same old

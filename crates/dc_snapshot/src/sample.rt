@@ -43,7 +43,7 @@ impl<A: Allocator, C: FileCalls + Drop> Sample<A, C> {
         }
     }
 
-    /// Syncs the file, reads each sector again that was read, and returns whether all gave the same. The disk is returned.
+    /// Reads each sector again that was read, and returns whether all gave the same. The disk is returned.
     ///
     /// # Errors
     /// [`SampleFault`].
@@ -65,7 +65,7 @@ impl<A: Allocator, C: FileCalls + Drop> Sample<A, C> {
     }
 }
 
-// Syncs the file, and reads each of these sectors again, until one gives something else.
+// Reads each of these sectors again, until one gives something else.
 fn read_again<C: FileCalls + Drop>(
     disk: &mut DiskOver<C>,
     kept: &[(u32, Sector)],
@@ -75,7 +75,6 @@ fn read_again<C: FileCalls + Drop>(
     ensures changed { result ≡ Ok false → HasChanged kept.now disk.old.calls disk.new.calls }
     ensures failed { IsErr result → HasRisen disk.old.failures disk.new.failures }
 {
-    disk.sync()?;
     'readings: for i in 0..kept.len() {
         let (n, was) = kept[i];
         let Some(is) = content_of(disk.read(n)) else {

@@ -1,4 +1,4 @@
-use Rattle.std.proofs.Common.{rules, ◌≡◌, ◌∷◌, ◌++◌, [], Some, None, List, sym, subst, ap, ◌∙◌}
+use Rattle.std.proofs.Common.{rules, ◌≡◌, ◌∷◌, ◌++◌, [], Some, List, sym, subst}
 use Rattle.dc_disk.specs.declared.sector.Sector.{Sector}
 use Rattle.dc_snapshot.specs.Readings.{Reading, IsSampled, given, call_of}
 use Rattle.dc_snapshot.proofs.Readings.{read_called, sampled_push}
