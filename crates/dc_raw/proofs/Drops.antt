@@ -1,11 +1,11 @@
 -- What is dropped while a request waits, and what is gathered of several answers.
-use Rattle.std.proofs.Common.{◌≡◌, ℕ, ◌+◌, ◌<◌, ◌≤◌, Bool, true, false, List, [], ◌∷◌, ◌++◌, Option, Some, None, length, take, ap, refl, sym, ◌∙◌, subst, arith, append-nil}
+use Rattle.std.proofs.Common.{◌≡◌, ℕ, ◌+◌, ◌<◌, ◌≤◌, Bool, true, false, List, [], ◌∷◌, ◌++◌, Option, Some, length, take, ap, refl, sym, ◌∙◌, subst, arith, append-nil}
 use Rattle.std.specs.List.{All}
 use Rattle.std.proofs.lemmas.List.Elements.{All-nil, All-push}
 use Rattle.std.proofs.lemmas.List.{length-append, map-append, length-take-le}
 use Rattle.dc_bus.specs.Limits.{most_answer}
 use Rattle.dc_raw.specs.Turn.{late_at, late_by, state_by}
-use Rattle.dc_raw.specs.Wire.{Sound, AreHeard, piece, nothing, gap, silence, pieces}
+use Rattle.dc_raw.specs.Wire.{Sound, AreHeard, piece, pieces}
 use Rattle.dc_raw.specs.Heard.{Drains, Gathers, HasByte, IsDrained, IsGathered, never_quiet, is_loud, most_pieces, state_with, late_with, gathered_by}
 use Rattle.dc_raw.specs.declared.state.State.{State}
 use Rattle.dc_raw.specs.declared.state.State.TheVariants.{Busy}

@@ -10,3 +10,5 @@ pub mod Drops
 pub mod Calls
 -- what a line receives in several steps
 pub mod Steps
+-- a life of a wire over a reader and a writer
+pub mod Life

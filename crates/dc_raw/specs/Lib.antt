@@ -18,3 +18,5 @@ pub mod Looks
 pub mod Pace
 -- a wire over a reader and a writer
 pub mod PollWire
+-- a life of that wire
+pub mod Life

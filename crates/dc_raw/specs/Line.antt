@@ -4,7 +4,7 @@ use Rattle.std.specs.Prelude.{Option, Some, None, if◌then◌else◌}
 use Rattle.dc_io.specs.Failures.{HasRisen}
 use Rattle.dc_frame.specs.Reading.{frame_of}
 use Rattle.dc_raw.specs.Looks.{most_looks}
-use Rattle.dc_raw.specs.Heard.{Answers, Drains, Gathers, Hearing, Waits, past_echo}
+use Rattle.dc_raw.specs.Heard.{Answers, Drains, Gathers, Waits, past_echo}
 use Rattle.dc_raw.specs.Turn.{is_answer, is_copy, is_wrong, kind_of, last_behind, may_go, one_more}
 use Rattle.dc_raw.specs.Turn.{quiet_by, state_taken}
 use Rattle.dc_raw.specs.declared.line.Gone.{Gone}
@@ -35,6 +35,10 @@ left_of left line = if line.lost then 0 else left_by line.held (left line.wire)
 
 abbrev pub hold : {W : Type 0} → List ℕ → Bool → Line W → Line W
 hold request many line = record line { held = Some (record { request = request; many = many }) }
+
+-- what was under way before a link closed may come where it is open again
+abbrev pub behind : {W : Type 0} → Bool → W → Line W → Line W
+behind again link line = record line { wire = link; state = if again then Busy else line.state }
 
 -- the line once this request went out
 abbrev pub out_of : {W : Type 0} → List ℕ → Bool → Line W → W → Line W
@@ -78,7 +82,8 @@ pub record LineSends {W : Type 0} (wire : WireGhosts W) (many : Bool) (old : Lin
     (request : List ℕ) (new : Line W) : Type 0 where
   pub loss : IsLostBy wire.failures old new
   pub sent : new.lost ≡ false
-      → (gone : Gone) × Looks wire request many (hold request many old) gone new
+      → (again : Bool) × (link : W) × wire.reopens old.wire again link
+      × (gone : Gone) × Looks wire request many (hold request many (behind again link old)) gone new
 
 -- ---- the answer of one meter
 

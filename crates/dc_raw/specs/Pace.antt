@@ -21,14 +21,31 @@ most_count = 2 ^ 64 - 1
 abbrev pub answering : ℕ → ℕ
 answering byte = min (min (byte * answering_bytes) most_count + answering_rest) most_count
 
--- THE RESET OF ALL SELECTED METERS takes the longest delay of an acknowledgement and 50 ms; at most
--- as long as a meter may take, and the last delay; at most the patience
-abbrev pub reset_wait : Option ℕ → ℕ → Option ℕ → ℕ → ℕ
-reset_wait None last byte patience = patience
-reset_wait (Some delay) last None patience = min patience (min (delay + answering_rest) most_count)
-reset_wait (Some delay) last (Some byte) patience =
-    min (min patience (min (delay + answering_rest) most_count))
-    (min (answering byte + last) most_count)
+abbrev pub or_none : Option ℕ → ℕ
+or_none None = 0
+or_none (Some time) = time
+
+abbrev pub or_most : Option ℕ → ℕ
+or_most None = most_count
+or_most (Some time) = time
+
+-- a selection has so many bytes more than the reset, a short frame
+abbrev pub longer : ℕ
+longer = 12
+
+-- the acknowledgement of a short request comes so much sooner than that of a selection
+abbrev pub sooner : Option ℕ → ℕ → ℕ
+sooner least_byte spent = spent - min (or_none least_byte * longer) most_count
+
+-- THE RESET OF ALL SELECTED METERS takes, from its end, the longest delay of an acknowledgement and
+-- 50 ms; at most as long as a meter may take, and the last delay; at most the patience
+abbrev pub reset_wait : Option ℕ → ℕ → Option ℕ → Option ℕ → ℕ → ℕ
+reset_wait None last byte least_byte patience = patience
+reset_wait (Some delay) last None least_byte patience =
+    min patience (min (sooner least_byte delay + answering_rest) most_count)
+reset_wait (Some delay) last (Some byte) least_byte patience =
+    min (min patience (min (sooner least_byte delay + answering_rest) most_count))
+    (min (answering byte + sooner least_byte last) most_count)
 
 -- THE WINDOW in which one of several meters may begin its answer: as long as a meter may take, and
 -- the longest delay; until both are known, the patience
@@ -80,10 +97,6 @@ begins_as start (byte ∷ bytes) = byte == start
 abbrev pub is_measured : List ℕ → Pace → Bool
 is_measured bytes pace = pace.measured && not (pace.came == 0 && begins_as short_start bytes)
 
-abbrev pub or_none : Option ℕ → ℕ
-or_none None = 0
-or_none (Some delay) = delay
-
 -- an acknowledgement that was due shows its delay
 abbrev pub delay_with : ℕ → List ℕ → Pace → Pace
 delay_with spent bytes pace = if pace.acks && begins_as acknowledged bytes
@@ -102,6 +115,7 @@ bytes_with spent bytes pace = if is_measured bytes pace
     then record pace {
       measured = true;
       came = came_with (length bytes) pace;
+      spent = spent;
       least = min pace.least (each_took spent (came_with (length bytes) pace));
     }
     else record pace { measured = false }
@@ -111,20 +125,29 @@ abbrev pub pace_with : ℕ → List ℕ → Pace → Pace
 pace_with spent bytes pace = bytes_with spent bytes (delay_with spent bytes pace)
 
 -- how long a byte takes at most, by the answer that is over: one that is long enough shows it
-abbrev pub or_most : Option ℕ → ℕ
-or_most None = most_count
-or_most (Some byte) = byte
-
 abbrev pub byte_shown : Pace → Option ℕ
 byte_shown pace = if nat_le showing pace.came
     then Some (min (or_most pace.byte) pace.least) else pace.byte
+
+-- how long a byte takes at least, by a telegram that began as late as the slowest acknowledgement:
+-- it came later than that, by its own bytes less those that a selection has more
+abbrev pub least_by : Pace → Option ℕ → Option ℕ
+least_by pace None = pace.least_byte
+least_by pace (Some delay) = Some (min
+    (min (or_most pace.least_byte) ((pace.spent - delay) / (pace.came - longer)))
+    (or_most (byte_shown pace)))
+
+abbrev pub least_shown : Pace → Option ℕ
+least_shown pace = if nat_le showing pace.came then least_by pace pace.delay else pace.least_byte
 
 -- A REQUEST BEGINS
 abbrev pub pace_begun : List ℕ → Pace → Pace
 pace_begun request pace = record pace {
   byte = byte_shown pace;
+  least_byte = least_shown pace;
   acks = wants_ack (frame_of request) && not (is_reset (frame_of request));
   measured = length request == short_frame;
   came = 0;
+  spent = 0;
   least = most_count;
 }

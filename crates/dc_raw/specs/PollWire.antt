@@ -1,5 +1,6 @@
 -- What a wire over a reader and a writer does to both, and how long it waits (this product).
-use Rattle.std.specs.Prelude.{◌≡◌, ℕ, ◌-◌, ◌*◌, ◌≤◌, Bool, true, false, List, [], Option, if◌then◌else◌}
+use Rattle.std.specs.Prelude.{◌≡◌, ℕ, ◌+◌, ◌-◌, ◌*◌, ◌^◌, ◌≤◌, min, Bool, true, false, List, Option}
+use Rattle.std.specs.Prelude.{if◌then◌else◌}
 use Rattle.std.specs.Io.KnownBytes.{Appends}
 use Rattle.std.specs.Time.{instant_nanos}
 use Rattle.std.specs.declared.time.Instant.{Instant}
@@ -7,7 +8,7 @@ use Rattle.dc_frame.specs.Reading.{frame_of}
 use Rattle.dc_raw.specs.Noise.{IsPast}
 use Rattle.dc_raw.specs.Pace.{patience_after, reset_wait, window_of}
 use Rattle.dc_raw.specs.Turn.{is_reset, wants_ack}
-use Rattle.dc_raw.specs.Wire.{Sound, piece, nothing, gap, silence, bytes_of}
+use Rattle.dc_raw.specs.Wire.{Sound, nothing, gap, silence, bytes_of}
 use Rattle.dc_raw.specs.declared.pace.Pace.{Pace}
 use Rattle.dc_raw.specs.declared.poll_wire.PollWire.{PollWire}
 use Rattle.dc_raw.specs.declared.poll_wire.Until.{Until}
@@ -39,7 +40,8 @@ until_by false true = Paused
 until_by false false = Still
 
 abbrev pub limit_by : Bool → Bool → Bool → Pace → ℕ → ℕ
-limit_by true many acks pace patience = reset_wait pace.delay pace.last pace.byte patience
+limit_by true many acks pace patience =
+    reset_wait pace.delay pace.last pace.byte pace.least_byte patience
 limit_by false true true pace patience = window_of pace.delay pace.byte patience
 limit_by false true false pace patience = patience
 limit_by false false acks pace patience = patience
@@ -53,6 +55,9 @@ pub record WireSends {R W C : Type 0} (contents : W → Option (List ℕ)) (old 
   pub patience : new.patience ≡ patience_after asking.late old.stated
   pub since : new.since ≡ new.asked
   pub begun : new.begun ≡ false
+  pub came : new.came ≡ old.came
+  pub asks : new.asks ≡ true
+  pub waited : new.waited ≡ old.waited
   pub until : new.until ≡ until_by (is_reset (frame_of bytes)) asking.many
   pub limit : new.limit ≡ limit_by (is_reset (frame_of bytes)) asking.many
       (wants_ack (frame_of bytes)) new.pace new.patience
@@ -73,9 +78,23 @@ pub record IsHeard {R W C : Type 0} (old new : PollWire R W C) : Type 0 where
   pub patience : new.patience ≡ old.patience
   pub asked : new.asked ≡ old.asked
   pub since : new.since ≡ old.at
+  pub came : new.came ≡ true
   pub until : new.until ≡ old.until
   pub limit : new.limit ≡ limit_then old.until old.limit old.patience
       (window_of new.pace.delay new.pace.byte old.patience)
+
+-- how long requests have waited that met silence, where the last one does now; it saturates
+abbrev pub waited_then : {R W C : Type 0} → PollWire R W C → ℕ
+waited_then wire = if wire.asks then min (wire.waited + wire.limit) (2 ^ 64 - 1) else wire.waited
+
+-- NOBODY ANSWERS: no byte has come, and requests have waited for 120 s
+abbrev pub most_waited : ℕ
+most_waited = 120_000_000
+
+pub record IsDeserted {R W C : Type 0} (old : PollWire R W C) (at : Instant) : Type 0 where
+  pub silent : old.came ≡ false
+  pub over : Ends old at
+  pub long : most_waited ≤ waited_then old
 
 -- Nothing came: silence is returned once the time-out is over, and then the patience begins anew.
 pub data IsStill {R W C : Type 0} (old : PollWire R W C) : Sound → PollWire R W C → Type 0 where
@@ -86,6 +105,8 @@ pub data IsStill {R W C : Type 0} (old : PollWire R W C) : Sound → PollWire R 
       → new ≡ record old {
         since = old.at;
         begun = false;
+        asks = false;
+        waited = waited_then old;
         noise = 0;
         until = Still;
         limit = old.patience;
@@ -103,3 +124,18 @@ pub data WireHears {R W C : Type 0} (remaining : R → Option (List ℕ)) (old :
       → IsPast (remaining old.reader) (remaining between.reader) old.begun (bytes_of sound)
       → between ≡ record old { reader = between.reader; at = between.at }
       → IsStill between sound new → WireHears remaining old sound new
+
+-- The link is open again, and nothing came on it; or it hadn't closed, or can't be opened.
+pub data WireReopens {R W C : Type 0} (old : PollWire R W C) : Bool → PollWire R W C → Type 0 where
+  is_open : {new : PollWire R W C} → new ≡ record old {
+    writer = new.writer;
+    since = new.since;
+    begun = false;
+    asks = false;
+    noise = 0;
+    until = Still;
+    limit = old.patience;
+  }
+      → WireReopens old true new
+  is_as_before : {new : PollWire R W C} → new ≡ record old { writer = new.writer }
+      → WireReopens old false new

@@ -1,5 +1,5 @@
 -- A wire in memory, as contracts see it: the bytes that are still to come, and in which steps (this product).
-use Rattle.std.specs.Prelude.{◌≡◌, ℕ, List, ◌++◌, length}
+use Rattle.std.specs.Prelude.{◌≡◌, ℕ, Bool, false, List, ◌++◌, length}
 use Rattle.dc_raw.specs.Looks.{waits_of}
 use Rattle.dc_raw.specs.Wire.{Sound, bytes_of}
 use Rattle.dc_raw.specs.declared.tape.Event.{Event}
@@ -21,3 +21,7 @@ TapeHears old sound new = old.bytes ≡ bytes_of sound ++ new.bytes
 -- nothing is written
 abbrev pub TapeSends : Taped → List ℕ → Asking → Taped → Type 0
 TapeSends old request asking new = new ≡ old
+
+-- it doesn't close
+abbrev pub TapeReopens : Taped → Bool → Taped → Type 0
+TapeReopens old again new = (again ≡ false) × (new ≡ old)

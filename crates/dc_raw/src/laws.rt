@@ -1,14 +1,22 @@
 //! Theorems about the definitions of a line.
 
-ghost use Rattle.std.specs.Prelude.{◌≡◌, ℕ, List, [], None, false};
+ghost use Rattle.std.specs.Prelude.{◌≡◌, ◌+◌, ◌≤◌, ℕ, List, [], None, false};
 ghost use Rattle.std.specs.List.{All};
 ghost use Rattle.dc_raw.specs.Heard.{ComesFrom, Heard, IsByte, IsFrame, heard_of, past_echo};
 ghost use Rattle.dc_raw.specs.Line.{GivesOver};
-ghost use Rattle.dc_raw.specs.Wire.{AreHeard, Sound};
+ghost use Rattle.dc_raw.specs.Life.{Lives, wait_of};
+ghost use Rattle.dc_raw.specs.PollWire.{IsDeserted, most_waited};
+ghost use Rattle.dc_raw.specs.Wire.{AreHeard, Sound, bytes_in, silence};
+ghost use Rattle.dc_raw.specs.declared.poll_wire.PollWire.{PollWire as PolledWire};
 ghost use Rattle.dc_raw.specs.declared.line.Line.{Line};
 ghost use Rattle.dc_raw.specs.declared.state.Kind.TheVariants.{One};
+ghost use Rattle.std.specs.declared.time.Instant.{Instant as Moment};
 
+use crate::poll_wire::Link;
 use crate::wire::Wire;
+use std::io::{Read, Write};
+use std::os::fd::AsRawFd;
+use std::rt::Clock;
 
 /// The answer depends only on the bytes before the silence, not on the pieces in which they arrive.
 pub fn what_is_heard_depends_on_the_bytes_alone()
@@ -25,4 +33,17 @@ pub fn what_a_line_gives_is_heard<W: Wire + Drop>()
         → new.lost ≡ false
         → (sounds : List Sound) × AreHeard W.hears old.wire sounds new.wire
         × Heard old.hearing.request sounds answer }
+{}
+
+/// On a line that is given up since nobody answers, no byte came since it was connected, and requests
+/// had waited for 120 s by the clock.
+pub fn nobody_answers_on_a_deserted_line<R, W, C>()
+where
+    R: Read + AsRawFd + Drop,
+    W: Write + Link + Drop,
+    C: Clock + Drop,
+    ensures { (old new : PolledWire R W C) (sounds : List Sound) (waited : ℕ) (at : Moment)
+        → old.came ≡ false → old.waited ≡ 0 → Lives W.contents R.remaining old sounds waited new
+        → IsDeserted new at
+        → (bytes_in sounds ≡ []) × (most_waited ≤ waited + wait_of new silence) }
 {}

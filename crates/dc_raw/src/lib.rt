@@ -25,11 +25,14 @@ mod tape;
 mod wire;
 
 pub use hearing::Hearing;
-pub use laws::{what_a_line_gives_is_heard, what_is_heard_depends_on_the_bytes_alone};
+pub use laws::{
+    nobody_answers_on_a_deserted_line, what_a_line_gives_is_heard,
+    what_is_heard_depends_on_the_bytes_alone,
+};
 pub use line::{Gone, Held, Line};
 pub use listening::{drain, gather, hear, without_echo};
 pub use pace::Pace;
-pub use poll_wire::{GAP, PollWire, Until};
+pub use poll_wire::{GAP, Link, PollWire, Until};
 pub use state::{Kind, State};
 pub use tape::{Event, Tape};
 pub use wire::{Asking, Came, Wire};

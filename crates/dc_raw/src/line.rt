@@ -96,12 +96,16 @@ impl<W: Wire + Drop> Line<W> {
         }
     }
 
-    /// Sends a request, now or once it may go out. Once the line is lost, the wire isn't touched.
+    /// Sends a request, now or once it may go out. A link that has closed is opened again before it,
+    /// once: what was under way may come on it. Once the line is lost, the wire isn't touched.
     pub fn put(&mut self, request: &FrameBuf, many: bool)
         ensures { LineSends W.Wire many self.old request.now self.new }
     {
         if self.lost {
             return;
+        }
+        if self.wire.reopen() {
+            self.state = State::Busy;
         }
         self.held = Some(Held {
             request: *request,

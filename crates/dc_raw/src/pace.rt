@@ -2,6 +2,7 @@
 
 ghost use Rattle.std.specs.Prelude.{◌≡◌, None};
 ghost use Rattle.dc_raw.specs.Pace.{pace_begun, pace_with, pause_of, reset_wait, window_of, answering};
+ghost use Rattle.dc_raw.specs.Pace.{sooner};
 
 use crate::state::{is_reset, wants_ack};
 
@@ -21,6 +22,9 @@ const SHORT_START: u8 = 0x10;
 // The byte of an acknowledgement.
 const ACKNOWLEDGED: u8 = 0xE5;
 
+// Number of bytes that a selection has more than a short frame.
+const LONGER: u64 = 12;
+
 // The shortest pause after which nothing more comes of several answers, in microseconds and in bytes.
 const PAUSE: u64 = 120_000;
 
@@ -39,12 +43,16 @@ pub struct Pace {
     pub last: u64,
     /// How long a byte takes at most; `None` before the first telegram.
     pub byte: Option<u64>,
+    /// How long a byte takes at least, where a telegram begins no later than the slowest
+    /// acknowledgement; `None` before the first telegram behind one.
+    pub least_byte: Option<u64>,
     // Whether an acknowledgement is due, of which the delay is taken.
     acks: bool,
-    // Of the answer under way: whether it is measured, the number of its bytes, and how long a byte
-    // takes at most by its pieces so far.
+    // Of the answer under way: whether it is measured, the number of its bytes, the time to the last
+    // of them, and how long a byte takes at most by its pieces so far.
     measured: bool,
     came: u64,
+    spent: u64,
     least: u64,
 }
 
@@ -53,14 +61,17 @@ impl Pace {
     pub fn new() -> Self
         ensures delay { result.delay ≡ None }
         ensures byte { result.byte ≡ None }
+        ensures least_byte { result.least_byte ≡ None }
     {
         Pace {
             delay: None,
             last: 0,
             byte: None,
+            least_byte: None,
             acks: false,
             measured: false,
             came: 0,
+            spent: 0,
             least: u64::MAX,
         }
     }
@@ -71,11 +82,18 @@ impl Pace {
         ensures { self.new ≡ pace_begun request.now self.old }
     {
         if self.came >= SHOWING {
-            self.byte = Some(self.byte.unwrap_or(u64::MAX).min(self.least));
+            let byte = self.byte.unwrap_or(u64::MAX).min(self.least);
+            self.byte = Some(byte);
+            if let Some(delay) = self.delay {
+                let each = self.spent.saturating_sub(delay) / (self.came - LONGER);
+                let most = self.least_byte.unwrap_or(u64::MAX);
+                self.least_byte = Some(most.min(each).min(byte));
+            }
         }
         self.acks = wants_ack(request) && !is_reset(request);
         self.measured = request.len() == SHORT_FRAME;
         self.came = 0;
+        self.spent = 0;
         self.least = u64::MAX;
     }
 
@@ -94,24 +112,35 @@ impl Pace {
         }
         if self.measured {
             self.came = self.came.saturating_add(bytes.len() as u64);
+            self.spent = spent;
             let on_the_wire = self.came.saturating_add(SHORT_FRAME as u64);
             self.least = self.least.min(spent / on_the_wire);
         }
     }
 
     /// How long the reset of all selected meters takes: as long as the slowest acknowledgement, and
-    /// no longer than one may take after the last; before the first, the patience.
+    /// no longer than one may take after the last; before the first, the patience. Both are measured
+    /// from the end of the request: the reset is shorter than the selection that was acknowledged.
     pub fn reset_wait(&self, patience: u64) -> u64
-        ensures { result ≡ reset_wait self.now.delay self.now.last self.now.byte patience }
+        ensures { result ≡ reset_wait self.now.delay self.now.last self.now.byte
+            self.now.least_byte patience }
     {
         let Some(delay) = self.delay else {
             return patience;
         };
-        let wait = patience.min(delay.saturating_add(ANSWERING_REST));
+        let wait = patience.min(self.sooner(delay).saturating_add(ANSWERING_REST));
         match self.byte {
-            Some(byte) => wait.min(answering(byte).saturating_add(self.last)),
+            Some(byte) => wait.min(answering(byte).saturating_add(self.sooner(self.last))),
             None => wait,
         }
+    }
+
+    // The time from a short request to its acknowledgement where that of a selection took so long.
+    fn sooner(&self, spent: u64) -> u64
+        ensures { result ≡ sooner self.now.least_byte spent }
+    {
+        let byte = self.least_byte.unwrap_or(0);
+        spent.saturating_sub(byte.saturating_mul(LONGER))
     }
 
     /// How long one of several meters may take to begin its answer; the patience, until an

@@ -1,10 +1,11 @@
 //! A wire over a descriptor that can be polled: a TCP stream or a terminal.
 
-ghost use Rattle.std.specs.Prelude.{◌≡◌, ◌*◌, ◌≤◌, ◌<◌, [], length, IfOk, OnOk};
+ghost use Rattle.std.specs.Prelude.{◌≡◌, ◌*◌, ◌≤◌, ◌<◌, [], length, true, false, IfOk, OnOk, OnErr};
+ghost use Rattle.dc_io.specs.Failures.{HasRisen};
 ghost use Rattle.dc_raw.specs.Looks.{waits_of};
 ghost use Rattle.dc_raw.specs.Pace.{patience_after};
 ghost use Rattle.dc_raw.specs.PollWire.{Ends, IsHeard, IsStill, WireHears, WireSends, limit_by};
-ghost use Rattle.dc_raw.specs.PollWire.{until_by};
+ghost use Rattle.dc_raw.specs.PollWire.{IsDeserted, WireReopens, until_by, waited_then};
 ghost use Rattle.dc_raw.specs.Turn.{is_reset, wants_ack};
 ghost use Rattle.dc_frame.specs.Reading.{frame_of};
 ghost use Rattle.dc_raw.specs.declared.poll_wire.Until.TheVariants.{Still};
@@ -43,6 +44,19 @@ const MOST_DOUBLINGS: u64 = 14;
 // the rest of its time-out.
 const MOST_WAITS: u16 = 32_767;
 
+// How long requests go out in a row on a line on which no byte has come, until it is given up, in
+// microseconds.
+const MOST_WAITED: u64 = 120_000_000;
+
+/// A link that may close.
+pub trait Link {
+    /// Opens the link again, once, where it has closed. Returns whether it did.
+    fn reopen(&mut self) -> bool;
+
+    /// Takes that the line is given up, since nobody answers.
+    fn desert(&mut self);
+}
+
 /// When silence comes after a request.
 #[derive(Clone, Copy, Debug, PartialEq, Eq)]
 pub enum Until {
@@ -61,9 +75,10 @@ pub enum Until {
 /// as an acknowledgement takes, by the [`Pace`] of the line; after a request that several meters may
 /// answer, as long as one of them may take to begin. Bytes that begin no frame are dropped where no
 /// answer has begun, and time goes on as if they hadn't come. A line on which bytes keep coming for
-/// ten patiences, or 15 s where that is longer, without a request or silence between them, fails.
+/// ten patiences, or 15 s where that is longer, without a request or silence between them, fails. So
+/// does one on which requests met silence for 120 s, and no byte came since it was connected.
 #[derive(Drop)]
-pub struct PollWire<R: Read + AsRawFd + Drop, W: Write + Drop, C: Clock + Drop> {
+pub struct PollWire<R: Read + AsRawFd + Drop, W: Write + Link + Drop, C: Clock + Drop> {
     reader: R,
     writer: W,
     clock: C,
@@ -83,11 +98,19 @@ pub struct PollWire<R: Read + AsRawFd + Drop, W: Write + Drop, C: Clock + Drop> 
     pace: Pace,
     // For how long bytes have kept coming since the last request or silence, in microseconds.
     noise: u64,
+    // Whether a byte came since the link was connected.
+    came: bool,
+    // Whether a request is out that hasn't met silence.
+    asks: bool,
+    // How long requests have waited that met silence, in microseconds.
+    waited: u64,
+    // Whether the line was given up, since nobody answers.
+    deserted: bool,
     waits: u16,
     failures: u64,
 }
 
-impl<R: Read + AsRawFd + Drop, W: Write + Drop, C: Clock + Drop> PollWire<R, W, C> {
+impl<R: Read + AsRawFd + Drop, W: Write + Link + Drop, C: Clock + Drop> PollWire<R, W, C> {
     /// Returns the reader and the writer of a stream as a wire with a patience of this many
     /// milliseconds.
     ///
@@ -98,6 +121,9 @@ impl<R: Read + AsRawFd + Drop, W: Write + Drop, C: Clock + Drop> PollWire<R, W, 
         ensures stated { IfOk result (λ wire. wire.stated ≡ patience * 1_000) }
         ensures limit { IfOk result (λ wire. wire.limit ≡ patience * 1_000) }
         ensures until { IfOk result (λ wire. wire.until ≡ Still) }
+        ensures came { IfOk result (λ wire. wire.came ≡ false) }
+        ensures waited { IfOk result (λ wire. wire.waited ≡ 0) }
+        ensures deserted { IfOk result (λ wire. wire.deserted ≡ false) }
     {
         let since = Instant::now(&clock)?;
         let micros = u64::from(patience) * 1_000;
@@ -115,6 +141,10 @@ impl<R: Read + AsRawFd + Drop, W: Write + Drop, C: Clock + Drop> PollWire<R, W, 
             begun: false,
             pace: Pace::new(),
             noise: 0,
+            came: false,
+            asks: false,
+            waited: 0,
+            deserted: false,
             waits: MOST_WAITS,
             failures: 0,
         })
@@ -123,6 +153,13 @@ impl<R: Read + AsRawFd + Drop, W: Write + Drop, C: Clock + Drop> PollWire<R, W, 
     /// The descriptor, for a caller that waits for the bytes of several wires at once.
     pub fn fd(&self) -> i32 {
         self.reader.as_raw_fd()
+    }
+
+    /// Whether the line was given up, since nobody answers.
+    pub fn is_deserted(&self) -> bool
+        ensures { result ≡ self.now.deserted }
+    {
+        self.deserted
     }
 
     /// The time until the next gap or silence, if no byte comes; zero if the clock fails.
@@ -167,6 +204,8 @@ impl<R: Read + AsRawFd + Drop, W: Write + Drop, C: Clock + Drop> PollWire<R, W, 
         ensures well { self.new.failures ≡ self.old.failures }
         ensures step { IfOk result (λ came.
             WireHears R.remaining self.old (sound_of came room.new) self.new) }
+        ensures deserted { self.old.deserted ≡ false → self.new.deserted ≡ true
+            → IsDeserted self.old self.new.at }
     {
         let wait = if self.waits == 0 {
             self.rest(now(&self.clock)?)
@@ -196,6 +235,7 @@ impl<R: Read + AsRawFd + Drop, W: Write + Drop, C: Clock + Drop> PollWire<R, W, 
         ensures well { self.new.failures ≡ self.old.failures }
         ensures waits { self.new.waits ≡ self.old.waits }
         ensures kept { OnOk result (IsHeard self.old self.new) }
+        ensures deserted { self.new.deserted ≡ self.old.deserted }
     {
         let spent = between(self.since, self.at);
         self.noise = self.noise.saturating_add(spent.min(self.patience));
@@ -210,6 +250,7 @@ impl<R: Read + AsRawFd + Drop, W: Write + Drop, C: Clock + Drop> PollWire<R, W, 
         self.pace.take(between(self.asked, self.at), bytes);
         self.since = self.at;
         self.begun = true;
+        self.came = true;
         match self.until {
             Until::Still => self.limit = self.patience,
             Until::Over => {}
@@ -225,8 +266,18 @@ impl<R: Read + AsRawFd + Drop, W: Write + Drop, C: Clock + Drop> PollWire<R, W, 
             (waits_of self.old.waits) (waits_of self.new.waits)) }
         ensures well { self.new.failures ≡ self.old.failures }
         ensures step { IfOk result (λ came. IsStill self.old (sound_of came []) self.new) }
+        ensures deserted { self.old.deserted ≡ false → self.new.deserted ≡ true
+            → IsDeserted self.old self.old.at }
+        ensures at { self.new.at ≡ self.old.at }
     {
         if self.rest(self.at) == 0 {
+            self.waited = self.waited_then();
+            self.asks = false;
+            if !self.came && self.waited >= MOST_WAITED {
+                self.deserted = true;
+                self.writer.desert();
+                return Err(IoFault);
+            }
             self.since = self.at;
             self.begun = false;
             self.noise = 0;
@@ -245,9 +296,21 @@ impl<R: Read + AsRawFd + Drop, W: Write + Drop, C: Clock + Drop> PollWire<R, W, 
         Ok(Came::Nothing)
     }
 
+    // How long requests have waited that met silence, where the last one does now.
+    fn waited_then(&self) -> u64
+        ensures { result ≡ waited_then self.now }
+    {
+        if self.asks {
+            self.waited.saturating_add(self.limit)
+        } else {
+            self.waited
+        }
+    }
+
     fn put(&mut self, bytes: &[u8], asking: Asking) -> Result<(), IoFault>
         ensures well { self.new.failures ≡ self.old.failures }
         ensures step { OnOk result (WireSends W.contents self.old bytes.now asking self.new) }
+        ensures deserted { self.new.deserted ≡ self.old.deserted }
     {
         if self.writer.write_all(bytes).is_err() {
             return Err(IoFault);
@@ -255,6 +318,7 @@ impl<R: Read + AsRawFd + Drop, W: Write + Drop, C: Clock + Drop> PollWire<R, W, 
         self.asked = now(&self.clock)?;
         self.since = self.asked;
         self.begun = false;
+        self.asks = true;
         self.noise = 0;
         self.waits = MOST_WAITS;
         self.pace.begin(bytes);
@@ -262,6 +326,22 @@ impl<R: Read + AsRawFd + Drop, W: Write + Drop, C: Clock + Drop> PollWire<R, W, 
         self.until = until_by(is_reset(bytes), asking.many);
         self.limit = self.limit_by(bytes, asking.many);
         Ok(())
+    }
+
+    // Opens the link again where it has closed: nothing came on it yet.
+    fn open_again(&mut self) -> bool
+        ensures { WireReopens self.old result self.new }
+    {
+        if !self.writer.reopen() {
+            return false;
+        }
+        self.since = now(&self.clock).unwrap_or(self.since);
+        self.begun = false;
+        self.asks = false;
+        self.noise = 0;
+        self.until = Until::Still;
+        self.limit = self.patience;
+        true
     }
 
     // The time-out after this request.
@@ -298,10 +378,10 @@ fn patience_after(stated: u64, late: u64) -> u64
     stated.max(doubled.min(LONGEST_PATIENCE))
 }
 
-impl<R: Read + AsRawFd + Drop, W: Write + Drop, C: Clock + Drop> Wire for PollWire<R, W, C> {
+impl<R: Read + AsRawFd + Drop, W: Write + Link + Drop, C: Clock + Drop> Wire for PollWire<R, W, C> {
     ghost use Rattle.std.proofs.Math.Nat.{min-le_right};
     ghost use Rattle.dc_raw.specs.Looks.{most_looks, waits_of};
-    ghost use Rattle.dc_raw.specs.PollWire.{WireHears, WireSends};
+    ghost use Rattle.dc_raw.specs.PollWire.{WireHears, WireReopens, WireSends};
 
     ghost failures = { λ wire. wire.failures };
 
@@ -313,6 +393,12 @@ impl<R: Read + AsRawFd + Drop, W: Write + Drop, C: Clock + Drop> Wire for PollWi
 
     ghost hears = { WireHears R.remaining };
 
+    ghost reopens = { WireReopens };
+
+    fn reopen(&mut self) -> bool {
+        self.open_again()
+    }
+
     fn send(&mut self, bytes: &[u8], asking: Asking) -> Result<(), IoFault> {
         let sent = self.put(bytes, asking);
         if sent.is_err() {
@@ -321,7 +407,19 @@ impl<R: Read + AsRawFd + Drop, W: Write + Drop, C: Clock + Drop> Wire for PollWi
         sent
     }
 
-    fn hear(&mut self, room: &mut [u8]) -> Result<Came, IoFault> {
+    fn hear(&mut self, room: &mut [u8]) -> Result<Came, IoFault>
+        requires { 0 < length room.old }
+        ensures fits { IfOk result (λ came. FitsRoom came (length room.old)) }
+        ensures step { IfOk result (λ came.
+            WireHears R.remaining self.old (sound_of came room.new) self.new) }
+        ensures fewer { IfOk result (λ came. Wanes came
+            (waits_of self.old.waits) (waits_of self.new.waits)) }
+        ensures well { OnOk result (self.new.failures ≡ self.old.failures) }
+        ensures failed { OnErr result (HasRisen self.old.failures self.new.failures) }
+        // Nobody answers on a line that is given up.
+        ensures deserted { self.old.deserted ≡ false → self.new.deserted ≡ true
+            → IsDeserted self.old self.new.at }
+    {
         let came = self.look(room);
         if came.is_err() {
             self.failures = one_failure_more(self.failures);

@@ -111,7 +111,7 @@ impl<'a> Wire for Tape<'a> {
     ghost use Rattle.std.specs.Prelude.{length};
     ghost use Rattle.std.proofs.Math.Nat.{min-le_right};
     ghost use Rattle.dc_raw.specs.Looks.{most_looks};
-    ghost use Rattle.dc_raw.specs.Tape.{TapeHears, TapeSends, tape_waits};
+    ghost use Rattle.dc_raw.specs.Tape.{TapeHears, TapeReopens, TapeSends, tape_waits};
 
     ghost failures = { λ tape. tape.failures };
 
@@ -122,6 +122,12 @@ impl<'a> Wire for Tape<'a> {
     ghost sends = { TapeSends };
 
     ghost hears = { TapeHears };
+
+    ghost reopens = { TapeReopens };
+
+    fn reopen(&mut self) -> bool {
+        false
+    }
 
     fn send(&mut self, _bytes: &[u8], _asking: Asking) -> Result<(), IoFault> {
         match self.events.first() {

@@ -1,6 +1,6 @@
 //! A wire: bytes are sent on it, and bytes arrive on it.
 
-ghost use Rattle.std.specs.Prelude.{◌≡◌, ℕ, ◌≤◌, ◌<◌, List, length, IfOk, OnOk, OnErr};
+ghost use Rattle.std.specs.Prelude.{◌≡◌, ℕ, ◌≤◌, ◌<◌, Bool, List, length, IfOk, OnOk, OnErr};
 ghost use Rattle.dc_io.specs.Failures.{HasRisen};
 ghost use Rattle.dc_raw.specs.Looks.{most_looks};
 ghost use Rattle.dc_raw.specs.Wire.{FitsRoom, Sound, Wanes, sound_of};
@@ -47,6 +47,16 @@ pub trait Wire {
     ghost sends: { Self → List ℕ → Asks → Self → Type 0 };
 
     ghost hears: { Self → Sound → Self → Type 0 };
+
+    // The effect of a look at the link: whether it was opened again. Of what then comes nothing is
+    // promised.
+    ghost reopens: { Self → Bool → Self → Type 0 };
+
+    /// Opens the link again, once, where it has closed. Returns whether it did.
+    fn reopen(&mut self) -> bool
+        ensures step { reopens self.old result self.new }
+        ensures no_more { waits_left self.new ≤ waits_left self.old }
+        ensures well { failures self.new ≡ failures self.old };
 
     /// Sends all of the bytes.
     fn send(&mut self, bytes: &[u8], asking: Asking) -> Result<(), IoFault>

@@ -1,5 +1,5 @@
 use Rattle.std.proofs.Common.{◌≡◌, ℕ, ◌+◌, length, take, refl, sym, ◌∙◌, subst, arith}
-use Rattle.dc_raw.specs.Heard.{Drains, not_yet, at_gap, at_silence}
+use Rattle.dc_raw.specs.Heard.{not_yet, at_gap, at_silence}
 use Rattle.dc_raw.specs.Wire.{FitsRoom, Wanes, sound_of, piece, nothing, gap, silence}
 use Rattle.dc_raw.specs.declared.state.State.{State}
 use Rattle.dc_raw.specs.declared.state.State.TheVariants.{Busy}

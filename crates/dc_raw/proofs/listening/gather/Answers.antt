@@ -1,4 +1,4 @@
-use Rattle.std.proofs.Common.{◌≡◌, ℕ, Some, None, true, length, take, refl, sym, ◌∙◌, subst, arith, ap, ◌++◌, List}
+use Rattle.std.proofs.Common.{◌≡◌, ℕ, Some, None, true, length, take, refl, ◌∙◌, subst, arith, ap, ◌++◌, List}
 use Rattle.dc_bus.specs.Limits.{most_answer}
 use Rattle.dc_raw.specs.Heard.{may_go_on, goes_on, is_quiet}
 use Rattle.dc_raw.specs.Wire.{FitsRoom, Wanes, sound_of, piece, nothing, gap, silence}

@@ -1,7 +1,7 @@
-use Rattle.std.proofs.Common.{◌≡◌, ◌≤◌, true, false, ℕ, Bool, List, [], ◌++◌, length, take, drop, ap, refl, sym, ◌∙◌, arith, if◌then◌else◌}
+use Rattle.std.proofs.Common.{◌≡◌, ◌≤◌, true, false, ℕ, Bool, List, ◌++◌, length, take, drop, ap, sym, ◌∙◌, arith, if◌then◌else◌}
 use Rattle.std.proofs.lemmas.List.{length-drop, take_all}
 use Rattle.dc_bus.specs.Limits.{most_answer}
-use Rattle.dc_raw.specs.Heard.{begins, past_echo}
+use Rattle.dc_raw.specs.Heard.{begins}
 use Rattle.dc_raw.proofs.listening.without_echo.Goals as goal
 
 pub returns-then-starts_with : goal.returns-then-starts_with

@@ -1,4 +1,4 @@
-use Rattle.std.proofs.Common.{◌≡◌, List, refl, subst}
+use Rattle.std.proofs.Common.{refl, subst}
 use Rattle.dc_raw.specs.Line.{Looks}
 use Rattle.dc_raw.specs.declared.line.Gone.{Gone}
 use Rattle.dc_raw.proofs.line.Line.let_go.Goals as goal

@@ -1,4 +1,4 @@
-use Rattle.std.proofs.Common.{rules, ◌≡◌, ◌<◌, Bool, true, false, ℕ, List, ap, refl, sym, ◌∙◌, subst}
+use Rattle.std.proofs.Common.{rules, Bool, ℕ, List, ap, refl, sym, ◌∙◌, subst}
 use Rattle.dc_raw.specs.Heard.{Drains}
 use Rattle.dc_raw.specs.Turn.{may_go}
 use Rattle.dc_raw.specs.Line.{goes_out, too_loud, waits_on}

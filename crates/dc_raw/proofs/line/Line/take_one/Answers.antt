@@ -1,4 +1,4 @@
-use Rattle.std.proofs.Common.{◌≡◌, ℕ, true, List, Option, None, IfSome, IfNone, refl, sym, ◌∙◌, subst}
+use Rattle.std.proofs.Common.{ℕ, true, List, Option, None, IfSome, IfNone, refl, sym, ◌∙◌, subst}
 use Rattle.dc_raw.specs.Heard.{Answers, Waits}
 use Rattle.dc_raw.specs.Line.{a_copy, no_copy}
 use Rattle.dc_raw.proofs.Calls.{gives_one_of}
