@@ -1,0 +1,11 @@
+use Rattle.std.proofs.Common.{◌≡◌, List}
+use Rattle.dc_world.specs.Meter.{Meter}
+use Rattle.dc_in_time.proofs.InTime.{in_its_time}
+use Rattle.dc_in_time.proofs.Steady.{steady_goes_on, steady_whole}
+use Rattle.dc_in_time.proofs.laws.steady_meters_are_read_whole_in_time.Goals as goal
+
+pub returns-clause-whole : goal.returns-clause-whole
+returns-clause-whole g c meters w line regular lives = steady_whole meters w regular (in_its_time g.W.Wire meters (λ (now : List Meter). now ≡ meters) w line lives)
+
+pub returns-clause-goes_on : goal.returns-clause-goes_on
+returns-clause-goes_on g c meters w line regular lives = steady_goes_on meters w regular (in_its_time g.W.Wire meters (λ (now : List Meter). now ≡ meters) w line lives)
