@@ -70,7 +70,8 @@ pub fn check(plain: &[PlainEntry], from: u64, to: u64) -> Result<Period, CheckFa
         ≡ period_of (counted (entries_of plain.now)) from to) }
     ensures order { IfOk result (λ made. IsInOrder (entries_of plain.now)) }
     ensures many { IsErrOf result CheckFault.TooMany ↔ (MOST_ENTRIES < length plain.now) }
-    ensures backward { IsErrOf result CheckFault.Period → to < from }
+    ensures backward { IsErrOf result CheckFault.Period
+        ↔ ((length plain.now ≤ MOST_ENTRIES) × (to < from)) }
     ensures moment { IsErrOf result CheckFault.Moment → IsInOrder (entries_of plain.now) → ⊥ }
 {
     if plain.len() > MOST_ENTRIES {
