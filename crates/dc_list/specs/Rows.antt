@@ -1,5 +1,5 @@
 -- The rows of a list of meters (this product): a meter's identity, its bus line, its primary address and its flat.
-use Rattle.std.specs.Prelude.{◌≡◌, ◌≢◌, ◌⊎◌, ℕ, ◌==◌, Bool, true, false, not, ◌||◌, ◌&&◌, List, [], ◌∷◌}
+use Rattle.std.specs.Prelude.{◌≡◌, ◌≢◌, ◌⊎◌, ℕ, ◌==◌, Bool, true, false, not, ◌||◌, List, [], ◌∷◌}
 use Rattle.std.specs.Prelude.{codes, map, filter, Option, None, if◌then◌else◌}
 use Rattle.std.specs.List.{join_with_byte, list_all}
 use Rattle.std.specs.Fmt.{decimal}
@@ -77,13 +77,23 @@ pub record SpellsRow (f : Fields) (row : Row) : Type 0 where
   pub address_is : SpellsAddress f.address row.address
   pub flat_is : f.flat ≡ row.flat
 
--- what a field doesn't spell
+abbrev pub SpellsMeter : Fields → Type 0
+SpellsMeter f = (meter : Identity) × IsOfBytes meter × (capitals f.meter ≡ text_of meter)
+
+abbrev pub SpellsLine : Fields → Type 0
+SpellsLine f = (line : ℕ) × IsBusLine line × (f.line ≡ decimal line)
+
+abbrev pub SpellsOneAddress : Fields → Type 0
+SpellsOneAddress f = (address : Option ℕ) × IsAddress address × SpellsAddress f.address address
+
+-- the first field that doesn't spell what it has to
 abbrev pub Lacks : RowFault → Fields → Type 0
 Lacks Columns f = ⊥
 Lacks Meter f = (meter : Identity) → IsOfBytes meter → capitals f.meter ≢ text_of meter
-Lacks Line f = (line : ℕ) → IsBusLine line → f.line ≢ decimal line
-Lacks Address f = (address : Option ℕ) → IsAddress address → ¬ (SpellsAddress f.address address)
-Lacks Flat f = ¬ (IsFlat f.flat)
+Lacks Line f = SpellsMeter f × ((line : ℕ) → IsBusLine line → f.line ≢ decimal line)
+Lacks Address f = SpellsMeter f × SpellsLine f
+    × ((address : Option ℕ) → IsAddress address → ¬ (SpellsAddress f.address address))
+Lacks Flat f = SpellsMeter f × SpellsLine f × SpellsOneAddress f × ¬ (IsFlat f.flat)
 
 -- ---- lines
 
@@ -97,12 +107,12 @@ pub record LacksIn (text : List ℕ) (fault : RowFault) : Type 0 where
   pub fields_are : HasFields text fields
   pub lacks : Lacks fault fields
 
--- it has no four fields, or a field of them doesn't spell what it has to
+-- it has no four fields, or this is the first of them that doesn't spell what it has to
 abbrev pub IsFaulty : List ℕ → RowFault → Type 0
 IsFaulty text fault =
     ((fault ≡ Columns) × ((f : Fields) → ¬ (HasFields text f))) ⊎ LacksIn text fault
 
--- A TEXT IS READ AS ITS ROW, as blank, or as one of its faults.
+-- A TEXT IS READ AS ITS ROW, as blank, or as its first fault.
 abbrev pub IsEntryOf : List ℕ → Entry → Type 0
 IsEntryOf text Blank = is_blank text ≡ true
 IsEntryOf text (Bad fault) = (is_blank text ≡ false) × IsFaulty text fault
