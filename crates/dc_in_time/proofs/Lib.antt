@@ -14,3 +14,5 @@ pub mod Splices
 pub mod Moments
 -- each reading is a whole readout of one meter
 pub mod Fresh
+-- a life in which a reading is held
+pub mod LateLife

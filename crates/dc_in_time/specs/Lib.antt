@@ -8,3 +8,5 @@ pub mod Asked
 pub mod Lives
 -- meters whose telegrams have other values at each repeat
 pub mod Fresh
+-- the premises can be met at once
+pub mod Met

@@ -4,7 +4,8 @@
 --   one master       Runs, Lives: nothing is sent on the wire but by the line
 --   one answer       Puts: a request has at most one answer, and at most one copy of it
 --   in order         Passes, Comes: what is under way comes in the order in which it was sent, or is lost
---   patience         Passes: where the wire gives silence nothing is under way
+--   patience         Passes: where the wire gives silence nothing is under way; it gives it after the
+--                    patience, and when the time of the reset of all selected meters is over
 --   no stray frame   Comes: what is taken as an answer is no frame, or the oldest that is under way
 use Rattle.std.specs.Prelude.{◌≡◌, ℕ, List, [], ◌∷◌, ◌++◌, drop, Option, Some, None}
 use Rattle.dc_frame.specs.Reading.{frame_of}

@@ -8,6 +8,7 @@ ghost use Rattle.dc_world.specs.World.{AreRegular, GoesOnFromCommitted, IsWhole,
 ghost use Rattle.dc_in_time.specs.Asked.{Asks, IsToIt, Runs};
 ghost use Rattle.dc_in_time.specs.Fresh.{AllFit, IsMoment, IsWholeOf};
 ghost use Rattle.dc_in_time.specs.Lives.{InTime, Lives};
+ghost use Rattle.dc_in_time.specs.Met.{IsMet};
 ghost use Rattle.dc_in_time.specs.Way.{OnWay};
 
 use dc_raw::Wire;
@@ -41,4 +42,10 @@ pub fn steady_meters_are_read_whole_in_time<W: Wire + Drop>()
     ensures goes_on { (meters : List Meter) (w : World) (line : Line (OnWay W))
         → AreRegular meters → Lives W.Wire meters (λ now. now ≡ meters) w line
         → GoesOnFromCommitted meters w }
+{}
+
+/// All premises can be met at once: in such a life a reading is held, though an acknowledgement comes twice
+/// and a telegram late, with other values than its repeat.
+pub fn a_line_may_be_in_time()
+    ensures { IsMet }
 {}
