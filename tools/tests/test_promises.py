@@ -92,3 +92,10 @@ def test_rows_are_marked_and_other_mutants_listed(promises: types.ModuleType, tm
     assert "| Kept \\| dropped | dc_x `Store::append` (done, gone) | **`keeps_nothing`** |\n\nProse.\n" in page
     assert page.endswith("* dc_x: `waits`\n") and promises.page(tree, page) == page
     assert set(tree.faults) == {"dc_x: Store::append has no clause gone", "dc_x: no promise names the theorem law"}
+
+
+def test_a_crate_of_theorems_needs_a_closed_example(promises: types.ModuleType) -> None:
+    tree = promises.Tree()
+    every = {function for crate in tree.crates.values() for function in crate.functions}
+    assert "dc_progress" in promises.unmet(tree, set())
+    assert not list(promises.unmet(tree, every))
