@@ -3,16 +3,15 @@
 use crate::clock::moment;
 use crate::connecting::{reached, released};
 use crate::names::meters_of;
-use crate::tracing::{TracedBus, shows_progress, trace_file_of, tracer_of};
+use crate::tracing::{shows_progress, trace_file_of, tracers_of};
 use dc_address::Identity;
-use dc_change::Moment;
 use dc_commands::{Printing, poll_over};
 use dc_disk::FileDisk;
 use dc_ending::Ending;
 use dc_files::{Host, Patient, open_disk};
-use dc_links::{LinkBus, Peer, Watch};
+use dc_links::{LinkBus, Peer, SystemBus, Watch};
 use dc_poll::Plan;
-use dc_trace::{Observed, TraceFile};
+use dc_trace::{Observed, Observer};
 use dc_words::PollTask;
 use std::alloc::Global;
 use std::fs::{File, OpenFile};
@@ -47,34 +46,44 @@ where
         Ok(peers) => peers,
         Err(ending) => return ending,
     };
-    let ending = poll_peers(
-        host,
-        disk,
-        peers.as_slice(),
-        trace.as_ref(),
-        only.as_slice(),
+    let printing = Printing {
         begun,
-        task,
-    );
+        is_json: task.is_json,
+        is_shown: shows_progress(host, trace.as_ref()),
+    };
+    let ending = match tracers_of(host, trace.as_ref(), peers.len()) {
+        Ok(observers) => poll_peers(
+            host,
+            disk,
+            peers.as_slice(),
+            observers,
+            only.as_slice(),
+            printing,
+            task,
+        ),
+        Err(ending) => ending,
+    };
     released(host, peers.as_slice());
     ending
 }
 
-// Reads the meters over connected links.
-fn poll_peers<'a, D, R>(
+// Makes the buses of connected links, and reads the meters over them. The observers are any, for the checker meets its
+// step limit over the parts of a trace.
+fn poll_peers<'a, D, O, R>(
     host: &Host<'_, R>,
     disk: FileDisk<D>,
     peers: &[Option<Peer<R>>],
-    trace: Option<&TraceFile<'_, R>>,
+    observers: Vec<O>,
     only: &[Identity],
-    begun: Moment,
+    printing: Printing,
     task: &PollTask<'a>,
 ) -> Ending<'a>
 where
     D: FileExt + OpenFile + Drop,
+    O: Observer + Drop,
     R: Files<File = File> + Clock + Copy + Print + Eprint + AllocGlobal,
 {
-    let buses = match buses_of(host, peers, trace, task.patience) {
+    let buses = match buses_of(host, peers, observers, task.patience) {
         Ok(buses) => buses,
         Err(ending) => return ending,
     };
@@ -82,11 +91,6 @@ where
         buses,
         only,
         tries: task.tries.max(1),
-    };
-    let printing = Printing {
-        begun,
-        is_json: task.is_json,
-        is_shown: shows_progress(host, trace),
     };
     // The readings go on where nobody takes what is printed.
     let out = Patient::new(io::writer(host.rt), host);
@@ -103,17 +107,15 @@ where
     ending
 }
 
-// The bus of each line, observed where a trace is written; one without a link is absent.
-fn buses_of<'p, 't, 'h, 'e, R: Clock + Copy + Eprint + AllocGlobal>(
+// The bus of each line, with its observer; one without a link is absent.
+fn buses_of<'p, 'e, R: Clock + Copy + AllocGlobal, O: Observer + Drop>(
     host: &Host<'_, R>,
     peers: &'p [Option<Peer<R>>],
-    trace: Option<&'t TraceFile<'h, R>>,
+    observers: Vec<O>,
     patience: u16,
-) -> Result<Vec<TracedBus<'p, 't, 'h, R>, Global>, Ending<'e>> {
+) -> Result<Vec<Observed<SystemBus<'p, R>, O>, Global>, Ending<'e>> {
     let mut buses = Vec::new(host.rt.alloc());
-    let mut line: u8 = 0;
-    for peer in peers {
-        line = line.saturating_add(1);
+    for (peer, observer) in peers.iter().zip(observers) {
         let bus = match peer {
             Some(peer) => match peer.bus(*host.rt, patience) {
                 Ok(bus) => bus,
@@ -121,7 +123,6 @@ fn buses_of<'p, 't, 'h, 'e, R: Clock + Copy + Eprint + AllocGlobal>(
             },
             None => LinkBus::Absent,
         };
-        let observer = tracer_of(trace, line);
         if buses.push(Observed { bus, observer }).is_err() {
             return Err(Ending::Memory);
         }

@@ -1,8 +1,8 @@
 //! The trace of what goes over the bus lines, where one is asked for.
 
+use dc_ending::Ending;
 use dc_files::Host;
-use dc_links::SystemBus;
-use dc_trace::{Observed, Observer, TraceFile, TraceLines, Tracer};
+use dc_trace::{Observer, TraceFile, TraceLines, Tracer};
 use std::fs::File;
 use std::io;
 use std::rt::{Clock, Files};
@@ -34,9 +34,6 @@ impl<R: Clock + Eprint> Observer for LineTracer<'_, '_, R> {
     }
 }
 
-/// The bus of a line, and its trace.
-pub type TracedBus<'p, 't, 'h, R> = Observed<SystemBus<'p, R>, LineTracer<'t, 'h, R>>;
-
 /// Opens the trace, if one is asked for.
 ///
 /// # Errors
@@ -65,6 +62,28 @@ pub fn tracer_of<'t, 'h, R: Clock + Eprint>(
             line,
         },
     }
+}
+
+/// What writes the traces of so many bus lines.
+///
+/// # Errors
+/// The ending of the command: memory ran out.
+pub fn tracers_of<'t, 'h, 'e, R: Clock + Eprint + AllocGlobal>(
+    host: &Host<'_, R>,
+    file: Option<&'t TraceFile<'h, R>>,
+    lines: usize,
+) -> Result<Vec<LineTracer<'t, 'h, R>>, Ending<'e>> {
+    let mut tracers = Vec::new(host.rt.alloc());
+    for _ in 0..lines {
+        let line = u8::try_from(tracers.len()).unwrap_or(u8::MAX);
+        if tracers
+            .push(tracer_of(file, line.saturating_add(1)))
+            .is_err()
+        {
+            return Err(Ending::Memory);
+        }
+    }
+    Ok(tracers)
 }
 
 /// Whether standard error shows a progress: it is a terminal, and no trace goes there.
