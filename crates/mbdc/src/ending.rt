@@ -13,7 +13,7 @@ use clap::Error;
 use clap::error::ErrorKind;
 use dc_ending::{Ending, STREAM};
 use dc_files::{DiskReason, Reason, Why, holder_of};
-use dc_io::{Buffered, IoFault, WriteSink};
+use dc_io::{Buffered, IoFault, Sink, WriteSink, put_number};
 use dc_words::{WordsFault, nearest};
 use std::alloc::{AllocError, Global};
 use std::io;
@@ -79,9 +79,10 @@ pub fn told_why(rt: &HostRuntime, ending: &Ending, why: &Why, is_watched: bool) 
     | Ending::Open(_)
     | Ending::Disk(_) = ending
         && let Some(reason) = why.last()
-        && let Ok(line) = said_of(rt, ending, &reason, is_watched)
+        && let Ok(mut out) = Buffered::new(rt.alloc(), LINE, WriteSink::new(rt.stderr()))
+        && put_reason(rt, ending, &reason, is_watched, &mut out).is_ok()
     {
-        let _ = rt.stderr().write_all(line.as_bytes());
+        let _ = out.flush();
     }
 }
 
@@ -96,53 +97,62 @@ pub fn told_disk(rt: &HostRuntime, ending: &Ending, why: &Why) {
     };
     if is_told
         && let Some(reason) = why.disk()
-        && let Ok(line) = disk_line(rt.alloc(), &reason)
+        && let Ok(mut out) = Buffered::new(rt.alloc(), LINE, WriteSink::new(rt.stderr()))
+        && put_disk(rt.alloc(), &reason, &mut out).is_ok()
     {
-        let _ = rt.stderr().write_all(line.as_bytes());
+        let _ = out.flush();
     }
 }
 
-fn disk_line(alloc: Global, reason: &DiskReason) -> Result<String, AllocError> {
-    let said = format!(in alloc; "{}", reason.error)?;
-    let words = words_of(said.as_str());
-    match reason.sector {
-        Some(sector) => format!(in alloc; "mbdc: disk: sector {sector}: {words}\n"),
-        None => format!(in alloc; "mbdc: disk: {words}\n"),
+fn put_disk<W: Sink>(alloc: Global, reason: &DiskReason, out: &mut W) -> Result<(), IoFault> {
+    out.put(b"mbdc: disk: ")?;
+    if let Some(sector) = reason.sector {
+        out.put(b"sector ")?;
+        put_number(out, sector)?;
+        out.put(b": ")?;
     }
+    put_error(alloc, &reason.error, out)?;
+    out.put(b"\n")
 }
 
-// The line of the reason. Of a file that another process has locked it names that process, where the system shows it.
-fn said_of(
+// Writes the line of the reason. Of a file that another process has locked it names that process, where the system shows
+// it.
+fn put_reason<W: Sink>(
     rt: &HostRuntime,
     ending: &Ending,
     reason: &Reason,
     is_watched: bool,
-) -> Result<String, AllocError> {
+    out: &mut W,
+) -> Result<(), IoFault> {
+    out.put(b"mbdc: reason: ")?;
+    if let Some(line) = reason.line {
+        out.put(b"line ")?;
+        put_number(out, u64::from(line))?;
+        out.put(b": ")?;
+    }
+    put_error(rt.alloc(), &reason.error, out)?;
+    let mut step = step_of(ending, reason, is_watched);
     if let Ending::File(name) = ending
         && reason.error.kind() == io::ErrorKind::WouldBlock
         && let Some(process) = holder_of(rt, name)
     {
-        let step = if is_watched { ENDS } else { "" };
-        let step = format!(in rt.alloc(); " (pid {process}){step}")?;
-        return reason_line(rt.alloc(), reason, step.as_str());
+        out.put(b" (pid ")?;
+        put_number(out, u64::from(process))?;
+        out.put(b")")?;
+        step = if is_watched { ENDS } else { "" };
     }
-    reason_line(rt.alloc(), reason, step_of(ending, reason, is_watched))
+    out.put(step.as_bytes())?;
+    out.put(b"\n")
 }
 
-fn reason_line(alloc: Global, reason: &Reason, step: &str) -> Result<String, AllocError> {
-    let said = format!(in alloc; "{}", reason.error)?;
-    line_with(alloc, reason.line, words_of(said.as_str()), step)
-}
-
-fn line_with(
-    alloc: Global,
-    line: Option<u8>,
-    words: &str,
-    step: &str,
-) -> Result<String, AllocError> {
-    match line {
-        Some(line) => format!(in alloc; "mbdc: reason: line {line}: {words}{step}\n"),
-        None => format!(in alloc; "mbdc: reason: {words}{step}\n"),
+// Writes the system's message, without the error number.
+fn put_error<W: Sink>(alloc: Global, error: &io::Error, out: &mut W) -> Result<(), IoFault> {
+    let Ok(said) = format!(in alloc; "{error}") else {
+        return Err(IoFault);
+    };
+    match said.rsplit_once(NUMBERED) {
+        Some((words, _)) => out.put(words.as_bytes()),
+        None => out.put(said.as_bytes()),
     }
 }
 
@@ -167,14 +177,6 @@ fn step_of(ending: &Ending, reason: &Reason, is_watched: bool) -> &'static str {
             ". Is the name right? mbdc format makes an image",
         (Ending::File(_), io::ErrorKind::StorageFull) => ". Make room: df -h",
         _ => "",
-    }
-}
-
-// The system's message, without the error number.
-fn words_of(said: &str) -> &str {
-    match said.rsplit_once(NUMBERED) {
-        Some((words, _)) => words,
-        None => said,
     }
 }
 

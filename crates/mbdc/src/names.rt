@@ -5,7 +5,7 @@ use dc_disk::Disk;
 use dc_ending::{Ending, ending_of};
 use dc_files::Host;
 use dc_inspect::register_of;
-use dc_io::NoMemory;
+use dc_io::{Bytes, IoFault, NoMemory, Sink, put_number};
 use dc_log::Greatest;
 use dc_named::{NameFault, Named, having, resolve_all};
 use dc_register::House;
@@ -47,48 +47,45 @@ pub fn meters_in<'a>(
     match resolve_all(alloc, house, names) {
         Ok(meters) => Ok(meters),
         Err(fault) => match mistake_of(alloc, house, fault) {
-            Ok(mistake) => Err(Ending::Words(lasting(mistake))),
-            Err(_) => Err(Ending::Memory),
+            // The text stays until the program ends, which it does next.
+            Ok(mistake) => Err(Ending::Words(str::from_utf8(mistake.leak()).unwrap_or("--only"))),
+            Err(NoMemory) => Err(Ending::Memory),
         },
     }
 }
 
 // The mistake of a name that means no meter.
 fn mistake_of(alloc: Global, house: &House<Global>, fault: NameFault) -> Result<Vec<u8>, NoMemory> {
-    let text = match fault {
-        NameFault::Unknown(digits) => {
-            let digits = text_of(&digits);
-            format!(in alloc; "--only {digits}: no registered meter has this number")?
-        }
+    let mut text = Bytes::new(alloc);
+    let put = match fault {
+        NameFault::Unknown(digits) => put_mistake(&mut text, &digits, &[]),
         NameFault::Several(digits) => {
             let meters = having(alloc, house, &digits)?;
-            let digits = text_of(&digits);
-            let list = list_of(alloc, meters.as_slice())?;
-            let count = meters.len();
-            format!(in alloc; "--only {digits}: {count} meters have this number: {list}")?
+            put_mistake(&mut text, &digits, meters.as_slice())
         }
         NameFault::NoMemory => return Err(NoMemory),
     };
-    Ok(Vec::from_slice(alloc, text.as_bytes())?)
-}
-
-// The identities of meters, with commas between.
-fn list_of(alloc: Global, meters: &[Identity]) -> Result<String, NoMemory> {
-    let mut list = String::new(alloc);
-    for meter in meters {
-        if !list.is_empty() {
-            list.push_str(", ")?;
-        }
-        list.push_str(text_of(&meter.text()))?;
+    match put {
+        Ok(()) => Ok(Vec::from_slice(alloc, text.as_slice())?),
+        Err(IoFault) => Err(NoMemory),
     }
-    Ok(list)
 }
 
-fn text_of(bytes: &[u8]) -> &str {
-    str::from_utf8(bytes).unwrap_or("?")
-}
-
-// The text stays until the program ends, which it does next.
-fn lasting<'a>(text: Vec<u8>) -> &'a str {
-    text_of(text.leak())
+// Writes the mistake of a number that these meters have.
+fn put_mistake<W: Sink>(out: &mut W, digits: &[u8], meters: &[Identity]) -> Result<(), IoFault> {
+    out.put(b"--only ")?;
+    out.put(digits)?;
+    if meters.is_empty() {
+        return out.put(b": no registered meter has this number");
+    }
+    out.put(b": ")?;
+    put_number(out, meters.len() as u64)?;
+    out.put(b" meters have this number")?;
+    let mut before: &[u8] = b": ";
+    for meter in meters {
+        out.put(before)?;
+        out.put(&meter.text())?;
+        before = b", ";
+    }
+    Ok(())
 }
