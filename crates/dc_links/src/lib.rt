@@ -19,6 +19,6 @@ pub use bus::LinkBus;
 pub use connection::{Connection, Ends};
 pub use linking::Linker;
 pub use peer::{BlockBus, ByteBus, Peer, RawBus, SystemBus};
-pub use socket::{Tcp, Terminal};
+pub use socket::{Socket, Tcp, Terminal};
 pub use terminal::Held;
 pub use waiting::{Waiter, Watch, Watched};

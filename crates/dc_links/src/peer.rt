@@ -1,8 +1,8 @@
 //! A connected link.
 
 use crate::bus::LinkBus;
-use crate::connection::{Connection, connect};
-use crate::socket::{Tcp, Terminal};
+use crate::connection::Connection;
+use crate::socket::{Socket, Tcp, Terminal};
 use crate::terminal::Held;
 use dc_blocks::{BlockLink, Gateway};
 use dc_io::{ReadSource, WriteSink};
@@ -12,16 +12,18 @@ use std::fs::File;
 use std::io;
 use std::net::{Net, TcpStream};
 use std::rt::{Clock, Files};
-use std::time::Duration;
 
-// Time limit of a write in seconds: a peer that doesn't read is then lost.
-const WRITING: u64 = 15;
+// The patience of a TCP stream in milliseconds, whose converter may hold an answer back, and that of a terminal, whose
+// driver doesn't.
+const PATIENCE_TCP: u16 = 6_000;
+
+const PATIENCE: u16 = 2_000;
 
 /// The other end of a link.
 #[derive(Drop)]
 pub enum Peer<C: Clock + Copy> {
     /// A TCP stream that passes the bytes of the bus on.
-    Tcp(TcpStream),
+    Tcp(Socket<C>),
     /// A terminal that passes the bytes of the bus on, set up by `stty`, which this program alone uses.
     Serial(Held),
     /// A gateway that speaks the block protocol.
@@ -32,7 +34,7 @@ pub enum Peer<C: Clock + Copy> {
 pub type RawBus<S, C> = Line<PollWire<S, S, C>>;
 
 /// The bus of a TCP stream or of a terminal.
-pub type ByteBus<'a, C> = LinkBus<RawBus<Tcp<'a>, C>, RawBus<Terminal<'a>, C>>;
+pub type ByteBus<'a, C> = LinkBus<RawBus<Tcp<'a, C>, C>, RawBus<Terminal<'a>, C>>;
 
 /// The bus of a gateway of the block protocol.
 pub type BlockBus<'a, C> = BlockLink<ReadSource<&'a Connection<C>>, WriteSink<&'a Connection<C>>>;
@@ -51,12 +53,7 @@ impl<C: Clock + Copy> Peer<C> {
         C: Files<File = File> + Net<Stream = TcpStream> + AllocGlobal,
     {
         match *name {
-            LinkName::Tcp(place) => {
-                let stream = connect(rt, place)?;
-                stream.set_nodelay(true)?;
-                stream.set_write_timeout(Some(Duration::from_secs(WRITING)))?;
-                Ok(Peer::Tcp(stream))
-            }
+            LinkName::Tcp(place) => Ok(Peer::Tcp(Socket::new(rt, place)?)),
             LinkName::Serial(path) => Ok(Peer::Serial(Held::open(rt, path)?)),
             LinkName::Blocks(place) => Ok(Peer::Blocks(Connection::new(rt, place)?)),
         }
@@ -66,14 +63,17 @@ impl<C: Clock + Copy> Peer<C> {
     ///
     /// # Errors
     /// The clock fails.
-    pub fn bus(&self, clock: C, patience: u16) -> io::Result<SystemBus<'_, C>> {
+    pub fn bus(&self, clock: C, patience: u16) -> io::Result<SystemBus<'_, C>>
+    where
+        C: Net<Stream = TcpStream>,
+    {
         match self {
-            Peer::Tcp(stream) => {
-                let wire = PollWire::new(Tcp { stream }, Tcp { stream }, clock, patience)?;
+            Peer::Tcp(socket) => {
+                let wire = PollWire::new(Tcp { socket }, Tcp { socket }, clock, patience)?;
                 Ok(LinkBus::First(LinkBus::First(Line::new(wire))))
             }
             Peer::Serial(held) => {
-                let terminal = Terminal { file: &held.file };
+                let terminal = Terminal { held };
                 let wire = PollWire::new(terminal, terminal, clock, patience)?;
                 Ok(LinkBus::First(LinkBus::Second(Line::new(wire))))
             }
@@ -81,6 +81,23 @@ impl<C: Clock + Copy> Peer<C> {
                 let (reader, writer) = connection.ends();
                 Ok(LinkBus::Second(BlockLink::new(Gateway::new(reader, writer))))
             }
+        }
+    }
+
+    /// The patience of the link in milliseconds, where readings are stored and none is given.
+    pub fn patience(&self) -> u16 {
+        match self {
+            Peer::Tcp(_) => PATIENCE_TCP,
+            Peer::Serial(_) | Peer::Blocks(_) => PATIENCE,
+        }
+    }
+
+    /// Whether its line was given up, since nobody answers.
+    pub fn is_deserted(&self) -> bool {
+        match self {
+            Peer::Tcp(socket) => socket.deserted.get(),
+            Peer::Serial(held) => held.deserted.get(),
+            Peer::Blocks(_) => false,
         }
     }
 

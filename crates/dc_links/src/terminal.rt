@@ -1,6 +1,7 @@
 //! Serial terminals, each of which one program uses at a time: a bus has one master.
 
 use crate::lock_file::{in_use, make};
+use std::cell::Cell;
 use std::fs::{File, OpenOptions, TryLockError};
 use std::io::{ErrorKind, IsTerminal};
 use std::os::fd::AsRawFd;
@@ -18,6 +19,8 @@ pub struct Held {
     pub file: File,
     // The name of the lock file, if one was made.
     lock_file: Option<String>,
+    /// Whether its line was given up, since nobody answers.
+    pub deserted: Cell<bool>,
 }
 
 impl Held {
@@ -35,7 +38,11 @@ impl Held {
         }
         lock(&file)?;
         let lock_file = lock_file_of(rt, &file)?;
-        Ok(Held { file, lock_file })
+        Ok(Held {
+            file,
+            lock_file,
+            deserted: Cell::new(false),
+        })
     }
 
     /// Removes the lock file, at the end of the program. One that is left behind, by a kill, names a

@@ -6,6 +6,7 @@ use dc_bus::{HalfBus, Pause};
 use dc_trace::{Observed, Observer};
 use libc::net::{POLLIN, poll};
 use libc::types::pollfd;
+use std::net::{Net, TcpStream};
 use std::rt::Clock;
 use std::time::Duration;
 
@@ -42,14 +43,14 @@ impl Watch {
     }
 
     /// Adds a bus. A lost bus, or one of the block protocol, needs no wait.
-    pub fn add<C: Clock + Copy>(&mut self, bus: &SystemBus<'_, C>) {
+    pub fn add<C: Net<Stream = TcpStream> + Clock + Copy>(&mut self, bus: &SystemBus<'_, C>) {
         match bus {
             LinkBus::First(bytes) if !bus.is_lost() => self.add_bytes(bytes),
             _ => self.is_ready = true,
         }
     }
 
-    fn add_bytes<C: Clock + Copy>(&mut self, bus: &ByteBus<'_, C>) {
+    fn add_bytes<C: Net<Stream = TcpStream> + Clock + Copy>(&mut self, bus: &ByteBus<'_, C>) {
         match bus {
             LinkBus::First(tcp) => self.put(tcp.wire.fd(), tcp.wire.left()),
             LinkBus::Second(serial) => self.put(serial.wire.fd(), serial.wire.left()),
@@ -83,7 +84,7 @@ pub trait Watched {
     fn add_to(&self, watch: &mut Watch);
 }
 
-impl<C: Clock + Copy> Watched for SystemBus<'_, C> {
+impl<C: Net<Stream = TcpStream> + Clock + Copy> Watched for SystemBus<'_, C> {
     fn add_to(&self, watch: &mut Watch) {
         watch.add(self);
     }
@@ -99,7 +100,7 @@ impl<B: HalfBus + Watched + Drop, O: Observer + Drop> Watched for Observed<B, O>
 #[derive(Clone, Copy, Drop)]
 pub struct Waiter;
 
-impl<C: Clock + Copy> Pause<SystemBus<'_, C>> for Waiter {
+impl<C: Net<Stream = TcpStream> + Clock + Copy> Pause<SystemBus<'_, C>> for Waiter {
     fn pause(&mut self, bus: &SystemBus<'_, C>) {
         let mut watch = Watch::new();
         watch.add(bus);
@@ -107,7 +108,9 @@ impl<C: Clock + Copy> Pause<SystemBus<'_, C>> for Waiter {
     }
 }
 
-impl<C: Clock + Copy, O: Observer + Drop> Pause<Observed<SystemBus<'_, C>, O>> for Waiter {
+impl<C: Net<Stream = TcpStream> + Clock + Copy, O: Observer + Drop> Pause<
+    Observed<SystemBus<'_, C>, O>,
+> for Waiter {
     fn pause(&mut self, bus: &Observed<SystemBus<'_, C>, O>) {
         let mut watch = Watch::new();
         watch.add(&bus.bus);

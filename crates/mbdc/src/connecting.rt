@@ -41,11 +41,21 @@ where
     links_of(host.why, peers)
 }
 
-/// Gives the terminals of links back to other programs, at the end of the command.
+/// Says on standard error which lines were given up, since nobody answers, and gives the terminals of links back to
+/// other programs, at the end of the command.
 pub fn released<R>(host: &Host<'_, R>, peers: &[Option<Peer<R>>])
 where
     R: Files<File = File> + Net<Stream = TcpStream> + Clock + Copy + Eprint + AllocGlobal,
 {
+    let mut line: u8 = 0;
+    for peer in peers {
+        line = line.saturating_add(1);
+        if let Some(peer) = peer {
+            if peer.is_deserted() {
+                let _ = eprint!(host.rt; "mbdc: gateway: line {line}: nobody answers\n");
+            }
+        }
+    }
     let mut linker = Linker { rt: host.rt };
     release_all::<LinkName<'_>, Peer<R>, io::Error, Linker<'_, R>>(peers, &mut linker);
 }

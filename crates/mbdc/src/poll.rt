@@ -81,7 +81,7 @@ fn poll_peers<'a, D, O, R>(
 where
     D: FileExt + OpenFile + Drop,
     O: Observer + Drop,
-    R: Files<File = File> + Clock + Copy + Print + Eprint + AllocGlobal,
+    R: Files<File = File> + Net<Stream = TcpStream> + Clock + Copy + Print + Eprint + AllocGlobal,
 {
     let buses = match buses_of(host, peers, observers, task.patience) {
         Ok(buses) => buses,
@@ -108,12 +108,16 @@ where
 }
 
 // The bus of each line, with its observer; one without a link is absent.
-fn buses_of<'p, 'e, R: Clock + Copy + AllocGlobal, O: Observer + Drop>(
+fn buses_of<'p, 'e, R, O>(
     host: &Host<'_, R>,
     peers: &'p [Option<Peer<R>>],
     observers: Vec<O>,
     patience: u16,
-) -> Result<Vec<Observed<SystemBus<'p, R>, O>, Global>, Ending<'e>> {
+) -> Result<Vec<Observed<SystemBus<'p, R>, O>, Global>, Ending<'e>>
+where
+    R: Net<Stream = TcpStream> + Clock + Copy + Eprint + AllocGlobal,
+    O: Observer + Drop,
+{
     let mut buses = Vec::new(host.rt.alloc());
     for (peer, observer) in peers.iter().zip(observers) {
         let bus = match peer {

@@ -98,7 +98,7 @@ fn run_over_peers<'a, F, D, R>(
 where
     F: Read + Drop,
     D: FileExt + OpenFile + Drop,
-    R: Clock + Copy + Print + AllocGlobal,
+    R: Net<Stream = TcpStream> + Clock + Copy + Print + AllocGlobal,
 {
     let mut slots = match slots_of(host, peers, task.patience) {
         Ok(slots) => slots,
@@ -111,11 +111,14 @@ where
 }
 
 // The bus of each line that has a link.
-fn slots_of<'p, 'e, R: Clock + Copy + AllocGlobal>(
+fn slots_of<'p, 'e, R>(
     host: &Host<'_, R>,
     peers: &'p [Option<Peer<R>>],
     patience: u16,
-) -> Result<Vec<Option<LineSlot<'p, R>>>, Ending<'e>> {
+) -> Result<Vec<Option<LineSlot<'p, R>>>, Ending<'e>>
+where
+    R: Net<Stream = TcpStream> + Clock + Copy + AllocGlobal,
+{
     let mut slots = Vec::new(host.rt.alloc());
     for peer in peers {
         let slot = match peer {
