@@ -71,7 +71,7 @@ fn scan_over<'a, R>(
     trace: Option<&TraceFile<'_, R>>,
 ) -> Ending<'a>
 where
-    R: Clock + Copy + Print + Eprint + AllocGlobal,
+    R: Net<Stream = TcpStream> + Clock + Copy + Print + Eprint + AllocGlobal,
 {
     let addresses = match what {
         Scan::Wildcards(_) => None,
@@ -95,7 +95,7 @@ fn scan_watched<'a, R>(
     progress: &Progress<'_, R>,
 ) -> Ending<'a>
 where
-    R: Clock + Copy + Print + Eprint + AllocGlobal,
+    R: Net<Stream = TcpStream> + Clock + Copy + Print + Eprint + AllocGlobal,
 {
     let observer = Pair {
         first: tracer_of(trace, LINE),
@@ -116,7 +116,7 @@ fn scan_observed<'a, R, O>(
     progress: &Progress<'_, R>,
 ) -> Ending<'a>
 where
-    R: Clock + Copy + Print + Eprint + AllocGlobal,
+    R: Net<Stream = TcpStream> + Clock + Copy + Print + Eprint + AllocGlobal,
     O: Observer + Drop,
 {
     scan_on(host, bus, what, progress)
@@ -130,7 +130,7 @@ fn scan_on<'a, R, B>(
     progress: &Progress<'_, R>,
 ) -> Ending<'a>
 where
-    R: Clock + Copy + Print + Eprint + AllocGlobal,
+    R: Net<Stream = TcpStream> + Clock + Copy + Print + Eprint + AllocGlobal,
     B: Bus,
 {
     let printer = Cleared {
@@ -223,7 +223,7 @@ fn read_over<'a, R>(
     trace: Option<&TraceFile<'_, R>>,
 ) -> Ending<'a>
 where
-    R: Clock + Copy + Print + Eprint + AllocGlobal,
+    R: Net<Stream = TcpStream> + Clock + Copy + Print + Eprint + AllocGlobal,
 {
     let mut bus = match bus_of(host.rt, peer, patience, tracer_of(trace, LINE)) {
         Ok(bus) => bus,
@@ -239,7 +239,7 @@ fn read_observed<'a, R, O>(
     meter: &MeterName,
 ) -> Ending<'a>
 where
-    R: Clock + Copy + Print + Eprint + AllocGlobal,
+    R: Net<Stream = TcpStream> + Clock + Copy + Print + Eprint + AllocGlobal,
     O: Observer + Drop,
 {
     read_on(host, bus, meter)
@@ -248,7 +248,7 @@ where
 // Reads on any bus, and says why where the readout failed.
 fn read_on<'a, R, B>(host: &Host<'_, R>, bus: &mut B, meter: &MeterName) -> Ending<'a>
 where
-    R: Clock + Copy + Print + Eprint + AllocGlobal,
+    R: Net<Stream = TcpStream> + Clock + Copy + Print + Eprint + AllocGlobal,
     B: Bus,
 {
     let printer = Noted::new(io::writer(host.rt), host.why);
@@ -316,7 +316,7 @@ fn address_over<'a, R>(
     patience: u16,
 ) -> Ending<'a>
 where
-    R: Clock + Copy + Print + Eprint + AllocGlobal,
+    R: Net<Stream = TcpStream> + Clock + Copy + Print + Eprint + AllocGlobal,
 {
     let (from, to) = addresses;
     let mut bus = match bus_of(host.rt, peer, patience, Unseen) {
@@ -340,7 +340,7 @@ where
 }
 
 // Returns the bus of a link with an observer.
-fn bus_of<'b, C: Clock + Copy, O: Observer + Drop>(
+fn bus_of<'b, C: Net<Stream = TcpStream> + Clock + Copy, O: Observer + Drop>(
     clock: &C,
     peer: &'b Peer<C>,
     patience: u16,
@@ -390,7 +390,7 @@ fn unfound<W: Sink>(
 }
 
 // Ends the command on a bus with an observer.
-fn end_of<'a, C: Clock + Copy, O: Observer + Drop, W: Write + Drop>(
+fn end_of<'a, C: Net<Stream = TcpStream> + Clock + Copy, O: Observer + Drop, W: Write + Drop>(
     why: &Why,
     bus: &OneBus<'_, C, O>,
     writer: WriteSink<W>,
