@@ -297,7 +297,7 @@ module _ (reply : Option (List ℕ)) (is : reply ≡ Some acked) where
   sends_1 : LineSends (g reply) false line_0 (spelling reset) out_1
   sends_1 = record {
     loss = record { untouched = λ e. absurd cc; failed = λ a b. absurd cc };
-    sent = λ runs. (Out, record { between = on []; state = Quiet; late = 0; drains = drains_1 reply; goes = goes_out (on (acked ∷ acked ∷ [])) refl (tt, puts_two acked is refl) refl });
+    sent = λ runs. (false, line_0.wire, (tt, refl), Out, record { between = on []; state = Quiet; late = 0; drains = drains_1 reply; goes = goes_out (on (acked ∷ acked ∷ [])) refl (tt, puts_two acked is refl) refl });
   }
 
   one_1 : GivesOne (g reply) out_1 acked line_1
@@ -322,7 +322,7 @@ module _ (reply : Option (List ℕ)) (is : reply ≡ Some (sent 1)) where
   sends_2 : LineSends (g reply) false line_1 (spelling request) out_2
   sends_2 = record {
     loss = record { untouched = λ e. absurd cc; failed = λ a b. absurd cc };
-    sent = λ runs. (Out, record { between = on (acked ∷ []); state = Answered; late = 0; drains = drains_2 reply; goes = goes_out (on (acked ∷ sent 1 ∷ [])) refl (tt, puts_one (sent 1) is refl) refl });
+    sent = λ runs. (false, line_1.wire, (tt, refl), Out, record { between = on (acked ∷ []); state = Answered; late = 0; drains = drains_2 reply; goes = goes_out (on (acked ∷ sent 1 ∷ [])) refl (tt, puts_one (sent 1) is refl) refl });
   }
 
   copy_2 : Answers (g reply).hears out_2.wire out_2.hearing acked past_copy.wire past_copy.hearing
@@ -350,7 +350,7 @@ module _ (reply : Option (List ℕ)) (is : reply ≡ Some (sent 2)) where
   sends_3 : LineSends (g reply) false line_2 (spelling request) out_3
   sends_3 = record {
     loss = record { untouched = λ e. absurd cc; failed = λ a b. absurd cc };
-    sent = λ runs. (Out, record { between = on []; state = Quiet; late = 0; drains = drains_3 reply; goes = goes_out (on (sent 2 ∷ [])) refl (tt, puts_one (sent 2) is refl) refl });
+    sent = λ runs. (false, line_2.wire, (tt, refl), Out, record { between = on []; state = Quiet; late = 0; drains = drains_3 reply; goes = goes_out (on (sent 2 ∷ [])) refl (tt, puts_one (sent 2) is refl) refl });
   }
 
   one_3 : GivesOne (g reply) out_3 (sent 2) line_3

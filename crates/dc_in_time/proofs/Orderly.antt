@@ -6,7 +6,7 @@ use Rattle.std.proofs.lemmas.Slice.Eq.{bytes_eq-Decides}
 use Rattle.dc_frame.specs.Frame.{FrameSeen}
 use Rattle.dc_frame.specs.Reading.{frame_of}
 use Rattle.dc_raw.specs.Heard.{Drains, Ends, IsGathered, state_with, has_gap, is_loud as loud_end, is_quiet, is_silent, is_whole}
-use Rattle.dc_raw.specs.Line.{Gives, GivesNothing, GivesOne, GivesOver, Goes, LineSends, LineWaits, Looks, Skips, a_copy, gives_all, gives_nothing, gives_now, gives_one, gives_then, gives_up, goes_out, hold, no_copy, out_of, too_loud, waits_all, waits_held, waits_nothing, waits_on, waits_one}
+use Rattle.dc_raw.specs.Line.{behind as reopened, Gives, GivesNothing, GivesOne, GivesOver, Goes, LineSends, LineWaits, Looks, Skips, a_copy, gives_all, gives_nothing, gives_now, gives_one, gives_then, gives_up, goes_out, hold, no_copy, out_of, too_loud, waits_all, waits_held, waits_nothing, waits_on, waits_one}
 use Rattle.dc_raw.specs.Turn.{is_answer, is_copy, is_reset, kind_of, last_behind, may_go, quiet_by, state_by, state_taken}
 use Rattle.dc_raw.specs.Wire.{AreHeard, Sound, gap, nothing, piece, pieces, silence}
 use Rattle.dc_raw.specs.declared.line.Gone.{Gone}
@@ -359,15 +359,25 @@ module _ {W : Type 0} (wire : WireGhosts W) (reply : Option (List ℕ)) where
       silent_ended answer new (gives.silence still) (λ runs. absurd (false≢true (sym runs ∙ still)))
   lost_over old new answer lost (gives_then {between = between} waits more) = absurd (false≢true (sym (waits_run old between waits) ∙ lost))
 
+  reopened_orderly : (again : Bool) (link : On) (old : Line On) → g.reopens old.wire again link → Orderly old → Orderly (reopened again link old)
+  reopened_orderly true link old opened is = record { standing = busy_stands old.last link.way; framed = is.framed }
+  reopened_orderly false link old opened is = record {
+    standing = subst (λ (way : Way). Standing old.state old.last way) (sym opened.1) is.standing;
+    framed = is.framed;
+  }
+
   sent : (old out : Line On) (request : List ℕ) → (old.lost ≡ false → Orderly old) → LineSends g false old request out → out.lost ≡ false → Within out
   sent old out request orderly sends runs = go old.lost refl
     where
-      held : Orderly old → Orderly (hold request false old)
-      held is = record { standing = is.standing; framed = is.framed }
+      held : (line : Line On) → Orderly line → Orderly (hold request false line)
+      held line is = record { standing = is.standing; framed = is.framed }
 
       go : (lost : Bool) → old.lost ≡ lost → Within out
       go true lost = absurd (false≢true (sym runs ∙ ap (λ (l : Line On). l.lost) (sends.loss.untouched lost) ∙ lost))
-      go false was = let s = sends.sent runs in looked request false refl (hold request false old) out refl (held (orderly was)) s.0 s.1
+      go false was =
+          let s = sends.sent runs in
+          let line : Line On = reopened s.0 s.1 old in
+          looked request false refl (hold request false line) out refl (held line (reopened_orderly s.0 s.1 old s.2 (orderly was))) s.3 s.4
 
   ended : (old out new : Line On) (request answer : List ℕ) → (old.lost ≡ false → Orderly old) → LineSends g false old request out → (given : GivesOver g out answer new) → NoStray given → Ended answer new
   ended old out new request answer orderly sends given so = go out.lost refl

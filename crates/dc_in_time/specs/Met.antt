@@ -21,6 +21,7 @@ any_wire = record {
   few = λ wire. min-le_right 0 most_looks;
   sends = λ old request asking new. Unit {0};
   hears = λ old sound new. Unit {0};
+  reopens = λ old again new. Unit {0};
 }
 
 -- 12345678.PAD.01.07 and its body with this access number: a header without records

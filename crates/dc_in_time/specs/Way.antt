@@ -7,7 +7,7 @@
 --   patience         Passes: where the wire gives silence nothing is under way; it gives it after the
 --                    patience, and when the time of the reset of all selected meters is over
 --   no stray frame   Comes: what is taken as an answer is no frame, or the oldest that is under way
-use Rattle.std.specs.Prelude.{◌≡◌, ℕ, List, [], ◌∷◌, ◌++◌, drop, Option, Some, None}
+use Rattle.std.specs.Prelude.{◌≡◌, ℕ, Bool, true, false, List, [], ◌∷◌, ◌++◌, drop, Option, Some, None}
 use Rattle.dc_frame.specs.Reading.{frame_of}
 use Rattle.dc_raw.specs.Wire.{Sound, silence}
 use Rattle.dc_raw.specs.declared.wire.Wire.{Ghosts as WireGhosts}
@@ -36,6 +36,11 @@ pub data Comes (answer : List ℕ) (old new : List (List ℕ)) : Type 0 where
   no_frame : frame_of answer ≡ None → Comes answer old new
   oldest : (lost : ℕ) → drop lost old ≡ answer ∷ new → Comes answer old new
 
+-- A LINK THAT IS OPEN AGAIN may give anything; else what is under way stays.
+abbrev pub Stays : (again : Bool) → (old new : List (List ℕ)) → Type 0
+Stays false old new = new ≡ old
+Stays true old new = Unit {0}
+
 -- the wire, once the answer to each request is this
 abbrev pub on_way : {W : Type 0} → WireGhosts W → Option (List ℕ) → WireGhosts (OnWay W)
 on_way wire reply = record {
@@ -45,4 +50,5 @@ on_way wire reply = record {
   sends = λ old request asking new. wire.sends old.wire request asking new.wire
       × Puts reply old.way new.way;
   hears = λ old sound new. wire.hears old.wire sound new.wire × Passes sound old.way new.way;
+  reopens = λ old again new. wire.reopens old.wire again new.wire × Stays again old.way new.way;
 }
