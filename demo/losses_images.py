@@ -15,7 +15,8 @@ from world.cases import wants
 from world.gateways import TransparentGateway
 from world.meters import Meter
 
-SECTOR, SECTORS = 512, 131
+SECTOR, SECTORS, LARGEST = 512, 131, 131_075
+ROOM = 48 << 20  # bytes; the file of the largest image has 64 MiB
 METERS, KILLS = 900, 60
 GIVEN_UP, MARGIN = 5, 10  # seconds
 
@@ -213,6 +214,18 @@ def a_trace_is_a_regular_file(program: Program, folder: pathlib.Path) -> None:
     wants((folder / "house.image").read_bytes() == before, "the image was written")
 
 
+def a_look_takes_the_memory_of_the_state(program: Program, folder: pathlib.Path) -> None:
+    """And not that of the file, which is larger than what the look may take."""
+    wants(program.run("format", "large.image", str(LARGEST)) == (0, ""), "no image of that size")
+
+    def limit() -> None:
+        resource.setrlimit(resource.RLIMIT_AS, (ROOM, ROOM))
+
+    for words in (["inspect"], ["values"], ["status"], ["report"]):
+        ended, text = program.run(*words, "large.image", *(["register"] if words == ["report"] else []), preexec_fn=limit)
+        wants(ended == 0, f"{words[0]}: status {ended}, {text!r}")
+
+
 def a_copy_beside_a_poll_is_whole(program: Program, folder: pathlib.Path) -> None:
     link = bus_of(program, folder, 60)
     copies: list[int] = []
@@ -228,4 +241,4 @@ def a_copy_beside_a_poll_is_whole(program: Program, folder: pathlib.Path) -> Non
 CASES: Sequence[Any] = [
     a_rotted_root_loses_nothing, an_image_that_is_behind_is_shown_and_not_written, what_reads_is_rescued,
     a_killed_fit_is_all_or_nothing, a_poll_into_a_replaced_image_stops, a_poll_outlives_its_output,
-    a_trace_is_a_regular_file, a_copy_beside_a_poll_is_whole]
+    a_trace_is_a_regular_file, a_look_takes_the_memory_of_the_state, a_copy_beside_a_poll_is_whole]

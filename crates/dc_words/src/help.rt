@@ -230,7 +230,7 @@ changed, and the new one has as many sectors. Printed, a fact a line:
   WITHOUT sector      the state before the group at this damaged sector
   OLDER sector slot   the root in this slot is left out too: a whole state,
                       written when a half was full, may be lost
-  LOST n              of the groups after it this many left a trace, at least
+  LOST n              groups written after it, up to the last with a trace
 Then what inspect prints of the new image.
 Status: 0 the new image has the state, 3 nothing can be rescued or written, 4 a
   file or memory.";

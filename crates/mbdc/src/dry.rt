@@ -1,11 +1,12 @@
 //! `poll --dry-run`: what a poll would do, printed from the image alone.
 
+use crate::inspect::scan_file;
 use crate::names::meters_in;
 use crate::tasks::{ROOM, flushed};
 use dc_dry::{Dry, LINES, put_dry};
 use dc_ending::{Ending, ProgramFault, STREAM, ending_of};
-use dc_files::{Host, Noted, look_disk};
-use dc_inspect::{register_of, scan};
+use dc_files::{Host, LookedAt, Noted, ROUNDS};
+use dc_inspect::register_of;
 use dc_io::{Buffered, WriteSink};
 use dc_log::OpenFault;
 use dc_register::House;
@@ -20,23 +21,35 @@ pub fn dry_run<'a, R>(host: &Host<'_, R>, task: &PollTask<'a>) -> Ending<'a>
 where
     R: Files<File = File> + Print + AllocGlobal,
 {
-    let mut disk = match look_disk(host, task.image) {
-        Ok(disk) => disk,
-        Err(ending) => return ending,
-    };
-    // A poll doesn't open an image with a sector that can't be read.
-    if host.why.has_unreadable() {
-        return Ending::Open(OpenFault::Device);
-    }
-    let greatest = match scan(&mut disk) {
-        Ok(greatest) => greatest,
-        Err(fault) => return ending_of(Err(fault), task.image),
-    };
-    match register_of(host.rt.alloc(), &mut disk, &greatest) {
+    match look(host, task.image) {
         Ok((house, None)) => foresee(host, &house, task),
         Ok((_, Some(sector))) => Ending::Behind(sector),
-        Err(fault) => ending_of(Err(fault), task.image),
+        Err(ending) => ending,
     }
+}
+
+// The register of the image, and a sector that is ahead of it.
+fn look<'a, R: Files<File = File> + AllocGlobal>(
+    host: &Host<'_, R>,
+    image: &'a str,
+) -> Result<(House<Global>, Option<u32>), Ending<'a>> {
+    let file = LookedAt::open(host, image)?;
+    let greatest = scan_file(host, &file, image)?;
+    for _ in 0..ROUNDS {
+        let mut sample = file.sample(host.rt.alloc(), image)?;
+        let read = match register_of(host.rt.alloc(), &mut sample, &greatest) {
+            Ok(read) => read,
+            Err(fault) => return Err(ending_of(Err(fault), image)),
+        };
+        if file.stands(sample, image)? {
+            // A poll doesn't open an image where a sector that opening reads can't be read.
+            if host.why.has_unreadable() {
+                return Err(Ending::Open(OpenFault::Device));
+            }
+            return Ok(read);
+        }
+    }
+    Err(file.busy(image))
 }
 
 // What the poll would do with this register.

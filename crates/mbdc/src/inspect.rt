@@ -2,10 +2,11 @@
 
 use crate::clock;
 use dc_commands::look_ending;
-use dc_disk::FileDisk;
 use dc_ending::{Ending, ProgramFault, STREAM, ending_of};
-use dc_files::{Copied, Host, Noted, look_disk};
-use dc_inspect::{Asked, Form, Outlook, Report, StatusForm, answer, scan};
+use dc_files::{Host, LookedAt, Noted, ROUNDS};
+use dc_inspect::{Asked, Form, Report, Shown, StatusForm, answer, scan};
+use dc_log::Greatest;
+use std::alloc::Global;
 use std::fs::File;
 use std::io;
 use std::io::Write;
@@ -20,13 +21,52 @@ pub fn look_into<'a, R>(host: &Host<'_, R>, asked: Asked, image: &'a str) -> End
 where
     R: Files<File = File> + Print + AllocGlobal,
 {
-    let mut disk = match look_disk(host, image) {
-        Ok(disk) => disk,
+    let shown = match look(host, asked, image) {
+        Ok(shown) => shown,
         Err(ending) => return ending,
     };
-    match print(host, asked, &mut disk) {
-        Ok((outlook, is_silent)) => look_ending(outlook.refusal, outlook.ahead, is_silent),
-        Err(fault) => ending_of(Err(fault), STREAM),
+    let mut out = Noted::new(io::writer(host.rt), host.why);
+    if out.write_all(shown.text.as_slice()).is_err() || out.flush().is_err() {
+        return ending_of(Err(ProgramFault::Write), STREAM);
+    }
+    look_ending(shown.outlook.refusal, shown.outlook.ahead, shown.is_silent)
+}
+
+// What is asked of the image.
+fn look<'a, R: Files<File = File> + AllocGlobal>(
+    host: &Host<'_, R>,
+    asked: Asked,
+    image: &'a str,
+) -> Result<Shown<Global>, Ending<'a>> {
+    let file = LookedAt::open(host, image)?;
+    let greatest = scan_file(host, &file, image)?;
+    for _ in 0..ROUNDS {
+        let mut sample = file.sample(host.rt.alloc(), image)?;
+        let shown = match answer(host.rt.alloc(), &mut sample, &greatest, asked) {
+            Ok(shown) => shown,
+            Err(fault) => return Err(ending_of(Err(fault), image)),
+        };
+        if file.stands(sample, image)? {
+            return Ok(shown);
+        }
+    }
+    Err(file.busy(image))
+}
+
+/// Scans the halves of an image that is looked at, before the look. A sector that the drive can't read counts only where
+/// the look needs it.
+pub fn scan_file<'a, R>(
+    host: &Host<'_, R>,
+    file: &LookedAt<'_>,
+    image: &'a str,
+) -> Result<Greatest, Ending<'a>> {
+    let mut disk = file.disk(image)?;
+    match scan(&mut disk) {
+        Ok(greatest) => {
+            host.why.forget_unreadable();
+            Ok(greatest)
+        }
+        Err(fault) => Err(ending_of(Err(fault), image)),
     }
 }
 
@@ -74,19 +114,4 @@ where
         dc_words::StatusForm::Prometheus => StatusForm::Metrics,
     };
     look_into(host, Asked::Status(form, clock), image)
-}
-
-// Writes it to standard output, and returns what opening would make of the image, and whether a meter is silent.
-fn print<R: Print + AllocGlobal>(
-    host: &Host<'_, R>,
-    asked: Asked,
-    disk: &mut FileDisk<Copied>,
-) -> Result<(Outlook, bool), ProgramFault> {
-    let greatest = scan(disk)?;
-    let shown = answer(host.rt.alloc(), disk, &greatest, asked)?;
-    let mut out = Noted::new(io::writer(host.rt), host.why);
-    if out.write_all(shown.text.as_slice()).is_err() || out.flush().is_err() {
-        return Err(ProgramFault::Write);
-    }
-    Ok((shown.outlook, shown.is_silent))
 }

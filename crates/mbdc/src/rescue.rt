@@ -3,7 +3,7 @@
 use dc_commands::{put_rescued, rescue_over};
 use dc_disk::{Disk, FileDisk};
 use dc_ending::{Ending, ProgramFault, STREAM, ending_of};
-use dc_files::{HalfMade, Host, Noted, begin_image, end_image, look_disk};
+use dc_files::{HalfMade, Host, Noted, begin_image, copy_disk, end_image};
 use dc_inspect::{Asked, answer, scan};
 use dc_io::{Sink, WriteSink};
 use dc_log::Rescued;
@@ -21,7 +21,7 @@ pub fn rescue_image<'a, R>(host: &Host<'_, R>, image: &'a str, file: &'a str) ->
 where
     R: Files<File = File> + Print + AllocGlobal,
 {
-    let mut copy = match look_disk(host, image) {
+    let mut copy = match copy_disk(host, image) {
         Ok(copy) => copy,
         Err(ending) => return ending,
     };
