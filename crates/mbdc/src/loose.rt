@@ -1,14 +1,15 @@
 //! `decode --loose`: the frames of a pasted text.
 
-use dc_decode::decode_lines;
+use crate::tasks::decoded;
 use dc_ending::ProgramFault;
 use dc_files::Host;
-use dc_frame_json::json_lines;
-use dc_io::{CHUNK, MOST, Sink, Source, read_input, room};
-use dc_json::explain_lines;
-use dc_paste::{clean, times_dropped};
+use dc_io::{CHUNK, FixedSink, MOST, Sink, Source, read_input, room};
+use dc_paste::{clean, put_dropped};
 use dc_words::Form;
-use std::alloc::{AllocError, Global};
+use std::str;
+
+// Room for the line of all characters that were dropped.
+const ROOM: usize = 4_096;
 
 /// Prints the frames of a pasted text, and on standard error which characters were dropped.
 pub fn decode_pasted<R, S, W>(
@@ -29,45 +30,11 @@ where
         return Err(ProgramFault::TooLong);
     }
     let mut cleaned = clean(alloc, pasted.as_slice())?;
-    let Ok(dropped) = dropped_text(alloc, pasted.as_slice(), cleaned.as_slice()) else {
-        return Err(ProgramFault::NoMemory);
-    };
-    if !dropped.is_empty() {
-        let _ = host.rt.eprintln(format_args!("mbdc: dropped: {dropped}"));
+    let mut dropped = FixedSink::<ROOM>::new();
+    if put_dropped(&mut dropped, pasted.as_slice(), cleaned.as_slice()).is_ok()
+        && let Ok(dropped) = str::from_utf8(dropped.as_slice())
+    {
+        let _ = host.rt.eprint(dropped);
     }
-    let found = match form {
-        Form::Text => decode_lines(alloc, &mut cleaned, writer)?,
-        Form::Json => json_lines(alloc, &mut cleaned, writer)?,
-        Form::Table => explain_lines(alloc, &mut cleaned, writer)?,
-    };
-    Ok(found)
-}
-
-// How often each character was dropped; spaces and line feeds aren't named.
-fn dropped_text(alloc: Global, pasted: &[u8], kept: &[u8]) -> Result<String, AllocError> {
-    let mut text = String::new(alloc);
-    for code in 0u16..256 {
-        let character = (code % 256) as u8;
-        let times = times_dropped(pasted, kept, character);
-        if times > 0 && !matches!(character, b' ' | b'\n') {
-            if !text.is_empty() {
-                text.push_str(", ")?;
-            }
-            text.push_str(named(alloc, times, character)?.as_str())?;
-        }
-    }
-    Ok(text)
-}
-
-// A number, and a character's name.
-fn named(alloc: Global, times: usize, character: u8) -> Result<String, AllocError> {
-    match character {
-        b'\t' => format!(in alloc; "{times} TAB"),
-        b'\r' => format!(in alloc; "{times} CR"),
-        0x21..=0x7E => {
-            let shown = char::from(character);
-            format!(in alloc; "{times} {shown}")
-        }
-        _ => format!(in alloc; "{times} \\x{character:02X}"),
-    }
+    decoded(alloc, form, &mut cleaned, writer)
 }

@@ -5,7 +5,6 @@
 mod bench;
 mod clock;
 mod connecting;
-mod consumption;
 mod demo;
 mod dry;
 mod ending;
@@ -13,13 +12,11 @@ mod fit;
 mod inspect;
 mod loose;
 mod names;
-mod pointing;
 mod poll;
 mod rescue;
 mod script;
 mod tasks;
 mod tracing;
-mod watching;
 
 use dc_ending::Ending;
 use dc_files::{Host, NOWHERE, Why, hold};

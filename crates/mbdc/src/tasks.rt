@@ -1,26 +1,27 @@
 //! The commands: an engine of a library between the files and links that the words name.
 
-use crate::bench::{address_on_bus, read_on_bus, scan_bus};
-use crate::consumption::consumption_of_file;
+use crate::bench::on_bus;
 use crate::demo;
 use crate::dry::dry_run;
 use crate::fit::fit_on_image;
 use crate::inspect::{form_of, look_into, report_on_image, tell_status};
 use crate::loose::decode_pasted;
-use crate::pointing::Pointed;
 use crate::poll::poll_on_image;
 use crate::rescue::rescue_image;
 use crate::script::run_on_image;
+use dc_bench::Work;
+use dc_consumption_table::{Boundaries, consumption_lines};
 use dc_decode::decode_lines;
 use dc_ending::{Ending, ProgramFault, STREAM};
 use dc_files::{Host, Noted, back_up, format_image};
 use dc_frame_json::json_lines;
 use dc_inspect::Asked;
-use dc_io::{Buffered, ReadSource, Source, WriteSink};
+use dc_io::{Buffered, ReadSource, Sink, Source, WriteSink};
 use dc_json::explain_lines;
+use dc_paste::Pointed;
 use dc_script::fold_lines;
 use dc_words::{Engine, Form, Task};
-use std::alloc::Allocator;
+use std::alloc::{Allocator, Global};
 use std::fs::File;
 use std::io::{Read, Write};
 use std::net::{Net, TcpListener, TcpStream};
@@ -29,6 +30,15 @@ use std::{fs, io};
 
 /// Number of bytes that go to standard output at once.
 pub const ROOM: usize = 65_536;
+
+// What is done with the lines of an input.
+#[derive(Clone, Copy)]
+enum Lines<'b> {
+    // An engine of the words.
+    Of(Engine),
+    // The table of what places consumed in these periods.
+    Consumption(&'b Boundaries<Global>),
+}
 
 /// Runs the task that the words name.
 pub fn run<'a, R>(host: &Host<'_, R>, task: &Task<'a>) -> Ending<'a>
@@ -46,9 +56,13 @@ where
         Task::Lines {
             engine,
             file: Some(name),
-        } => work_on_file(host, *engine, name),
-        Task::Lines { engine, file: None } => work_on(host, *engine, host.rt.reader(), STREAM),
-        Task::Consumption { file, boundaries } => consumption_of_file(host, file, boundaries),
+        } => work_on_file(host, Lines::Of(*engine), name),
+        Task::Lines { engine, file: None } => {
+            work_on(host, Lines::Of(*engine), host.rt.reader(), STREAM)
+        }
+        Task::Consumption { file, boundaries } => {
+            work_on_file(host, Lines::Consumption(boundaries), file)
+        }
         Task::Format { image, sectors } => format_image(host, image, *sectors),
         Task::Run(task) => run_on_image(host, task),
         Task::Report {
@@ -73,19 +87,19 @@ where
             scan,
             patience,
             trace,
-        } => scan_bus(host, link, *scan, *patience, *trace),
+        } => on_bus(host, link, Work::Search(*scan), *patience, *trace),
         Task::Read {
             link,
             meter,
             patience,
             trace,
-        } => read_on_bus(host, link, meter, *patience, *trace),
+        } => on_bus(host, link, Work::Read(*meter), *patience, *trace),
         Task::Address {
             link,
             from,
             to,
             patience,
-        } => address_on_bus(host, link, *from, *to, *patience),
+        } => on_bus(host, link, Work::Address(*from, *to), *patience, None),
         Task::Poll(task) if task.is_dry => dry_run(host, task),
         Task::Poll(task) => poll_on_image(host, task),
         Task::Demo => demo::play(host),
@@ -94,47 +108,63 @@ where
 
 fn work_on_file<'a, R: Files + Print + Eprint + AllocGlobal>(
     host: &Host<'_, R>,
-    engine: Engine,
+    lines: Lines<'_>,
     name: &'a str,
 ) -> Ending<'a> {
     match fs::open(host.rt, name) {
-        Ok(file) => work_on(host, engine, file, name),
+        Ok(file) => work_on(host, lines, file, name),
         Err(error) => host.why.file(name, error),
     }
 }
 
 fn work_on<'a, R: Print + Eprint + AllocGlobal, F: Read + Drop>(
     host: &Host<'_, R>,
-    engine: Engine,
+    lines: Lines<'_>,
     file: F,
     name: &'a str,
 ) -> Ending<'a> {
     let noted = Noted::new(file, host.why);
-    if host.is_watched && matches!(engine, Engine::Decode(_)) {
+    if host.is_watched && matches!(lines, Lines::Of(Engine::Decode(_))) {
         let mut reader = ReadSource::new(Pointed::new(noted, host.rt));
-        return host.why.ended(work(host, engine, &mut reader), name);
+        return host.why.ended(work(host, lines, &mut reader), name);
     }
     let mut reader = ReadSource::new(noted);
-    host.why.ended(work(host, engine, &mut reader), name)
+    host.why.ended(work(host, lines, &mut reader), name)
 }
 
 // Runs the engine from what the source has left to standard output. It writes in large pieces.
 fn work<R: Print + Eprint + AllocGlobal, S: Source>(
     host: &Host<'_, R>,
-    engine: Engine,
+    lines: Lines<'_>,
     reader: &mut S,
 ) -> Result<bool, ProgramFault> {
     let alloc = host.rt.alloc();
     let printer = Noted::new(io::writer(host.rt), host.why);
     let mut writer = Buffered::new(alloc, ROOM, WriteSink::new(printer))?;
-    let found = match engine {
-        Engine::Decode(Form::Text) => decode_lines(alloc, reader, &mut writer)?,
-        Engine::Decode(Form::Json) => json_lines(alloc, reader, &mut writer)?,
-        Engine::Decode(Form::Table) => explain_lines(alloc, reader, &mut writer)?,
-        Engine::Loose(form) => decode_pasted(host, form, reader, &mut writer)?,
-        Engine::Fold => fold_lines(alloc, reader, &mut writer)?,
+    let found = match lines {
+        Lines::Of(Engine::Decode(form)) => decoded(alloc, form, reader, &mut writer)?,
+        Lines::Of(Engine::Loose(form)) => decode_pasted(host, form, reader, &mut writer)?,
+        Lines::Of(Engine::Fold) => fold_lines(alloc, reader, &mut writer)?,
+        Lines::Consumption(boundaries) => {
+            consumption_lines(alloc, reader, boundaries, &mut writer)?
+        }
     };
     flushed(writer)?;
+    Ok(found)
+}
+
+/// Prints the frames of lines of hex digits.
+pub fn decoded<S: Source, W: Sink>(
+    alloc: Global,
+    form: Form,
+    reader: &mut S,
+    writer: &mut W,
+) -> Result<bool, ProgramFault> {
+    let found = match form {
+        Form::Text => decode_lines(alloc, reader, writer)?,
+        Form::Json => json_lines(alloc, reader, writer)?,
+        Form::Table => explain_lines(alloc, reader, writer)?,
+    };
     Ok(found)
 }
 

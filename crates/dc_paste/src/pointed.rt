@@ -1,8 +1,12 @@
 //! What makes a line of hex digits a `HEX FAULT`, named for a person at a terminal.
 
-use dc_io::LONGEST;
-use std::io;
+use crate::remark::{Mistake, put_mistake};
+use dc_io::{FixedSink, LONGEST};
 use std::io::Read;
+use std::{io, str};
+
+// Room for the line of a mistake.
+const ROOM: usize = 120;
 
 /// Lines of hex digits that are read on; the first mistake of each line is named on standard error.
 #[derive(Drop)]
@@ -35,44 +39,36 @@ impl<'r, R: Eprint, F: Drop> Pointed<'r, R, F> {
             return;
         }
         self.characters = self.characters.saturating_add(1);
-        match byte {
-            b' ' => {}
-            b'0'..=b'9' | b'a'..=b'f' | b'A'..=b'F' => self.digits = self.digits.saturating_add(1),
-            _ => self.name_character(byte),
+        if byte.is_ascii_hexdigit() {
+            self.digits = self.digits.saturating_add(1);
+        } else if byte != b' ' {
+            self.name(Mistake::Character(byte, self.characters));
         }
-    }
-
-    fn name_character(&mut self, byte: u8) {
-        if self.is_named {
-            return;
-        }
-        self.is_named = true;
-        let (line, place) = (self.line, self.characters);
-        let _ = match byte {
-            b'\r' => eprint!(self.rt;
-                "mbdc: line {line}: CR at {place}: lines end in LF alone; try --loose\n"
-            ),
-            0x21..=0x7E => {
-                let shown = char::from(byte);
-                eprint!(self.rt; "mbdc: line {line}: {shown} at {place} is no hex digit\n")
-            }
-            _ => eprint!(self.rt; "mbdc: line {line}: \\x{byte:02X} at {place} is no hex digit\n"),
-        };
     }
 
     // Names what can be said of a line only at its end, and begins the next one.
     fn end_line(&mut self) {
-        let line = self.line;
-        if !self.is_named && self.characters > LONGEST as u64 {
-            let _ = eprint!(self.rt; "mbdc: line {line}: it has more than {LONGEST} bytes\n");
-        } else if !self.is_named && self.digits % 2 == 1 {
-            let digits = self.digits;
-            let _ = eprint!(self.rt; "mbdc: line {line}: {digits} hex digits are no whole bytes\n");
+        if self.characters > LONGEST as u64 {
+            self.name(Mistake::Long);
+        } else if self.digits % 2 == 1 {
+            self.name(Mistake::Odd(self.digits));
         }
         self.line = self.line.saturating_add(1);
         self.characters = 0;
         self.digits = 0;
         self.is_named = false;
+    }
+
+    // Prints the first mistake of a line.
+    fn name(&mut self, mistake: Mistake) {
+        let mut text = FixedSink::<ROOM>::new();
+        if !self.is_named
+            && put_mistake(&mut text, self.line, mistake).is_ok()
+            && let Ok(text) = str::from_utf8(text.as_slice())
+        {
+            let _ = self.rt.eprint(text);
+        }
+        self.is_named = true;
     }
 }
 

@@ -1,0 +1,13 @@
+use Rattle.dc_bench.proofs.Ways.{at_address, at_none}
+use Rattle.dc_io.specs.Written.{PutsInto}
+use Rattle.dc_bench.proofs.reading.read_at.Goals as goal
+
+pub returns-in-Ok-clause-read : goal.returns-in-Ok-clause-read
+returns-in-Ok-clause-read g c =
+    at_address g.B.Bus (PutsInto g.W.Sink c.args.out.now c.read.new.out) c.args.address c.in-Ok.meter c.args.bus.now c.identify.new.bus c.read.new.bus c.read.result
+    c.in-Ok.ensures c.read.ensures.read
+
+pub returns-in-Err-clause-read : goal.returns-in-Err-clause-read
+returns-in-Err-clause-read g c =
+    rw c.missed_by.ensures (at_none g.B.Bus (PutsInto g.W.Sink c.args.out.now c.put.new.self) c.args.address c.in-Err.misses c.args.bus.now c.identify.new.bus c.put.result
+    c.in-Err.ensures c.put.ensures.bytes)

@@ -1,0 +1,7 @@
+-- the definitions that contracts cite
+-- how a command over a bus ends
+pub mod Ending
+-- what a command does and prints
+pub mod Command
+-- what standard error says after a command
+pub mod Remark

@@ -1,0 +1,169 @@
+//! The commands over one bus: a search, a readout, a new address.
+
+ghost use Rattle.std.specs.Prelude.{◌≡◌, IfOk, IfErr, OnOk};
+ghost use Rattle.dc_io.specs.Written.{PutsInto};
+ghost use Rattle.dc_bench.specs.Command.{DoesOrStops, IsDone, Works, fault_of, is_faulty};
+ghost use Rattle.dc_bench.specs.Ending.{IsStopped};
+
+use crate::ending::{ended, finish};
+use crate::printer::Printer;
+use crate::progress::{Cleared, Progress};
+use crate::reading::read_named;
+use dc_bus::Bus;
+use dc_ending::Ending;
+use dc_installer::{
+    Addressing, Count, Readout, ScanFault, put_addressing, scan, scan_primary, set_address,
+};
+use dc_io::{IoFault, Sink, WriteSink};
+use dc_words::{MeterName, Scan};
+use std::alloc::Global;
+use std::io::{LineWriter, Write};
+use std::rt::Clock;
+
+/// What is done on a bus.
+#[derive(Clone, Copy)]
+pub enum Work {
+    /// A search for meters.
+    Search(Scan),
+    /// The readout of a meter.
+    Read(MeterName),
+    /// A new primary address, from the first to the second.
+    Address(u8, u8),
+}
+
+/// What came of it.
+#[derive(Clone, Copy)]
+pub enum Done {
+    /// How much a search by wildcards found.
+    Searched(Option<Count>),
+    /// The end of a readout.
+    ReadOut(Readout),
+    /// What came of setting an address.
+    Addressed(Addressing),
+}
+
+/// Does the work on a bus, prints it line by line, and says on standard error what is to be known of it. Returns how the
+/// command ends.
+pub fn run_over<'a, R, B, O>(
+    alloc: Global,
+    work: Work,
+    bus: &mut B,
+    out: O,
+    progress: &Progress<'_, R>,
+) -> Ending<'a>
+where
+    R: Clock + Eprint,
+    B: Bus,
+    O: Write + Drop,
+{
+    let out = Cleared {
+        writer: out,
+        progress,
+    };
+    let Ok(out) = LineWriter::new(alloc, out) else {
+        return Ending::Memory;
+    };
+    work_over(alloc, work, bus, &mut WriteSink::new(out), progress)
+}
+
+/// Does the work on a bus, and prints it. Returns how the command ends: a search is at fault where bytes came that nothing
+/// on the bus could have sent, for it may have missed a meter; a readout where it failed; and an address where the meter
+/// doesn't answer at the new one.
+pub fn work_over<'a, R, B, W>(
+    alloc: Global,
+    work: Work,
+    bus: &mut B,
+    out: &mut W,
+    progress: &Progress<'_, R>,
+) -> Ending<'a>
+where
+    R: Clock + Eprint,
+    B: Bus,
+    W: Printer,
+    ensures { Works B.Bus W.Sink work bus.old bus.new out.old out.new result }
+{
+    let outcome = do_and_finish(alloc, work, bus, out);
+    let is_lost = bus.is_lost();
+    if let Ok(done) = &outcome
+        && !is_lost
+    {
+        progress.remark(&work, done);
+    }
+    ended(is_lost, fault_of(bus.late(), &outcome))
+}
+
+// Does the work, and prints what comes last.
+fn do_and_finish<B: Bus, W: Printer>(
+    alloc: Global,
+    work: Work,
+    bus: &mut B,
+    out: &mut W,
+) -> Result<Done, ScanFault>
+    ensures { DoesOrStops B.Bus W.Sink work bus.old bus.new out.old out.new result }
+{
+    match do_work(alloc, work, bus, out) {
+        Ok(done) => match finish(bus.late(), out) {
+            Ok(()) => Ok(done),
+            Err(IoFault) => Err(ScanFault::Write),
+        },
+        Err(fault) => Err(fault),
+    }
+}
+
+fn do_work<B: Bus, W: Sink>(
+    alloc: Global,
+    work: Work,
+    bus: &mut B,
+    out: &mut W,
+) -> Result<Done, ScanFault>
+    ensures done { IfOk result (λ done. IsDone B.Bus (PutsInto W.Sink out.old out.new) work
+        bus.old bus.new done) }
+    ensures well { OnOk result (W.put_failures out.new ≡ W.put_failures out.old) }
+    ensures stopped { IfErr result (IsStopped W.Sink out.old out.new) }
+{
+    match work {
+        Work::Search(what) => match what {
+            Scan::Wildcards(budget) => match scan(alloc, budget, bus, out) {
+                Ok(count) => Ok(Done::Searched(Some(count))),
+                Err(fault) => Err(fault),
+            },
+            Scan::Primary => match scan_primary(bus, out) {
+                Ok(()) => Ok(Done::Searched(None)),
+                Err(IoFault) => Err(ScanFault::Write),
+            },
+        },
+        Work::Read(meter) => match read_named(bus, &meter, out) {
+            Ok(readout) => Ok(Done::ReadOut(readout)),
+            Err(IoFault) => Err(ScanFault::Write),
+        },
+        Work::Address(from, to) => {
+            let outcome = set_address(bus, from, to);
+            match put_addressing(from, to, &outcome, out) {
+                Ok(()) => Ok(Done::Addressed(outcome)),
+                Err(IoFault) => Err(ScanFault::Write),
+            }
+        }
+    }
+}
+
+// Whether something was at fault, or what stopped it.
+fn fault_of(late: u64, outcome: &Result<Done, ScanFault>) -> Result<bool, ScanFault>
+    ensures { result ≡ fault_of late outcome.now }
+{
+    match outcome {
+        Ok(done) => Ok(is_faulty(late, done)),
+        Err(fault) => Err(*fault),
+    }
+}
+
+fn is_faulty(late: u64, done: &Done) -> bool
+    ensures { result ≡ is_faulty late done.now }
+{
+    match done {
+        Done::Searched(_) => late != 0,
+        Done::ReadOut(Readout::Whole) => false,
+        Done::ReadOut(Readout::Failed(_)) => true,
+        Done::Addressed(Addressing::Set(_)) => false,
+        Done::Addressed(_) => true,
+    }
+}
