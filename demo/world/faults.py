@@ -21,7 +21,8 @@ from world.meters import Meter
 
 CLOSE = None
 STALL = 0.8  # seconds: longer than the gap that ends an answer
-SHARE = 0.3  # of the answers
+SHARE, AGAIN = 0.3, 0.1  # of the answers; seconds to an answer's copy, at most
+APART = (0.005, 0.2)  # seconds between two acknowledgements of one selection
 NOISE, START, BABBLING = b"\x00", b"\x10", 0.1  # a byte that begins no frame, one that does; seconds between two
 SILENT_BYTE = 0xFF  # what an idle line adds to others' bits
 
@@ -57,6 +58,24 @@ def babbles(seconds: float) -> Fault:
     return lambda rng, request, answer: [(0, answer), *noise]
 
 
+def twice(rng: random.Random, request: bytes, answer: bytes) -> list[Piece]:
+    """The converter gives an answer twice."""
+    return [(0, answer), (rng.uniform(0, AGAIN), answer)] if rng.random() < SHARE else [(0, answer)]
+
+
+def silent(rng: random.Random, request: bytes, answer: bytes) -> list[Piece]:
+    """Nobody answers."""
+    return []
+
+
+def apart(rng: random.Random, request: bytes, answer: bytes) -> list[Piece]:
+    """Acknowledgements of several meters come one after the other."""
+    if answer.strip(ACK):
+        return [(0, answer)]
+    moments = [sum(rng.uniform(*APART) for _ in range(place)) for place in range(len(answer))]
+    return [(moment, ACK) for moment in moments]
+
+
 def echoes(rng: random.Random, request: bytes, answer: bytes) -> list[Piece]:
     """The converter sends back what it is given, in one piece with the answer or before it."""
     return [(0, request + answer)] if rng.random() < 0.5 else [(0, request), (0.03, answer)]
@@ -78,11 +97,12 @@ def one_of(*faults: Fault) -> Fault:
 
 
 class FaultyBus(Bus):
-    """A bus whose answers have a fault on their way. Answers of several meters at once are received bit by bit."""
+    """A bus whose answers have a fault on their way. Answers of several meters at once are received bit by bit; or, where
+    they are apart, one acknowledgement after the other."""
 
     def __init__(self, meters: Sequence[Meter], rng: random.Random, fault: Fault = whole) -> None:
         super().__init__(meters, rng)
-        self.fault = fault
+        self.fault, self.are_apart = fault, False
         self.port: Optional[Port] = None  # the newest connection
         self.under_way: queue.Queue[tuple[float, Optional[bytes]]] = queue.Queue()
         threading.Thread(target=self.send, daemon=True).start()
@@ -91,8 +111,19 @@ class FaultyBus(Bus):
         super().connect(port)
         self.port = port
 
+    def disturb(self, seconds: float) -> None:
+        """From now on a byte that begins no frame comes so often."""
+        def write() -> None:
+            while True:
+                time.sleep(seconds)
+                with contextlib.suppress(OSError):
+                    self.deliver(NOISE)
+        threading.Thread(target=write, daemon=True).start()
+
     def together(self, answers: list[bytes]) -> bytes:
         """A meter holds the line at 0 against the others' 1."""
+        if self.are_apart and all(it == ACK for it in answers):
+            return ACK * len(answers)
         longest = max(map(len, answers))
         columns = zip(*(it.ljust(longest, bytes([SILENT_BYTE])) for it in answers))
         return bytes(functools.reduce(operator.and_, column) for column in columns)

@@ -1,6 +1,5 @@
 -- What a command does, and what is printed after its text.
 use Rattle.std.proofs.Common.{ℕ, Bool, List, ◌++◌}
-use Rattle.dc_address.specs.declared.identity.Identity.{Identity}
 use Rattle.dc_bench.specs.Command.{IsDone, IsRead, addresses, asks_each, by_address, by_identity, by_number, reads, scans, shared, unfound, unidentified}
 use Rattle.dc_bench.specs.declared.command.Done.{Done}
 use Rattle.dc_bench.specs.declared.command.Work.{Work}

@@ -1,5 +1,5 @@
 -- The ways to a readout, where its text was printed.
-use Rattle.std.proofs.Common.{◌≡◌, ℕ, true, false, List, None, Some, subst, sym}
+use Rattle.std.proofs.Common.{ℕ, true, false, List, None, Some}
 use Rattle.std.specs.Prelude.{codes, Result, Ok, Err, IfOk, OnOk}
 use Rattle.dc_address.specs.declared.identity.Identity.{Identity}
 use Rattle.dc_bench.specs.Command.{IsRead, by_address, by_identity, by_number, missed_by, shared, unfound, unidentified}

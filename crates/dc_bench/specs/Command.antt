@@ -1,6 +1,6 @@
 -- The commands `scan`, `read` and `address`: what goes over the bus, what is printed, and how they end (this product).
-use Rattle.std.specs.Prelude.{◌≡◌, ◌==◌, ◌++◌, ℕ, Bool, true, false, not, List, codes, Option, None, Some}
-use Rattle.std.specs.Prelude.{Result, Ok, Err, IfOk, IfErr, IfSome}
+use Rattle.std.specs.Prelude.{◌==◌, ◌++◌, ℕ, Bool, true, false, not, List, codes, None, Some}
+use Rattle.std.specs.Prelude.{Result, Ok, Err}
 use Rattle.std.specs.List.{range_with_len}
 use Rattle.dc_address.specs.declared.identity.Identity.{Identity}
 use Rattle.dc_bench.specs.Ending.{EndsOver, IsStopped, late_text}
@@ -29,7 +29,6 @@ use Rattle.dc_misses.specs.declared.misses.Misses.{Misses}
 use Rattle.dc_readout.specs.Summary.{begun}
 use Rattle.dc_words.specs.declared.task.MeterName.{MeterName}
 use Rattle.dc_words.specs.declared.task.MeterName.TheVariants.{Identity as ByIdentity, Primary as ByAddress, Number as ByNumber}
-use Rattle.dc_words.specs.declared.task.Scan.{Scan}
 use Rattle.dc_words.specs.declared.task.Scan.TheVariants.{Wildcards, Primary}
 
 -- ---- what goes over the bus
