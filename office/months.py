@@ -4,7 +4,7 @@ import collections
 import datetime
 import itertools
 import multiprocessing
-from typing import Any, Dict, Iterator, List, NamedTuple, Optional, Sequence, Tuple
+from typing import Any, Callable, Dict, Iterator, List, NamedTuple, Optional, Sequence, Tuple
 
 import psycopg2.extras
 
@@ -33,6 +33,10 @@ CHANGED = """
 INSERT INTO changes AS c (house, month, says) VALUES (%s, %s, %s)
 ON CONFLICT (house, month) DO UPDATE SET says = excluded.says, seen_at = now(), left_why = NULL, left_by = NULL
 WHERE c.says <> excluded.says"""
+# Bills that are out and may be others now (office/close looks)
+BILLS = """
+UPDATE bills SET is_to_check = true WHERE out_at IS NOT NULL AND house = ANY (%s) AND NOT is_to_check
+AND days && daterange(%s, %s)"""
 KEPT = "SELECT date_trunc('month', since)::date FROM kept"
 # Of a month of houses one is written or released at a time
 LOCKED = "SELECT pg_advisory_xact_lock(hashtext(h || %s)) FROM (SELECT h FROM unnest(%s::text[]) h ORDER BY h) k (h)"
@@ -146,6 +150,7 @@ def write_month(cursor: Cursor, month: datetime.date, houses: List[str]) -> "col
                             if not versions[one.place.house][1]])
     for house in versions.keys() - set(open_houses):
         note_change(cursor, month, house, now[house], {one.place.id: one.place.name for one in splits})
+    cursor.execute(BILLS, (houses, month, next_month(month)))
     return counts
 
 
@@ -163,14 +168,19 @@ def note_change(cursor: Cursor, month: datetime.date, house: str, rows: List[Tup
     """Notes whether a month that is out would be another."""
     cursor.execute(OUT, (month, house))
     out, now = by_period(cursor.fetchall()), by_period(rows)
-    wrong = sorted(key for key in now.keys() | out.keys() if now.get(key) != out.get(key))
-    if not wrong:
+    says = differences(out, now, lambda key: f"{names.get(key[0], key[0])} from {key[1]:%Y-%m-%d}")
+    if says is None:
         cursor.execute("DELETE FROM changes WHERE (house, month) = (%s, %s)", (house, month))
-        return
-    said = [f"{names.get(key[0], key[0])} from {key[1]:%Y-%m-%d}: {told(out.get(key))}, now {told(now.get(key))}"
-            for key in wrong[:LONGEST_CHANGE]]
+    else:
+        cursor.execute(CHANGED, (house, month, says))
+
+
+def differences(out: Dict[Any, Tuple[Any, ...]], now: Dict[Any, Tuple[Any, ...]], name: Callable[[Any], str]) -> Optional[str]:
+    """The first amounts and grades that went out and would be others now; None where there is none."""
+    wrong = sorted(key for key in now.keys() | out.keys() if now.get(key) != out.get(key))
+    said = [f"{name(key)}: {told(out.get(key))}, now {told(now.get(key))}" for key in wrong[:LONGEST_CHANGE]]
     more = f"; {len(wrong) - LONGEST_CHANGE} more" if len(wrong) > LONGEST_CHANGE else ""
-    cursor.execute(CHANGED, (house, month, "; ".join(said) + more))
+    return "; ".join(said) + more if wrong else None
 
 
 def by_period(rows: List[Tuple[Any, ...]]) -> Dict[Any, Tuple[Any, ...]]:

@@ -103,8 +103,10 @@ SELECT 'no number', p.house, p.house || '/' || p.flat || '/' || p.use || '/' || 
 FROM month_kwh u JOIN places p ON p.id = u.place
 WHERE u.part = 0 AND u.grade IN ('missing', 'disturbed', 'unclear', 'held') AND u.month >= %(at)s::date - 400"""
 CHANGES = """
-SELECT 'changed', house, house || ' ' || to_char(month, 'YYYY-MM'), says FROM changes WHERE left_why IS NULL
-ORDER BY house, month"""
+SELECT 'changed', house, house || ' ' || to_char(month, 'YYYY-MM') AS subject, says FROM changes WHERE left_why IS NULL
+UNION ALL
+SELECT 'changed', house, house || ' bill ' || lower(days) || '..' || upper(days) - 1, changed FROM bills_now
+WHERE changed IS NOT NULL AND left_why IS NULL ORDER BY subject"""
 ALL = (COLLECTOR, BOXES, SILENT_BOXES, CLOCKS, LATE, SILENT, STATES, NO_USE, STEPS, STILL, NIGHT, NO_NUMBER, CHANGES)
 
 

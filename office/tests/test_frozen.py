@@ -1,12 +1,14 @@
-"""A month that is out stays as it is; another number is another version, with a reason."""
+"""A month or a bill that is out stays as it is; another number is another version, with a reason."""
 
+import csv
+import io
 import pathlib
 import subprocess
 from typing import Any, List, Tuple
 
 import pytest
 from conftest import TESTS, Office
-from supplied import HEAT, Supplied, at
+from supplied import ALLOCATOR, HEAT, Supplied, at
 from test_schema import refused
 from test_sheets import checked, sheet_of
 
@@ -162,12 +164,104 @@ def test_a_cron_changes_nothing_that_was_out(office: Office, elm: Supplied, tmp_
     assert rows(office) == out and "NEW changed" in office.run("alarms").printed
 
 
+def bill(office: Office, *words: str, status: int = 0) -> str:
+    ended = office.run("bill", "elm-1", *words)
+    assert ended.status == status, ended.printed
+    return ended.printed
+
+
+def cells(printed: str, *names: str) -> List[Tuple[str, ...]]:
+    return [tuple(row[name] for name in names) for row in csv.DictReader(io.StringIO(printed))]
+
+
+def test_a_bill_that_is_out(office: Office, elm: Supplied) -> None:
+    """It is printed as it was, whatever the office knows since; another number is another version."""
+    meter, other = elm.meter(1, HEAT, "A1"), elm.meter(2, ALLOCATOR, "A2")
+    elm.tenancy("A1", "2024-01-01", "2025-01-18", "=x")
+    tenancy = elm.tenancy("A1", "2025-01-18", None, "B. Smith")
+    elm.days(meter, DECEMBER, 100, 1_000_000, 10_000)
+    elm.days(other, DECEMBER, 100, 100, 2, "HCA")
+    office.sql("UPDATE places SET weight = 1.7 WHERE flat = 'A2'")
+    draft = bill(office, "2025-01-01..2025-02-28")
+    before = bill(office, "2025-01-01..2025-02-28", "--release")
+    assert before == draft and bill(office, "2025-01-01..2025-02-28", "--release") == before
+    assert cells(before, "user", "consumption", "HCA") == [("'=x", "170.000", ""), ("B. Smith", "420.000", ""), ("", "118.000", "200.600")]
+    assert office.sql("SELECT text, mark FROM published WHERE tenancy = %s AND key LIKE '%% consumption'", tenancy) == [
+        ("420.000", "measured")]
+    for query in ("UPDATE bills SET out_at = NULL", "DELETE FROM bills", "UPDATE bills SET why = 'x'"):
+        assert "is out: office/correct" in refused(office, query), query
+    for query in ("UPDATE published SET text = '1'", "DELETE FROM published", "UPDATE published SET tenancy = 1"):
+        assert "is out" in refused(office, query), query
+    office.sql("SELECT put_value(%s, '2025-02-28', 1595000, 'Wh', 'read at the meter')", meter)
+    assert office.run("close").status == 0
+    assert bill(office, "2025-01-01..2025-02-28") == before
+    name = "A1 heat 1 2025-01-18T00:00 2025-03-01T00:00"
+    assert (f"NEW changed elm-1 bill 2025-01-01..2025-02-28: {name}: {420_000 * WH} measured, now {415_000 * WH} hand\n"
+            in office.run("alarms").printed)
+    left = office.run("correct", "elm-1", "2025-01-01..2025-02-28", "--bill", "--leave", "--why", "5 kWh")
+    assert left.status == 0 and "END changed elm-1 bill" in office.run("alarms").printed
+    assert office.run("close", "--all", "--since", "2024-12-01").status == 0
+    assert "changed" not in office.run("alarms").printed
+    corrected = office.run("correct", "elm-1", "2025-01-01..2025-02-28", "--bill", "--why", "read at the meter")
+    assert (corrected.status, corrected.printed) == (0, "a bill; version 2 of elm-1\n")
+    again = bill(office, "2025-01-01..2025-02-28", "--release")
+    assert cells(again, "consumption", "grade")[1] == ("415.000", "hand")
+    assert bill(office, "2025-01-01..2025-02-28") == again and bill(office, "2025-01-01..2025-02-28", "--version", "1") == before
+    assert office.sql("SELECT version, why FROM bills ORDER BY 1") == [(1, "first"), (2, "read at the meter")]
+    assert bill(office, "2025-01-01..2025-02-28", "--version", "3", status=2) != ""
+    assert office.run("correct", "elm-1", "2025-01", "--bill", "--why", "x").status == 4
+    assert office.run("correct", "elm-1", "2025", "--why", "x").status == 2
+
+
+def test_neither_retain_nor_forget_changes_a_bill(office: Office, elm: Supplied, tmp_path: pathlib.Path) -> None:
+    """The user's name goes, the days go, and the numbers stay as they were printed."""
+    meter = elm.meter(1, HEAT, "A1", since=at("2020-01-01T00:00"))
+    elm.days(meter, "2020-12-29", 130, 1_000_000, 10_000)
+    one = elm.tenancy("A1", "2020-01-01", "2021-02-11", "S. Secret")
+    elm.tenancy("A1", "2021-02-11", None, "B. Smith")
+    before = bill(office, "2021-01-01..2021-03-31", "--release")
+    for month in ("2021-01", "2021-02", "2021-03"):
+        elm.month(month)
+        released(office, tmp_path, month)
+    office.sql("SELECT correct_bill('elm-1', '[2021-01-01,2021-04-01)', 'x')")
+    open_bill = office.run("forget", str(one))
+    assert open_bill.status == 3 and "the bill 2021-01-01..2021-03-31 of tenancy" in open_bill.printed
+    bill(office, "2021-01-01..2021-03-31", "--release")
+    assert office.run("forget", str(one), "--out", str(tmp_path)).status == 0
+    assert office.run("close", "--all", "--since", "2020-01-01").status == 0
+    assert office.sql("SELECT changed, is_to_check FROM bills_now") == [(None, False)]
+    after = bill(office, "2021-01-01..2021-03-31")
+    assert after == before.replace(f",{one},S. Secret,", ",,,")
+    assert office.run("retain").status == 0
+    assert office.run("close", "--all", "--since", "2020-01-01").status == 0
+    assert bill(office, "2021-01-01..2021-03-31") == after and "changed" not in office.run("alarms").printed
+    assert "were dropped" in bill(office, "2021", status=2)
+
+
+def test_a_bill_has_no_number_that_is_held(office: Office, elm: Supplied) -> None:
+    """Until a person says why it is right; of a bill that is out that is another version."""
+    meter = elm.meter(1, HEAT, "A1")
+    elm.tenancy("A1", "2024-01-01", None)
+    elm.days(meter, DECEMBER, 20, 1_000_000, 10_000)
+    elm.days(meter, "2025-01-19", 60, 1_400_000, 10_000)
+    elm.month("2025-01")
+    assert cells(bill(office, "2025-01", "--release", status=1), "amount", "grade") == [("", "held")]
+    assert office.sql("SELECT see_number('2025-01-01', place, 'a burst pipe') FROM fittings") == [(1,)]
+    assert office.run("close").status == 0
+    assert "NEW changed elm-1 bill 2025-01-01..2025-01-31" in office.run("alarms").printed
+    assert office.run("correct", "elm-1", "2025-01", "--bill", "--why", "a burst pipe").status == 0
+    assert cells(bill(office, "2025-01", "--release"), "grade") == [("measured",)]
+
+
 def test_who_may(office: Office, elm: Supplied) -> None:
     for role in ("reader", "collector"):
         for query in ("SELECT release_month('elm-1', '2025-01-01')", "SELECT correct_month('elm-1', '2025-01-01', 'x')",
                       "SELECT leave_month('elm-1', '2025-01-01', 'x')", "INSERT INTO versions DEFAULT VALUES",
-                      "INSERT INTO published DEFAULT VALUES"):
+                      "INSERT INTO published DEFAULT VALUES", "INSERT INTO bills DEFAULT VALUES",
+                      "SELECT release_bill('elm-1', '[2025-01-01,2026-01-01)')",
+                      "SELECT correct_bill('elm-1', '[2025-01-01,2026-01-01)', 'x')",
+                      "SELECT leave_bill('elm-1', '[2025-01-01,2026-01-01)', 'x')"):
             assert "permission denied" in refused(office, query, role=role), (role, query)
     for query in ("UPDATE versions SET out_at = NULL", "DELETE FROM published", "UPDATE published SET text = '1'", "DELETE FROM versions",
-                  "UPDATE month_use SET out_at = now()", "DELETE FROM changes"):
+                  "UPDATE month_use SET out_at = now()", "DELETE FROM changes", "UPDATE bills SET out_at = NULL", "DELETE FROM bills"):
         assert "permission denied" in refused(office, query, role="clerk"), query
