@@ -180,4 +180,4 @@ def changed(cursor: Cursor, house: str, days: DateRange, version: int) -> Option
         return None
     out, now = ({row.name: (row.cells.get("amount"), row.cells["grade"]) for row in rows if row.tenancy is not None}
                 for rows in (printed(cursor, house, days, version), computed(cursor, house, days)))
-    return differences(out, now, lambda name: name)
+    return differences(out, now, str)

@@ -23,7 +23,8 @@ class Database:
         idle = int(IDLE_RUNS * timeout) + GRACE
         self.name = name
         self.connection: Optional[psycopg2.extensions.connection] = None
-        self.options = f"-c timezone=UTC -c idle_in_transaction_session_timeout={idle}s -c lock_timeout={idle + GRACE}s"
+        # Compiling a plan (jit) takes seconds, and each of these statements runs for less
+        self.options = f"-c timezone=UTC -c jit=off -c idle_in_transaction_session_timeout={idle}s -c lock_timeout={idle + GRACE}s"
 
     @contextlib.contextmanager
     def transaction(self) -> Iterator[Cursor]:

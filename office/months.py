@@ -4,7 +4,7 @@ import collections
 import datetime
 import itertools
 import multiprocessing
-from typing import Any, Callable, Dict, Iterator, List, NamedTuple, Optional, Sequence, Tuple
+from typing import Any, Callable, Dict, Iterator, List, Mapping, NamedTuple, Optional, Sequence, Tuple
 
 import psycopg2.extras
 
@@ -175,7 +175,7 @@ def note_change(cursor: Cursor, month: datetime.date, house: str, rows: List[Tup
         cursor.execute(CHANGED, (house, month, says))
 
 
-def differences(out: Dict[Any, Tuple[Any, ...]], now: Dict[Any, Tuple[Any, ...]], name: Callable[[Any], str]) -> Optional[str]:
+def differences(out: Mapping[Any, Tuple[Any, ...]], now: Mapping[Any, Tuple[Any, ...]], name: Callable[[Any], str]) -> Optional[str]:
     """The first amounts and grades that went out and would be others now; None where there is none."""
     wrong = sorted(key for key in now.keys() | out.keys() if now.get(key) != out.get(key))
     said = [f"{name(key)}: {told(out.get(key))}, now {told(now.get(key))}" for key in wrong[:LONGEST_CHANGE]]

@@ -39,26 +39,22 @@ FROM meter_states s JOIN boxes b ON b.name = s.box WHERE s.says <> ''"""
 # Of each meter that is fitted: its last value, what was used a day on the way to it, and the median of these; and its last
 # fall that is no restart and no turn, which a counter of some digits would explain (turn), or not
 STEPS = """
-WITH steps AS (
-    SELECT f.id AS fitting, s.* FROM fittings f CROSS JOIN LATERAL (
-        SELECT d.day, d.at, d.value, d.unit, d.amount, lag(d.amount) OVER before AS last, lag(d.at) OVER before AS since
-        FROM day_values d WHERE d.fitting = f.id AND d.struck_at IS NULL
-          AND d.day BETWEEN %(at)s::date - %(days)s AND %(at)s::date WINDOW before AS (ORDER BY d.day)) s
-    WHERE f.during @> %(at)s),
-uses_a_day AS (
-    SELECT f.id, f.house, f.identity, p.flat, s.day, s.value || ' ' || s.unit AS shown, s.amount, s.last,
-           coalesce(f.most, l.most) * (floor(extract(epoch FROM s.at - s.since) / 3600) + 2) AS room, f.size,
-           greatest(extract(epoch FROM s.at - s.since) / 86400, 0.5) AS days,
-           EXISTS (SELECT FROM restarts r WHERE r.fitting = f.id AND r.at >= s.since AND r.at < s.at) AS is_restart
-    FROM steps s JOIN fittings f ON f.id = s.fitting JOIN places p ON p.id = f.place LEFT JOIN limits l ON l.use = p.use),
-judged AS (
-    SELECT *, amount < last AND NOT is_restart AND NOT coalesce(last < size AND size - last + amount <= room, false) AS is_fall,
-           CASE WHEN amount >= last THEN (amount - last) / days END AS use FROM uses_a_day),
-of_each AS (
-    SELECT id, house, identity, flat, (array_agg(shown ORDER BY day DESC))[1] AS shown, (array_agg(use ORDER BY day DESC))[1] AS use,
-           count(use) AS count, percentile_cont(0.5) WITHIN GROUP (ORDER BY use) AS median, bool_or(is_fall) AS has_fall,
-           (array_agg(ARRAY[last, amount, room] ORDER BY day DESC) FILTER (WHERE is_fall AND size IS NULL))[1:1] AS fall
-    FROM judged GROUP BY id, house, identity, flat)
+WITH of_each AS (
+    SELECT f.id, f.house, f.identity, p.flat, s.* FROM fittings f JOIN places p ON p.id = f.place LEFT JOIN limits l ON l.use = p.use
+    CROSS JOIN LATERAL (
+        SELECT max(value || ' ' || unit) FILTER (WHERE is_last) AS shown, max(use) FILTER (WHERE is_last) AS use, count(use) AS count,
+               percentile_cont(0.5) WITHIN GROUP (ORDER BY use) AS median, bool_or(is_fall) AS has_fall,
+               (array_agg(ARRAY[last, amount, room] ORDER BY day DESC) FILTER (WHERE is_fall AND f.size IS NULL))[1:1] AS fall
+        FROM (
+            SELECT *, CASE WHEN amount >= last THEN (amount - last) / greatest(seconds / 86400, 0.5) END AS use,
+                   amount < last AND NOT coalesce(last < f.size AND f.size - last + amount <= room, false)
+                   AND NOT EXISTS (SELECT FROM restarts r WHERE r.fitting = f.id AND r.at >= since AND r.at < at) AS is_fall
+            FROM (SELECT *, (coalesce(f.most, l.most) * (floor(seconds / 3600) + 2))::numeric AS room FROM (
+                SELECT d.day, d.at, d.value, d.unit, d.amount, lag(d.amount) OVER before AS last, lag(d.at) OVER before AS since,
+                       date_part('epoch', d.at - lag(d.at) OVER before) AS seconds, lead(d.day) OVER before IS NULL AS is_last
+                FROM day_values d WHERE d.fitting = f.id AND d.struck_at IS NULL
+                  AND d.day BETWEEN %(at)s::date - %(days)s AND %(at)s::date WINDOW before AS (ORDER BY d.day)) w) k) j) s
+    WHERE f.during @> %(at)s)
 SELECT kind, house, house || ' ' || identity, says || ', flat ' || flat FROM of_each
 LEFT JOIN LATERAL (SELECT min(n) AS digits FROM generate_series(6, 8) n
                    WHERE has_fall AND size_of(id, n) > fall[1][1] AND size_of(id, n) - fall[1][1] + fall[1][2] <= fall[1][3]) t ON true
