@@ -27,6 +27,14 @@ def released(office: Office, out: pathlib.Path, month: str) -> None:
     assert ended.status == 0, ended.printed
 
 
+def closed(office: Office, *months: str) -> str:
+    """Closes, with these months to be computed again."""
+    office.sql("INSERT INTO to_compute SELECT 'elm-1', m FROM unnest(%s::date[]) m", [f"{month}-01" for month in months])
+    ended = office.run("close")
+    assert ended.status == 0, ended.printed
+    return ended.printed
+
+
 def rows(office: Office) -> List[Tuple[Any, ...]]:
     return office.sql(ROWS)
 
@@ -93,7 +101,7 @@ def test_a_month_may_be_left(office: Office, elm: Supplied, tmp_path: pathlib.Pa
     office.sql("SELECT put_value(%s, '2025-01-31', 1319000, 'Wh', 'read')", meter)
     assert office.run("close").status == 0
     assert office.run("correct", "elm-1", "2025-01", "--leave", "--why", "1 kWh").status == 0
-    assert office.run("close", "--all", "--since", "2024-12-01").status == 0
+    closed(office, "2025-01")
     assert "changed" not in office.run("alarms").printed
     office.sql("SELECT put_value(%s, '2025-01-31', 1318000, 'Wh', 'read')", meter)
     assert office.run("close").status == 0 and "NEW changed" in office.run("alarms").printed
@@ -124,7 +132,7 @@ def test_neither_retain_nor_forget_changes_a_number(office: Office, elm: Supplie
     frozen = office.sql("SELECT entries FROM frozen_values WHERE month = '2021-01-01'")[0][0]
     forgotten = office.run("forget", str(one), "--out", str(tmp_path))
     assert forgotten.status == 0, forgotten.printed
-    assert office.run("close", "--all", "--since", "2020-01-01").status == 0
+    closed(office, "2021-01", "2021-02", "2021-03")
     assert office.run("month", "2021-01", "--open").status == 0
     assert rows(office) == before and office.sql("SELECT count(*) FROM changes") == [(0,)]
     assert office.sql("SELECT count(tenancy) FROM published") != office.sql("SELECT count(*) FROM published")
@@ -134,8 +142,7 @@ def test_neither_retain_nor_forget_changes_a_number(office: Office, elm: Supplie
     assert rows(office) == before
     refusal = office.run("month", "2021-01")
     assert refusal.status == 2 and "were dropped" in refusal.printed
-    office.sql("INSERT INTO to_compute VALUES ('elm-1', '2021-01-01')")
-    assert "2021-01" not in office.run("close").printed
+    assert "2021" not in closed(office, "2021-01", "2021-02", "2021-03")
     assert rows(office) == before and office.sql("SELECT count(*) FROM changes") == [(0,)]
 
 
@@ -201,7 +208,7 @@ def test_a_bill_that_is_out(office: Office, elm: Supplied) -> None:
             in office.run("alarms").printed)
     left = office.run("correct", "elm-1", "2025-01-01..2025-02-28", "--bill", "--leave", "--why", "5 kWh")
     assert left.status == 0 and "END changed elm-1 bill" in office.run("alarms").printed
-    assert office.run("close", "--all", "--since", "2024-12-01").status == 0
+    closed(office, "2025-01", "2025-02")
     assert "changed" not in office.run("alarms").printed
     corrected = office.run("correct", "elm-1", "2025-01-01..2025-02-28", "--bill", "--why", "read at the meter")
     assert (corrected.status, corrected.printed) == (0, "a bill; version 2 of elm-1\n")
@@ -229,12 +236,12 @@ def test_neither_retain_nor_forget_changes_a_bill(office: Office, elm: Supplied,
     assert open_bill.status == 3 and "the bill 2021-01-01..2021-03-31 of tenancy" in open_bill.printed
     bill(office, "2021-01-01..2021-03-31", "--release")
     assert office.run("forget", str(one), "--out", str(tmp_path)).status == 0
-    assert office.run("close", "--all", "--since", "2020-01-01").status == 0
+    closed(office, "2021-01", "2021-02", "2021-03")
     assert office.sql("SELECT changed, is_to_check FROM bills_now") == [(None, False)]
     after = bill(office, "2021-01-01..2021-03-31")
     assert after == before.replace(f",{one},S. Secret,", ",,,")
     assert office.run("retain").status == 0
-    assert office.run("close", "--all", "--since", "2020-01-01").status == 0
+    closed(office, "2021-01", "2021-02", "2021-03")
     assert bill(office, "2021-01-01..2021-03-31") == after and "changed" not in office.run("alarms").printed
     assert "were dropped" in bill(office, "2021", status=2)
 
