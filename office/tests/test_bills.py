@@ -202,10 +202,11 @@ def test_roles(office: Office, elm: Supplied, tmp_path: pathlib.Path) -> None:
     elm.reads(meter, at("2025-01-01T06:00"), 1000, ("2024-12-31", 990))
     elm.reads(meter, at("2025-02-01T06:00"), 1310, ("2025-01-31", 1300))
     elm.tenancy("A1", "2024-01-01", None)
-    runs = {"collector": (["close"], ["close", "--all", "--since", "2025-01-01"], ["month", "2025-01"], ["estimate", "2025-01"],
-                          ["alarms"]),
-            "clerk": (["sheets", "2025-01", "--out", str(tmp_path), "--pdf", "none"], ["bill", "elm-1", "2025-01"])}
-    for role, commands in runs.items():
+    runs = (("collector", (["close"], ["close", "--all", "--since", "2025-01-01"], ["month", "2025-01"], ["estimate", "2025-01"],
+                           ["alarms"])),
+            ("clerk", (["sheets", "2025-01", "--out", str(tmp_path), "--pdf", "none"], ["bill", "elm-1", "2025-01", "--release"])),
+            ("collector", (["month", "2025-01"], ["close"])))  # which looks at the bill that is out
+    for role, commands in runs:
         office.sql(f"ALTER ROLE office SET role = '{role}'")
         try:
             for words in commands:
