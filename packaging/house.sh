@@ -69,7 +69,7 @@ speed_of() {
 # folder, for tries without the package; neither sudo nor a unit passes it on.)
 read_settings() {
     settings=${MBDC_SETTINGS:-/etc/mbdc}/$1.conf
-    image=/var/lib/mbdc/$1.image lines='' baud=2400 bauds='' tries=2 patience=2000
+    image=/var/lib/mbdc/$1.image lines='' baud=2400 bauds='' tries=2 patience=''
     [ -r "$settings" ] || fail "$CONFIGURATION" "$settings: it can't be read"
     number=0
     while IFS= read -r line || [ -n "$line" ]; do

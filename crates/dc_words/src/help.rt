@@ -122,10 +122,11 @@ Lines of the script, and what each prints:
                       selections: FOUND ident, SHARED number, BUDGET where it
                       was spent, SELECTIONS n
   SEARCH budget line  searches on that bus line
-  LINE n LOST         once, where the connection of bus line n ended or failed:
-                      it is silent from then on; of --gateway GATEWAY LOST
-  LATE line n         after a search: n late answers were dropped; make
-                      --patience longer
+  LINE n LOST         once, where the link of bus line n failed, or nobody
+                      answers for 120 s: it is silent from then on; of --gateway
+                      GATEWAY LOST
+  LATE line n         after a search: n times bytes came that nothing could
+                      have sent; make --patience longer
   NO GATEWAY          for a POLL or a SEARCH on a bus line that isn't connected
   What is refused prints REFUSED n Name. Another line prints LINE i SYNTAX and
   ends the script.
@@ -271,9 +272,10 @@ ends:
   READ ident serial parts  a whole reading, its serial and its number of parts
   FAILED ident n Name      the last try failed, and why, as in run
   REFUSED ident n Name     the register or the disk refused it
-  LINE n LOST              the connection of line n ended or failed
-  LATE line n              n late answers were dropped on that line: make
-                           --patience longer
+  LINE n LOST              the link of line n failed, or nobody answers for
+                           120 s: the line is given up
+  LATE line n              n times bytes came on that line that nothing could
+                           have sent: make --patience longer
   END read failed
 With --json an object an event. On a terminal, standard error shows how far it
 is. --trace FILE gets each request and answer, as of scan. Where the clock is
@@ -293,11 +295,12 @@ pub const SCAN: &str = "Example:
 
 Printed: FOUND ident for each meter, SHARED number for a number that more than
 one meter has, BUDGET where the budget was spent, SELECTIONS n, and LATE n where
-n late answers were dropped. With --primary: ADDRESS n for each address that
-acknowledges, and its ident where its telegram can be read. A meter begins its
-readout anew afterwards; nothing is stored. On a terminal, standard error shows
-how far it is, and each meter as it answers, with its medium and value. Where
-answers were no frame, a line on standard error counts them at the end.
+n times bytes came that nothing could have sent. With --primary: ADDRESS n for
+each address that acknowledges, and its ident where its telegram can be read. A
+meter begins its readout anew afterwards; nothing is stored. On a terminal,
+standard error shows how far it is, and each meter as it answers, with its
+medium and value. Where answers were no frame, a line on standard error counts
+them at the end.
 Nobody answers: is the bus powered, are speed and parity right? SHARED: read
 these meters by their primary addresses (scan --primary).
 --trace FILE gets milliseconds, bus line, > or <, hex digits, and what they are:
@@ -326,8 +329,8 @@ Printed is what decode prints of the telegrams, each before the meter is asked
 for the next one. Nothing is stored. Where the readout fails, FAILED n Name
 follows and the status is 1; standard error says what the failed tries brought:
 mbdc: 12345678.PAD.01.07: 3 tries failed: 2 silent, 1 unreadable. LATE n comes
-last where n late answers were dropped. A number alone, as 12345678, is the one
-meter on the bus that has it; SHARED number where several have it, or where the
-answers of one are damaged.
+last where n times bytes came that nothing could have sent. A number alone, as
+12345678, is the one meter on the bus that has it; SHARED number where several
+have it, or where the answers of one are damaged.
 --trace FILE gets each request and answer, as of scan.
 Faults: mbdc: gateway where the link can't be connected or is lost; mbdc: memory";

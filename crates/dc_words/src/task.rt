@@ -71,8 +71,8 @@ pub struct RunTask<'a> {
     pub gateway: Option<&'a str>,
     /// The links of the bus lines; empty if only a gateway is named.
     pub links: Links<'a>,
-    /// The time-out of an answer in milliseconds.
-    pub patience: u16,
+    /// The time-out of an answer in milliseconds; that of the link where none is given.
+    pub patience: Option<u16>,
 }
 
 /// The readout of the registered meters over an image.
@@ -88,8 +88,8 @@ pub struct PollTask<'a> {
     pub tries: u8,
     /// Whether its events are printed as JSON Lines.
     pub is_json: bool,
-    /// The time-out of an answer in milliseconds.
-    pub patience: u16,
+    /// The time-out of an answer in milliseconds; that of the link where none is given.
+    pub patience: Option<u16>,
     /// The file of the trace, if one is written; `-` is standard error.
     pub trace: Option<&'a str>,
     /// Whether it prints what a poll would do, in place of it.

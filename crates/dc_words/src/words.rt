@@ -68,11 +68,20 @@ fn line_arg<'a>(alloc: Global) -> Arg<'a> {
         .help("The link of bus line N: tcp://HOST:PORT, serial:PATH or blocks://HOST:PORT")
 }
 
+// `--patience` of a command that stores nothing.
 fn patience_arg<'a>(alloc: Global) -> Arg<'a> {
+    stored_patience_arg(alloc).default_value("2000").help(
+        "Milliseconds without a first byte that are silence, from 1 to 60000",
+    )
+}
+
+// `--patience` of a command that stores readings: each link has a default of its own.
+fn stored_patience_arg<'a>(alloc: Global) -> Arg<'a> {
     option_arg(alloc, "PATIENCE", "patience", "MS")
         .value_parser(value_parser!(u16).range(1..=60_000))
-        .default_value("2000")
-        .help("Milliseconds without a first byte that are silence, from 1 to 60000")
+        .help(
+            "Milliseconds without a first byte that are silence, from 1 to 60000 [default: 6000 for tcp://, else 2000]",
+        )
 }
 
 fn trace_arg<'a>(alloc: Global) -> Arg<'a> {
@@ -202,7 +211,7 @@ fn poll_command<'a>(alloc: Global) -> Result<Command<'a>, AllocError> {
             "json",
             "Prints JSON Lines, an object an event"
         ),
-        patience_arg(alloc),
+        stored_patience_arg(alloc),
         trace_arg(alloc),
         dry,
     ]?;
@@ -219,7 +228,7 @@ fn run_command<'a>(alloc: Global) -> Result<Command<'a>, AllocError> {
         image_arg(alloc),
         required_arg(alloc, "SCRIPT", script),
         line_arg(alloc),
-        patience_arg(alloc),
+        stored_patience_arg(alloc),
         gateway,
     ]?;
     let about = "Does the lines of a script on an image, and prints the answers";
@@ -478,7 +487,7 @@ fn form_of(inner: &ArgMatches<'_>) -> Form {
 // The tasks over one bus.
 fn bus_task<'a>(name: &str, inner: &ArgMatches<'a>) -> Result<Task<'a>, WordsFault> {
     let link = LinkName::parse(inner.get_str("LINK").unwrap_or_default())?;
-    let patience = patience_of(inner);
+    let patience = inner.get_one("PATIENCE").unwrap_or_default();
     if name == "scan" {
         let budget = inner.get_one("BUDGET").unwrap_or_default();
         return Ok(Task::Scan {
@@ -580,7 +589,7 @@ fn run_task<'a>(image: &'a str, inner: &ArgMatches<'a>) -> Result<Task<'a>, Word
         script: file_of(inner, "SCRIPT")?,
         gateway,
         links,
-        patience: patience_of(inner),
+        patience: inner.get_one("PATIENCE"),
     }))
 }
 
@@ -603,7 +612,7 @@ fn poll_task<'a>(
         only,
         tries: inner.get_one("TRIES").unwrap_or_default(),
         is_json: inner.get_flag("JSON"),
-        patience: patience_of(inner),
+        patience: inner.get_one("PATIENCE"),
         trace: inner.get_str("TRACE"),
         is_dry: inner.get_flag("DRY"),
     }))
@@ -615,10 +624,6 @@ fn links_of<'a>(inner: &ArgMatches<'a>) -> Result<Links<'a>, LinkFault> {
         links.add(word)?;
     }
     Ok(links)
-}
-
-fn patience_of(inner: &ArgMatches<'_>) -> u16 {
-    inner.get_one("PATIENCE").unwrap_or_default()
 }
 
 // An identity, the eight digits of a number, or a primary address.

@@ -112,7 +112,7 @@ fn buses_of<'p, 'e, R, O>(
     host: &Host<'_, R>,
     peers: &'p [Option<Peer<R>>],
     observers: Vec<O>,
-    patience: u16,
+    patience: Option<u16>,
 ) -> Result<Vec<Observed<SystemBus<'p, R>, O>, Global>, Ending<'e>>
 where
     R: Net<Stream = TcpStream> + Clock + Copy + Eprint + AllocGlobal,
@@ -121,7 +121,7 @@ where
     let mut buses = Vec::new(host.rt.alloc());
     for (peer, observer) in peers.iter().zip(observers) {
         let bus = match peer {
-            Some(peer) => match peer.bus(*host.rt, patience) {
+            Some(peer) => match peer.bus(*host.rt, patience.unwrap_or(peer.patience())) {
                 Ok(bus) => bus,
                 Err(error) => return Err(host.why.link(None, error)),
             },

@@ -114,7 +114,7 @@ where
 fn slots_of<'p, 'e, R>(
     host: &Host<'_, R>,
     peers: &'p [Option<Peer<R>>],
-    patience: u16,
+    patience: Option<u16>,
 ) -> Result<Vec<Option<LineSlot<'p, R>>>, Ending<'e>>
 where
     R: Net<Stream = TcpStream> + Clock + Copy + AllocGlobal,
@@ -122,7 +122,7 @@ where
     let mut slots = Vec::new(host.rt.alloc());
     for peer in peers {
         let slot = match peer {
-            Some(peer) => match peer.bus(*host.rt, patience) {
+            Some(peer) => match peer.bus(*host.rt, patience.unwrap_or(peer.patience())) {
                 Ok(bus) => Some(slot_of(bus)),
                 Err(error) => return Err(host.why.link(None, error)),
             },
