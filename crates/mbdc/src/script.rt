@@ -135,7 +135,7 @@ where
     Ok(slots)
 }
 
-fn slot_of<C: Clock + Copy>(bus: SystemBus<'_, C>) -> LineSlot<'_, C> {
+fn slot_of<C: Net<Stream = TcpStream> + Clock + Copy>(bus: SystemBus<'_, C>) -> LineSlot<'_, C> {
     Slot {
         bus: Both { bus, pause: Waiter },
         is_gateway: false,
