@@ -3,9 +3,8 @@
 //! [`open_image`] opens an image for one program that changes it; its first read goes to the drive. [`open_disk`] makes a
 //! disk of it, which fails once the file has lost its name. [`LookedAt`] is an image that is looked at, also while a
 //! program changes it: what a look reads is of one instant ([`LookDisk`]); [`copy_image`] copies all of it ([`Copied`]).
-//! [`format_image`] makes an
-//! image in a file of its own ([`HalfMade`]), which gets the name once it is whole; no file that holds anything but
-//! zeros is touched. [`hold`] gives each closed standard stream to `/dev/null`, so that no image gets its number.
+//! [`format_image`] makes an image in a file of its own ([`HalfMade`]), which gets the name once it is whole; no file that
+//! holds anything but zeros is touched. [`hold`] gives each closed standard stream to `/dev/null`, so that no image gets its number.
 //!
 //! A [`Host`] is the system as the commands see it, with the record of its failed calls ([`Why`]). A
 //! [`Noted`] file or stream puts its failed calls there. [`holder_of`] names the process that has a file locked.

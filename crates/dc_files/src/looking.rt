@@ -85,7 +85,7 @@ impl<'h> LookedAt<'h> {
         }
     }
 
-    /// Whether what was read stood in the file at one instant. If it didn't, waits, so that the look may begin anew.
+    /// Whether what was read stood in the file at one instant, and is durable. If it doesn't, waits, so that the look may begin anew.
     ///
     /// # Errors
     /// The ending of the command: a call of the file failed, out of memory, or the file changed within each look for two
@@ -93,14 +93,13 @@ impl<'h> LookedAt<'h> {
     pub fn stands<'a>(&self, sample: LookDisk<'h>, name: &'a str) -> Result<bool, Ending<'a>>
         ensures { IfErr result (λ ending. IsOfCopy ending name.now) }
     {
-        read_anew(&self.file);
         match sample.stands() {
-            (Ok(true), _) => Ok(true),
-            (Ok(false), _) if milliseconds().saturating_sub(self.begun) < PATIENCE => {
+            (Ok(true), _) if self.is_durable() => Ok(true),
+            (Ok(_), _) if milliseconds().saturating_sub(self.begun) < PATIENCE => {
                 wait();
                 Ok(false)
             }
-            (Ok(false), _) => Err(self.busy(name)),
+            (Ok(_), _) => Err(self.busy(name)),
             (Err(fault), _) => Err(ending_of_sample(fault)),
         }
     }
@@ -111,6 +110,14 @@ impl<'h> LookedAt<'h> {
     {
         let error = io::Error::new(ErrorKind::WouldBlock, "it changed at each reading");
         self.why.file(name, error)
+    }
+
+    // Makes durable what was written up to now. A drive that takes no syncs isn't written.
+    fn is_durable(&self) -> bool {
+        match self.file.sync_data() {
+            Ok(()) => true,
+            Err(error) => error.kind() == ErrorKind::InvalidInput,
+        }
     }
 
     fn opened_anew(&self) -> io::Result<FileDisk<Noted<'h, File>>>

@@ -34,7 +34,9 @@ fn look<'a, R: Files<File = File> + AllocGlobal>(
     image: &'a str,
 ) -> Result<(House<Global>, Option<u32>), Ending<'a>> {
     let file = LookedAt::open(host, image)?;
-    let greatest = scan_file(host, &file, image)?;
+    let greatest = scan_file(&file, image)?;
+    // The poll reads the roots and the chain alone.
+    host.why.forget_unreadable();
     for _ in 0..ROUNDS {
         let mut sample = file.sample(host.rt.alloc(), image)?;
         let read = match register_of(host.rt.alloc(), &mut sample, &greatest) {

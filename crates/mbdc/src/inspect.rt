@@ -39,7 +39,7 @@ fn look<'a, R: Files<File = File> + AllocGlobal>(
     image: &'a str,
 ) -> Result<Shown<Global>, Ending<'a>> {
     let file = LookedAt::open(host, image)?;
-    let greatest = scan_file(host, &file, image)?;
+    let greatest = scan_file(&file, image)?;
     for _ in 0..ROUNDS {
         let mut sample = file.sample(host.rt.alloc(), image)?;
         let shown = match answer(host.rt.alloc(), &mut sample, &greatest, asked) {
@@ -53,19 +53,11 @@ fn look<'a, R: Files<File = File> + AllocGlobal>(
     Err(file.busy(image))
 }
 
-/// Scans the halves of an image that is looked at, before the look. A sector that the drive can't read counts only where
-/// the look needs it.
-pub fn scan_file<'a, R>(
-    host: &Host<'_, R>,
-    file: &LookedAt<'_>,
-    image: &'a str,
-) -> Result<Greatest, Ending<'a>> {
+/// Scans the halves of an image that is looked at, before the look.
+pub fn scan_file<'a>(file: &LookedAt<'_>, image: &'a str) -> Result<Greatest, Ending<'a>> {
     let mut disk = file.disk(image)?;
     match scan(&mut disk) {
-        Ok(greatest) => {
-            host.why.forget_unreadable();
-            Ok(greatest)
-        }
+        Ok(greatest) => Ok(greatest),
         Err(fault) => Err(ending_of(Err(fault), image)),
     }
 }
