@@ -10,9 +10,9 @@ begins_frame byte = byte == 0x68 || byte == 0x10 || byte == 0xE5
 abbrev pub IsNoise : ℕ → Type 0
 IsNoise byte = begins_frame byte ≡ false
 
--- these bytes were read behind noise, which isn't dropped where an answer has begun
-pub record IsPast (old new : Option (List ℕ)) (begun : Bool) (bytes : List ℕ) : Type 0 where
+-- these bytes were read behind noise, which isn't dropped where all bytes are taken
+pub record IsPast (old new : Option (List ℕ)) (takes_all : Bool) (bytes : List ℕ) : Type 0 where
   pub noise : List ℕ
   pub taken : Consumes old new (noise ++ bytes)
   pub none : All IsNoise noise
-  pub first : begun ≡ true → noise ≡ []
+  pub first : takes_all ≡ true → noise ≡ []

@@ -113,15 +113,24 @@ pub data IsStill {R W C : Type 0} (old : PollWire R W C) : Sound → PollWire R 
       }
       → IsStill old silence new
 
+-- noise is taken, too, where an answer has begun, and where several meters may answer: their answers may collide
+abbrev pub takes_all_until : Until → (begun : Bool) → Bool
+takes_all_until Still begun = begun
+takes_all_until Over begun = begun
+takes_all_until Paused begun = true
+
+abbrev pub takes_all : {R W C : Type 0} → PollWire R W C → Bool
+takes_all wire = takes_all_until wire.until wire.begun
+
 -- These bytes were read behind noise, and nothing was written. The time of noise isn't taken.
 pub data WireHears {R W C : Type 0} (remaining : R → Option (List ℕ)) (old : PollWire R W C)
     (sound : Sound) (new : PollWire R W C) : Type 0 where
   bytes_came : (between : PollWire R W C)
-      → IsPast (remaining old.reader) (remaining between.reader) old.begun (bytes_of sound)
+      → IsPast (remaining old.reader) (remaining between.reader) (takes_all old) (bytes_of sound)
       → between ≡ record old { reader = between.reader; at = between.at }
       → IsHeard between new → WireHears remaining old sound new
   none_came : (between : PollWire R W C)
-      → IsPast (remaining old.reader) (remaining between.reader) old.begun (bytes_of sound)
+      → IsPast (remaining old.reader) (remaining between.reader) (takes_all old) (bytes_of sound)
       → between ≡ record old { reader = between.reader; at = between.at }
       → IsStill between sound new → WireHears remaining old sound new
 

@@ -4,7 +4,7 @@ ghost use Rattle.std.specs.Prelude.{◌≡◌, ◌*◌, ◌≤◌, ◌<◌, [], 
 ghost use Rattle.dc_io.specs.Failures.{HasRisen};
 ghost use Rattle.dc_raw.specs.Looks.{waits_of};
 ghost use Rattle.dc_raw.specs.Pace.{patience_after};
-ghost use Rattle.dc_raw.specs.PollWire.{Ends, IsHeard, IsStill, WireHears, WireSends, limit_by};
+ghost use Rattle.dc_raw.specs.PollWire.{Ends, IsHeard, IsStill, WireHears, WireSends, limit_by, takes_all};
 ghost use Rattle.dc_raw.specs.PollWire.{IsDeserted, WireReopens, until_by, waited_then};
 ghost use Rattle.dc_raw.specs.Turn.{is_reset, wants_ack};
 ghost use Rattle.dc_frame.specs.Reading.{frame_of};
@@ -74,7 +74,7 @@ pub enum Until {
 /// After a request the time-out is the patience. After the reset of all selected meters it is as long
 /// as an acknowledgement takes, by the [`Pace`] of the line; after a request that several meters may
 /// answer, as long as one of them may take to begin. Bytes that begin no frame are dropped where no
-/// answer has begun, and time goes on as if they hadn't come. A line on which bytes keep coming for
+/// answer has begun and one meter alone may answer, and time goes on as if they hadn't come. A line on which bytes keep coming for
 /// ten patiences, or 15 s where that is longer, without a request or silence between them, fails. So
 /// does one on which requests met silence for 120 s, and no byte came since it was connected.
 #[derive(Drop)]
@@ -194,6 +194,16 @@ impl<R: Read + AsRawFd + Drop, W: Write + Link + Drop, C: Clock + Drop> PollWire
         }
     }
 
+    // Whether bytes that begin no frame are taken, too: an answer has begun, or several meters may answer.
+    fn takes_all(&self) -> bool
+        ensures { result ≡ takes_all self.now }
+    {
+        match self.until {
+            Until::Paused => true,
+            Until::Still | Until::Over => self.begun,
+        }
+    }
+
     // Takes what has arrived. After `MOST_WAITS` calls without a byte it waits for the rest of the
     // time-out.
     fn look(&mut self, room: &mut [u8]) -> Result<Came, IoFault>
@@ -212,8 +222,8 @@ impl<R: Read + AsRawFd + Drop, W: Write + Link + Drop, C: Clock + Drop> PollWire
         } else {
             0
         };
-        let begun = self.begun;
-        let count = read_past_noise(&mut self.reader, wait_millis(wait), begun, room)?;
+        let takes_all = self.takes_all();
+        let count = read_past_noise(&mut self.reader, wait_millis(wait), takes_all, room)?;
         self.at = now(&self.clock)?;
         if count > 0 {
             let (given, _) = room.split_at(count);

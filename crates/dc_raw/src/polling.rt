@@ -85,14 +85,14 @@ pub(crate) fn read_within<R: Read + AsRawFd>(
     Err(IoFault)
 }
 
-// Number of bytes at the front that begin no frame; none where an answer has begun.
-fn noise_len(bytes: &[u8], begun: bool) -> usize
+// Number of bytes at the front that begin no frame; none where all bytes are taken.
+fn noise_len(bytes: &[u8], takes_all: bool) -> usize
     ensures fits { result ≤ length bytes.now }
     ensures none { All IsNoise (take result bytes.now) }
-    ensures first { begun ≡ true → result ≡ 0 }
+    ensures first { takes_all ≡ true → result ≡ 0 }
 {
     let mut count = 0;
-    if begun {
+    if takes_all {
         return count;
     }
     'noise: while count < bytes.len() && !begins_frame(bytes[count]) {
@@ -108,24 +108,24 @@ fn begins_frame(byte: u8) -> bool
     byte == LONG_START || byte == SHORT_START || byte == ACKNOWLEDGED
 }
 
-// Reads what comes within this many milliseconds. Where no answer has begun, bytes that begin none
-// are dropped before it.
+// Reads what comes within this many milliseconds. Unless all bytes are taken, those that begin no
+// frame are dropped before it.
 pub(crate) fn read_past_noise<R: Read + AsRawFd>(
     reader: &mut R,
     millis: i32,
-    begun: bool,
+    takes_all: bool,
     room: &mut [u8],
 ) -> Result<usize, IoFault>
     ensures count { IfOk result (λ n. n ≤ length room.old) }
     ensures bytes { IfOk result (λ n. IsPast (R.remaining reader.old)
-        (R.remaining reader.new) begun (take n room.new)) }
+        (R.remaining reader.new) takes_all (take n room.new)) }
 {
     let mut own = [0; MOST_READ];
     let most = room.len().min(MOST_READ);
     let (part, _) = own.split_at_mut(most);
     let count = read_within(reader, millis, part)?;
     let (given, _) = own.split_at(count);
-    let noise = noise_len(given, begun);
+    let noise = noise_len(given, takes_all);
     let (_, rest) = given.split_at(noise);
     room[..rest.len()].copy_from_slice(rest);
     Ok(rest.len())

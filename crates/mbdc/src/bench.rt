@@ -18,7 +18,7 @@ const LINE: u8 = 1;
 
 /// Connects a link, does the work on its bus, and gives the link back.
 pub fn on_bus<'a, R>(
-    host: &Host<'_, R>,
+    host: &Host<'a, R>,
     link: &LinkName<'_>,
     work: Work,
     patience: u16,
@@ -53,15 +53,28 @@ where
 {
     let is_shown = matches!(work, Work::Search(_)) && shows_progress(host, trace);
     let progress = Progress::new(host.rt, is_shown, work, patience);
-    let observer = Pair {
-        first: tracer_of(trace, LINE),
-        second: Show {
-            progress: &progress,
-        },
-    };
-    let ending = over_bus(host, peer, work, patience, observer, &progress);
+    let ending = over_watched(host, peer, work, patience, trace, &progress);
     progress.clear();
     ending
+}
+
+// Does the work, of which the trace and the progress see each request and answer.
+fn over_watched<'a, R>(
+    host: &Host<'_, R>,
+    peer: &Peer<R>,
+    work: Work,
+    patience: u16,
+    trace: Option<&TraceFile<'_, R>>,
+    progress: &Progress<'_, R>,
+) -> Ending<'a>
+where
+    R: Net<Stream = TcpStream> + Clock + Copy + Print + Eprint + AllocGlobal,
+{
+    let observer = Pair {
+        first: tracer_of(trace, LINE),
+        second: Show { progress },
+    };
+    over_bus(host, peer, work, patience, observer, progress)
 }
 
 // Makes the bus of a link, and does the work on it. The observer is any, for the checker meets its step limit over the

@@ -41,16 +41,30 @@ fn look<'a, R: Files<File = File> + AllocGlobal>(
     let file = LookedAt::open(host, image)?;
     let greatest = scan_file(&file, image)?;
     for _ in 0..ROUNDS {
-        let mut sample = file.sample(host.rt.alloc(), image)?;
-        let shown = match answer(host.rt.alloc(), &mut sample, &greatest, asked) {
-            Ok(shown) => shown,
-            Err(fault) => return Err(ending_of(Err(fault), image)),
-        };
-        if file.stands(sample, image)? {
+        if let Some(shown) = look_once(host, &file, &greatest, &asked, image)? {
             return Ok(shown);
         }
     }
     Err(file.busy(image))
+}
+
+// What is asked of the image, unless it changed meanwhile.
+fn look_once<'a, R: AllocGlobal>(
+    host: &Host<'_, R>,
+    file: &LookedAt<'_>,
+    greatest: &Greatest,
+    asked: &Asked,
+    image: &'a str,
+) -> Result<Option<Shown<Global>>, Ending<'a>> {
+    let mut sample = file.sample(host.rt.alloc(), image)?;
+    let shown = match answer(host.rt.alloc(), &mut sample, greatest, *asked) {
+        Ok(shown) => shown,
+        Err(fault) => return Err(ending_of(Err(fault), image)),
+    };
+    if file.stands(sample, image)? {
+        return Ok(Some(shown));
+    }
+    Ok(None)
 }
 
 /// Scans the halves of an image that is looked at, before the look.

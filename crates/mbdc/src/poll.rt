@@ -22,7 +22,7 @@ use std::rt::{Clock, Files};
 
 /// Reads the registered meters of the image in that file over the links of their lines, or only
 /// those that are named.
-pub fn poll_on_image<'a, R>(host: &Host<'_, R>, task: &PollTask<'a>) -> Ending<'a>
+pub fn poll_on_image<'a, R>(host: &Host<'a, R>, task: &PollTask<'a>) -> Ending<'a>
 where
     R: Files<File = File> + Net<Stream = TcpStream> + Clock + Copy + Print + Eprint + AllocGlobal,
 {

@@ -41,7 +41,7 @@ enum Lines<'b> {
 }
 
 /// Runs the task that the words name.
-pub fn run<'a, R>(host: &Host<'_, R>, task: &Task<'a>) -> Ending<'a>
+pub fn run<'a, R>(host: &Host<'a, R>, task: &Task<'a>) -> Ending<'a>
 where
     R: Files<File = File>
         + Net<Stream = TcpStream, Listener = TcpListener>
