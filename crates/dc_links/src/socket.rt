@@ -22,8 +22,8 @@ const WRITING: i32 = 5_000;
 // Time limit for opening a stream again, in seconds. The other lines wait as long.
 const OPENING: u64 = 2;
 
-// A link is opened again for so many requests in a row at most, if no byte comes between them: the
-// tries of a readout. At the next one it is lost.
+// A link is opened again for so many requests in a row at most, if no byte comes behind one of them:
+// the tries of a readout. At the next one it is lost.
 const MOST_OPENED: u8 = 3;
 
 // Maximum number of polls repeated because a signal interrupted one.
@@ -39,8 +39,10 @@ pub struct Socket<C> {
     place: SocketAddr,
     // None where it is closed.
     stream: Cell<Option<TcpStream>>,
-    // Number of requests before which it was to be opened again, since a byte came.
+    // Number of requests before which it was to be opened again, since a byte came behind one.
     opened: Cell<u8>,
+    // Whether a request went out on the stream. ser2net says why it closes before one comes.
+    is_asked: Cell<bool>,
     /// Whether its line was given up, since nobody answers.
     pub deserted: Cell<bool>,
 }
@@ -61,6 +63,7 @@ impl<C> Socket<C> {
             place,
             stream: Cell::new(Some(prepared(stream)?)),
             opened: Cell::new(0),
+            is_asked: Cell::new(false),
             deserted: Cell::new(false),
         })
     }
@@ -82,6 +85,7 @@ impl<C> Socket<C> {
         C: Net<Stream = TcpStream>,
     {
         self.stream.set(None);
+        self.is_asked.set(false);
         self.opened.set(self.opened.get().saturating_add(1));
         if self.is_lost() {
             return false;
@@ -141,7 +145,9 @@ impl<C> Read for Tcp<'_, C> {
         self.socket.keep(stream, &called);
         match called {
             Ok(count) if count > 0 => {
-                self.socket.opened.set(0);
+                if self.socket.is_asked.get() {
+                    self.socket.opened.set(0);
+                }
                 Ok(count)
             }
             _ => Err(io::Error::from(ErrorKind::Interrupted)),
@@ -159,6 +165,7 @@ impl<C> Write for Tcp<'_, C> {
             return Ok(bytes.len());
         };
         let called = stream.write(bytes);
+        self.socket.is_asked.set(true);
         self.socket.keep(stream, &called);
         match called {
             Ok(count) if count > 0 => Ok(count),
