@@ -57,9 +57,9 @@ class Cron:
     def release(self, month: datetime.date, *words: str) -> None:
         self.run("sheets", f"{month:%Y-%m}", "--out", str(self.out), "--pdf", "none", "--release", *words)
 
-    def correct(self, present: datetime.date) -> None:
-        """A person corrects what would be another now, as far as its days are there."""
-        kept = shifted(present, -KEPT_MONTHS)
+    def correct(self, month: datetime.date) -> None:
+        """In the month after this one a person corrects what would be another now, as far as its days are there."""
+        kept = shifted(month, -KEPT_MONTHS)
         for house, month in self.office.sql(CHANGED, kept):
             self.run("correct", house, month, "--why", WHY)
             self.run("sheets", month, "--out", str(self.out), "--pdf", "none", "--release", "--house", house)
