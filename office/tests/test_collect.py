@@ -137,20 +137,22 @@ def test_a_box_that_comes_to_no_end(office: Office, box: Box) -> None:
     """Its process is killed at the deadline, also a stopped one."""
     box.hears(2)
     office.sql("INSERT INTO boxes (name, command) VALUES ('sleeps', 'sleep 100')")
-    ended = office.collect("--longest", "1")
+    ended = office.collect("--longest", "1", "sleeps")
     assert ended.status == 1 and "sleeps: FAILED: no end within 1 s" in ended.printed
-    process = started(office, "--workers", "1", "--longest", "3", "sleeps", "house-1")
+    process = started(office, "--workers", "1", "--longest", "8", "sleeps", "house-1")
     while not (found := workers_of(process)):
+        assert process.poll() is None
         time.sleep(0.05)
     os.kill(found[0], signal.SIGSTOP)
     printed, _ = process.communicate(timeout=60)
-    assert "sleeps: FAILED: no end within 3 s" in printed and "house-1: 0 readings" in printed
+    assert "sleeps: FAILED: no end within 8 s" in printed and "house-1: 2 readings" in printed
 
 
 def test_processes_end_with_their_parent(office: Office, box: Box) -> None:
-    office.sql("INSERT INTO boxes (name, command) VALUES ('sleeps', 'sleep 2')")
+    office.sql("INSERT INTO boxes (name, command) VALUES ('sleeps', 'sleep 10')")
     process = started(office, "--workers", "2", "--tries", "1")
     while not any(map(is_asleep, found := workers_of(process))):
+        assert process.poll() is None
         time.sleep(0.05)
     process.kill()
     process.wait()
