@@ -60,9 +60,9 @@ class Cron:
     def correct(self, month: datetime.date) -> None:
         """In the month after this one a person corrects what would be another now, as far as its days are there."""
         kept = shifted(month, -KEPT_MONTHS)
-        for house, month in self.office.sql(CHANGED, kept):
-            self.run("correct", house, month, "--why", WHY)
-            self.run("sheets", month, "--out", str(self.out), "--pdf", "none", "--release", "--house", house)
+        for house, changed in self.office.sql(CHANGED, kept):
+            self.run("correct", house, changed, "--why", WHY)
+            self.run("sheets", changed, "--out", str(self.out), "--pdf", "none", "--release", "--house", house)
             self.corrected += 1
         for house, period in self.office.sql(CHANGED_BILLS, kept):
             self.run("correct", house, period, "--bill", "--why", WHY)
