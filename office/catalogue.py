@@ -29,7 +29,7 @@ WORDS: Dict[str, Tuple[str, str]] = {  # German, English
     "check_of": ("Telegramm prüfen: Zähler {meter}, {moment}", "Check the telegram: meter {meter}, {moment}"),
     "chart": ("Verbrauch nach Monaten: {use}", "Consumption by month: {use}"),
     "none": ("kein Wert", "no value"), "not_yet": ("noch nicht eingezogen", "before you moved in"),
-    "part_of": ("nur {period}", "only {period}"), "place": ("Messstelle {number}", "Place {number}"),
+    "part_of": ("{days} von {all} Tagen, {period}", "{days} of {all} days, {period}"), "place": ("Messstelle {number}", "Place {number}"),
     "consumed": ("Verbrauch", "Consumption"), "contact": ("Fragen beantwortet", "Questions are answered by"),
     "explain": (
         "Der Verbrauch ist der Unterschied zweier Zählerstände. Liegt ein Stand nicht genau am Anfang oder Ende des "
@@ -45,6 +45,31 @@ WORDS: Dict[str, Tuple[str, str]] = {  # German, English
     "average_explain": (
         "Durchschnitt: Verbrauch je m² aller vergleichbaren Wohnungen mit gemessenem Wert, mal Ihre Wohnfläche, ganzer Monat.",
         "Average: consumption per m² of all comparable flats with a measured value, times your floor area, whole month."),
+    "the_average": ("der Durchschnitt", "the average"), "that": ("das", "that"),
+    "less": ("{percent} % weniger als {then}", "{percent} % less than {then}"),
+    "more": ("{percent} % mehr als {then}", "{percent} % more than {then}"),
+    "as_much": ("so viel wie {then}", "as much as {then}"),
+    "weather": ("{then} hätte beim Wetter dieses Monats {amount} {unit} gebraucht: {change}",
+                "{then} would have needed {amount} {unit} in this month's weather: {change}"),
+    "weather_title": ("Vom Wetter bereinigt", "Adjusted for the weather"), "weather_source": ("Gradtage: {source}", "Degree days: {source}"),
+    "own_co2": ("{amount} kg CO2", "{amount} kg CO2"), "own_co2_title": ("Ihre Emissionen im Monat", "Your emissions in the month"),
+    "cost": ("{amount} € ({price} Cent je {unit})", "€{amount} ({price} cents per {unit})"),
+    "costs_title": ("Kosten des Monats, ohne Grundkosten", "Costs of the month, without fixed costs"),
+    "estimated_by": ("geschätzt nach: {how}", "estimated by: {how}"),
+    "estimated_between": ("geschätzt: kein Messwert zwischen {since} und {until}", "estimated: no reading between {since} and {until}"),
+    "flats of the house": ("Wohnungen des Hauses", "flats of the house"),
+    "flats of the category": ("vergleichbare Wohnungen", "comparable flats"),
+    "factor": ("1 {unit} = {kwh} kWh", "1 {unit} = {kwh} kWh"), "unit_of_allocators": ("Einheit", "unit"),
+    "factor_title": ("Umrechnung in kWh", "Conversion to kWh"), "fuels": ("Energieträger", "Fuels"),
+    "advice": ("Energieberatung", "Advice on saving energy"), "complaints": ("Beschwerden und Schlichtung", "Complaints and disputes"),
+    "contacts": ("Ansprechpartner", "Contacts"), "compared_title": ("Im Vergleich", "In comparison"),
+    "corrected_title": ("Berichtigte Verbrauchsinformation", "Corrected consumption information"),
+    "corrected": ("Berichtigt am {day} (Fassung {version}). {changes} Warum: {why}", "Corrected on {day} (version {version}). {changes} Why: {why}"),
+    "corrected_use": ("{use}: {now} {unit}, vorher {before} {unit}.", "{use}: {now} {unit}, before {before} {unit}."),
+    "replaced": ("Ersetzt durch Fassung {version}.", "Replaced by version {version}."), "version": ("Fassung", "Version"),
+    "print_run": ("Druck", "Print run"),
+    "mail": ("Guten Tag, {person},\n\nIhre Verbrauchsinformation für {month} finden Sie hier:\n\n{link}\n\nDer Link ist nur für Sie. Fragen beantwortet: {contact}\n",
+             "Dear {person},\n\nyour consumption information for {month} is here:\n\n{link}\n\nThe link is for you alone. Questions are answered by: {contact}\n"),
     "estimated_explain": (
         "Geschätzt: Für mindestens einen Stand gab es keinen Messwert in der Nähe.",
         "Estimated: for one reading at least there was no measured value nearby."),
@@ -106,6 +131,11 @@ class Catalogue(NamedTuple):
             return f"{day.day:02}.{day.month:02}.{day.year}"
         return f"{day.day} {MONTHS['en'][day.month - 1][:3]} {day.year}"
 
+    def long_day(self, moment: datetime.datetime) -> str:
+        """The day of a moment, with the month's name."""
+        day = moment.astimezone(zoneinfo.ZoneInfo(self.zone)).date()
+        return f"{day.day}{'.' if self.language == 'de' else ''} {self.month(day)}"
+
     def moment(self, moment: datetime.datetime) -> str:
         """A date and time in the house's zone; midnight ends the day before it."""
         local = moment.astimezone(zoneinfo.ZoneInfo(self.zone))
@@ -127,6 +157,11 @@ class Catalogue(NamedTuple):
     def exact(self, number: decimal.Decimal) -> str:
         """With the decimals that it has, and no zeros after them."""
         return self.marked(f"{number.normalize():,f}" if number else "0")
+
+    def share(self, share: object) -> str:
+        """A number up to 1 in per cent; anything else as it is."""
+        is_share = isinstance(share, (int, float)) and not isinstance(share, bool) and 0 <= share <= 1
+        return f"{self.exact(decimal.Decimal(str(share)) * 100)}{NARROW}%" if is_share else str(share)
 
     def marked(self, text: str) -> str:
         thousands, point = MARKS[self.language]

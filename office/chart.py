@@ -7,6 +7,7 @@ WIDTH, HEIGHT = 650, 200  # user units
 TOP, BOTTOM, LEFT = 24, 36, 8
 GAP = 8
 PLACES = 13
+LETTER, LETTER_WIDTH = 11, 0.68  # the largest, and its width by its size
 
 
 class Bar(NamedTuple):
@@ -32,6 +33,7 @@ class Shape(NamedTuple):
 class Chart(NamedTuple):
     width: int
     height: int
+    letter: float  # the size of letters, so that no number reaches the next one
     base: int  # where the bars stand
     end: float  # of the line below them
     shapes: List[Shape]
@@ -48,4 +50,5 @@ def chart_of(bars: List[Bar]) -> Chart:
         x = LEFT + place * step
         shapes.append(Shape(round(x + GAP / 2, 1), round(HEIGHT - BOTTOM - height, 1), round(step - GAP, 1),
                             round(height, 1), round(x + step / 2, 1), bar))
-    return Chart(WIDTH, HEIGHT, HEIGHT - BOTTOM, round(2 * LEFT + len(bars) * step, 1), shapes)
+    longest = max((len(bar.shown) for bar in bars if bar.value is not None), default=0)
+    return Chart(WIDTH, HEIGHT, round(min(LETTER, step / (LETTER_WIDTH * max(longest, 1))), 1), HEIGHT - BOTTOM, round(2 * LEFT + len(bars) * step, 1), shapes)

@@ -4,9 +4,11 @@ import datetime
 import decimal
 import functools
 import importlib
+import itertools
+import operator
 import os
 import pathlib
-from typing import Any, List, NamedTuple, Optional, Tuple
+from typing import Any, Dict, List, NamedTuple, Optional, Tuple
 
 import jinja2
 import markupsafe
@@ -16,11 +18,13 @@ from chart import Bar, Chart, chart_of
 from checking import check_link
 from codes import Code, code_of
 from database import plain
-from periods import begin_of, day_before, later_month, next_month
+from periods import day_before, later_month, next_month
 from sheet_data import MARKED, MONTHS, Number, Sheet, Use
+from sheet_facts import carbon, comparisons, corrected, costs, days_in, estimates, factors, is_whole, weather
 
 TEMPLATES = pathlib.Path(__file__).resolve().parent / "templates"
 LONGEST = 300  # characters of what people wrote
+FACTS = {"changes": comparisons, "weather": weather, "carbon": carbon, "costs": costs}
 
 
 class Options(NamedTuple):
@@ -37,9 +41,10 @@ def environment() -> jinja2.Environment:
 
 
 @functools.lru_cache(maxsize=None)
-def style() -> markupsafe.Markup:
+def style(file: str = "page.css") -> markupsafe.Markup:
     """The one text that isn't escaped: the repository's own style."""
-    return markupsafe.Markup((TEMPLATES / "page.css").read_text(encoding="utf-8"))
+    files = (file, "dark.css") if file == "page.css" else (file,)
+    return markupsafe.Markup("".join((TEMPLATES / it).read_text(encoding="utf-8") for it in files))
 
 
 def shown(text: str) -> str:
@@ -58,10 +63,16 @@ def sheet_html(sheet: Sheet, options: Options, with_codes: bool = False) -> str:
     return html_of("sheet.html", words, sheet=sheet, user=user, months=compared(sheet.month),
                    begins=min(number.begins for number in numbers), ends=max(number.ends for number in numbers),
                    charts=charts_of(sheet, words), last_of=lambda month: day_before(next_month(month)),
-                   is_estimated=any(number.grade == "estimated" for number in numbers),
-                   is_whole=lambda number, month: is_whole(number, month, user.zone), decoder=options.decoder,
+                   is_estimated=any(number.grade == "estimated" for number in numbers), said=said_of(sheet, words), corrected=corrected(sheet, words),
+                   part=lambda number, month: part_of(number, month, words), decoder=options.decoder,
                    check_link=lambda use, place: check_link(options.checker, words, use, place), checker=options.checker,
                    codes=codes_of(sheet, options) if with_codes else [])
+
+
+def replaced_html(text: str, words: Catalogue, version: int) -> str:
+    """A sheet that another version has replaced: as it was, with a banner."""
+    banner = markupsafe.escape(words.word("replaced", version=version))
+    return text.replace('<main id="main">', f'<p class="banner">{banner}</p>\n<main id="main">', 1)
 
 
 def compared(month: datetime.date) -> List[datetime.date]:
@@ -69,8 +80,21 @@ def compared(month: datetime.date) -> List[datetime.date]:
     return [month, later_month(month, -1), later_month(month, -12)]
 
 
-def is_whole(number: Number, month: datetime.date, zone: str) -> bool:
-    return number.begins == begin_of(month, zone) and number.ends == begin_of(next_month(month), zone)
+def part_of(number: Number, month: datetime.date, words: Catalogue) -> str:
+    """Of a number that isn't of the whole month: which days it is of."""
+    if is_whole(number, month, words.zone):
+        return ""
+    days, of_all = days_in(number, words.zone, month)
+    return words.word("part_of", days=days, all=of_all, period=words.period(number.begins, number.ends))
+
+
+def said_of(sheet: Sheet, words: Catalogue) -> Dict[str, List[Tuple[Use, str]]]:
+    """The sentences beside the numbers, by what they are about."""
+    found: Dict[str, List[Tuple[Use, str]]] = {}
+    for name, of in FACTS.items():
+        of_uses = [(use, [it[3] for it in group]) for use, group in itertools.groupby(of(sheet, words), operator.itemgetter(0))]
+        found[name] = [(use, ", ".join(sentences)) for use, sentences in of_uses]
+    return {**found, "estimates": list(estimates(sheet, words)), "factors": list(factors(sheet, words))}
 
 
 def charts_of(sheet: Sheet, words: Catalogue) -> List[Tuple[Use, Chart]]:

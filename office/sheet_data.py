@@ -11,6 +11,7 @@ from consumption import Line
 from database import Cursor
 from decoding import frame_of
 from periods import later_month
+from sheet_facts import Facts, facts_of
 from supply import seconds
 
 MONTHS = 13  # of the chart
@@ -21,7 +22,7 @@ UNITS = {ENERGY: "kWh", "volume": "m³", "allocation": "HCA"}  # by quantity, wh
 
 USERS = """
 SELECT t.id, t.person, t.language, t.wants, t.token, t.house, t.flat, h.address, h.postcode, h.zone, h.category, h.contact,
-       h.fuel_mix, h.co2_g_per_kwh, h.primary_factor, f.area_m2, lower(t.days)
+       h.fuel_mix, h.co2_g_per_kwh, h.primary_factor, f.area_m2, lower(t.days), h.advice, h.complaints, h.shows_costs
 FROM tenancies t JOIN houses h ON h.house = t.house JOIN flats f ON f.house = t.house AND f.flat = t.flat
 WHERE t.house = ANY (%s) AND t.days && daterange(%s, %s) ORDER BY t.house, t.flat, t.days"""
 AMOUNTS = """
@@ -76,6 +77,7 @@ class Reading(NamedTuple):
     is_estimated: bool
     meter: str
     frame: Optional[str]  # its telegram, in hex digits, while the database has it
+    id: Optional[int]  # of day_values
     entry: Optional[Line]  # as it was computed with; none of a month that an older office computed
 
 
@@ -117,12 +119,16 @@ class User(NamedTuple):
     primary_factor: Optional[decimal.Decimal]
     area_m2: Optional[decimal.Decimal]
     begins: datetime.date
+    advice: str
+    complaints: str
+    shows_costs: bool
 
 
 class Sheet(NamedTuple):
     user: User
     month: datetime.date
     uses: List[Use]
+    facts: Facts
 
 
 class Amount(NamedTuple):
@@ -168,7 +174,8 @@ def sheets_of(cursor: Cursor, houses: List[str], month: datetime.date, averages:
     for row in cursor:
         amounts.setdefault(row[0], []).append(Amount(*row))
     frames = frames_of(cursor, (it for rows in amounts.values() for it in rows))
-    sheets = [Sheet(user, month, uses_of(user, month, amounts.get(user.id, []), averages, frames)) for user in users]
+    facts = facts_of(cursor, houses, month, [it["id"] for rows in amounts.values() for row in rows for it in row.basis or [] if it.get("id") is not None])
+    sheets = [Sheet(user, month, uses_of(user, month, amounts.get(user.id, []), averages, frames), facts[user.house]) for user in users]
     return [sheet for sheet in sheets if sheet.uses]
 
 
@@ -250,7 +257,7 @@ def frames_of(cursor: Cursor, amounts: Iterable[Amount]) -> Dict[TelegramKey, st
 def reading_of(basis: Dict[str, Any], frames: Dict[TelegramKey, str]) -> Reading:
     key = key_of(basis)
     return Reading(datetime.datetime.fromisoformat(basis["at"]), basis["value"], basis["unit"], basis["source"],
-                   basis["estimated"], basis["meter"], None if key is None else frames.get(key), entry_of(basis))
+                   basis["estimated"], basis["meter"], None if key is None else frames.get(key), basis.get("id"), entry_of(basis))
 
 
 def entry_of(basis: Dict[str, Any]) -> Optional[Line]:

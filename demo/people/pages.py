@@ -12,10 +12,10 @@ from people.truth import DECIMALS, DISTURBED, ESTIMATED, HAND, HELD, MISSING, PR
 
 WORDS = {"de": {ESTIMATED: "geschätzt", HAND: "abgelesen", PROVISIONAL: "vorläufig:", MISSING: "fehlt",
                 DISTURBED: "ein Zählerstand wird geprüft", HELD: "auffällig hoch", "before": "eingezogen", "none": "kein Wert",
-                "only": "nur"},
+                "only": "Tagen,"},
          "en": {ESTIMATED: "estimated", HAND: "person", PROVISIONAL: "provisional:", MISSING: "missing",
                 DISTURBED: "a reading is being checked", HELD: "unusually high", "before": "moved in", "none": "no value",
-                "only": "only"}}
+                "only": "days,"}}
 MONTHS = {"de": "Jan Feb Mär Apr Mai Jun Jul Aug Sep Okt Nov Dez".split(),
           "en": "Jan Feb Mar Apr May Jun Jul Aug Sep Oct Nov Dec".split()}
 METER_CELLS = 6  # of a meter's row on a house page

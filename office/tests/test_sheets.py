@@ -76,13 +76,14 @@ def luminance(colour: str) -> float:
 
 def test_each_text_has_contrast() -> None:
     """At least 4.5 to 1 on each background of the style."""
-    style = (OFFICE / "templates/page.css").read_text(encoding="utf-8")
-    inks, papers = (set(re.findall(rf"(?<![a-z-]){name}: (#[0-9a-f]+);", style)) for name in ("color", "background"))
-    assert len(inks) > 3 and len(papers) > 1
-    for ink in inks:
-        for paper in papers:
-            dark, light = sorted((luminance(ink), luminance(paper)))
-            assert (light + 0.05) / (dark + 0.05) >= 4.5, (ink, paper)
+    for file in ("page.css", "dark.css"):
+        style = (OFFICE / "templates" / file).read_text(encoding="utf-8")
+        inks, papers = (set(re.findall(rf"(?<![a-z-]){name}: (#[0-9a-f]+);", style)) for name in ("color", "background"))
+        assert len(inks) > 3 and len(papers) > 1
+        for ink in inks:
+            for paper in papers:
+                dark, light = sorted((luminance(ink), luminance(paper)))
+                assert (light + 0.05) / (dark + 0.05) >= 4.5, (ink, paper)
 
 
 @pytest.fixture
