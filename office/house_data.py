@@ -30,7 +30,7 @@ AMOUNTS = """
 SELECT NULL, month, use, number, begins, ends, grade, amount, has_kwh, kwh, units, NULL, quantity, position, is_charted, flat
 FROM month_kwh
 WHERE house = %s AND month = %s AND part = 0 ORDER BY use, number"""
-ALARMS = "SELECT since, kind, subject, says, known_by FROM alarms WHERE house = %s AND ended_at IS NULL ORDER BY id"
+ALARMS = "SELECT since, kind, subject, facts, known_by FROM alarms WHERE house = %s AND ended_at IS NULL ORDER BY id"
 USERS = """
 SELECT flat, person, token FROM tenancies WHERE house = %s AND days && daterange(%s, %s) ORDER BY flat, days"""
 
@@ -62,7 +62,7 @@ class Alarm(NamedTuple):
     since: datetime.datetime
     kind: str
     subject: str
-    says: str
+    facts: Dict[str, Any]
     known_by: Optional[str]
 
 

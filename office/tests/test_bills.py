@@ -2,6 +2,7 @@
 
 import csv
 import datetime
+import email
 import io
 import pathlib
 from typing import Dict, List
@@ -83,7 +84,8 @@ def test_alarms_are_told_once_until_they_end(office: Office, elm: Supplied, tmp_
         *(f"NEW power elm-1 0000000{number}.PAD.01.{kind}" for number, kind in ((1, "04"), (2, "04"), (3, "07"))),
         "NEW disturbed elm-1 00000001.PAD.01.04", "NEW leap elm-1 00000002.PAD.01.04",
         "NEW no consumption elm-1 00000003.PAD.01.07"], ended.printed
-    assert "power low, permanent error, flat A1" in (tmp_path / "mail").read_text()
+    text = email.message_from_bytes((tmp_path / "mail").read_bytes()).get_payload(decode=True).decode()
+    assert "A meter reports low power (flat A1): power low, permanent error." in text
     again = office.run("alarms", *words, str(mail))
     assert (again.status, again.printed) == (0, "")
     office.sql("SELECT strike(id, 'disturbed') FROM day_values WHERE value = 5")
@@ -96,7 +98,8 @@ def test_alarms_are_told_once_until_they_end(office: Office, elm: Supplied, tmp_
     office.sql("UPDATE meters SET heard = '2025-01-24', stored_at = '2025-01-24' WHERE identity LIKE '%%2.PAD%%'")
     silent = office.run("alarms", "--at", "2025-01-24T12:00+00:00")
     assert [line for line in silent.printed.splitlines() if "silent" in line] == [
-        f"NEW silent elm-1 0000000{number}.PAD.01.{kind}: silent, flat A{number}" for number, kind in ((1, "04"), (3, "07"))]
+        f"NEW silent elm-1 0000000{number}.PAD.01.{kind}: A meter is silent (flat A{number}): The last telegram came 19 Jan 2025, 24:00."
+        for number, kind in ((1, "04"), (3, "07"))]
     office.sql("UPDATE alarms SET known_by = 'me'")
 
 
@@ -113,7 +116,7 @@ def test_water_at_night(office: Office, elm: Supplied) -> None:
         (leaking, 9, 27_000), (tight, 9, 0)]
     printed = office.run("alarms", "--at", "2025-01-09T12:00+00:00").printed
     assert [line for line in printed.splitlines() if "night" in line] == [
-        "NEW night elm-1 00000001.PAD.01.06: water between 0:00 and 5:00 in 7 nights, flat A1"]
+        "NEW night elm-1 00000001.PAD.01.06: Water runs every night (flat A1): Between 0:00 and 5:00 in 7 nights, Warm water."]
 
 
 def test_one_alarm_a_cause(office: Office, elm: Supplied) -> None:
@@ -125,7 +128,7 @@ def test_one_alarm_a_cause(office: Office, elm: Supplied) -> None:
     office.sql("UPDATE meters SET heard = '2025-01-24', stored_at = '2025-01-24' WHERE identity LIKE '%%1.PAD%%'")
     words = ("alarms", "--at", "2025-01-25T12:00+00:00")
     printed = office.run(*words).printed
-    assert "NEW box elm-1: never collected; 2 meters are silent\n" in printed and "NEW silent" not in printed
+    assert "NEW box elm-1: Box was never collected: 2 meters without values.\n" in printed and "NEW silent" not in printed
     office.sql("UPDATE meters SET heard = '2025-01-20', stored_at = '2025-01-20'")
     office.sql("UPDATE boxes SET collected_at = '2025-01-25'")
     assert office.run(*words).printed == ""  # the cause is another, and the box the same
@@ -143,7 +146,7 @@ def test_a_leap_is_divided_by_its_days(office: Office, elm: Supplied) -> None:
         elm.values(one, {"2025-02-01": 1110 + later})
     printed = office.run("alarms", "--at", "2025-02-01T12:00+00:00").printed
     assert [line for line in printed.splitlines() if "leap" in line] == [
-        "NEW leap elm-1 00000002.PAD.01.04: to 3210 Wh, flat A2"]
+        "NEW leap elm-1 00000002.PAD.01.04: Far more used than usual (flat A2): On 1 Feb 2025 11 times a usual day, to 3.21 kWh."]
 
 
 def test_statistics(office: Office, elm: Supplied) -> None:

@@ -42,7 +42,8 @@ def test_late_readings_come_to_be_values(office: Office, elm: Supplied) -> None:
     closed(office)
     assert months(office)[1] == ("2025-01", 304 * WH, "measured")
     told = [line for line in office.run("alarms").printed.splitlines() if "NEW late" in line]
-    assert told == ["NEW late elm-1: 6 values of 1 meters, from 2024-12-31 on, came more than three days after the day"]
+    assert told == [
+        "NEW late elm-1: Readings came late: 6 values of 1 meters, from 2024-12-31 on, came more than three days after the day."]
     assert closed(office)[0] == "0 days of meters in 0 houses, 0 values written"
     assert office.sql("SELECT count(*) FROM to_close") == [(0,)]
 

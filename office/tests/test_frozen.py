@@ -74,7 +74,8 @@ def test_another_number_is_another_version(office: Office, elm: Supplied, tmp_pa
     assert closed.status == 0 and "2025-01: 1 places: 1 hand" in closed.printed and rows(office) == before
     printed = office.run("alarms").printed
     said = [line for line in printed.splitlines() if "NEW changed" in line]
-    assert said == [f"NEW changed elm-1 2025-01: elm-1/A1/heat/1 from 2024-12-31: {310_000 * WH} measured, now {315_000 * WH} hand"]
+    assert said == ["NEW changed elm-1 2025-01: A month that went out would be another now: elm-1/A1/heat/1: 310.0 kWh (measured) went out,"
+                    " now 315.0 kWh (read by a person)."]
     assert office.sql("SELECT amount FROM month_kwh WHERE part = 0 AND month = '2025-01-01'") == [(310_000 * WH,)]
     assert office.run("month", "2025-01").status == 0 and rows(office) == before
     corrected = office.run("correct", "elm-1", "2025-01", "--why", "read at the meter")
@@ -204,7 +205,7 @@ def test_a_bill_that_is_out(office: Office, elm: Supplied) -> None:
     assert office.run("close").status == 0
     assert bill(office, "2025-01-01..2025-02-28") == before
     name = "A1 heat 1 2025-01-18T00:00 2025-03-01T00:00"
-    assert (f"NEW changed elm-1 bill 2025-01-01..2025-02-28: {name}: {420_000 * WH} measured, now {415_000 * WH} hand\n"
+    assert (f"NEW changed elm-1 bill 2025-01-01..2025-02-28: A bill that went out would be another now: {name}: {420_000 * WH} measured, now {415_000 * WH} hand\n"
             in office.run("alarms").printed)
     left = office.run("correct", "elm-1", "2025-01-01..2025-02-28", "--bill", "--leave", "--why", "5 kWh")
     assert left.status == 0 and "END changed elm-1 bill" in office.run("alarms").printed

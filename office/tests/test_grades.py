@@ -94,7 +94,7 @@ def test_a_turn(office: Office, elm: Supplied) -> None:
     assert office.run("close").status == 0
     assert grades(elm, "2025-01") == ["disturbed"]
     printed = office.run("alarms", "--at", "2025-02-02T23:30+00:00").printed
-    assert "NEW turn elm-1 00000001.PAD.01.07: a counter of 8 digits would have turned on the way to 0.250 m3, flat A1" in printed
+    assert "NEW turn elm-1 00000001.PAD.01.07: Has the counter rolled over? (flat A1): " in printed and "a counter of 8 digits" in printed
     office.sql("SET ROLE clerk")
     office.sql("SELECT declare_counter('elm-1', '00000001.PAD.01.07', 8)")
     office.sql("RESET ROLE")
@@ -171,7 +171,7 @@ def test_a_number_is_held_until_a_person_says_why(office: Office, elm: Supplied,
     assert "auffällig hoch" in cell and not any(it.isdigit() for it in cell)
     assert office.sql("SELECT grade, amount FROM month_kwh") == [("held", None)]
     printed = office.run("alarms", "--at", "2025-02-02T23:30+00:00").printed
-    assert "NEW no number elm-1/A1/cold water/1 2025-01: held" in printed
+    assert "NEW no number elm-1/A1/cold water/1 2025-01: Unusually high consumption (flat A1)" in printed
     office.sql("SET ROLE clerk")
     assert office.sql("SELECT see_number('2025-01-01', place, 'a burst pipe') FROM fittings") == [(1,)]
     office.sql("RESET ROLE")

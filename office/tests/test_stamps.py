@@ -82,7 +82,7 @@ def test_a_collection_notes_a_wrong_clock(office: Office, box: Box) -> None:
     assert rows[2] == (False, True, 2000)
     assert office.sql("SELECT clock FROM boxes") == [("1 of 3 stamps can't be, as 2000-01-01 00:00",)]
     printed = office.run("alarms").printed
-    assert "NEW clock house-1: 1 of 3 stamps can't be, as 2000-01-01 00:00" in printed
+    assert "NEW clock house-1: The box's clock is wrong: 1 of 3 stamps can't be, as 2000-01-01 00:00" in printed
     assert "house-1: 0 readings" in office.collect().printed
     assert office.sql("SELECT count(clock) FROM boxes") == [(1,)]  # nothing has been heard since
     heard(box, time.time())

@@ -78,7 +78,8 @@ def test_a_device_type_that_nobody_knows(office: Office, box: Box) -> None:
     for number, medium in ((3, "0E"), (4, "0F"), (5, "31")):
         assert office.order("house-1", f"FIT 0000000{number}.PAD.01.{medium} 1 {number} A1").status == 0
     lines = [f"no use elm 0000000{number}.PAD.01.{medium}" for number, medium in ((3, "0E"), (4, "0F"))]
-    assert told(office, "no use") == [f"NEW {line}: device type {line[-2:]}, flat A1" for line in lines]
+    assert told(office, "no use") == [f"NEW {line}: What does this meter count? (flat A1): Device type {line[-2:]} has no use. The meter is read and"
+                                       " counts nowhere." for line in lines]
     office.sql("SET ROLE clerk")
     office.sql("SELECT decide_use('elm', '00000003.PAD.01.0E', 'heat')")
     office.sql("SELECT decide_use('elm', '00000004.PAD.01.0F', NULL)")
@@ -105,7 +106,8 @@ def test_heat_and_cooling(office: Office, elm: Supplied) -> None:
     second(office, "863C", 55)
     assert office.run("close").status == 0
     assert office.sql("SELECT value::float FROM day_values") == [(1000.0,)]
-    assert told(office, "no use") == ["NEW no use elm-1 00000001.PAD.01.0D: two energies of heat, flat A1"]
+    assert told(office, "no use") == ["NEW no use elm-1 00000001.PAD.01.0D: Which register counts? (flat A1): The meter sends two energies, heat and"
+                                       " cold."]
     office.sql("SELECT decide_use('elm-1', '00000001.PAD.01.0D', 'heat', '06')")
     office.sql("SELECT decide_use('elm-1', '00000001.PAD.01.0D', 'cooling', '863C')")
     office.sql("UPDATE fittings SET during = '[2024-01-01Z,)'")
@@ -122,7 +124,8 @@ def test_a_meter_without_a_record_of_its_use(office: Office, elm: Supplied) -> N
     elm.reads(meter, at("2025-01-31T06:00"), 3, unit="m3")
     elm.reads(other, at("2025-01-31T06:00"), 3)
     assert office.run("close").status == 0
-    assert told(office, "no use") == ["NEW no use elm-1 00000001.PAD.01.04: no record of heat, flat A1"]
+    assert told(office, "no use") == ["NEW no use elm-1 00000001.PAD.01.04: A meter doesn't send its consumption (flat A1): No record of Heating in its"
+                                       " telegram."]
     elm.reads(meter, at("2025-02-01T06:00"), 3000)
     assert office.run("close").status == 0
     assert told(office, "no use") == ["END no use elm-1 00000001.PAD.01.04"]
@@ -134,7 +137,8 @@ def test_a_day_in_error_has_no_value(office: Office, elm: Supplied) -> None:
     assert " 0 values written" in office.run("close").printed
     assert office.sql("SELECT why FROM gaps") == [("error",)]
     office.sql("UPDATE meters SET status = 8")
-    assert told(office, "error") == ["NEW error elm-1 00000001.PAD.01.04: permanent error, flat A1"] and not told(office, "no use")
+    assert told(office, "error") == ["NEW error elm-1 00000001.PAD.01.04: A meter reports an error (flat A1): permanent error. With a permanent error its"
+                                      " values don't count."] and not told(office, "no use")
 
 
 def test_18_digits(office: Office, elm: Supplied) -> None:
@@ -144,7 +148,8 @@ def test_18_digits(office: Office, elm: Supplied) -> None:
     elm.reads(meter, at("2025-01-31T06:00"), most + 1, unit="m3")
     assert office.run("close").status == 0
     assert office.sql("SELECT value FROM day_values") == [(most,)]
-    assert told(office, "too large") == ["NEW too large elm-1 00000001.PAD.01.07: too large of cold water, flat A1"]
+    assert told(office, "too large") == ["NEW too large elm-1 00000001.PAD.01.07: A reading is too large (flat A1): More than 18 digits of the smallest unit,"
+                                          " Cold water."]
     allocator = elm.meter(2, ALLOCATOR, "A2")
     new = elm.meter(3, ALLOCATOR, "A2")
     office.sql("DELETE FROM limits")
