@@ -92,7 +92,7 @@ def troubles_of(days: Days) -> list[Trouble]:
         Trouble("no number", f"DELETE FROM day_values WHERE fitting = {FITTING} AND day > '{end - datetime.timedelta(days=9)}'", "put_value",
                 {"value": "5565000", "unit": "Wh"}),
         Trouble("changed", "", "correct_month", {}),
-        Trouble("late", "UPDATE boxes SET late = '12 values of 2 meters came more than three days after the day' WHERE name = '{house}'", "take_over", {},
+        Trouble("late", "UPDATE boxes SET late = '12 values of 2 meters, from 2026-01-01 on, came more than three days after the day' WHERE name = '{house}'", "take_over", {},
                 "UPDATE boxes SET late = NULL WHERE name = '{house}'"),
     ]
 

@@ -12,7 +12,7 @@ import psycopg2.extras
 from catalogue import Catalogue
 from database import Cursor, plain
 from desk_words import ACTIONS as ACTION_WORDS
-from desk_words import APPLICATION, FIELDS, ITEMS, PAGE, STATUS
+from desk_words import APPLICATION, FIELDS, ITEMS, NOTED, PAGE, STATUS
 from periods import next_month
 
 LONGEST = 300  # characters of what people and boxes wrote
@@ -167,8 +167,16 @@ def values_of(facts: Dict[str, Any], words: Words) -> Dict[str, str]:
         bits = [STATUS[bit] for bit in STATUS if facts["status"] & bit]
         bits += [APPLICATION[facts["status"] & 3]] if facts["status"] & 3 else []
         said["status"] = ", ".join(chosen(pair, words.language) for pair in bits) or f"{facts['status']:02X}h"
+    said["text"] = noted(said.get("text", ""), words)
     said["change"] = changes(str(facts.get("text", "")), words)
     return {**{key: "" for key in ("text", "use", "month", "day", "value", "times", "digits")}, **said}
+
+
+def noted(text: str, words: Words) -> str:
+    """What a program noted, in the reader's language."""
+    for pattern, german in NOTED if words.language == "de" else ():
+        text = re.sub(pattern, lambda found, german=german: german.format(*found.groups()), text)  # type: ignore[misc]
+    return text
 
 
 def changes(text: str, words: Words) -> str:

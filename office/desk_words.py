@@ -63,6 +63,14 @@ ITEMS: Dict[str, Tuple[str, str, str, str]] = {  # German title, English title, 
     "not sent": ("Blätter wurden nicht zugestellt", "Sheets were not delivered", "{month}: {text}", "{month}: {text}"),
 }
 
+# What the office's programs note in English, in German: a pattern, and the text of its groups
+NOTED: Tuple[Tuple[str, str], ...] = (
+    (r"(\d+) values of (\d+) meters, from (\S+) on, came more than three days after the day",
+     "{} Werte von {} Zählern, ab {}, kamen mehr als drei Tage nach ihrem Tag"),
+    (r"(\d+) of (\d+) stamps can't be, as (\S+ \S+)", "{} von {} Zeitstempeln können nicht sein, wie {}"),
+    (r"no mail address", "keine E-Mail-Adresse"), (r"no PDF", "kein PDF"),
+)
+
 # What a button says, and what the form asks
 ACTIONS: Dict[str, Tuple[str, str]] = {
     "strike": ("Stand streichen", "Strike the reading"), "put_value": ("Stand eintragen", "Enter a reading"),

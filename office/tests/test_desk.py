@@ -8,7 +8,7 @@ from typing import Any, Dict, Iterator, List, Tuple
 import psycopg2
 import pytest
 from conftest import Office
-from desk_items import ACTIONS, Words, brief
+from desk_items import ACTIONS, Words, body, brief
 from desk_words import ITEMS
 from supplied import COLD, HEAT, Supplied, at
 from test_sheets import HOSTILE
@@ -242,6 +242,14 @@ def test_the_mail_has_the_same_items(office: Office, elm: Supplied, tmp_path: pa
     text = (tmp_path / "mail").read_text()
     assert "Subject: Meters: 2 items, 0 sheets wait" in text and "elm-1: Box doesn't answer" in text and "text/html" in text
     assert office.run("desk", "--mail", "a@example.org", "--sendmail", "/bin/false").status == 3
+
+
+def test_what_programs_note_is_german_too() -> None:
+    words = Words("de", "UTC")
+    for english, german in (("1 of 3 stamps can't be, as 2000-01-01 00:00", "1 von 3 Zeitstempeln können nicht sein, wie 2000-01-01 00:00."),
+                            ("12 values of 2 meters, from 2025-01-01 on, came more than three days after the day",
+                             "12 Werte von 2 Zählern, ab 2025-01-01, kamen mehr als drei Tage nach ihrem Tag.")):
+        assert german in body("clock", {"text": english}, words) and english in body("clock", {"text": english}, Words("en", "UTC"))
 
 
 def test_each_kind_has_words(office: Office) -> None:
