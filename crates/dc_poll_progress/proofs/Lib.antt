@@ -40,5 +40,11 @@ pub mod Counted
 pub mod OneMeter
 -- a register whose row ROOM suffices has room (the law of specs/RoomRow)
 pub mod RoomRow
+-- a register with one meter that is on its line (for the law of specs/Met)
+pub mod OneHouse
+-- what a concentrator does while that meter is read
+pub mod OneRun
 -- every meter is read (for the theorem of specs/Every)
 pub mod Every
+-- the poll in which that meter is read (the law of specs/Met)
+pub mod OnePoll

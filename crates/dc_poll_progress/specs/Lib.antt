@@ -10,3 +10,5 @@ pub mod Every
 pub mod RoomRow
 -- that the premises on meters and register can be met
 pub mod OneMeter
+-- a whole poll that meets all premises
+pub mod Met

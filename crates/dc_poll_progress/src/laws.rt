@@ -1,6 +1,7 @@
 //! The theorems about a poll. The functions have no effect; their contracts state the theorems.
 
 ghost use Rattle.dc_poll_progress.specs.Every.{EveryMeterIsRead};
+ghost use Rattle.dc_poll_progress.specs.Met.{IsMet};
 ghost use Rattle.dc_poll_progress.specs.OneMeter.{HousesMayBePolled};
 ghost use Rattle.dc_poll_progress.specs.RoomRow.{RoomRowSuffices};
 ghost use Rattle.dc_poll_progress.specs.Talked.{ReadoutsOfAPollEnd};
@@ -40,4 +41,12 @@ pub fn a_register_has_room_where_the_row_room_suffices<B: HalfBus>()
 /// address or none, and each position of the meter.
 pub fn a_house_may_be_polled<B: HalfBus>()
     ensures { HousesMayBePolled B.HalfBus }
+{}
+
+/// All premises of [`every_meter_is_read`] can be met at once: a whole poll of a register with one meter, after
+/// which the register has one reading more.
+///
+/// The bus, the clock and the teller may do anything, and the disk doesn't keep the disk model.
+pub fn every_meter_may_be_read()
+    ensures { IsMet }
 {}
