@@ -1,5 +1,6 @@
 //! The commands `scan`, `read` and `address`: one bus, without an image.
 
+use crate::connecting::{connected_alone, released};
 use crate::tracing::{shows_progress, trace_file_of, tracer_of};
 use dc_bench::{Progress, Show, Work, run_over};
 use dc_bus::Both;
@@ -31,12 +32,15 @@ where
         Ok(file) => file,
         Err(error) => return host.why.file(trace.unwrap_or_default(), error),
     };
-    let peer = match Peer::connect(host.rt, link) {
-        Ok(peer) => peer,
-        Err(error) => return host.why.link(None, error),
+    let peers = match connected_alone(host, link) {
+        Ok(peers) => peers,
+        Err(ending) => return ending,
     };
-    let ending = over_peer(host, &peer, work, patience, file.as_ref());
-    peer.release(host.rt);
+    let ending = match peers.as_slice().first() {
+        Some(Some(peer)) => over_peer(host, peer, &work, patience, file.as_ref()),
+        _ => Ending::Gateway,
+    };
+    released(host, peers.as_slice());
     ending
 }
 
@@ -44,7 +48,7 @@ where
 fn over_peer<'a, R>(
     host: &Host<'_, R>,
     peer: &Peer<R>,
-    work: Work,
+    work: &Work,
     patience: u16,
     trace: Option<&TraceFile<'_, R>>,
 ) -> Ending<'a>
@@ -52,8 +56,8 @@ where
     R: Net<Stream = TcpStream> + Clock + Copy + Print + Eprint + AllocGlobal,
 {
     let is_shown = matches!(work, Work::Search(_)) && shows_progress(host, trace);
-    let progress = Progress::new(host.rt, is_shown, work, patience);
-    let ending = over_watched(host, peer, work, patience, trace, &progress);
+    let progress = Progress::new(host.rt, is_shown, *work, patience);
+    let ending = over_watched(host, peer, *work, patience, trace, &progress);
     progress.clear();
     ending
 }

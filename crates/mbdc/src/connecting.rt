@@ -4,7 +4,7 @@ use dc_commands::links_of;
 use dc_ending::Ending;
 use dc_files::Host;
 use dc_links::{Linker, Peer};
-use dc_reach::{connect_all, reach_all, release_all};
+use dc_reach::{Unconnected, connect_all, reach_all, release_all};
 use dc_words::{LinkName, Links};
 use std::fs::File;
 use std::io;
@@ -25,6 +25,22 @@ where
     let mut linker = Linker { rt: host.rt };
     let peers = connect_all(host.rt.alloc(), links.by_line(), &mut linker);
     links_of(host.why, peers)
+}
+
+/// Connects the link of a command that has one bus line.
+///
+/// # Errors
+/// The ending of the command: the link can't be connected, or memory ran out.
+pub fn connected_alone<'a, R>(host: &Host<'_, R>, link: &LinkName<'_>) -> Connected<'a, R>
+where
+    R: Files<File = File> + Net<Stream = TcpStream> + Clock + Copy + Eprint + AllocGlobal,
+{
+    let mut linker = Linker { rt: host.rt };
+    match connect_all(host.rt.alloc(), &[Some(*link)], &mut linker) {
+        Ok(peers) => Ok(peers),
+        Err(Unconnected::Link(missed)) => Err(host.why.link(None, missed.why)),
+        Err(Unconnected::NoMemory) => Err(Ending::Memory),
+    }
 }
 
 /// Connects the links that can be; the first is that of line 1. For each other a line is printed on standard error,
