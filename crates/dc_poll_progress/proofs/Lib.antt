@@ -42,6 +42,8 @@ pub mod OneMeter
 pub mod RoomRow
 -- a register with one meter that is on its line (for the law of specs/Met)
 pub mod OneHouse
+-- its image, before and after the change of its telegram
+pub mod OneImage
 -- what a concentrator does while that meter is read
 pub mod OneRun
 -- every meter is read (for the theorem of specs/Every)

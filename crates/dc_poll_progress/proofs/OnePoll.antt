@@ -5,7 +5,7 @@ use Rattle.std.specs.List.{All}
 use Rattle.std.proofs.lemmas.Bool.Decides.{nat_tests}
 use Rattle.std.proofs.lemmas.List.Elements.{All-cons, All-nil}
 use Rattle.dc_concentrator.specs.Core.{Core, present}
-use Rattle.dc_concentrator.specs.Transcript.{Turn}
+use Rattle.dc_concentrator.specs.Transcript.{Turn, leads}
 use Rattle.dc_frame.proofs.Spellings.{frame_of-spelling}
 use Rattle.dc_world.specs.declared.event.Outcome.TheVariants.{AsSent}
 use Rattle.dc_world.specs.Meter.{answer_to, first_position, moved_by}
@@ -29,11 +29,14 @@ use Rattle.dc_poll.specs.declared.phase.Phase.TheVariants.{Free}
 use Rattle.dc_poll.specs.declared.phase.Request.TheVariants.{Quiet}
 use Rattle.dc_poll.specs.declared.station.Station.{Station}
 use Rattle.dc_poll_progress.specs.Carried.{IsCarried, NothingIsWanting}
-use Rattle.dc_poll_progress.specs.Every.{HasRoom, IsInOrder}
-use Rattle.dc_poll_progress.specs.Met.{AnyPoll, IsMet, any_bus, any_disk}
+use Rattle.dc_poll_progress.specs.Every.{EachIsRead, HasRoom, IsInOrder}
+use Rattle.dc_poll_progress.specs.Met.{AnyPoll, IsMet, any_bus, durable_disk}
 use Rattle.dc_poll_progress.proofs.Every.{each_is_read}
 use Rattle.dc_poll_progress.proofs.OneHouse.{ascends, house, meter, one, wire, wired}
-use Rattle.dc_poll_progress.proofs.OneRun.{acked, asks_none, budget, commits_it, commits_none, core_0, core_4, hears_ack, hears_it, leads_is, machine, opening, part, request, requests_it, reset, resets_it, sent, starts_it, turns, went}
+use Rattle.dc_disk.specs.Images.{settled_is_image}
+use Rattle.dc_poll.specs.Telling.{TakesAll}
+use Rattle.dc_poll_progress.proofs.OneImage.{budget, image_0, image_1, part}
+use Rattle.dc_poll_progress.proofs.OneRun.{acked, asks_none, commits_it, commits_none, core_0, hears_ack, hears_it, leads_is, machine_0, machine_1, opening, request, requests_it, reset, resets_it, sent, starts_it, turns, went}
 
 -- ---- what happens
 
@@ -160,11 +163,11 @@ plan = record {
     silent : All IsSilent (last ∷ [])
     silent = All-cons IsSilent last [] refl (All-nil IsSilent)
 
-abbrev poll : ImageTurned any_disk (AnyPoll counted) tt tt
+abbrev poll : ImageTurned durable_disk (AnyPoll counted) image_0 image_1
 poll = record {
   state = house;
-  first = machine core_0;
-  last = machine core_4;
+  first = machine_0;
+  last = machine_1;
   opening = opening;
   happens = record { happened = happened; are_such = plan; went = went };
   disk_is = refl;
@@ -210,11 +213,17 @@ room = record { room = omega arith; serials = omega arith }
 backed : NothingIsWanting happened
 backed = (tt, (tt, (tt, (tt, (tt, (tt, (tt, (tt, (tt, (tt, tt))))))))))
 
+-- the conclusion of the theorem
+each : EachIsRead durable_disk image_0 image_1 any_bus (TakesAll (λ (old : Unit {0}) (event : Told) (new : Unit {0}). Unit {0}) tt tt) house [] (tt ∷ []) (first ∷ []) (last ∷ []) (λ line. wire) counted happened (leads core_0 turns)
+each = each_is_read durable_disk any_bus (λ old moment new. Unit {0}) (λ old slept new. Unit {0}) (λ old new. Unit {0}) (λ old event new. Unit {0}) image_0 image_1 (tt ∷ []) [] 1 tt tt tt tt counted (λ line. wire) poll ascends backed room in_order
+
 pub is_met : IsMet
 is_met = record {
   identity = one;
   wire = wire;
   outcome = counted;
+  disk = image_0;
+  new = image_1;
   poll = poll;
   queue = refl;
   single = refl;
@@ -222,5 +231,6 @@ is_met = record {
   backed = backed;
   room = room;
   in_order = in_order;
-  read = ((each_is_read any_disk any_bus (λ old moment new. Unit {0}) (λ old slept new. Unit {0}) (λ old new. Unit {0}) (λ old event new. Unit {0}) tt tt (tt ∷ []) [] 1 tt tt tt tt counted (λ line. wire) poll ascends backed room in_order).lines 0 first (omega arith)).each.0;
+  read = (each.lines 0 first (omega arith)).each.0;
+  stored = each.stored tt image_1 (settled_is_image image_1);
 }

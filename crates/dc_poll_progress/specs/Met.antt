@@ -1,5 +1,6 @@
--- A whole poll that meets all premises of `every_meter_is_read` at once (this product): a register with one
--- meter, that meter on its line, and a bus, a clock, a teller and a disk that may do anything.
+-- A whole poll that meets all premises of `every_meter_is_read` at once (this product): a register
+-- with one meter, that meter on its line, a disk that keeps the disk model, and a bus, a clock and a
+-- teller that may do anything.
 use Rattle.std.specs.Prelude.{◌≡◌, ℕ, ◌+◌, ◌<◌, false, List, [], ◌∷◌, length}
 use Rattle.std.specs.Prelude.{slice_index_or}
 use Rattle.std.specs.List.Sorted.{IsStrictlySortedBy}
@@ -10,8 +11,8 @@ use Rattle.dc_concentrator.specs.Core.{Core, opened}
 use Rattle.dc_concentrator.specs.Transcript.{leads}
 use Rattle.dc_disk.specs.Disk.{Image, IsImage, settled}
 use Rattle.dc_disk.specs.declared.device.Disk.{Ghosts as DiskGhosts}
-use Rattle.dc_disk.specs.declared.sector.Sector.TheVariants.{Unreadable}
-use Rattle.dc_log.specs.Halves.{fewest_sectors}
+use Rattle.dc_log.specs.Halves.{fewest_sectors, half_of}
+use Rattle.dc_pending.specs.Images.{Stands}
 use Rattle.dc_poll.specs.Bus.{Bus}
 use Rattle.dc_poll.specs.Happening.{Happening, happened_turns}
 use Rattle.dc_poll.specs.ImagePoll.{ImageTurned, PlanPolled}
@@ -22,18 +23,15 @@ use Rattle.dc_poll.specs.declared.station.Station.{Station}
 use Rattle.dc_poll_progress.specs.Carried.{Wire, NothingIsWanting}
 use Rattle.dc_poll_progress.specs.Every.{HasRoom, IsInOrder, IsRead}
 
--- a disk that doesn't keep the disk model, with the fewest sectors of an image
-abbrev pub unread : Image
-unread = λ n. Unreadable
-
-abbrev pub any_disk : DiskGhosts (Unit {0})
-any_disk = record {
-  keeps = λ disk. ⊥;
+-- a disk that keeps the disk model: what is written is durable at once, and no call fails
+abbrev pub durable_disk : DiskGhosts Image
+durable_disk = record {
+  keeps = λ disk. Unit {0};
   sectors = λ disk. fewest_sectors;
-  reads = λ disk. unread;
-  choices = λ disk. settled unread;
+  reads = λ disk. disk;
+  choices = settled;
   moment = λ disk. 0;
-  images_since = λ disk t. IsImage (settled unread);
+  images_since = λ disk t. IsImage (settled disk);
   failures = λ disk. 0;
 }
 
@@ -55,12 +53,15 @@ AnyPoll outcome = PlanPolled any_bus (λ (old : Unit {0}) (moment : ℕ) (new : 
     (λ old slept new. Unit {0}) (λ old new. Unit {0})
     (λ (old : Unit {0}) (told : Told) (new : Unit {0}). Unit {0}) (tt ∷ []) [] 1 tt tt tt tt outcome
 
--- ALL PREMISES ARE MET, and so the meter has one reading more, of its one telegram.
+-- ALL PREMISES ARE MET, and so the meter has one reading more, of its one telegram, and the disk
+-- holds it.
 pub record IsMet : Type 0 where
   pub identity : Identity
   pub wire : Wire
   pub outcome : Outcome
-  pub poll : ImageTurned any_disk (AnyPoll outcome) tt tt
+  pub disk : Image
+  pub new : Image
+  pub poll : ImageTurned durable_disk (AnyPoll outcome) disk new
   pub queue : queue_on poll.state [] 1 false ≡ identity ∷ []
   pub single : length (wire.parts identity) ≡ 1
   pub ascends : IsStrictlySortedBy identity_cmp (keys_of poll.state.meters)
@@ -72,3 +73,5 @@ pub record IsMet : Type 0 where
       poll.happens.happened (poll.happens.are_such.polls.polled.polls.rounds.goes k d low)
   pub read : IsRead poll.state
       (leads (opened poll.state) (happened_turns poll.happens.happened)).committed wire identity
+  pub stored : Stands (half_of durable_disk new)
+      (leads (opened poll.state) (happened_turns poll.happens.happened)).committed new

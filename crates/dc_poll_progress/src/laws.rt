@@ -43,10 +43,11 @@ pub fn a_house_may_be_polled<B: HalfBus>()
     ensures { HousesMayBePolled B.HalfBus }
 {}
 
-/// All premises of [`every_meter_is_read`] can be met at once: a whole poll of a register with one meter, after
-/// which the register has one reading more.
+/// All premises of [`every_meter_is_read`] can be met at once: a whole poll of a register with one
+/// meter, after which the register and its disk have one reading more.
 ///
-/// The bus, the clock and the teller may do anything, and the disk doesn't keep the disk model.
+/// The disk keeps the disk model. What is written to it is durable at once. The bus, the clock and
+/// the teller may do anything.
 pub fn every_meter_may_be_read()
     ensures { IsMet }
 {}
