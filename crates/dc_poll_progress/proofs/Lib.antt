@@ -36,8 +36,6 @@ pub mod OwnLine
 pub mod Whole
 -- as many meters are counted as read as the queues have
 pub mod Counted
--- a house whose meter may be polled (the law of specs/OneMeter)
-pub mod OneMeter
 -- a register whose row ROOM suffices has room (the law of specs/RoomRow)
 pub mod RoomRow
 -- a register with one meter that is on its line (for the law of specs/Met)

@@ -8,7 +8,5 @@ pub mod Carried
 pub mod Every
 -- what the row ROOM of `status` says of a poll
 pub mod RoomRow
--- that the premises on meters and register can be met
-pub mod OneMeter
 -- a whole poll that meets all premises
 pub mod Met

@@ -2,7 +2,6 @@
 
 ghost use Rattle.dc_poll_progress.specs.Every.{EveryMeterIsRead};
 ghost use Rattle.dc_poll_progress.specs.Met.{IsMet};
-ghost use Rattle.dc_poll_progress.specs.OneMeter.{HousesMayBePolled};
 ghost use Rattle.dc_poll_progress.specs.RoomRow.{RoomRowSuffices};
 ghost use Rattle.dc_poll_progress.specs.Talked.{ReadoutsOfAPollEnd};
 
@@ -35,12 +34,6 @@ pub fn every_meter_is_read<D: Disk + Drop, B: HalfBus + Drop, T: Timer<B>, N: Te
 /// The reading of each takes at most what those that are held take on average, as that row counts.
 pub fn a_register_has_room_where_the_row_room_suffices<B: HalfBus>()
     ensures { RoomRowSuffices B.HalfBus }
-{}
-
-/// The premises of a poll on its meters and its register can be met, for each identity, each primary
-/// address or none, and each position of the meter.
-pub fn a_house_may_be_polled<B: HalfBus>()
-    ensures { HousesMayBePolled B.HalfBus }
 {}
 
 /// All premises of [`every_meter_is_read`] can be met at once: a whole poll of a register with one

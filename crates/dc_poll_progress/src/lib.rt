@@ -10,13 +10,13 @@
 //! reading of each meter of the queues, and memory is never refused, every meter of the queues is
 //! read, in order, and that is committed ([`every_meter_is_read`]). That no start and no answer is
 //! refused follows. Whether there is room, the row ROOM of `status` says
-//! ([`a_register_has_room_where_the_row_room_suffices`]). What is asked of meters and register can be
-//! met ([`a_house_may_be_polled`]), and all of it at once ([`every_meter_may_be_read`]).
+//! ([`a_register_has_room_where_the_row_room_suffices`]). All premises of this theorem can be met
+//! at once ([`every_meter_may_be_read`]).
 #![tactic(auto)]
 
 mod laws;
 
 pub use laws::{
-    a_house_may_be_polled, a_register_has_room_where_the_row_room_suffices,
-    each_readout_of_a_poll_ends_in_a_reading, every_meter_is_read, every_meter_may_be_read,
+    a_register_has_room_where_the_row_room_suffices, each_readout_of_a_poll_ends_in_a_reading,
+    every_meter_is_read, every_meter_may_be_read,
 };
