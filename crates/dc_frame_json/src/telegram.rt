@@ -12,12 +12,11 @@ ghost use Rattle.dc_frame_json.specs.Telegram.{telegram_fields};
 use crate::record::put_record;
 use crate::row::{Cell, put_row};
 use dc_io::Sink;
-use dc_reading::SentRecords;
-use dc_record::{End, Header, Telegram};
+use dc_record::{End, Header, Records, Telegram};
 use dc_tokens::TokenWriter;
 
 // Writes records, one after the other.
-fn put_records<W: Sink>(out: &mut TokenWriter<'_, W>, records: SentRecords<'_>)
+fn put_records<W: Sink>(out: &mut TokenWriter<'_, W>, records: Records<'_>)
     ensures { Added W.Sink out.old out.new (values_tokens (map record_json records.entry)) }
 {
     'records: for found in records {
@@ -26,7 +25,7 @@ fn put_records<W: Sink>(out: &mut TokenWriter<'_, W>, records: SentRecords<'_>)
 }
 
 // Writes the field of the records.
-fn put_records_field<W: Sink>(out: &mut TokenWriter<'_, W>, records: SentRecords<'_>)
+fn put_records_field<W: Sink>(out: &mut TokenWriter<'_, W>, records: Records<'_>)
     ensures { Added W.Sink out.old out.new (fields_tokens (records_field records.entry ∷ [])) }
 {
     out.put_name("records");
@@ -82,6 +81,6 @@ pub(crate) fn put_telegram<W: Sink>(out: &mut TokenWriter<'_, W>, telegram: &Tel
     ensures { Added W.Sink out.old out.new (fields_tokens (telegram_fields (parsed telegram.now))) }
 {
     put_header(out, &telegram.header());
-    put_records_field(out, SentRecords::of_body(telegram.body()));
+    put_records_field(out, telegram.records());
     put_end(out, telegram.end());
 }

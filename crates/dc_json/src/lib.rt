@@ -10,7 +10,6 @@
 //! of each fault and what was expected there. Its text has no contract.
 #![tactic(auto)]
 
-mod also;
 mod explain;
 mod grown;
 mod place;

@@ -1,1 +1,4 @@
 -- the lemmas that proofs cite
+
+-- a value information block of one byte
+mod Scales
