@@ -20,6 +20,8 @@ NUMBER = re.compile(r"-?\d+(\.\d+)?")
 DAY = re.compile(r"(\d{4}-\d\d-\d\d)(T.*)?")
 MIDNIGHT = re.compile(r"T00:00(:00)?")  # which ends the day before
 FLAGS, OTHER = "flags", "other"
+NO_ERROR = ["no error"]  # VIFE 00, which says no more than its absence (EN 13757-3)
+COUNTED = ("energy", "volume", "heat cost allocation")
 FIRST_DAY = "0001-01-01"
 
 
@@ -116,13 +118,33 @@ def points_of_json(text: str) -> List[List[Point]]:
     return [[point_of_object(record) for record in json.loads(line).get("records", [])] for line in text.splitlines()]
 
 
+def is_plain_count(record: Dict[str, Any]) -> bool:
+    """Whether a record's only qualifier says that there is no error, and its value is an energy, a volume or an allocator's."""
+    return (record["reading"] == "qualified" and record["qualifiers"] == NO_ERROR and record["value"] is not None
+            and record["quantity"] in COUNTED)
+
+
+def without_no_error(vib: str) -> str:
+    """A value information block without the VIFE 00 at its end.
+
+    >>> without_no_error("8400"), without_no_error("FB8000")
+    ('04', 'FB00')
+    """
+    *before, code, _ = bytes.fromhex(vib)
+    return bytes([*before, code & 0x7F]).hex().upper()
+
+
 def point_of_object(record: Dict[str, Any]) -> Point:
-    """A record from its JSON object; `reading` is point, plain (a value of another table) or other (none)."""
+    """A record from its JSON object; `reading` is point, plain or qualified (values of other tables) or other (none).
+
+    A plain count is the meter's value, as one of the decoder's table of units is, under the code alone."""
     function = next(number for number, word in enumerate(FUNCTIONS) if word in record["function"])
     quantity = ", ".join([record["quantity"], *record.get("qualifiers", [])])
     value = OTHER if record["reading"] == OTHER else record["value"] or "none"
-    return Point(record["storage"], function, record["tariff"], record["subunit"], record["vib"], quantity, value,
-                 record["unit"], record["reading"] == "point")
+    is_count = is_plain_count(record)
+    vib = without_no_error(record["vib"]) if is_count else record["vib"]
+    return Point(record["storage"], function, record["tariff"], record["subunit"], vib, quantity, value, record["unit"],
+                 is_count or record["reading"] == "point")
 
 
 def points_of(bodies: Sequence[bytes]) -> List[List[Point]]:

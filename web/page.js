@@ -22,7 +22,7 @@ const WORDS = {
     cleaned: (what) => `Left out: ${what}.`, more: (n) => `${n} more are not shown; the copies have them.`, copied: "Copied.",
     notCopied: "The browser doesn't allow copying.", line: "Line", control: "Control field", address: "Address", ci: "CI field",
     meter: "Meter", medium: "Medium", access: "Access number", status: "Status", more_follow: "More records follow in the next telegram",
-    maker: "Manufacturer's data", records: "Records", name: "Name", value: "Value", unit: "Unit", storage: "Storage", tariff: "Tariff",
+    maker: "Manufacturer's data", makerBytes: "manufacturer's", records: "Records", name: "Name", value: "Value", unit: "Unit", storage: "Storage", tariff: "Tariff",
     subunit: "Subunit", function: "Function", body: "Body", bytes: "Bytes", fault: "Fault", place: "Place", byte: (n) => `byte ${n}`,
     expected: "Expected", ack: "Acknowledgement", short: "Short frame", long: "Long frame", none: "No frame",
     power: "power low", permanent: "permanent error", temporary: "temporary error", bits: (n) => `manufacturer bits ${n}`,
@@ -47,7 +47,7 @@ const WORDS = {
     cleaned: (what) => `Weggelassen: ${what}.`, more: (n) => `${n} weitere werden nicht gezeigt; die Kopien enthalten sie.`, copied: "Kopiert.",
     notCopied: "Der Browser erlaubt das Kopieren nicht.", line: "Zeile", control: "C-Feld", address: "Adresse", ci: "CI-Feld",
     meter: "Zähler", medium: "Medium", access: "Zugriffsnummer", status: "Status", more_follow: "Weitere Datensätze folgen im nächsten Telegramm",
-    maker: "Herstellerdaten", records: "Datensätze", name: "Name", value: "Wert", unit: "Einheit", storage: "Speicher", tariff: "Tarif",
+    maker: "Herstellerdaten", makerBytes: "des Herstellers", records: "Datensätze", name: "Name", value: "Wert", unit: "Einheit", storage: "Speicher", tariff: "Tarif",
     subunit: "Untereinheit", function: "Funktion", body: "Nutzdaten", bytes: "Bytes", fault: "Fehler", place: "Stelle", byte: (n) => `Byte ${n}`,
     expected: "Erwartet", ack: "Quittung", short: "Kurzrahmen", long: "Langrahmen", none: "Kein Rahmen",
     power: "Batterie schwach", permanent: "dauerhafter Fehler", temporary: "vorübergehender Fehler", bits: (n) => `Herstellerbits ${n}`,
@@ -254,12 +254,23 @@ function bytesShown(text, spans, place) {
   return [shownBytes, parts];
 }
 
+// A text from a meter, with a point for each control character.
+const printable = (text) => text.replace(/\p{Cc}/gu, ".");
+
+// What a record is of: its quantity, its VIFEs, a manufacturer's bytes, the text of a unit in plain text.
+function nameOf(record) {
+  const maker = record.maker === null ? [] : [`${WORDS[language].makerBytes} ${record.maker}`.trim()];
+  const label = record.label === null ? [] : [`"${printable(record.label)}"`];
+  return [record.quantity, ...record.qualifiers, ...maker, ...label];
+}
+
 function recordRow(record, part) {
   const words = WORDS[language];
   const row = element("tr", null, { tabindex: "0", role: "row" });
-  const value = record.value ?? (record.reading === "other" ? `${words.notRead}: ${record.data}` : words.noValue);
+  const none = record.error === null ? words.noValue : `${words.noValue} (${record.error})`;
+  const value = record.value === null ? (record.reading === "other" ? `${words.notRead}: ${record.data}` : none) : printable(record.value);
   const cells = [
-    [words.name, [record.quantity, ...record.qualifiers].join(", ")], [words.value, value, "number value"], [words.unit, record.unit ?? ""],
+    [words.name, nameOf(record).join(", ")], [words.value, value, "number value"], [words.unit, printable(record.unit ?? "")],
     [words.storage, record.storage, "number"], [words.tariff, record.tariff, "number"], [words.subunit, record.subunit, "number"],
     [words.function, record.function],
   ];
@@ -344,17 +355,20 @@ function show() {
 
 // ---- copies
 
+const READ = ["type", "error", "phase", "direction", "maker", "label", "summer_time"];  // fields of a record, at the end
+
 const cell = (value) => (/[",\n]|^[=+@]/.test(value) ? `"${value.replaceAll('"', '""')}"` : value);
 
 function csv() {
-  const rows = [["line", "meter", "medium", "name", "value", "unit", "storage", "tariff", "subunit", "function", "vib", "data", "fault"]];
+  const rows = [["line", "meter", "medium", "name", "value", "unit", "storage", "tariff", "subunit", "function", "vib", "data", "fault", ...READ]];
   for (const one of shown) {
     const meter = one.meter ?? { id: "", medium: "" };
     for (const r of one.records ?? []) {
       const name = [r.quantity, ...r.qualifiers].join("; ");
-      rows.push([one.line, meter.id, meter.medium, name, r.value ?? "", r.unit ?? "", r.storage, r.tariff, r.subunit, r.function, r.vib, r.data, ""]);
+      rows.push([one.line, meter.id, meter.medium, name, r.value ?? "", r.unit ?? "", r.storage, r.tariff, r.subunit, r.function, r.vib, r.data, "",
+        ...READ.map((field) => r[field] ?? "")]);
     }
-    if (one.fault) rows.push([one.line, ...Array(11).fill(""), `${one.fault.kind} ${one.fault.number} ${one.fault.name}`]);
+    if (one.fault) rows.push([one.line, ...Array(11).fill(""), `${one.fault.kind} ${one.fault.number} ${one.fault.name}`, ...READ.map(() => "")]);
   }
   return rows.map((row) => row.map((value) => cell(String(value))).join(",") + "\r\n").join("");
 }

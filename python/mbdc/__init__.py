@@ -6,12 +6,13 @@
 ('short', 91, 1)
 
 `decode` returns frozen dataclasses, `decode_text` the lines that the command `mbdc decode` prints, `decode_json` those of
-`mbdc decode --json`. They take the hex digits that the command takes; `decode_body` takes a telegram's body as bytes. They
-may be called from any thread.
+`mbdc decode --json`. They take the hex digits that the command takes; `decode_body` takes a telegram's body as bytes. `readings` are
+the records of a body as values, `headline` what its meter stands at. All may be called from any thread.
 """
 
 from mbdc._library import LibraryFault, decode_body, decode_json, decode_text
+from mbdc._readings import Reading, ReadingValue, headline, readings
 from mbdc._records import Fault, Frame, Meter, Record, Telegram, Value, decode
 
-__all__ = ["Fault", "Frame", "LibraryFault", "Meter", "Record", "Telegram", "Value", "decode", "decode_body",
-           "decode_json", "decode_text"]
+__all__ = ["Fault", "Frame", "LibraryFault", "Meter", "Reading", "ReadingValue", "Record", "Telegram", "Value", "decode",
+           "decode_body", "decode_json", "decode_text", "headline", "readings"]

@@ -75,7 +75,7 @@ def _written(call: _Call, digits: bytes) -> str:
         except MemoryError as fault:
             raise LibraryFault("memory was refused") from fault
         count = call(digits, len(digits), room.address, room.size)
-    return ctypes.string_at(room.address, count).decode("ascii")
+    return ctypes.string_at(room.address, count).decode()
 
 
 def decode_text(frames: Union[str, bytes]) -> str:

@@ -1,21 +1,21 @@
 -- A data record as JSON (this product; the fields are those of EN 13757-3, data record).
-use Rattle.std.specs.Prelude.{ℕ, if◌then◌else◌, List, [], ◌∷◌, ◌++◌, codes, length, ◌==◌, map}
+use Rattle.std.specs.Prelude.{ℕ, if◌then◌else◌, Bool, false, List, [], ◌∷◌, ◌++◌, codes, length, ◌==◌, map}
 use Rattle.std.specs.Prelude.{Option, Some, None}
 use Rattle.dc_io.specs.Hex.{upper_hex}
-use Rattle.json.specs.Json.{Json, string, null}
+use Rattle.json.specs.Json.{Json, string, boolean, null}
 use Rattle.dc_record.specs.Record.{Entry}
-use Rattle.dc_value.specs.declared.point.Seen.{Seen}
-use Rattle.dc_value.specs.declared.point.Seen.TheVariants.{Point as Known, Other}
 use Rattle.dc_value.specs.declared.value.Value.{Value}
 use Rattle.dc_value.specs.declared.value.Value.TheVariants.{Number, Flags, Day as OnDay, Minute}
 use Rattle.dc_value.specs.declared.value.Value.TheVariants.{None as NoValue}
-use Rattle.dc_value.specs.Point.{seen_of}
-use Rattle.dc_value.specs.Quantity.{unit_of}
 use Rattle.dc_value.specs.Text.{value_text}
 use Rattle.dc_names.specs.Fields.{function_name}
-use Rattle.dc_names.specs.Plain.{plain_at}
-use Rattle.dc_names.specs.Vib.{code_of, quantity_name, qualifiers}
-use Rattle.dc_names.specs.Vife.{vife_name}
+use Rattle.dc_reading.specs.declared.reading.Reading.{Reading}
+use Rattle.dc_reading.specs.Codes.{code_at, number_of}
+use Rattle.dc_reading.specs.Names.{names_of, how_name, type_found, fault_found, summer_found, vife_text}
+use Rattle.dc_reading.specs.Parts.{maker_of, told_of}
+use Rattle.dc_reading.specs.Reading.{reading_of}
+use Rattle.dc_reading.specs.Sent.{Sent}
+use Rattle.dc_reading.specs.Text.{label_text, unit_text, value_text_of}
 use Rattle.dc_tokens.specs.Object.{Field, object_of, array_of, count}
 
 -- the numbers and the function of a record, its value information block and its data as sent, and what it is of
@@ -27,16 +27,12 @@ about_fields e =
     ∷ (codes "function", string (function_name e.function))
     ∷ (codes "vib", string (upper_hex e.vib))
     ∷ (codes "data", string (upper_hex e.content))
-    ∷ (codes "quantity", string (quantity_name e.vib))
+    ∷ (codes "quantity", string (code_at (number_of e.vib)).name)
     ∷ []
 
--- the name of a VIFE
-unfoldable pub qualifier : ℕ → Json
-qualifier vife = string (vife_name (code_of vife))
-
--- the names of its VIFEs
+-- the names of its VIFEs, up to a manufacturer's
 unfoldable pub qualifier_fields : Entry → List Field
-qualifier_fields e = (codes "qualifiers", array_of (map qualifier (qualifiers e.vib))) ∷ []
+qualifier_fields e = (codes "qualifiers", array_of (map string (names_of false (told_of e.vib)))) ∷ []
 
 -- A value is a text: an exact decimal, a date or a date and time of ISO 8601, flags in hex. It is
 -- null if the meter sent no value.
@@ -51,26 +47,43 @@ value_json NoValue = null
 unfoldable pub unit_json : List ℕ → Json
 unit_json unit = if length unit == 0 then null else string unit
 
-unfoldable pub value_fields : List ℕ → Json → Json → List Field
-value_fields reading value unit =
-    (codes "reading", string reading) ∷ (codes "value", value) ∷ (codes "unit", unit) ∷ []
+abbrev pub text_or_null : Option (List ℕ) → Json
+text_or_null None = null
+text_or_null (Some text) = string text
 
--- by the table of plain numbers, if the due-date table doesn't have the record
-abbrev pub plain_fields : Option (Value × List ℕ) → List Field
-plain_fields None = value_fields (codes "other") null null
-plain_fields (Some plain) = value_fields (codes "plain") (value_json plain.0) (unit_json plain.1)
+abbrev pub hex_or_null : Option (List ℕ) → Json
+hex_or_null None = null
+hex_or_null (Some bytes) = string (upper_hex bytes)
 
--- by the due-date table, as `decode` prints it
-abbrev pub seen_fields : Seen → Option (Value × List ℕ) → List Field
-seen_fields (Known p) plain = value_fields (codes "point") (value_json p.value)
-    (unit_json (unit_of p.quantity))
-seen_fields Other plain = plain_fields plain
+abbrev pub flag_or_null : Option Bool → Json
+flag_or_null None = null
+flag_or_null (Some flag) = boolean flag
 
-unfoldable pub reading_fields : Entry → List Field
-reading_fields e = seen_fields (seen_of e) (plain_at e)
+-- by which table it is read, its value and unit, the type of the value, and why there is none
+unfoldable pub value_fields : Entry → Reading → List Field
+value_fields e r =
+    (codes "reading", string (how_name r.how))
+    ∷ (codes "value", text_or_null (value_text_of r e.content))
+    ∷ (codes "unit", unit_json (unit_text r e.vib))
+    ∷ (codes "type", text_or_null (type_found r.found))
+    ∷ (codes "error", text_or_null (fault_found r.found))
+    ∷ []
 
-unfoldable pub record_fields : Entry → List Field
-record_fields e = about_fields e ++ (qualifier_fields e ++ reading_fields e)
+-- what else its VIFEs and its data say
+unfoldable pub vife_fields : Entry → Reading → List Field
+vife_fields e r =
+    (codes "phase", text_or_null (vife_text r.phase))
+    ∷ (codes "direction", text_or_null (vife_text r.direction))
+    ∷ (codes "maker", hex_or_null (maker_of e.vib))
+    ∷ (codes "label", text_or_null (label_text e.vib))
+    ∷ (codes "summer_time", flag_or_null (summer_found r.found e.content))
+    ∷ []
 
-unfoldable pub record_json : Entry → Json
-record_json e = object_of (record_fields e)
+abbrev pub told_fields : Entry → Reading → List Field
+told_fields e r = value_fields e r ++ vife_fields e r
+
+unfoldable pub record_fields : Sent → List Field
+record_fields s = about_fields s.entry ++ (qualifier_fields s.entry ++ told_fields s.entry (reading_of s.entry s.len))
+
+unfoldable pub record_json : Sent → Json
+record_json s = object_of (record_fields s)

@@ -1,13 +1,13 @@
 -- A telegram as JSON (this product; the fields are those of EN 13757-3, variable data structure).
-use Rattle.std.specs.Prelude.{Bool, true, false, List, [], ◌∷◌, ◌++◌, codes, map}
+use Rattle.std.specs.Prelude.{Bool, true, false, List, [], ◌∷◌, ◌++◌, codes, drop, map}
 use Rattle.dc_io.specs.Hex.{upper_hex}
 use Rattle.json.specs.Json.{Json, string, boolean, null}
 use Rattle.dc_record.specs.declared.header.Header.{Header}
-use Rattle.dc_record.specs.Record.{Entry}
 use Rattle.dc_record.specs.Body.{Ending, plain, last, more}
 use Rattle.dc_record.specs.Telegram.{Parsed}
 use Rattle.dc_tokens.specs.Object.{Field, object_of, array_of, count}
 use Rattle.dc_frame_json.specs.Meter.{identity_fields, status_fields}
+use Rattle.dc_reading.specs.Sent.{Sent, sent_at}
 use Rattle.dc_frame_json.specs.Record.{record_json}
 
 -- the meter's identity, the access number and the status byte
@@ -28,8 +28,8 @@ end_fields plain = ending_fields false null
 end_fields (last rest) = ending_fields false (string (upper_hex rest))
 end_fields (more rest) = ending_fields true (string (upper_hex rest))
 
-unfoldable pub records_field : List Entry → Field
+unfoldable pub records_field : List Sent → Field
 records_field records = (codes "records", array_of (map record_json records))
 
 unfoldable pub telegram_fields : Parsed → List Field
-telegram_fields t = header_fields t.header ++ (records_field t.records ∷ end_fields t.ending)
+telegram_fields t = header_fields t.header ++ (records_field (sent_at (drop 12 t.body)) ∷ end_fields t.ending)

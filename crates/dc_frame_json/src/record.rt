@@ -1,19 +1,26 @@
 //! A data record.
 
-ghost use Rattle.std.specs.Prelude.{map};
+ghost use Rattle.std.specs.Prelude.{map, option_map};
+ghost use Rattle.json.specs.Json.{string};
 ghost use Rattle.json.specs.Tree.{json_tokens};
 ghost use Rattle.dc_record.specs.Record.{view};
 ghost use Rattle.dc_tokens.specs.Object.{fields_tokens, values_tokens};
 ghost use Rattle.dc_tokens.specs.Writing.{Added};
-ghost use Rattle.dc_frame_json.specs.Record.{about_fields, reading_fields, record_json, value_fields};
-ghost use Rattle.dc_frame_json.specs.Record.{qualifier, qualifier_fields, unit_json, value_json};
+ghost use Rattle.dc_reading.specs.Names.{names_of};
+ghost use Rattle.dc_reading.specs.Sent.{sent_view};
+ghost use Rattle.dc_frame_json.specs.Record.{about_fields, record_json, value_fields, vife_fields};
+ghost use Rattle.dc_frame_json.specs.Record.{flag_or_null, hex_or_null, qualifier_fields, text_or_null, unit_json, value_json};
 
 use crate::row::{Cell, put_row};
 use dc_io::Sink;
-use dc_names::{function_name, plain_of, qualifiers, quantity_name, vife_name};
+use dc_names::function_name;
+use dc_reading::{
+    READING_ROOM, Reading, Sent, code_at, is_extension, label_text, maker_of, number_after,
+    number_of, reading_of, told_of, unit_text, value_text, vife_at, vife_text,
+};
 use dc_record::Record;
 use dc_tokens::TokenWriter;
-use dc_value::{Seen, TEXT_ROOM, Value, point_of};
+use dc_value::{TEXT_ROOM, Value};
 
 /// Writes a value, or null.
 #[tactic(auto, unfolding(crate::specs::Record::value_json))]
@@ -30,49 +37,93 @@ pub fn put_value<W: Sink>(out: &mut TokenWriter<'_, W>, value: &Value)
 
 /// Writes a unit, or null for none.
 #[tactic(auto, unfolding(crate::specs::Record::unit_json))]
-pub fn put_unit<W: Sink>(out: &mut TokenWriter<'_, W>, unit: &str)
+pub fn put_unit<W: Sink>(out: &mut TokenWriter<'_, W>, unit: &[u8])
     ensures { Added W.Sink out.old out.new (json_tokens (unit_json unit.now)) }
 {
     if unit.is_empty() {
         out.put_null();
         return;
     }
-    out.put_string(unit.as_bytes());
+    out.put_string(unit);
 }
 
-// Writes the decoded value of a record, and by which table it is read.
-#[tactic(auto, unfolding(crate::specs::Record::reading_fields, crate::specs::Record::value_json, crate::specs::Record::unit_json))]
-fn put_seen<W: Sink>(out: &mut TokenWriter<'_, W>, found: &Record<'_>)
-    ensures { Added W.Sink out.old out.new (fields_tokens (reading_fields (view found.now))) }
-{
-    if let Seen::Point(point) = point_of(found) {
-        return put_reading(out, b"point", point.value, point.quantity.unit());
-    }
-    match plain_of(found) {
-        Some(plain) => put_reading(out, b"plain", plain.value, plain.unit),
-        None => put_reading(out, b"other", Value::None, ""),
-    }
-}
-
-// Writes the decoded value of a record's data.
-#[tactic(auto, unfolding(crate::specs::Record::value_fields))]
-fn put_reading<'r, W: Sink>(
-    out: &mut TokenWriter<'_, W>,
-    reading: &'r [u8],
-    value: Value,
-    unit: &'r str,
-)
+// Writes a text, or null.
+fn put_maybe<W: Sink>(out: &mut TokenWriter<'_, W>, text: Option<&[u8]>)
     ensures { Added W.Sink out.old out.new
-        (fields_tokens (value_fields reading.now (value_json value) (unit_json unit.now))) }
+        (json_tokens (text_or_null (option_map (λ s. s.now) text.entry))) }
 {
-    put_row(
-        out,
-        &[
-            Cell::Text("reading", reading),
-            Cell::Value("value", value),
-            Cell::Unit("unit", unit),
-        ],
-    );
+    match text {
+        Some(text) => out.put_string(text),
+        None => out.put_null(),
+    }
+}
+
+// Writes a name, or null.
+fn put_word<W: Sink>(out: &mut TokenWriter<'_, W>, name: Option<&str>)
+    ensures { Added W.Sink out.old out.new
+        (json_tokens (text_or_null (option_map (λ s. s.now) name.entry))) }
+{
+    match name {
+        Some(name) => out.put_string(name.as_bytes()),
+        None => out.put_null(),
+    }
+}
+
+// Writes bytes in capital hex digits, or null.
+fn put_maybe_hex<W: Sink>(out: &mut TokenWriter<'_, W>, bytes: Option<&[u8]>)
+    ensures { Added W.Sink out.old out.new
+        (json_tokens (hex_or_null (option_map (λ s. s.now) bytes.entry))) }
+{
+    match bytes {
+        Some(bytes) => out.put_hex_string(bytes),
+        None => out.put_null(),
+    }
+}
+
+// Writes a truth, or null.
+fn put_maybe_flag<W: Sink>(out: &mut TokenWriter<'_, W>, flag: Option<bool>)
+    ensures { Added W.Sink out.old out.new (json_tokens (flag_or_null flag)) }
+{
+    match flag {
+        Some(flag) => out.put_boolean(flag),
+        None => out.put_null(),
+    }
+}
+
+// Writes what is read of a record: by which table, its value and unit, the type of the value, and why there is none.
+fn put_value_fields<W: Sink>(out: &mut TokenWriter<'_, W>, found: &Record<'_>, reading: &Reading)
+    ensures { Added W.Sink out.old out.new
+        (fields_tokens (value_fields (view found.now) reading.now)) }
+{
+    let mut room = [0u8; READING_ROOM];
+    out.put_text("reading", reading.how.name());
+    out.put_name("value");
+    put_maybe(out, value_text(reading, found.content, &mut room));
+    let mut room = [0u8; READING_ROOM];
+    out.put_name("unit");
+    put_unit(out, unit_text(reading, found.vib, &mut room));
+    out.put_name("type");
+    put_word(out, reading.found.type_name());
+    out.put_name("error");
+    put_word(out, reading.found.fault_name());
+}
+
+// Writes what else the VIFEs and the data of a record say.
+fn put_vife_fields<W: Sink>(out: &mut TokenWriter<'_, W>, found: &Record<'_>, reading: &Reading)
+    ensures { Added W.Sink out.old out.new
+        (fields_tokens (vife_fields (view found.now) reading.now)) }
+{
+    let mut room = [0u8; READING_ROOM];
+    out.put_name("phase");
+    put_word(out, vife_text(&reading.phase));
+    out.put_name("direction");
+    put_word(out, vife_text(&reading.direction));
+    out.put_name("maker");
+    put_maybe_hex(out, maker_of(found.vib));
+    out.put_name("label");
+    put_maybe(out, label_text(found.vib, &mut room));
+    out.put_name("summer_time");
+    put_maybe_flag(out, reading.found.summer_time(found.content));
 }
 
 // Writes what a record is of, and its data as sent.
@@ -89,38 +140,44 @@ fn put_about<W: Sink>(out: &mut TokenWriter<'_, W>, found: &Record<'_>)
             Cell::Text("function", function_name(found.function).as_bytes()),
             Cell::Hex("vib", found.vib),
             Cell::Hex("data", found.content),
-            Cell::Text("quantity", quantity_name(found.vib).as_bytes()),
+            Cell::Text("quantity", code_at(number_of(found.vib)).name.as_bytes()),
         ],
     );
 }
 
 /// Writes a record.
-pub(crate) fn put_record<W: Sink>(out: &mut TokenWriter<'_, W>, found: &Record<'_>)
-    ensures { Added W.Sink out.old out.new (json_tokens (record_json (view found.now))) }
+#[tactic(auto, unfolding(crate::specs::Record::record_fields))]
+pub fn put_record<W: Sink>(out: &mut TokenWriter<'_, W>, sent: &Sent<'_>)
+    ensures { Added W.Sink out.old out.new (json_tokens (record_json (sent_view sent.now))) }
 {
     out.begin_object();
-    put_about(out, found);
-    put_names(out, found);
-    put_seen(out, found);
+    put_about(out, &sent.record);
+    put_qualifiers(out, &sent.record);
+    let reading = reading_of(&sent.record, sent.len);
+    put_value_fields(out, &sent.record, &reading);
+    put_vife_fields(out, &sent.record, &reading);
     out.end_object();
 }
 
 // Writes the field of the names of a record's VIFEs.
-fn put_names<W: Sink>(out: &mut TokenWriter<'_, W>, found: &Record<'_>)
+fn put_qualifiers<W: Sink>(out: &mut TokenWriter<'_, W>, found: &Record<'_>)
     ensures { Added W.Sink out.old out.new (fields_tokens (qualifier_fields (view found.now))) }
 {
     out.put_name("qualifiers");
     out.begin_array();
-    put_qualifiers(out, qualifiers(found.vib));
+    put_names(out, false, told_of(found.vib));
     out.end_array();
 }
 
-// Writes the names of VIFEs.
-#[tactic(auto, using(dc_tokens::proofs::Objects::values_of_take, dc_tokens::proofs::Objects::no_values), unfolding(crate::specs::Record::qualifier))]
-fn put_qualifiers<W: Sink>(out: &mut TokenWriter<'_, W>, vifes: &[u8])
-    ensures { Added W.Sink out.old out.new (values_tokens (map qualifier vifes.now)) }
+// Writes the names of VIFEs; `after_fc` says that an FC stands before the first.
+#[tactic(auto, unfolding(dc_reading::specs::Names::names_of))]
+fn put_names<W: Sink>(out: &mut TokenWriter<'_, W>, after_fc: bool, vifes: &[u8])
+    ensures { Added W.Sink out.old out.new
+        (values_tokens (map string (names_of after_fc vifes.now))) }
 {
-    'vifes: for vife in vifes {
-        out.put_string(vife_name(*vife % 128).as_bytes());
-    }
+    let [vife, others @ ..] = vifes else {
+        return;
+    };
+    out.put_string(vife_at(number_after(after_fc, *vife)).name.as_bytes());
+    put_names(out, is_extension(after_fc, *vife), others);
 }

@@ -35,7 +35,7 @@ pub enum Cell<'a> {
     /// A value; null where the meter sent none.
     Value(&'a str, Value),
     /// A unit; null for none.
-    Unit(&'a str, &'a str),
+    Unit(&'a str, &'a [u8]),
 }
 
 // Writes a cell as a field.

@@ -12,11 +12,12 @@ ghost use Rattle.dc_frame_json.specs.Telegram.{telegram_fields};
 use crate::record::put_record;
 use crate::row::{Cell, put_row};
 use dc_io::Sink;
-use dc_record::{End, Header, Records, Telegram};
+use dc_reading::SentRecords;
+use dc_record::{End, Header, Telegram};
 use dc_tokens::TokenWriter;
 
 // Writes records, one after the other.
-fn put_records<W: Sink>(out: &mut TokenWriter<'_, W>, records: Records<'_>)
+fn put_records<W: Sink>(out: &mut TokenWriter<'_, W>, records: SentRecords<'_>)
     ensures { Added W.Sink out.old out.new (values_tokens (map record_json records.entry)) }
 {
     'records: for found in records {
@@ -25,7 +26,7 @@ fn put_records<W: Sink>(out: &mut TokenWriter<'_, W>, records: Records<'_>)
 }
 
 // Writes the field of the records.
-fn put_records_field<W: Sink>(out: &mut TokenWriter<'_, W>, records: Records<'_>)
+fn put_records_field<W: Sink>(out: &mut TokenWriter<'_, W>, records: SentRecords<'_>)
     ensures { Added W.Sink out.old out.new (fields_tokens (records_field records.entry ∷ [])) }
 {
     out.put_name("records");
@@ -81,6 +82,6 @@ pub(crate) fn put_telegram<W: Sink>(out: &mut TokenWriter<'_, W>, telegram: &Tel
     ensures { Added W.Sink out.old out.new (fields_tokens (telegram_fields (parsed telegram.now))) }
 {
     put_header(out, &telegram.header());
-    put_records_field(out, telegram.records());
+    put_records_field(out, SentRecords::of_body(telegram.body()));
     put_end(out, telegram.end());
 }

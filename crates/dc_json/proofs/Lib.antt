@@ -2,3 +2,5 @@
 mod Currents
 -- what one telegram reports
 mod Telegrams
+-- the records that the due-date table doesn't have
+mod Alsos

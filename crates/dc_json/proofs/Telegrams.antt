@@ -12,8 +12,9 @@ use Rattle.dc_value.specs.declared.point.Point.{Point}
 use Rattle.dc_value.specs.declared.point.Seen.{Seen}
 use Rattle.dc_value.specs.declared.point.Seen.TheVariants.{Point as Known, Other}
 use Rattle.dc_register.specs.Points.{points_in, shown}
-use Rattle.dc_tokens.specs.Object.{fields_tokens, values_tokens}
-use Rattle.dc_tokens.proofs.Objects.{fields-append, no_values, values-append}
+use Rattle.dc_tokens.specs.Object.{Field, fields_tokens, values_tokens}
+use Rattle.dc_tokens.proofs.Objects.{fields-append, fields-cons, no_values, values-append}
+use Rattle.dc_json.specs.Also.{also_field, also_in}
 use Rattle.dc_json.specs.Reported.{reported_fields}
 use Rattle.dc_json.specs.Values.{current_of, received_fields, values_field}
 
@@ -31,11 +32,14 @@ point_told seen p is =
 pub none_told : (seen : Seen) → seen ≡ Other → [] ≡ values_tokens (flat_map current_of (shown seen))
 none_told seen is = sym no_values ∙ ap (λ (s : Seen). values_tokens (flat_map current_of (shown s))) (sym is)
 
-pub reported_as : (moment : ℕ) (header : Header) (records : List Entry) (t : Parsed) → header ≡ t.header → records ≡ t.records
-    → fields_tokens (received_fields moment header.status) ++ (fields_tokens (values_field (points_in records) ∷ []) ++ []) ≡ fields_tokens (reported_fields moment t)
+pub reported_as : (moment : ℕ) (header : Header) (records : List Entry) (body : List ℕ) (t : Parsed) → header ≡ t.header → records ≡ t.records → body ≡ t.body
+    → fields_tokens (received_fields moment header.status) ++ (fields_tokens (values_field (points_in records) ∷ []) ++ (fields_tokens (also_field (also_in body) ∷ []) ++ [])) ≡ fields_tokens (reported_fields moment t)
 unfolding reported_fields
-reported_as moment header records t same listed =
-    ap (λ (ts : List Token). fields_tokens (received_fields moment header.status) ++ ts) (append-nil (fields_tokens (values_field (points_in records) ∷ [])))
-    ∙ sym (fields-append (received_fields moment header.status) (values_field (points_in records) ∷ []))
-    ∙ ap (λ (h : Header). fields_tokens (received_fields moment h.status ++ values_field (points_in records) ∷ [])) same
-    ∙ ap (λ (es : List Entry). fields_tokens (received_fields moment t.header.status ++ values_field (points_in es) ∷ [])) listed
+reported_as moment header records body t same listed sent =
+    let told : List Field = values_field (points_in records) ∷ also_field (also_in body) ∷ [] in
+    ap (λ (ts : List Token). fields_tokens (received_fields moment header.status) ++ (fields_tokens (values_field (points_in records) ∷ []) ++ ts)) (append-nil (fields_tokens (also_field (also_in body) ∷ [])))
+    ∙ ap (λ (ts : List Token). fields_tokens (received_fields moment header.status) ++ ts) (sym (fields-cons (values_field (points_in records)) (also_field (also_in body) ∷ [])))
+    ∙ sym (fields-append (received_fields moment header.status) told)
+    ∙ ap (λ (h : Header). fields_tokens (received_fields moment h.status ++ told)) same
+    ∙ ap (λ (es : List Entry). fields_tokens (received_fields moment t.header.status ++ (values_field (points_in es) ∷ also_field (also_in body) ∷ []))) listed
+    ∙ ap (λ (b : List ℕ). fields_tokens (received_fields moment t.header.status ++ (values_field (points_in t.records) ∷ also_field (also_in b) ∷ []))) sent

@@ -10,6 +10,7 @@
 //! of each fault and what was expected there. Its text has no contract.
 #![tactic(auto)]
 
+mod also;
 mod explain;
 mod grown;
 mod place;

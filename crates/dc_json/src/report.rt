@@ -75,7 +75,7 @@ fn put_point<W: Sink>(out: &mut TokenWriter<'_, W>, serial: u64, point: &Point)
     out.put_name("value");
     put_value(out, &point.value);
     out.put_name("unit");
-    put_unit(out, point.quantity.unit());
+    put_unit(out, point.quantity.unit().as_bytes());
 }
 
 // Writes the object of a registered meter.

@@ -12,6 +12,7 @@ ghost use Rattle.dc_tokens.specs.Object.{fields_tokens, values_tokens};
 ghost use Rattle.dc_json.specs.Values.{current_of, received_fields, values_field};
 ghost use Rattle.dc_json.specs.Reported.{reported_fields};
 
+use crate::also::put_also;
 use crate::values::put_if_current;
 use dc_frame_json::{Cell, put_row};
 use dc_io::Sink;
@@ -21,7 +22,7 @@ use dc_tokens::TokenWriter;
 use dc_value::{Seen, point_of};
 
 /// Writes the fields of a reading that a telegram received at this moment has: `moment`, `utc`,
-/// `status` and `values`, as [`values_json`](crate::values_json) writes them.
+/// `status`, `values` and `also`, as [`values_json`](crate::values_json) writes them.
 pub fn put_reported<W: Sink>(out: &mut TokenWriter<'_, W>, moment: u64, telegram: &Telegram<'_>)
     requires { moment ≤ last_moment }
     ensures { Added W.Sink out.old out.new
@@ -29,6 +30,7 @@ pub fn put_reported<W: Sink>(out: &mut TokenWriter<'_, W>, moment: u64, telegram
 {
     put_received(out, moment, telegram.header().status);
     put_values(out, telegram.records());
+    put_also(out, telegram.body());
 }
 
 // Writes when a telegram was received, and the status that it reports.

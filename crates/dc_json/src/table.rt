@@ -1,11 +1,12 @@
 //! A telegram as an aligned table.
 
 use dc_io::{IoFault, Sink, put_byte, put_hex, put_number};
-use dc_names::{
-    application_name, function_name, medium_name, plain_of, qualifiers, quantity_name, vife_name,
+use dc_names::{application_name, function_name, medium_name};
+use dc_reading::{
+    How, READING_ROOM, Reading, Sent, SentRecords, code_at, is_extension, label_text, maker_of,
+    number_after, number_of, reading_of, told_of, unit_text, value_text, vife_at,
 };
 use dc_record::{Header, Record, Telegram};
-use dc_value::{Seen, TEXT_ROOM, Value, point_of};
 use itoa::Buffer;
 
 // The widths of the columns, in characters.
@@ -57,34 +58,59 @@ fn put_bit<W: Sink>(out: &mut W, bits: u8, words: &[u8]) -> Result<(), IoFault> 
     Ok(())
 }
 
-// Writes a value and its unit.
-fn put_value<W: Sink>(out: &mut W, value: &Value, unit: &str) -> Result<(), IoFault> {
-    let mut room = [0u8; TEXT_ROOM];
-    put_cell(out, value.write_into(&mut room), VALUE)?;
-    put_cell(out, unit.as_bytes(), UNIT)
+// Writes a text from a meter, with a point for each control character.
+fn put_shown<W: Sink>(out: &mut W, text: &[u8]) -> Result<(), IoFault> {
+    'bytes: for byte in text {
+        if *byte < 0x20 || *byte == 0x7F {
+            out.put(b".")?;
+        } else {
+            out.put(&[*byte])?;
+        }
+    }
+    Ok(())
 }
 
-// Writes a record's value and unit, or its data in hex.
-fn put_reading<W: Sink>(out: &mut W, found: &Record<'_>) -> Result<(), IoFault> {
-    if let Seen::Point(point) = point_of(found) {
-        return put_value(out, &point.value, point.quantity.unit());
+// Writes a record's value, or why it has none, or its data in hex.
+fn put_value<W: Sink>(out: &mut W, found: &Record<'_>, reading: &Reading) -> Result<(), IoFault> {
+    let mut room = [0u8; READING_ROOM];
+    if let Some(text) = value_text(reading, found.content, &mut room) {
+        put_shown(out, text)?;
+        return put_spaces(out, VALUE.saturating_sub(text.len()));
     }
-    if let Some(plain) = plain_of(found) {
-        return put_value(out, &plain.value, plain.unit);
+    if let Some(fault) = reading.found.fault_name() {
+        out.put(b"none (")?;
+        out.put(fault.as_bytes())?;
+        return put_cell(
+            out,
+            b")",
+            VALUE.saturating_sub(6).saturating_sub(fault.len()),
+        );
     }
     put_hex(out, found.content)?;
     put_spaces(
         out,
         VALUE.saturating_sub(found.content.len().saturating_mul(2)),
-    )?;
-    put_cell(out, b"hex", UNIT)
+    )
+}
+
+// Writes a record's unit.
+fn put_unit<W: Sink>(out: &mut W, found: &Record<'_>, reading: &Reading) -> Result<(), IoFault> {
+    if matches!(reading.how, How::Other) {
+        return put_cell(out, b"hex", UNIT);
+    }
+    let mut room = [0u8; READING_ROOM];
+    let unit = unit_text(reading, found.vib, &mut room);
+    put_shown(out, unit)?;
+    put_spaces(out, UNIT.saturating_sub(unit.len()))
 }
 
 // Writes the row of a record.
-fn put_row<W: Sink>(out: &mut W, found: &Record<'_>) -> Result<(), IoFault> {
+fn put_row<W: Sink>(out: &mut W, sent: &Sent<'_>) -> Result<(), IoFault> {
+    let (found, reading) = (&sent.record, reading_of(&sent.record, sent.len));
     out.put(b"  ")?;
-    put_cell(out, quantity_name(found.vib).as_bytes(), QUANTITY)?;
-    put_reading(out, found)?;
+    put_cell(out, code_at(number_of(found.vib)).name.as_bytes(), QUANTITY)?;
+    put_value(out, found, &reading)?;
+    put_unit(out, found, &reading)?;
     let mut number = Buffer::new();
     put_cell(out, number.format(found.storage).as_bytes(), NUMBER)?;
     put_cell(out, number.format(found.tariff).as_bytes(), NUMBER)?;
@@ -94,11 +120,22 @@ fn put_row<W: Sink>(out: &mut W, found: &Record<'_>) -> Result<(), IoFault> {
     out.put(b"\n")
 }
 
-// Writes the names of a record's VIFEs.
+// Writes the names of a record's VIFEs, the manufacturer's bytes and the text of a unit in plain text.
 fn put_qualifiers<W: Sink>(out: &mut W, vib: &[u8]) -> Result<(), IoFault> {
-    'vifes: for vife in qualifiers(vib) {
+    let mut after_fc = false;
+    'vifes: for vife in told_of(vib) {
         out.put(b", ")?;
-        out.put(vife_name(*vife % 128).as_bytes())?;
+        out.put(vife_at(number_after(after_fc, *vife)).name.as_bytes())?;
+        after_fc = is_extension(after_fc, *vife);
+    }
+    if let Some(maker) = maker_of(vib) {
+        out.put(b", maker ")?;
+        put_hex(out, maker)?;
+    }
+    let mut room = [0u8; READING_ROOM];
+    if let Some(label) = label_text(vib, &mut room) {
+        out.put(b", text ")?;
+        put_shown(out, label)?;
     }
     Ok(())
 }
@@ -117,7 +154,7 @@ pub(crate) fn put_telegram_table<W: Sink>(
     put_cell(out, b"tariff", NUMBER)?;
     put_cell(out, b"subunit", NUMBER)?;
     out.put(b"function\n")?;
-    'records: for found in telegram.records() {
+    'records: for found in SentRecords::of_body(telegram.body()) {
         put_row(out, &found)?;
     }
     if telegram.more_follows() {

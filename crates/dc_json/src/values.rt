@@ -12,6 +12,7 @@ ghost use Rattle.dc_json.specs.Values.{byte_in, current_json, current_of, head_f
 ghost use Rattle.dc_json.specs.Values.{held_field, held_json, last_json, reading_json};
 ghost use Rattle.dc_json.specs.Values.{stands_json, stands_line, values_field, values_lines};
 
+use crate::also::put_also_of;
 use crate::grown::Grown;
 use crate::report::put_whose;
 use dc_frame_json::{Cell, put_object, put_row};
@@ -33,7 +34,7 @@ fn put_current<W: Sink>(out: &mut TokenWriter<'_, W>, point: &Point)
             Cell::Number("tariff", u64::from(point.tariff)),
             Cell::Number("subunit", u64::from(point.subunit)),
             Cell::Value("value", point.value),
-            Cell::Unit("unit", point.quantity.unit()),
+            Cell::Unit("unit", point.quantity.unit().as_bytes()),
         ],
     );
 }
@@ -97,19 +98,21 @@ fn put_head<A: Allocator, W: Sink>(out: &mut TokenWriter<'_, W>, serial: u64, pa
     );
 }
 
-// Writes a reading of this last part and these points.
+// Writes a reading of this last part, these points and these parts.
 fn put_part<A: Allocator, W: Sink>(
     out: &mut TokenWriter<'_, W>,
     serial: u64,
     part: &Part<A>,
     points: Points<'_, A>,
+    parts: &[Part<A>],
 )
     ensures { Added W.Sink out.old out.new
-        (json_tokens (reading_json serial part.now points.entry)) }
+        (json_tokens (reading_json serial part.now points.entry parts.now)) }
 {
     out.begin_object();
     put_head(out, serial, part);
     put_values(out, points);
+    put_also_of(out, parts);
     out.end_object();
 }
 
@@ -120,7 +123,7 @@ fn put_reading<A: Allocator, W: Sink>(out: &mut TokenWriter<'_, W>, reading: &Re
 {
     let parts = reading.parts();
     match parts.get(parts.len().saturating_sub(1)) {
-        Some(part) => put_part(out, reading.serial(), part, Points::of(parts)),
+        Some(part) => put_part(out, reading.serial(), part, Points::of(parts), parts),
         None => out.put_null(),
     }
 }

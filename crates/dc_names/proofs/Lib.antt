@@ -1,4 +1,1 @@
 -- the lemmas that proofs cite
-
--- a value information block of one byte
-mod Scales

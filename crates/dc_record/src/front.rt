@@ -35,10 +35,12 @@ fn exact_front(bytes: &[u8]) -> Result<Front<'_>, BodyFault>
     }
 }
 
-/// What stands at the front of a body's rest, with what it says of all that is read there.
+/// What stands at the front of a body's rest: an end, a filler or a record, or the first fault.
 #[inline(always)]
 pub fn front_of(bytes: &[u8]) -> Result<Front<'_>, BodyFault>
-    ensures { MatchResult result (λ f. Reads bytes.now (front f))
+    ensures exact { Gives front result (front_at bytes.now) }
+    // What that says of all that is read there.
+    ensures reads { MatchResult result (λ f. Reads bytes.now (front f))
         (λ f. content_at bytes.now ≡ Err f) }
 {
     exact_front(bytes)

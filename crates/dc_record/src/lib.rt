@@ -23,6 +23,7 @@ mod telegram;
 
 pub use end::End;
 pub use fault::BodyFault;
+pub use front::{Front, front_of};
 pub use header::Header;
 pub use laws::{first_fault, one_record, one_telegram, read_as_spelled};
 pub use record::Record;

@@ -10,7 +10,7 @@ use byteorder::{ByteOrder, LittleEndian};
 /// Whole number of 1 to 8 bytes, the lowest first, without a sign.
 #[inline(always)]
 #[tactic(auto, using(crate::proofs::Bytes::unsigned_bytes))]
-pub(crate) fn unsigned(bytes: &[u8]) -> u64
+pub fn unsigned(bytes: &[u8]) -> u64
     requires { (1 ≤ length bytes.now) × (length bytes.now ≤ 8) }
     ensures { result ≡ unsigned bytes.now }
 {
@@ -19,7 +19,7 @@ pub(crate) fn unsigned(bytes: &[u8]) -> u64
 
 /// Two's complement of 1 to 8 bytes, the lowest first (type B). The least number counts as no number.
 #[inline(always)]
-pub(crate) fn integer(bytes: &[u8]) -> Option<i64>
+pub fn integer(bytes: &[u8]) -> Option<i64>
     requires { (1 ≤ length bytes.now) × (length bytes.now ≤ 8) }
     ensures { result ≡ integer bytes.now }
 {
@@ -79,7 +79,7 @@ fn least(len: usize) -> u64
 /// Packed BCD of 1 to 6 bytes, the lowest first (type A). F as the highest digit means minus, any other
 /// digit above 9 is no number.
 #[inline(always)]
-pub(crate) fn bcd(bytes: &[u8]) -> Option<i64>
+pub fn bcd(bytes: &[u8]) -> Option<i64>
     requires { (1 ≤ length bytes.now) × (length bytes.now ≤ 6) }
     ensures { result ≡ bcd bytes.now }
 {
@@ -101,12 +101,12 @@ pub(crate) fn bcd(bytes: &[u8]) -> Option<i64>
     Some(n as i64)
 }
 
-/// The number that the digits of these bytes, the highest last, go on from n.
-fn digits_after(n: u64, bytes: &[u8]) -> Option<u64>
-    requires few { length bytes.now ≤ 5 }
-    requires fits { n < 100 ^ (6 - length bytes.now) }
+/// The number that the digits of these bytes, the highest last, go on from n; none where a digit is above 9.
+pub fn digits_after(n: u64, bytes: &[u8]) -> Option<u64>
+    requires few { length bytes.now ≤ 9 }
+    requires fits { n < 100 ^ (9 - length bytes.now) }
     ensures exact { result ≡ number_after n (bcd_digits bytes.now) }
-    ensures small { IfSome result (λ m. m < 100 ^ 6) }
+    ensures small { IfSome result (λ m. m < 100 ^ 9) }
 {
     let [rest @ .., top] = bytes else {
         return Some(n);

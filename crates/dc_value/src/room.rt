@@ -22,7 +22,7 @@ fn glyph(digit: u8) -> u8
 
 /// Writes a byte just before `end`.
 #[inline]
-pub(crate) fn put_byte(byte: u8, room: &mut [u8], end: usize)
+pub fn put_byte(byte: u8, room: &mut [u8], end: usize)
     requires { (0 < end) × (end ≤ length room.old) }
     ensures { drop (end - 1) room.new ≡ byte ∷ drop end room.old }
 {
@@ -31,7 +31,7 @@ pub(crate) fn put_byte(byte: u8, room: &mut [u8], end: usize)
 
 /// Writes the last `count` digits of n just before `end`, and returns what is left of n.
 #[inline(always)]
-pub(crate) fn put_digits(base: u64, count: usize, n: u64, room: &mut [u8], end: usize) -> u64
+pub fn put_digits(base: u64, count: usize, n: u64, room: &mut [u8], end: usize) -> u64
     requires base { (2 ≤ base) × (base ≤ 16) }
     requires place { (count ≤ end) × (end ≤ length room.old) }
     ensures written { drop (end - count) room.new ≡ last_digits base count n ++ drop end room.old }
@@ -47,7 +47,7 @@ pub(crate) fn put_digits(base: u64, count: usize, n: u64, room: &mut [u8], end: 
 
 /// Writes a piece just before `end`, and says where it begins.
 #[inline]
-pub(crate) fn put_piece(piece: &[u8], room: &mut [u8], end: usize) -> usize
+pub fn put_piece(piece: &[u8], room: &mut [u8], end: usize) -> usize
     requires { (length piece.now ≤ end) × (end ≤ length room.old) }
     ensures start { result + length piece.now ≡ end }
     ensures written { drop result room.new ≡ piece.now ++ drop end room.old }

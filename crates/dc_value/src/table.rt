@@ -8,7 +8,7 @@ use crate::Quantity;
 /// The quantity of a value information block, and the power of ten of its values.
 #[inline(always)]
 #[tactic(auto, unfolding(crate::specs::Table::row_of))]
-pub(crate) fn unit_at(vib: &[u8]) -> Option<(Quantity, i8)>
+pub fn unit_at(vib: &[u8]) -> Option<(Quantity, i8)>
     ensures { result ≡ unit_at vib.now }
 {
     match vib {

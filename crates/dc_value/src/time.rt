@@ -8,7 +8,7 @@ ghost use Rattle.dc_value.specs.Value.{on_day, at_minute};
 use crate::{Date, Value};
 
 /// The date of two bytes (type G), the lower first.
-pub(crate) fn day(bytes: &[u8]) -> Value
+pub fn day(bytes: &[u8]) -> Value
     requires { length bytes.now ≡ 2 }
     ensures { result ≡ on_day (type_g bytes.now) }
 {
@@ -20,7 +20,7 @@ pub(crate) fn day(bytes: &[u8]) -> Value
 }
 
 /// The date and time of four bytes (type F), the lowest first.
-pub(crate) fn minute(bytes: &[u8]) -> Value
+pub fn minute(bytes: &[u8]) -> Value
     requires { length bytes.now ≡ 4 }
     ensures { result ≡ at_minute (type_f bytes.now) }
 {

@@ -50,7 +50,7 @@ impl Value {
     /// Writes the text so that it ends at `end`, and says where it begins.
     #[inline(always)]
     #[tactic(auto, using(crate::proofs::Ascii::value_texts))]
-    fn put(&self, room: &mut [u8], end: usize) -> usize
+    pub fn put(&self, room: &mut [u8], end: usize) -> usize
         requires { (TEXT_ROOM ≤ end) × (end ≤ length room.old) }
         ensures start { (result ≤ end) × (end ≤ result + TEXT_ROOM) }
         ensures written { drop result room.new ≡ value_text self.now ++ drop end room.old }

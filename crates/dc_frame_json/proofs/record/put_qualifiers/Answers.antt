@@ -1,16 +1,20 @@
-use Rattle.std.proofs.Common.{◌+◌, map, take, arith}
-use Rattle.dc_tokens.specs.Object.{values_tokens}
-use Rattle.dc_frame_json.specs.Record.{qualifier}
+use Rattle.std.proofs.Common.{List, ℕ, false, append-nil, map}
+use Rattle.json.specs.Json.{Json, string}
+use Rattle.json.specs.Tree.{items_tokens}
+use Rattle.dc_record.specs.Record.{view}
+use Rattle.dc_reading.specs.Names.{names_of}
+use Rattle.dc_reading.specs.Parts.{told_of}
+use Rattle.dc_tokens.specs.Object.{fields_tokens, items_of}
+use Rattle.dc_frame_json.specs.Record.{qualifier_fields}
+use Rattle.dc_tokens.proofs.Objects.{items_are}
 use Rattle.dc_tokens.proofs.Adding.{◌>>◌, unchanged, said}
-use Rattle.dc_tokens.proofs.Objects.{values_of_take}
 use Rattle.dc_frame_json.proofs.record.put_qualifiers.Goals as goal
 
-pub vifes-init : goal.vifes-init
-unfolding values_tokens
-vifes-init g c = unchanged
-
-pub vifes-preserved : goal.vifes-preserved
-unfolding qualifier
-vifes-preserved g c =
-    let e = values_of_take qualifier c.args.vifes.now c.vifes.vife-index (omega arith) in
-    said (values_tokens (map qualifier (take (c.vifes.vife-index + 1) c.args.vifes.now))) (c.vifes.invariant >> c.put_string.ensures) cc
+pub returns : goal.returns
+unfolding fields_tokens qualifier_fields
+returns g c =
+    let names : List Json = map string (names_of false (told_of (view c.args.found.now).vib)) in
+    let e = items_are names in
+    let n = append-nil (items_tokens (items_of names)) in
+    said (fields_tokens (qualifier_fields (view c.args.found.now)))
+    (c.put_name.ensures >> c.begin_array.ensures >> c.put_names.ensures >> c.end_array.ensures >> unchanged) cc

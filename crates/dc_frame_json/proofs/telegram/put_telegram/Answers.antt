@@ -1,4 +1,5 @@
-use Rattle.std.proofs.Common.{append-nil}
+use Rattle.std.proofs.Common.{append-nil, drop}
+use Rattle.dc_reading.specs.Sent.{sent_at}
 use Rattle.dc_record.specs.Telegram.{Parsed, parsed}
 use Rattle.dc_tokens.specs.Object.{fields_tokens}
 use Rattle.dc_frame_json.specs.Telegram.{header_fields, records_field, end_fields, telegram_fields}
@@ -10,6 +11,6 @@ pub returns : goal.returns
 unfolding telegram_fields
 returns g c =
     let t : Parsed = parsed c.args.telegram.now in
-    let e = fields-around (header_fields t.header) (records_field t.records) (end_fields t.ending) in
+    let e = fields-around (header_fields t.header) (records_field (sent_at (drop 12 t.body))) (end_fields t.ending) in
     let n = append-nil (fields_tokens (end_fields t.ending)) in
     said (fields_tokens (telegram_fields t)) (c.put_header.ensures >> c.put_records_field.ensures >> c.put_end.ensures >> unchanged) cc

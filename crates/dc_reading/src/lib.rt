@@ -1,0 +1,34 @@
+//! A second reading of records, for what the due-date table leaves as other (EN 13757-3).
+//!
+//! **Codes and VIFEs** stand in two tables, [`CODES`] and [`VIFES`], with their names, units, powers of ten and effects.
+//! What a block says is its code, changed by its VIFEs from left to right; a VIFE whose meaning isn't certain leaves the
+//! record unread, and a manufacturer's VIFE ends what is interpreted.
+//!
+//! **Values.** A record that the due-date table has is read as its point. Else its data are read as its code's kind says,
+//! where their form has one: a number, flags, digits, a text, a date or a time, an identity; or there is none, with a
+//! reason.
+//!
+//! Nothing here takes memory.
+#![tactic(auto)]
+
+mod codes;
+mod form;
+mod meaning;
+mod names;
+mod parts;
+mod reading;
+mod sent;
+mod text;
+mod value;
+mod vifes;
+
+pub use codes::{CODES, Code, Kind, code_at, number_of};
+pub use form::{DataType, Form};
+pub use meaning::{Meaning, is_extension, number_after};
+pub use names::vife_text;
+pub use parts::{label_of, maker_of, told_of};
+pub use reading::{Found, How, Reading, reading_of};
+pub use sent::{Sent, SentRecords};
+pub use text::{READING_ROOM, label_text, unit_text, value_text};
+pub use value::{Datum, NoValue};
+pub use vifes::{Effect, VIFES, Vife, vife_at};

@@ -1,0 +1,1 @@
+-- the lemmas that proofs cite

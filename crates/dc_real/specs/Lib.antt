@@ -1,0 +1,4 @@
+-- the definitions that contracts cite
+
+-- the decimal of a REAL
+pub mod Real
