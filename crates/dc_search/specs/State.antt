@@ -69,14 +69,6 @@ abbrev pub next_due : List (List ℕ) → Option (List ℕ)
 next_due [] = None
 next_due (digits ∷ rest) = Some digits
 
--- the silence that met the selection of a mask counts no more: the mask is due again
-abbrev pub taken_back : List ℕ → SearchState → SearchState
-taken_back digits s = record s {
-  due = digits ∷ s.due;
-  answered = false;
-  selections = s.selections - 1;
-}
-
 -- the first mask is finished
 abbrev pub settled : SearchState → SearchState
 settled s = record s { due = rest_of s.due; answered = false }

@@ -46,7 +46,6 @@ impl<A: Allocator + Copy> Search<A> {
     ghost use Rattle.dc_search.specs.State.{after, after_collision, after_meter, after_one};
     ghost use Rattle.dc_search.specs.State.{after_selection, after_shared, after_split, children};
     ghost use Rattle.dc_search.specs.State.{first_of, is_idle, new_search, next_due, settled, step_of};
-    ghost use Rattle.dc_search.specs.State.{taken_back};
     ghost use Rattle.dc_search.specs.Prefix.{mask_of_digits};
     ghost use Rattle.dc_address.specs.Mask.{matches};
     ghost use Rattle.std.specs.Int.Digits.{number_from_digits};
@@ -106,20 +105,6 @@ impl<A: Allocator + Copy> Search<A> {
         ensures { result ≡ next_due self.now.due }
     {
         self.current
-    }
-
-    /// Takes the silence back that met the selection of this mask: it is due again, before the others.
-    pub fn take_back(&mut self, mask: Branch) -> Result<(), NoMemory>
-        ensures ok { OnOk result (self.new ≡ taken_back mask self.old) }
-        ensures err { OnErr result (self.new ≡ self.old) }
-    {
-        if let Some(next) = self.current {
-            self.later.push(next)?;
-        }
-        self.current = Some(mask);
-        self.answered = false;
-        self.selections = self.selections.saturating_sub(1);
-        Ok(())
     }
 
     /// Takes the answer to the next step; no byte is silence. A selection is counted here.
