@@ -10,7 +10,7 @@ use Rattle.dc_installer.specs.Scan.{Identifies}
 use Rattle.dc_installer.specs.declared.number.Numbered.TheVariants.{One, Shared, Nobody}
 use Rattle.dc_installer.specs.declared.reading.Readout.{Readout}
 use Rattle.dc_io.specs.declared.stream.IoFault.{IoFault}
-use Rattle.dc_misses.specs.declared.misses.Misses.{Misses}
+use Rattle.dc_readout.specs.declared.misses.misses.Misses.{Misses}
 use Rattle.dc_readout.specs.Summary.{begun}
 use Rattle.dc_words.specs.declared.task.MeterName.TheVariants.{Identity as ByIdentity, Primary as ByAddress, Number as ByNumber}
 

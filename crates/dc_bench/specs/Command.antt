@@ -25,7 +25,7 @@ use Rattle.dc_installer.specs.declared.wildcards.ScanFault.{ScanFault}
 use Rattle.dc_io.specs.Written.{PutsInto}
 use Rattle.dc_io.specs.declared.stream.IoFault.{IoFault}
 use Rattle.dc_io.specs.declared.stream.Sink.{Ghosts}
-use Rattle.dc_misses.specs.declared.misses.Misses.{Misses}
+use Rattle.dc_readout.specs.declared.misses.misses.Misses.{Misses}
 use Rattle.dc_readout.specs.Summary.{begun}
 use Rattle.dc_words.specs.declared.task.MeterName.{MeterName}
 use Rattle.dc_words.specs.declared.task.MeterName.TheVariants.{Identity as ByIdentity, Primary as ByAddress, Number as ByNumber}

@@ -9,9 +9,9 @@ use Rattle.dc_installer.specs.Unread.{is_all_read, unread_text}
 use Rattle.dc_installer.specs.declared.course.Course.{Course}
 use Rattle.dc_installer.specs.declared.reading.Readout.TheVariants.{Whole, Failed}
 use Rattle.dc_installer.specs.declared.wildcards.Count.{Count}
-use Rattle.dc_misses.specs.Reason.{reason_text}
-use Rattle.dc_misses.specs.declared.reason.Owner.{Owner}
-use Rattle.dc_misses.specs.declared.reason.Owner.TheVariants.{Meter as OfMeter, Address as OfAddress, Number as OfNumber}
+use Rattle.dc_readout.specs.Reason.{reason_text}
+use Rattle.dc_readout.specs.declared.misses.reason.Owner.{Owner}
+use Rattle.dc_readout.specs.declared.misses.reason.Owner.TheVariants.{Meter as OfMeter, Address as OfAddress, Number as OfNumber}
 use Rattle.dc_words.specs.declared.task.MeterName.{MeterName}
 use Rattle.dc_words.specs.declared.task.MeterName.TheVariants.{Identity as ByIdentity, Primary as ByAddress, Number as ByNumber}
 

@@ -3,9 +3,9 @@
 use dc_decode::put_point;
 use dc_frame::{Frame, parse};
 use dc_io::{IoFault, Sink};
-use dc_names::medium_name;
 use dc_record::Telegram;
-use dc_value::{Point, Seen, point_of};
+use dc_record::names::medium_name;
+use dc_record::value::{Point, Seen, point_of};
 
 /// Writes the meter of a telegram, its medium, and its first current value where it sends one:
 /// `found 12345678.PAD.01.07 water 12.345 m3`.

@@ -9,7 +9,7 @@ use dc_address::Primary;
 use dc_bus::Bus;
 use dc_installer::{Numbered, Readout, find_number, identify, put_unfound, read};
 use dc_io::{IoFault, Sink};
-use dc_misses::Misses;
+use dc_readout::misses::Misses;
 use dc_words::MeterName;
 
 /// Reads a meter, which is found first where it is named by its primary address, or by its number.

@@ -8,7 +8,7 @@ ghost use Rattle.dc_bench.specs.Remark.{advice_text, hint, owner_of, remark_text
 use crate::command::{Done, Work};
 use dc_installer::{Count, Course, Readout, put_unread};
 use dc_io::{IoFault, Sink};
-use dc_misses::{Owner, put_reason};
+use dc_readout::misses::{Owner, put_reason};
 use dc_words::MeterName;
 
 /// Writes what is to be known of a command besides its text: after a search how many answers can't be read, and to a

@@ -14,3 +14,13 @@ pub mod Exchanges
 pub mod Asked
 -- waiting for answers
 pub mod Halves
+-- of the module `blocks`
+
+-- bytes that are taken one after the other
+pub mod Taking
+-- an answer block by block
+pub mod Reading
+-- where no answer begins
+pub mod Missing
+
+-- of the module `trace`

@@ -10,9 +10,11 @@
 #![tactic(auto)]
 
 mod answer_buf;
+pub mod blocks;
 mod both;
 mod bus;
 mod half;
+pub mod trace;
 mod windows;
 
 pub use answer_buf::{AnswerBuf, MOST_ANSWER};

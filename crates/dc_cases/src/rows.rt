@@ -14,7 +14,7 @@ use dc_io::{
     Bytes, FixedSink, Sink, put_byte_word, put_fault, put_hex, put_hex_word, put_number_word,
 };
 use dc_record::Record;
-use dc_value::{Date, Seen, point_of};
+use dc_record::value::{Date, Seen, point_of};
 use std::alloc::Global;
 use std::str;
 

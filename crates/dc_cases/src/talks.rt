@@ -3,7 +3,7 @@
 use crate::ends::{Input, Limits, NONE, Output};
 use crate::fault::CaseFault;
 use crate::words::bytes;
-use dc_blocks::{Talk, exchange};
+use dc_bus::blocks::{Talk, exchange};
 use dc_frame::FrameBuf;
 use dc_frame::control::write_reset;
 use dc_io::{Bytes, Sink, put_hex_word, put_number_word};

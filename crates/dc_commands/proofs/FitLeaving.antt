@@ -8,7 +8,7 @@ use Rattle.dc_ending.specs.Unopened.{Stands}
 use Rattle.dc_ending.specs.declared.ending.Ending.TheVariants.{Memory}
 use Rattle.dc_fit.specs.declared.fault.FitFault.TheVariants.{NoMemory}
 use Rattle.dc_log.specs.Halves.{half_of}
-use Rattle.dc_pending.specs.Images.{StandsForOne}
+use Rattle.dc_concentrator.specs.PendingImages.{StandsForOne}
 use Rattle.dc_disk.specs.declared.device.Disk.{Ghosts}
 use Rattle.dc_fit.specs.Fit.{FitsAll}
 use Rattle.dc_fit.specs.declared.fault.FitFault.{FitFault}

@@ -9,7 +9,7 @@ use Rattle.dc_disk.specs.declared.device.Disk.{Ghosts}
 use Rattle.dc_log.specs.Halves.{fewest_sectors, half_of}
 use Rattle.dc_log.specs.declared.fault.OpenFault.{OpenFault}
 use Rattle.dc_log.specs.declared.fault.OpenFault.TheVariants.{NotImage}
-use Rattle.dc_pending.specs.Images.{EachStands}
+use Rattle.dc_concentrator.specs.PendingImages.{EachStands}
 
 at_least : (a b : ℕ) → (a < b → ⊥) → b ≤ a
 at_least a b not = by (nat_lt a b) refl where

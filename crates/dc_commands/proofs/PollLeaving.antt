@@ -7,9 +7,9 @@ use Rattle.dc_commands.specs.Bytes.{IsPrinted, IsWrittenOut}
 use Rattle.dc_commands.specs.HostClock.{IsWarned, LetsPass, TellsTime}
 use Rattle.dc_commands.specs.declared.timer.HostTimer.{HostTimer}
 use Rattle.dc_poll.specs.declared.teller.Teller.{Ghosts as TellerGhosts}
-use Rattle.dc_teller.specs.Printed.{AreTakenUpToAFailure}
-use Rattle.dc_teller.specs.Unfailing.{GoesOn}
-use Rattle.dc_teller.specs.declared.unfailing.Unfailing.{Unfailing}
+use Rattle.dc_poll.specs.Printed.{AreTakenUpToAFailure}
+use Rattle.dc_poll.specs.Unfailing.{GoesOn}
+use Rattle.dc_poll.specs.declared.events.unfailing.Unfailing.{Unfailing}
 use Rattle.std.specs.Io.KnownBytes.{Keeps}
 use Rattle.dc_commands.specs.PollOver.{shown_text, IsNext, ArePolled, IsUnpolled, PollLeaves, StopsPoll}
 use Rattle.dc_concentrator.specs.Core.{Core, present}
@@ -22,7 +22,7 @@ use Rattle.dc_io.specs.Failures.{HasRisen}
 use Rattle.dc_log.specs.Halves.{fewest_sectors, half_of}
 use Rattle.dc_log.specs.Refusal.{TellsOfImage}
 use Rattle.dc_log.specs.declared.fault.OpenFault.TheVariants.{Worn, Device}
-use Rattle.dc_pending.specs.Images.{EachStands, IsRefused, StandsForOne}
+use Rattle.dc_concentrator.specs.PendingImages.{EachStands, IsRefused, StandsForOne}
 use Rattle.dc_poll.proofs.Taking.{takes_both}
 use Rattle.dc_poll.specs.Bus.{Bus}
 use Rattle.dc_poll.specs.Happening.{Happening, happened_events}

@@ -14,7 +14,7 @@ use Rattle.dc_fit.specs.declared.fault.FitFault.TheVariants.{Open, NoMemory, Wri
 use Rattle.dc_log.specs.Halves.{half_of}
 use Rattle.dc_log.specs.declared.fault.StoreFault.{StoreFault}
 use Rattle.dc_log.specs.declared.fault.StoreFault.TheVariants.{Device as Failed, Worn as Exhausted, Stopped as Halted}
-use Rattle.dc_pending.specs.Images.{StandsForOne}
+use Rattle.dc_concentrator.specs.PendingImages.{StandsForOne}
 
 -- a fault of the store as that of a commit
 abbrev pub commit_fault : StoreFault → CommitFault

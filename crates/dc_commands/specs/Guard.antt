@@ -11,7 +11,7 @@ use Rattle.dc_io.specs.Failures.{HasRisen}
 use Rattle.dc_log.specs.Halves.{fewest_sectors, half_of}
 use Rattle.dc_log.specs.declared.fault.OpenFault.{OpenFault}
 use Rattle.dc_log.specs.declared.fault.OpenFault.TheVariants.{Device, NotImage}
-use Rattle.dc_pending.specs.Images.{IsBehindAt, IsUnread}
+use Rattle.dc_concentrator.specs.PendingImages.{IsBehindAt, IsUnread}
 
 -- THE IMAGE MAY BE OPENED: what it reads as is durable, and each image that a crash may leave from here on stands for a
 -- state, whatever wrote the image and whatever became of it since.

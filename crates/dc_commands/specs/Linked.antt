@@ -2,8 +2,8 @@
 use Rattle.std.specs.Prelude.{Result, Ok, Err}
 use Rattle.dc_ending.specs.declared.ending.Ending.{Ending}
 use Rattle.dc_ending.specs.declared.ending.Ending.TheVariants.{Gateway, Memory}
-use Rattle.dc_reach.specs.declared.connecting.Unconnected.{Unconnected}
-use Rattle.dc_reach.specs.declared.connecting.Unconnected.TheVariants.{Link, NoMemory}
+use Rattle.dc_links.specs.declared.reach.connecting.Unconnected.{Unconnected}
+use Rattle.dc_links.specs.declared.reach.connecting.Unconnected.TheVariants.{Link, NoMemory}
 
 -- Links that were connected are used; without them the command ends by a gateway, or where memory ran out by memory.
 abbrev pub linked : {P E : Type 0} → Result P (Unconnected E) → Result P Ending

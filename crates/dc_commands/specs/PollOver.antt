@@ -18,14 +18,14 @@ use Rattle.dc_log.specs.Halves.{fewest_sectors, half_of}
 use Rattle.dc_log.specs.Refusal.{TellsOfImage}
 use Rattle.dc_log.specs.declared.fault.OpenFault.{OpenFault}
 use Rattle.dc_log.specs.declared.fault.OpenFault.TheVariants.{Worn, Device}
-use Rattle.dc_pending.specs.Images.{EachStands, IsRefused, StandsForOne}
+use Rattle.dc_concentrator.specs.PendingImages.{EachStands, IsRefused, StandsForOne}
 use Rattle.dc_poll.specs.Bus.{Bus}
 use Rattle.dc_poll.specs.Happening.{Happening}
 use Rattle.dc_poll.specs.ImagePoll.{ImageTurned, PlanPolled}
 use Rattle.dc_poll.specs.declared.event.Event.{Event as Told}
 use Rattle.dc_poll.specs.declared.outcome.Outcome.{Outcome}
-use Rattle.dc_teller.specs.Object.{objects_of_all}
-use Rattle.dc_teller.specs.Text.{text_of_all}
+use Rattle.dc_poll.specs.Object.{objects_of_all}
+use Rattle.dc_poll.specs.Text.{text_of_all}
 
 -- ---- the events of a poll
 

@@ -10,8 +10,8 @@ use Rattle.dc_log.specs.declared.greatest.Greatest.{Greatest}
 use Rattle.dc_log.specs.declared.rescuing.Source.{Source}
 use Rattle.dc_log.specs.declared.rescuing.Source.TheVariants.{Whole, Without, OtherRoot}
 use Rattle.dc_change.specs.State.{State}
-use Rattle.dc_pending.specs.Images.{Stands}
-use Rattle.dc_roots.specs.declared.root.Root.{Root}
+use Rattle.dc_concentrator.specs.PendingImages.{Stands}
+use Rattle.dc_log.specs.declared.roots.root.Root.{Root}
 use Rattle.dc_register.specs.Language.{register}
 
 -- a name and a sector

@@ -5,7 +5,7 @@ ghost use Rattle.dc_commands.specs.Linked.{linked};
 
 use dc_ending::Ending;
 use dc_files::Why;
-use dc_reach::Unconnected;
+use dc_links::reach::Unconnected;
 use std::io;
 
 /// The links that were connected, or the ending of the command without them.

@@ -19,11 +19,11 @@ use dc_bus::HalfBus;
 use dc_change::Moment;
 use dc_disk::Disk;
 use dc_ending::{Ending, ProgramFault};
-use dc_poll::{Outcome, Plan, Teller, poll_image};
-use dc_teller::{
+use dc_poll::events::{
     JsonTeller, Progress, Shown, TextTeller, Unfailing, events_are_printed_as_json,
     events_are_printed_as_text, events_are_taken_up_to_a_failure,
 };
+use dc_poll::{Outcome, Plan, Teller, poll_image};
 use std::alloc::Global;
 use std::io::{LineWriter, Write};
 use std::marker::Brand;

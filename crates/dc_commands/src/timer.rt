@@ -5,8 +5,8 @@ ghost use Rattle.std.specs.Prelude.{◌≡◌};
 use crate::waiting::{Waits, add_awaited};
 use dc_bus::HalfBus;
 use dc_change::Moment;
+use dc_poll::events::Progress;
 use dc_poll::{Station, Timer};
-use dc_teller::Progress;
 use std::rt::Clock;
 use std::time::{SystemTime, UNIX_EPOCH};
 

@@ -11,7 +11,7 @@ use Rattle.dc_change.specs.Apply.{applied}
 use Rattle.dc_change.specs.declared.change.Change.{Change}
 use Rattle.dc_change.specs.History.{after}
 use Rattle.dc_log.specs.Halves.{half_of, half_len_of}
-use Rattle.dc_pending.specs.Images.{StandsForFront}
+use Rattle.dc_concentrator.specs.PendingImages.{StandsForFront}
 use Rattle.dc_log.specs.Store.{Opened}
 use Rattle.dc_log.proofs.Fronts.{longer_front, front_behind}
 use Rattle.dc_register.specs.Language.{register}

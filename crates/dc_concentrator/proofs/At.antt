@@ -15,16 +15,16 @@ use Rattle.dc_change.specs.Spelled.{SpellsChanges}
 use Rattle.dc_change.specs.Valid.{IsChange}
 use Rattle.dc_readout.specs.Summary.{Summary, Verdict, verdict_by}
 use Rattle.dc_log.specs.Halves.{half_of}
-use Rattle.dc_pending.specs.Images.{StandsForFront, Keeps}
+use Rattle.dc_concentrator.specs.PendingImages.{StandsForFront, Keeps}
 use Rattle.dc_log.proofs.Fronts.{longer_front}
 use Rattle.dc_register.specs.Language.{register}
 use Rattle.dc_log.proofs.Life.{kept_stands}
 use Rattle.dc_concentrator.specs.declared.line_heard.LineHeard.{LineHeard}
-use Rattle.dc_pending.specs.Waiting.{Waiting}
-use Rattle.dc_pending.specs.Lines.{on_line, put_on, settled_lines, no_sessions}
+use Rattle.dc_concentrator.specs.Waiting.{Waiting}
+use Rattle.dc_concentrator.specs.Lines.{on_line, put_on, settled_lines, no_sessions}
 use Rattle.dc_concentrator.specs.Core.{Core, present, with_session, opened}
 use Rattle.dc_concentrator.specs.Step.{session_after, and_pending, judged, after_hear, settled_core, removed_by, lines_after, ordered}
-use Rattle.dc_pending.specs.Taking.{IsTaken}
+use Rattle.dc_concentrator.specs.Taking.{IsTaken}
 use Rattle.dc_concentrator.specs.Images.{Machine, IsAt}
 
 -- the spelling of one change more

@@ -7,7 +7,7 @@ use Rattle.dc_record.specs.Body.{continues}
 use Rattle.dc_record.specs.Telegram.{Parsed}
 use Rattle.dc_readout.specs.declared.stage.Stage.TheVariants.{Requests, Pending}
 use Rattle.dc_readout.specs.Summary.{Summary, new, asked_by, asked_at, heard_by, settled_by, request_bit, request_of, link_address}
-use Rattle.dc_pending.specs.Lines.{settled_at}
+use Rattle.dc_concentrator.specs.Lines.{settled_at}
 use Rattle.dc_concentrator.specs.Toggled.{HaveOtherBits, SettlingToggles}
 use Rattle.dc_readout.proofs.Taken.{taken}
 

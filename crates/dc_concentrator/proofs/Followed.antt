@@ -20,10 +20,10 @@ use Rattle.dc_change.specs.Accepts.{Accepts, refusal, continues as is_continued,
 use Rattle.dc_change.specs.declared.fault.ChangeFault.TheVariants.{Full as RegisterFull}
 use Rattle.dc_change.specs.declared.change.Change.{Change}
 use Rattle.dc_change.specs.Apply.{applied}
-use Rattle.dc_pending.specs.declared.fault.TakeFault.TheVariants.{PendingFull as TakePendingFull, Full as TakeFull}
-use Rattle.dc_pending.specs.Lines.{is_line, settled_at, settled_on, settled_lines, unless_of}
-use Rattle.dc_pending.specs.Taking.{change_of, refuses}
-use Rattle.dc_pending.specs.Waiting.{most_waiting}
+use Rattle.dc_concentrator.specs.declared.pending.fault.TakeFault.TheVariants.{PendingFull as TakePendingFull, Full as TakeFull}
+use Rattle.dc_concentrator.specs.Lines.{is_line, settled_at, settled_on, settled_lines, unless_of}
+use Rattle.dc_concentrator.specs.Taking.{change_of, refuses}
+use Rattle.dc_concentrator.specs.Waiting.{most_waiting}
 use Rattle.dc_concentrator.specs.declared.fault.StartFault.{StartFault}
 use Rattle.dc_concentrator.specs.declared.fault.StartFault.TheVariants.{NoLine as StartNoLine, Unknown, Busy, Stopped as StartStopped}
 use Rattle.dc_concentrator.specs.declared.line_heard.LineHeard.{LineHeard}

@@ -4,7 +4,7 @@ use Rattle.dc_disk.specs.Disk.{Image}
 use Rattle.dc_disk.specs.Images.{settled_image}
 use Rattle.dc_change.specs.State.{State}
 use Rattle.dc_log.specs.Halves.{half_len_of}
-use Rattle.dc_pending.specs.Images.{Reads, Stands}
+use Rattle.dc_concentrator.specs.PendingImages.{Reads, Stands}
 use Rattle.dc_log.proofs.Once.{reads_once}
 use Rattle.dc_register.specs.Language.{register}
 use Rattle.dc_concentrator.specs.Lives.{LivesFollow}

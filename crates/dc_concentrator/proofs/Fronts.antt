@@ -22,12 +22,12 @@ use Rattle.dc_concentrator.specs.declared.line_heard.LineHeard.TheVariants.{Agai
 use Rattle.dc_concentrator.specs.declared.fault.HearFault.{HearFault}
 use Rattle.dc_concentrator.specs.declared.fault.CommitFault.{CommitFault}
 use Rattle.dc_concentrator.specs.declared.fault.CommitFault.TheVariants.{Device, Worn, Stopped}
-use Rattle.dc_pending.specs.Lines.{is_line, settled_on, unless_of}
+use Rattle.dc_concentrator.specs.Lines.{is_line, settled_on, unless_of}
 use Rattle.dc_concentrator.specs.Core.{Core, present, session_of, with_session, opened}
 use Rattle.dc_concentrator.specs.Event.{Event, Answer, starts, asks, hears, commits, offices, started, asked, heard, committed, replied}
 use Rattle.dc_concentrator.specs.Event.{Reply, unread, unstored, repeated, refused, shown, out_of_memory, obeyed, uncommitted}
-use Rattle.dc_pending.specs.declared.fault.TakeFault.{TakeFault}
-use Rattle.dc_pending.specs.Taking.{change_of}
+use Rattle.dc_concentrator.specs.declared.pending.fault.TakeFault.{TakeFault}
+use Rattle.dc_concentrator.specs.Taking.{change_of}
 use Rattle.dc_concentrator.specs.Step.{May, next, unless_refused, verdict_answer, answer_on, heard_on, hear_answer, asked_on, settled_core, settled, removed_by, lines_after, ordered, after_commit, and_pending, judged, is_on, address_in}
 use Rattle.dc_concentrator.specs.Transcript.{Turn, leads, IsChain, accepted_by, accepted_in, taken_from}
 use Rattle.dc_concentrator.specs.Promised.{Seen, nothing_seen, and_seen, and_accepted, seen_from, PromisedIsCommitted}

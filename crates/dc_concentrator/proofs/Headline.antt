@@ -15,10 +15,10 @@ use Rattle.dc_change.specs.State.{State}
 use Rattle.dc_change.specs.declared.change.Change.{Change}
 use Rattle.dc_change.specs.History.{after}
 use Rattle.dc_log.specs.Halves.{half_of, half_len_of}
-use Rattle.dc_pending.specs.Images.{Reads, Stands, EachStands, StandsForFront, StandsForOne}
+use Rattle.dc_concentrator.specs.PendingImages.{Reads, Stands, EachStands, StandsForFront, StandsForOne}
 use Rattle.dc_log.proofs.Once.{reads_once}
 use Rattle.dc_register.specs.Language.{register}
-use Rattle.dc_pending.specs.Lines.{is_line}
+use Rattle.dc_concentrator.specs.Lines.{is_line}
 use Rattle.dc_concentrator.specs.declared.line_heard.LineHeard.TheVariants.{Accepted}
 use Rattle.dc_concentrator.specs.Core.{Core, opened}
 use Rattle.dc_concentrator.specs.Event.{Event, Answer, Reply, asks, hears, commits, offices, asked, heard, committed, replied}

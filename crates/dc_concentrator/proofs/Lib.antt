@@ -30,3 +30,11 @@ pub mod Headline
 pub mod Wents
 -- single events, by the calls that they are
 pub mod SingleTurns
+-- of the module `pending`
+
+-- what has room goes in whole
+pub mod Broken
+-- a list that is mapped in place, element by element
+pub mod Changed
+-- how many requests the sessions may still make, where one of them is replaced
+pub mod PendingRequests

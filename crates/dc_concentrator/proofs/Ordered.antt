@@ -23,7 +23,7 @@ use Rattle.dc_change.specs.declared.command.Command.{Command}
 use Rattle.dc_change.specs.declared.command.Command.TheVariants.{Fit, Move, Out, Confirm, Swap}
 use Rattle.dc_change.specs.declared.fault.ChangeFault.{ChangeFault}
 use Rattle.dc_change.specs.declared.fault.ChangeFault.TheVariants.{Known}
-use Rattle.dc_pending.specs.Lines.{unless_of}
+use Rattle.dc_concentrator.specs.Lines.{unless_of}
 use Rattle.dc_concentrator.specs.Step.{removed_by, lines_after}
 use Rattle.dc_concentrator.proofs.Registered.{IsFollowed, FollowsAt, Follows, row_of_same, row_of_other}
 

@@ -8,11 +8,11 @@ use Rattle.dc_concentrator.specs.declared.line_heard.LineHeard.{LineHeard}
 use Rattle.dc_concentrator.specs.declared.line_heard.LineHeard.TheVariants.{Accepted}
 use Rattle.dc_concentrator.specs.declared.fault.HearFault.{HearFault}
 use Rattle.dc_concentrator.specs.declared.fault.HearFault.TheVariants.{NoMemory}
-use Rattle.dc_pending.specs.Lines.{is_line}
+use Rattle.dc_concentrator.specs.Lines.{is_line}
 use Rattle.dc_concentrator.specs.Core.{Core, present, session_of}
-use Rattle.dc_pending.specs.Taking.{change_of, refuses}
-use Rattle.dc_pending.specs.declared.fault.TakeFault.{TakeFault}
-use Rattle.dc_pending.specs.declared.fault.TakeFault.TheVariants.{NoMemory as TakeNoMemory}
+use Rattle.dc_concentrator.specs.Taking.{change_of, refuses}
+use Rattle.dc_concentrator.specs.declared.pending.fault.TakeFault.{TakeFault}
+use Rattle.dc_concentrator.specs.declared.pending.fault.TakeFault.TheVariants.{NoMemory as TakeNoMemory}
 use Rattle.dc_concentrator.specs.Fault.{hear_fault}
 use Rattle.dc_concentrator.specs.Step.{unless_refused, hear_answer, MayHear}
 

@@ -6,7 +6,7 @@ use Rattle.dc_disk.specs.Runs.{LeavesOnly}
 use Rattle.dc_disk.proofs.Moments.{weakened}
 use Rattle.dc_change.specs.State.{State}
 use Rattle.dc_log.specs.Halves.{half_of}
-use Rattle.dc_pending.specs.Images.{StandsForFront}
+use Rattle.dc_concentrator.specs.PendingImages.{StandsForFront}
 use Rattle.dc_log.proofs.Fronts.{longer_front}
 use Rattle.dc_register.specs.Language.{register}
 use Rattle.dc_log.specs.Store.{Opened}

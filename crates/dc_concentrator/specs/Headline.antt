@@ -11,7 +11,7 @@ use Rattle.dc_change.specs.State.{State}
 use Rattle.dc_change.specs.declared.change.Change.{Change}
 use Rattle.dc_change.specs.History.{after}
 use Rattle.dc_log.specs.Halves.{half_of}
-use Rattle.dc_pending.specs.Images.{StandsForOne, EachStands, Reads}
+use Rattle.dc_concentrator.specs.PendingImages.{StandsForOne, EachStands, Reads}
 use Rattle.dc_concentrator.specs.declared.line_heard.LineHeard.TheVariants.{Accepted}
 use Rattle.dc_concentrator.specs.Core.{opened}
 use Rattle.dc_concentrator.specs.Event.{Event, Answer, asks, hears, commits, offices, asked, heard}

@@ -8,9 +8,9 @@ use Rattle.dc_change.specs.History.{AcceptsAll}
 use Rattle.dc_change.specs.Spelled.{SpellsChanges}
 use Rattle.dc_readout.specs.Summary.{Summary}
 use Rattle.dc_log.specs.Halves.{half_of, half_len_of, budget_of}
-use Rattle.dc_pending.specs.Images.{Stands, StandsForFront, Keeps}
+use Rattle.dc_concentrator.specs.PendingImages.{Stands, StandsForFront, Keeps}
 use Rattle.dc_log.specs.Store.{Opened}
-use Rattle.dc_pending.specs.Waiting.{Waiting}
+use Rattle.dc_concentrator.specs.Waiting.{Waiting}
 use Rattle.dc_concentrator.specs.Core.{Core, present}
 
 -- The image stands for the state after a prefix of the changes that leaves out none of the first ones, which are

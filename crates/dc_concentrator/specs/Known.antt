@@ -6,8 +6,8 @@ use Rattle.dc_readout.specs.Summary.{Summary, new, asked_by, verdict_by}
 use Rattle.dc_change.specs.State.{State}
 use Rattle.dc_change.specs.Accepts.{refusal}
 use Rattle.dc_change.specs.declared.fault.ChangeFault.TheVariants.{Unknown, Full as RegisterFull}
-use Rattle.dc_pending.specs.Taking.{change_of}
-use Rattle.dc_pending.specs.Waiting.{most_waiting}
+use Rattle.dc_concentrator.specs.Taking.{change_of}
+use Rattle.dc_concentrator.specs.Waiting.{most_waiting}
 use Rattle.dc_concentrator.specs.declared.fault.HearFault.TheVariants.{Full, PendingFull}
 use Rattle.dc_concentrator.specs.Core.{Core, present, session_of, opened}
 use Rattle.dc_concentrator.specs.Step.{hear_answer}

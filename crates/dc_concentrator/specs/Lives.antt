@@ -6,7 +6,7 @@ use Rattle.dc_change.specs.State.{State}
 use Rattle.dc_change.specs.declared.change.Change.{Change}
 use Rattle.dc_change.specs.History.{after}
 use Rattle.dc_log.specs.Halves.{half_len_of}
-use Rattle.dc_pending.specs.Images.{Reads, EachStands}
+use Rattle.dc_concentrator.specs.PendingImages.{Reads, EachStands}
 use Rattle.dc_concentrator.specs.Images.{StandsForPromised}
 
 -- the state is that after a prefix of the changes which has all that is promised

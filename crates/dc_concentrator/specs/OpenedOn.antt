@@ -2,7 +2,7 @@
 use Rattle.std.specs.Prelude.{◌≡◌, List}
 use Rattle.dc_change.specs.State.{State}
 use Rattle.dc_log.specs.Halves.{budget_of, half_of}
-use Rattle.dc_pending.specs.Images.{Reads, StandsForOne}
+use Rattle.dc_concentrator.specs.PendingImages.{Reads, StandsForOne}
 use Rattle.dc_concentrator.specs.Headline.{IsOpened, WasStopped, IsKept}
 use Rattle.dc_concentrator.specs.Images.{Machine}
 use Rattle.dc_concentrator.specs.Transcript.{Turn}

@@ -9,7 +9,7 @@ use Rattle.dc_disk.specs.declared.device.Disk.{Ghosts}
 use Rattle.dc_disk.specs.Runs.{LeavesOnly}
 use Rattle.dc_change.specs.State.{State}
 use Rattle.dc_log.specs.Halves.{half_of}
-use Rattle.dc_pending.specs.Images.{StandsForFront}
+use Rattle.dc_concentrator.specs.PendingImages.{StandsForFront}
 use Rattle.dc_log.specs.Store.{Opened}
 use Rattle.dc_office.specs.declared.line.OfficeLine.{OfficeLine}
 use Rattle.dc_concentrator.specs.declared.fault.CommitFault.{CommitFault}

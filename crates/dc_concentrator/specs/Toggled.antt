@@ -4,7 +4,7 @@ use Rattle.dc_frame.specs.Frame.{FrameSeen}
 use Rattle.dc_frame.specs.Control.{request_to}
 use Rattle.dc_record.specs.Telegram.{Parsed}
 use Rattle.dc_readout.specs.Summary.{Summary, new, asked_by, verdict_by, heard_by}
-use Rattle.dc_pending.specs.Lines.{settled_on}
+use Rattle.dc_concentrator.specs.Lines.{settled_on}
 
 -- two requests for data from one address that differ in the frame count bit
 abbrev pub HaveOtherBits : FrameSeen → FrameSeen → Type 0

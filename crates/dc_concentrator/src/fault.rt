@@ -1,11 +1,11 @@
 //! The concentrator's refusals, with their numbers and names.
 
 ghost use Rattle.std.specs.Prelude.{◌≡◌};
-ghost use Rattle.dc_pending.specs.declared.fault.TakeFault.{TakeFault};
+ghost use Rattle.dc_concentrator.specs.declared.pending.fault.TakeFault.{TakeFault};
 ghost use Rattle.dc_concentrator.specs.Fault.{start_number, start_name, hear_number, hear_name};
 ghost use Rattle.dc_concentrator.specs.Fault.{commit_number, commit_name, hear_fault};
 
-use dc_pending::TakeFault;
+use crate::pending::TakeFault;
 use thiserror::Error;
 
 /// Why no session was started: the first of NoLine, Stopped, Unknown, Busy that applies.

@@ -26,6 +26,7 @@ mod event;
 mod fault;
 mod laws;
 mod line_heard;
+pub mod pending;
 mod running;
 mod telling;
 

@@ -19,6 +19,7 @@
 
 mod between;
 mod boundaries;
+pub mod check;
 mod checked;
 mod counting;
 mod curve;
@@ -29,6 +30,7 @@ mod mark;
 mod order;
 mod period;
 mod reached;
+pub mod table;
 mod walk;
 
 pub use between::consumption;

@@ -7,7 +7,7 @@ ghost use Rattle.dc_decode.specs.Seen.{unit_word, point_text, seen_text, seen_wo
 
 use dc_io::{IoFault, Sink};
 use dc_record::Record;
-use dc_value::{Point, Quantity, Seen, TEXT_ROOM, Value, point_of};
+use dc_record::value::{Point, Quantity, Seen, TEXT_ROOM, Value, point_of};
 
 // Writes the unit of a number or of flags.
 #[tactic(auto, using(dc_io::proofs::Pieces::written))]

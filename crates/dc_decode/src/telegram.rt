@@ -11,8 +11,8 @@ ghost use Rattle.dc_decode.specs.Telegram.{end_line, telegram_text};
 
 use crate::seen::put_seen;
 use dc_io::{IoFault, Sink, put_hex_word, put_number_word};
+use dc_record::value::TEXT_ROOM;
 use dc_record::{End, Header, Record, Records, Telegram};
-use dc_value::TEXT_ROOM;
 
 // Writes the line of the meter.
 #[tactic(auto, using(dc_io::proofs::Pieces::written), unfolding(crate::specs::Telegram::meter_line))]

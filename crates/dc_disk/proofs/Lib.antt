@@ -18,3 +18,9 @@ mod Pending
 mod Scanning
 -- what a crash leaves
 mod Stops
+-- of the module `snapshot`
+
+-- one reading more
+pub mod Readings
+-- a file in which no sector returns to what it held
+pub mod Between

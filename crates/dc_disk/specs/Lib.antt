@@ -22,3 +22,9 @@ pub mod Note
 pub mod File
 -- numbers of several bytes at a place in a sector, the lowest byte first (this product's image format)
 pub mod Fields
+-- of the module `snapshot`
+
+-- the readings of a sample, and whether they stand
+pub mod Readings
+-- a file over time
+pub mod Instant

@@ -44,6 +44,7 @@ mod memory;
 mod pick;
 mod scan;
 mod sector;
+pub mod snapshot;
 
 pub use device::Disk;
 pub use fields::{put_u16, put_u32, put_u64, u16_at, u32_at, u64_at};

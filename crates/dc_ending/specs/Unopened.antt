@@ -8,7 +8,7 @@ use Rattle.dc_log.specs.Halves.{fewest_sectors, half_of}
 use Rattle.dc_log.specs.Refusal.{TellsOfImage}
 use Rattle.dc_log.specs.declared.fault.OpenFault.{OpenFault}
 use Rattle.dc_log.specs.declared.fault.OpenFault.TheVariants.{Worn, Device}
-use Rattle.dc_pending.specs.Images.{IsRefused, EachStands, StandsForOne}
+use Rattle.dc_concentrator.specs.PendingImages.{IsRefused, EachStands, StandsForOne}
 
 -- Where the disk keeps the disk model, each image that it may hold stands for some state.
 abbrev pub Stands : {D : Type 0} → Ghosts D → D → Type 0

@@ -8,13 +8,13 @@ ghost use Rattle.std.specs.Prelude.{◌≡◌, ◌≢◌, ◌-◌, ◌^◌, ◌<
 ghost use Rattle.dc_decode.specs.Text.{text_of};
 ghost use Rattle.dc_frame_json.specs.Frame.{body_json};
 ghost use Rattle.dc_frame_json.specs.Text.{json_text, value_line};
-ghost use Rattle.dc_check.specs.Entries.{entries_of};
-ghost use Rattle.dc_check.specs.Plain.{plain_of};
+ghost use Rattle.dc_consumption.specs.Entries.{entries_of};
+ghost use Rattle.dc_consumption.specs.Plain.{plain_of};
 ghost use Rattle.dc_consumption.specs.Counted.{counted};
 ghost use Rattle.dc_consumption.specs.Order.{IsInOrder};
 ghost use Rattle.dc_consumption.specs.Period.{period_of};
 
-use dc_check::{MOST_ENTRIES, PlainEntry, PlainPeriod, check_into};
+use dc_consumption::check::{MOST_ENTRIES, PlainEntry, PlainPeriod, check_into};
 use dc_library::{decode_body_into, decode_json_into, decode_text_into};
 
 /// Writes the text that `decode` prints for an input to the front of `out`, and returns its number

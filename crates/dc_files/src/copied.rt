@@ -5,9 +5,9 @@ ghost use Rattle.dc_files.specs.Copied.{IsOfCopy};
 
 use crate::host::Host;
 use crate::looking::{LookedAt, ROUNDS, ending_of_sample};
+use dc_disk::snapshot::SampleFault;
 use dc_disk::{Disk, FileDisk, ReadFault, Sector};
 use dc_ending::Ending;
-use dc_snapshot::SampleFault;
 use libc::EIO;
 use std::alloc::Global;
 use std::cell::Cell;

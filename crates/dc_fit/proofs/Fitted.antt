@@ -16,10 +16,10 @@ use Rattle.dc_fit.specs.declared.fault.FitFault.{FitFault}
 use Rattle.dc_fit.specs.declared.fault.FitFault.TheVariants.{Open, NoMemory, Write, Disk}
 use Rattle.dc_fit.specs.Fit.{Fits, FitsAll, IfDisk, IsBefore, IsListed, Lists, ListsAll, fit_text, fitted}
 use Rattle.dc_io.specs.Lines.{lines_of}
-use Rattle.dc_list.specs.Plan.{IsOneGroup, IsPlanned, Outcome}
+use Rattle.dc_fit.specs.Plan.{IsOneGroup, IsPlanned, Outcome}
 use Rattle.dc_log.specs.Halves.{budget_of, half_len_of, half_of}
 use Rattle.dc_log.specs.Store.{Opened}
-use Rattle.dc_pending.specs.Images.{Keeps, Reads, Stands, StandsForEither, StandsForOne}
+use Rattle.dc_concentrator.specs.PendingImages.{Keeps, Reads, Stands, StandsForEither, StandsForOne}
 use Rattle.dc_register.specs.Language.{one_history}
 
 -- where a row is wrong the register stays as it is, and else it has the changes

@@ -4,3 +4,9 @@
 pub mod Copies
 -- what is done to a disk, by what is done to its store
 mod Fitted
+-- of the module `list`
+
+-- rows, one after the other
+pub mod Steps
+-- nothing is no address
+pub mod Addresses

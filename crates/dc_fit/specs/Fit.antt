@@ -10,12 +10,12 @@ use Rattle.dc_disk.specs.declared.device.Disk.{Ghosts}
 use Rattle.dc_disk.specs.Runs.{IsSettled, LeavesOnly}
 use Rattle.dc_fit.specs.declared.fault.FitFault.{FitFault}
 use Rattle.dc_fit.specs.declared.fault.FitFault.TheVariants.{Open, NoMemory, Write, Disk}
-use Rattle.dc_list.specs.Plan.{IsPlanned, Outcome}
+use Rattle.dc_fit.specs.Plan.{IsPlanned, Outcome}
 use Rattle.dc_log.specs.Halves.{budget_of, half_of}
 use Rattle.dc_log.specs.Store.{Opened}
 use Rattle.dc_log.specs.declared.fault.OpenFault.{OpenFault}
 use Rattle.dc_log.specs.declared.fault.StoreFault.{StoreFault}
-use Rattle.dc_pending.specs.Images.{EachStands, Keeps, Reads, Stands, StandsForEither, StandsForOne}
+use Rattle.dc_concentrator.specs.PendingImages.{EachStands, Keeps, Reads, Stands, StandsForEither, StandsForOne}
 
 -- the last line where a row is wrong
 abbrev pub nothing_done : List ℕ

@@ -7,17 +7,17 @@ ghost use Rattle.dc_disk.specs.Runs.{LeavesOnly};
 ghost use Rattle.dc_log.specs.Halves.{budget_of, fewest_sectors, half_of};
 ghost use Rattle.dc_log.specs.Refusal.{TellsOfImage};
 ghost use Rattle.dc_log.specs.declared.fault.OpenFault.TheVariants.{Device, NotImage, Worn};
-ghost use Rattle.dc_pending.specs.Images.{IsRefused, StandsForOne};
+ghost use Rattle.dc_concentrator.specs.PendingImages.{IsRefused, StandsForOne};
 ghost use Rattle.dc_fit.specs.Fit.{fit_text, Fits, FitsAll, IfDisk, IfOpen, IsBefore, IsStanding};
 ghost use Rattle.dc_fit.specs.Fit.{Lists, ListsAll, nothing_done};
 
 use crate::FitFault;
+use crate::list::{Plan, plan_on};
 use dc_change::DecodeFault;
+use dc_concentrator::pending::write_changes;
 use dc_disk::Disk;
 use dc_io::{Bytes, IoFault, NoMemory, Sink};
-use dc_list::{Plan, plan_on};
 use dc_log::Store;
-use dc_pending::write_changes;
 use dc_register::House;
 use std::alloc::Allocator;
 

@@ -1,6 +1,6 @@
 //! Fits the meters of a list: the engine of `mbdc fit`.
 //!
-//! [`fit_on`] opens an image, plans the list on its register ([`plan_on`](dc_list::plan_on)), and writes the changes of
+//! [`fit_on`] opens an image, plans the list on its register ([`plan_on`](crate::list::plan_on)), and writes the changes of
 //! the plan as one group. Where one row is wrong, nothing is written.
 //!
 //! Proved: the register is that after the whole list, or as it was, also after a crash at any moment.
@@ -8,6 +8,7 @@
 
 mod fault;
 mod fitting;
+pub mod list;
 
 pub use fault::FitFault;
 pub use fitting::fit_on;

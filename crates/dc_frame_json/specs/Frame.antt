@@ -11,7 +11,7 @@ use Rattle.dc_frame.specs.Control.{variable_data}
 use Rattle.dc_record.specs.declared.fault.BodyFault.{BodyFault}
 use Rattle.dc_record.specs.Fault as records
 use Rattle.dc_record.specs.Telegram.{Parsed, telegram_at}
-use Rattle.dc_names.specs.Fields.{control_name, ci_name}
+use Rattle.dc_record.specs.Fields.{control_name, ci_name}
 use Rattle.dc_decode.specs.Frames.{read_as}
 use Rattle.dc_tokens.specs.Object.{Field, object_of, count}
 use Rattle.dc_frame_json.specs.Telegram.{telegram_fields}

@@ -18,7 +18,7 @@ use dc_decode::read_frame;
 use dc_frame::control::VARIABLE_DATA;
 use dc_frame::{Frame, FrameFault};
 use dc_io::Sink;
-use dc_names::{ci_name, control_name};
+use dc_record::names::{ci_name, control_name};
 use dc_record::{BodyFault, Telegram};
 use dc_tokens::TokenWriter;
 

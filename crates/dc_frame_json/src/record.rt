@@ -13,14 +13,14 @@ ghost use Rattle.dc_frame_json.specs.Record.{flag_or_null, hex_or_null, qualifie
 
 use crate::row::{Cell, put_row};
 use dc_io::Sink;
-use dc_names::function_name;
 use dc_reading::{
     READING_ROOM, Reading, Sent, code_at, is_extension, label_text, maker_of, number_after,
     number_of, reading_of, told_of, unit_text, value_text, vife_at, vife_text,
 };
 use dc_record::Record;
+use dc_record::names::function_name;
+use dc_record::value::{TEXT_ROOM, Value};
 use dc_tokens::TokenWriter;
-use dc_value::{TEXT_ROOM, Value};
 
 /// Writes a value, or null.
 #[tactic(auto, unfolding(crate::specs::Record::value_json))]

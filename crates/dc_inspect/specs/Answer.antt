@@ -2,21 +2,21 @@
 use Rattle.std.specs.Prelude.{◌≡◌, ◌⊎◌, ◌<◌, ◌≤◌, ℕ, Bool, false, List, [], ◌++◌, Option, Some, None, codes}
 use Rattle.dc_disk.specs.Disk.{Image}
 use Rattle.dc_change.specs.State.{Held, State}
-use Rattle.dc_roots.specs.declared.chooser.Held.{Held as Slot}
-use Rattle.dc_roots.specs.Held.{IsHeld}
+use Rattle.dc_log.specs.declared.roots.chooser.Held.{Held as Slot}
+use Rattle.dc_log.specs.Held.{IsHeld}
 use Rattle.dc_log.specs.Halves.{budget_of, half_len_of, fewest_sectors}
 use Rattle.dc_log.specs.declared.greatest.Greatest.{Greatest}
 use Rattle.dc_log.specs.declared.fault.OpenFault.TheVariants.{NotImage}
-use Rattle.dc_value.specs.Text.{day_text}
-use Rattle.dc_table.specs.DueTable.{due_text}
-use Rattle.dc_table.specs.RegisterTable.{register_text}
+use Rattle.dc_record.specs.Text.{day_text}
+use Rattle.dc_office.specs.DueTable.{due_text}
+use Rattle.dc_office.specs.RegisterTable.{register_text}
 use Rattle.dc_json.specs.Report.{due_lines, register_lines}
 use Rattle.dc_json.specs.Values.{values_lines}
-use Rattle.dc_latest.specs.Values.{values_text}
-use Rattle.dc_status.specs.Metrics.{metrics_text}
-use Rattle.dc_status.specs.Object.{status_objects}
-use Rattle.dc_status.specs.Status.{any_silent, status_text}
-use Rattle.dc_status.specs.declared.silence.Clock.{Clock}
+use Rattle.dc_json.specs.LatestValues.{values_text}
+use Rattle.dc_json.specs.Metrics.{metrics_text}
+use Rattle.dc_json.specs.Object.{status_objects}
+use Rattle.dc_json.specs.Status.{any_silent, status_text}
+use Rattle.dc_json.specs.declared.status.silence.Clock.{Clock}
 use Rattle.dc_inspect.specs.declared.asking.Asked.{Asked}
 use Rattle.dc_inspect.specs.declared.asking.Asked.TheVariants.{Contents, Values, Status, Table}
 use Rattle.dc_inspect.specs.declared.asking.Form.{Form}

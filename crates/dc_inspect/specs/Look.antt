@@ -6,7 +6,7 @@ use Rattle.dc_disk.specs.Disk.{Image}
 use Rattle.dc_disk.specs.Runs.{Counts}
 use Rattle.dc_disk.specs.declared.device.Disk.{Ghosts}
 use Rattle.dc_change.specs.State.{Held}
-use Rattle.dc_roots.specs.Held.{IsHeld}
+use Rattle.dc_log.specs.Held.{IsHeld}
 use Rattle.dc_ending.specs.declared.fault.ProgramFault.{ProgramFault}
 use Rattle.dc_ending.specs.declared.fault.ProgramFault.TheVariants.{Open, NoMemory as Refused}
 use Rattle.dc_log.specs.Halves.{budget_of, half_start, half_end}

@@ -19,12 +19,12 @@ use crate::text::{put_image, put_number_line, put_small};
 use dc_disk::{Disk, Failed};
 use dc_ending::ProgramFault;
 use dc_io::{Bytes, IoFault, NoMemory, Sink};
+use dc_json::latest::put_values;
+use dc_json::status::{Clock, any_silent, put_metrics, put_status, put_status_objects};
 use dc_json::{due_json, register_json, values_json};
-use dc_latest::put_values;
 use dc_log::{FEWEST_SECTORS, Greatest, OpenFault, greatest_of, half_len_of};
+use dc_office::table::{due_table, register_table};
 use dc_register::House;
-use dc_status::{Clock, any_silent, put_metrics, put_status, put_status_objects};
-use dc_table::{due_table, register_table};
 use std::alloc::Allocator;
 
 /// What is printed of an image, and what the program's status says of it.

@@ -9,9 +9,9 @@ ghost use Rattle.dc_inspect.specs.Told.{IsWearOf, no_image};
 
 use dc_disk::{Disk, Failed};
 use dc_ending::ProgramFault;
+use dc_log::roots::{Held, Root, read_slot};
 use dc_log::{Found, Greatest, OpenFault, is_spent, read_chain};
 use dc_register::House;
-use dc_roots::{Held, Root, read_slot};
 use std::alloc::Allocator;
 
 /// The contents of the two root slots.

@@ -5,7 +5,7 @@ ghost use Rattle.dc_disk.specs.Runs.{OnlyLooked, Counts};
 ghost use Rattle.dc_ending.specs.Fault.{IfOpen};
 ghost use Rattle.dc_log.specs.Halves.{fewest_sectors, half_len_of};
 ghost use Rattle.dc_log.specs.declared.fault.OpenFault.TheVariants.{NotImage, Worn, Device};
-ghost use Rattle.dc_pending.specs.Images.{IsUnread};
+ghost use Rattle.dc_concentrator.specs.PendingImages.{IsUnread};
 ghost use Rattle.dc_inspect.specs.Register.{IsRegisterOf};
 
 use crate::look::wear_of;

@@ -13,9 +13,9 @@ ghost use Rattle.dc_inspect.specs.Text.{image_text, seen_text, summary_text};
 use crate::look::{Look, Slots};
 use crate::summary::{Summary, summary_of};
 use dc_io::{IoFault, Sink, put_fault, put_number_word};
+use dc_log::roots::{Held, Root};
 use dc_log::{Found, OpenFault, half_end, half_start};
 use dc_register::House;
-use dc_roots::{Held, Root};
 use std::alloc::Allocator;
 
 /// Writes a line of a name and a number.

@@ -4,9 +4,9 @@ use Rattle.std.specs.Prelude.{option_map, ◌||◌, if◌then◌else◌}
 use Rattle.dc_frame.specs.Frame.{spelling}
 use Rattle.dc_readout.specs.Summary.{Summary, asked_by, verdict_by}
 use Rattle.dc_readout.specs.Bound.{requests_left}
-use Rattle.dc_misses.specs.Misses.{and_missed, misses_of}
-use Rattle.dc_misses.specs.declared.misses.Misses.{Misses}
-use Rattle.dc_misses.proofs.Counting.{are_counted}
+use Rattle.dc_readout.specs.Misses.{and_missed, misses_of}
+use Rattle.dc_readout.specs.declared.misses.misses.Misses.{Misses}
+use Rattle.dc_readout.proofs.Counting.{are_counted}
 use Rattle.dc_io.specs.Stream.{Puts, PutsFront}
 use Rattle.dc_io.proofs.Pieces.{puts-both, puts-none, puts_front-first, puts_front-second}
 use Rattle.dc_installer.proofs.Failures.{over_after}

@@ -6,7 +6,7 @@ use Rattle.dc_bus.specs.Bus.{Exchange}
 use Rattle.dc_frame.specs.Control.{selection, snd_nke}
 use Rattle.dc_frame.specs.Frame.{FrameSeen, ack, short, long}
 use Rattle.dc_frame.specs.Reading.{frame_of}
-use Rattle.dc_misses.specs.Misses.{is_noise, is_silent}
+use Rattle.dc_readout.specs.Misses.{is_noise, is_silent}
 use Rattle.dc_search.specs.Answer.{answer_of}
 use Rattle.dc_installer.specs.declared.course.Course.{Course}
 

@@ -8,9 +8,9 @@ use Rattle.dc_readout.specs.Bound.{requests_left}
 use Rattle.dc_bus.specs.Bus.{AreExchanged, Exchange}
 use Rattle.dc_concentrator.specs.Text.{failed_text}
 use Rattle.dc_decode.specs.Frames.{all_shown, frames_of}
-use Rattle.dc_misses.specs.Misses.{and_missed, misses_of}
-use Rattle.dc_misses.specs.Missing.{is_missing}
-use Rattle.dc_misses.specs.declared.misses.Misses.{Misses}
+use Rattle.dc_readout.specs.Misses.{and_missed, misses_of}
+use Rattle.dc_readout.specs.Missing.{is_missing}
+use Rattle.dc_readout.specs.declared.misses.misses.Misses.{Misses}
 use Rattle.dc_installer.specs.declared.reading.Readout.{Readout}
 use Rattle.dc_installer.specs.declared.reading.Readout.TheVariants.{Whole, Failed}
 

@@ -9,8 +9,8 @@ use Rattle.dc_bus.specs.Windows.{Insists, IsAskedAll, Reads, most_tries}
 use Rattle.dc_frame.specs.Control.{request_to, reset_to}
 use Rattle.dc_frame.specs.Frame.{FrameSeen, ack, short, long, spelling}
 use Rattle.dc_frame.specs.Reading.{frame_of}
-use Rattle.dc_misses.specs.Misses.{misses_of}
-use Rattle.dc_misses.specs.declared.misses.Misses.{Misses}
+use Rattle.dc_readout.specs.Misses.{misses_of}
+use Rattle.dc_readout.specs.declared.misses.misses.Misses.{Misses}
 use Rattle.dc_search.specs.Found.{search_text}
 use Rattle.dc_search.specs.Answer.{answer_of}
 use Rattle.dc_search.specs.State.{SearchState, is_idle, step_of}

@@ -5,7 +5,7 @@ ghost use Rattle.dc_frame.specs.Frame.{spelling};
 ghost use Rattle.dc_installer.specs.Number.{IsFound, Tries, digit_of, ending, has_number, having};
 ghost use Rattle.dc_installer.specs.Number.{between, selection_to, unfound_text, with_number};
 ghost use Rattle.dc_io.specs.Written.{Wrote};
-ghost use Rattle.dc_misses.specs.Misses.{and_missed, is_noise, is_silent};
+ghost use Rattle.dc_readout.specs.Misses.{and_missed, is_noise, is_silent};
 ghost use Rattle.dc_search.specs.Prefix.{mask_of_digits};
 
 use crate::primary::ask_telegram;
@@ -14,7 +14,7 @@ use dc_bus::{AnswerBuf, Bus};
 use dc_frame::FrameBuf;
 use dc_frame::control::{SELECTED, write_selection};
 use dc_io::{IoFault, Sink};
-use dc_misses::{Misses, is_noise};
+use dc_readout::misses::{Misses, is_noise};
 use dc_search::{Branch, meter_of};
 
 // Number of tries.

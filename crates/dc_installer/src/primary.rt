@@ -8,7 +8,7 @@ ghost use Rattle.dc_frame.specs.Frame.{spelling};
 ghost use Rattle.dc_frame.specs.Reading.{frame_of};
 ghost use Rattle.dc_io.specs.Failures.{HasRisen};
 ghost use Rattle.dc_io.specs.Written.{PutsInto, Wrote};
-ghost use Rattle.dc_misses.specs.Misses.{misses_of};
+ghost use Rattle.dc_readout.specs.Misses.{misses_of};
 ghost use Rattle.dc_installer.specs.Scan.{AsksEach, AsksOne, Identifies, IsAsked, address_line};
 ghost use Rattle.dc_installer.specs.Scan.{greatest, identified, identity_word, is_ack, is_sent_from};
 ghost use Rattle.dc_installer.specs.Scan.{is_there, line_of, sender_at};
@@ -18,7 +18,7 @@ use dc_bus::{AnswerBuf, Bus, TRIES, insist, read_twice};
 use dc_frame::control::{write_request, write_reset};
 use dc_frame::{Frame, FrameBuf, parse};
 use dc_io::{IoFault, Sink, put_number_word};
-use dc_misses::Misses;
+use dc_readout::misses::Misses;
 use dc_search::meter_of;
 
 /// The greatest primary address (EN 13757-2).

@@ -5,7 +5,7 @@ ghost use Rattle.std.specs.Prelude.{option_map};
 ghost use Rattle.dc_io.specs.Failures.{HasRisen};
 ghost use Rattle.dc_concentrator.specs.Step.{longest_request};
 ghost use Rattle.dc_frame.specs.Frame.{spelling};
-ghost use Rattle.dc_misses.specs.Misses.{misses_of};
+ghost use Rattle.dc_readout.specs.Misses.{misses_of};
 ghost use Rattle.dc_io.specs.Stream.{PutsFront};
 ghost use Rattle.dc_io.specs.Written.{PutsInto, Wrote};
 ghost use Rattle.dc_readout.specs.Summary.{asked_by, begun, verdict_by};
@@ -20,7 +20,7 @@ use dc_concentrator::{LineHeard, put_heard};
 use dc_decode::put_frames;
 use dc_frame::FrameBuf;
 use dc_io::{IoFault, Sink};
-use dc_misses::{Misses, is_missing};
+use dc_readout::misses::{Misses, is_missing};
 use dc_readout::{Heard, Session};
 
 /// The end of a readout.

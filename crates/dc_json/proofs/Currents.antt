@@ -3,8 +3,8 @@ use Rattle.std.proofs.Common.{◌≡◌, Bool, true, false, List, [], ◌∷◌,
 use Rattle.std.specs.Prelude.{if◌then◌else◌}
 use Rattle.std.specs.List.{flat_map}
 use Rattle.json.specs.Tree.{json_tokens}
-use Rattle.dc_latest.specs.Values.{is_current}
-use Rattle.dc_value.specs.declared.point.Point.{Point}
+use Rattle.dc_json.specs.LatestValues.{is_current}
+use Rattle.dc_record.specs.declared.value.point.Point.{Point}
 use Rattle.dc_tokens.specs.Object.{values_tokens}
 use Rattle.dc_json.specs.Values.{current_json, current_of}
 use Rattle.dc_tokens.proofs.Objects.{values-append}

@@ -7,10 +7,10 @@ use Rattle.json.specs.Token.{Token}
 use Rattle.dc_record.specs.Record.{Entry}
 use Rattle.dc_record.specs.Telegram.{Parsed}
 use Rattle.dc_record.specs.declared.header.Header.{Header}
-use Rattle.dc_value.specs.Point.{seen_of}
-use Rattle.dc_value.specs.declared.point.Point.{Point}
-use Rattle.dc_value.specs.declared.point.Seen.{Seen}
-use Rattle.dc_value.specs.declared.point.Seen.TheVariants.{Point as Known, Other}
+use Rattle.dc_record.specs.Point.{seen_of}
+use Rattle.dc_record.specs.declared.value.point.Point.{Point}
+use Rattle.dc_record.specs.declared.value.point.Seen.{Seen}
+use Rattle.dc_record.specs.declared.value.point.Seen.TheVariants.{Point as Known, Other}
 use Rattle.dc_register.specs.Points.{points_in, shown}
 use Rattle.dc_tokens.specs.Object.{Field, fields_tokens, values_tokens}
 use Rattle.dc_tokens.proofs.Objects.{fields-append, fields-cons, no_values, values-append}

@@ -8,3 +8,23 @@ pub mod Report
 pub mod Values
 -- what one telegram reports
 pub mod Reported
+-- of the module `latest`
+
+-- the day and the minute of a time stamp
+pub mod Utc
+-- the lines of `values`
+pub mod LatestValues
+-- of the module `status`
+
+-- when a meter was last heard
+pub mod Heard
+-- what is told of a registered meter
+pub mod Row
+-- the lines of `status`
+pub mod Status
+-- the same as JSON objects
+pub mod Object
+-- the same as metrics
+pub mod Metrics
+-- what SILENT, ROOM and DAYS mean
+pub mod Laws

@@ -6,13 +6,13 @@ use Rattle.dc_address.specs.declared.identity.Identity.{Identity}
 use Rattle.dc_change.specs.State.{State, MeterRow, row_of}
 use Rattle.dc_register.specs.declared.place.Place.{Place}
 use Rattle.dc_register.specs.Places.{by_flat}
-use Rattle.dc_names.specs.Fields.{function_name}
-use Rattle.dc_table.specs.declared.row.Row.{Row}
-use Rattle.dc_table.specs.DueTable.{due_rows}
-use Rattle.dc_value.specs.declared.point.Point.{Point}
-use Rattle.dc_value.specs.Date.{Day}
-use Rattle.dc_value.specs.Quantity.{unit_of}
-use Rattle.dc_value.specs.Text.{day_text}
+use Rattle.dc_record.specs.Fields.{function_name}
+use Rattle.dc_office.specs.declared.table.row.Row.{Row}
+use Rattle.dc_office.specs.DueTable.{due_rows}
+use Rattle.dc_record.specs.declared.value.point.Point.{Point}
+use Rattle.dc_record.specs.Date.{Day}
+use Rattle.dc_record.specs.Quantity.{unit_of}
+use Rattle.dc_record.specs.Text.{day_text}
 use Rattle.dc_tokens.specs.Object.{Field, object_of, count}
 use Rattle.dc_frame_json.specs.Meter.{identity_fields}
 use Rattle.dc_frame_json.specs.Record.{value_json, unit_json}

@@ -4,14 +4,14 @@ use Rattle.std.specs.List.{flat_map}
 use Rattle.json.specs.Json.{Json, null}
 use Rattle.dc_record.specs.declared.fault.BodyFault.{BodyFault}
 use Rattle.dc_record.specs.Telegram.{Parsed, telegram_at}
-use Rattle.dc_value.specs.declared.point.Point.{Point}
-use Rattle.dc_value.specs.Quantity.{unit_of}
+use Rattle.dc_record.specs.declared.value.point.Point.{Point}
+use Rattle.dc_record.specs.Quantity.{unit_of}
 use Rattle.dc_change.specs.State.{State, ReadingRow, PartRow}
 use Rattle.dc_register.specs.Places.{by_flat}
 use Rattle.dc_register.specs.Points.{points_of}
 use Rattle.dc_register.specs.declared.place.Place.{Place}
-use Rattle.dc_latest.specs.Utc.{minute_of}
-use Rattle.dc_latest.specs.Values.{is_current, last_part, last_reading}
+use Rattle.dc_json.specs.Utc.{minute_of}
+use Rattle.dc_json.specs.LatestValues.{is_current, last_part, last_reading}
 use Rattle.dc_tokens.specs.Object.{Field, object_of, array_of, count}
 use Rattle.dc_frame_json.specs.Meter.{status_fields}
 use Rattle.dc_frame_json.specs.Record.{value_json, unit_json}

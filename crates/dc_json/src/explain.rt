@@ -15,8 +15,8 @@ use dc_decode::{Input, LineForm, read_frame};
 use dc_frame::Frame;
 use dc_frame::control::VARIABLE_DATA;
 use dc_io::{Bytes, IoFault, Sink, Source, TextFault, put_byte, put_fault, put_number};
-use dc_names::{ci_name, control_name};
 use dc_record::Telegram;
+use dc_record::names::{ci_name, control_name};
 use std::alloc::Allocator;
 
 // Number of bytes of a long frame before its body.

@@ -13,9 +13,11 @@
 mod also;
 mod explain;
 mod grown;
+pub mod latest;
 mod place;
 mod report;
 mod reported;
+pub mod status;
 mod table;
 mod values;
 

@@ -17,11 +17,11 @@ use dc_address::{Identity, Primary};
 use dc_change::Flat;
 use dc_frame_json::{put_meter, put_unit, put_value};
 use dc_io::{IoFault, NoMemory, Sink};
-use dc_names::function_name;
+use dc_office::table::{Row, rows};
+use dc_record::names::function_name;
+use dc_record::value::{Date, Point, TEXT_ROOM, Value};
 use dc_register::{House, Meter};
-use dc_table::{Row, rows};
 use dc_tokens::TokenWriter;
-use dc_value::{Date, Point, TEXT_ROOM, Value};
 use std::alloc::Allocator;
 
 /// Writes a flat and a meter.
@@ -205,7 +205,7 @@ pub fn register_json<A: Allocator + Copy>(
 }
 
 /// Returns the due-date table for a date as JSON Lines (RFC 8259): an object for each row, in the
-/// order of [`due_table`](dc_table::due_table). The only error is out of memory.
+/// order of [`due_table`](dc_office::table::due_table). The only error is out of memory.
 pub fn due_json<A: Allocator + Copy>(
     alloc: A,
     house: &House<A>,

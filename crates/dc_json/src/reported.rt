@@ -4,7 +4,7 @@ ghost use Rattle.std.specs.Prelude.{◌≡◌, ◌≤◌, ◌∷◌, []};
 ghost use Rattle.std.specs.List.{flat_map};
 ghost use Rattle.dc_record.specs.Record.{view};
 ghost use Rattle.dc_record.specs.Telegram.{parsed};
-ghost use Rattle.dc_value.specs.Point.{seen_of};
+ghost use Rattle.dc_record.specs.Point.{seen_of};
 ghost use Rattle.dc_change.specs.Fields.{last_moment};
 ghost use Rattle.dc_register.specs.Points.{points_in, shown};
 ghost use Rattle.dc_tokens.specs.Writing.{Added};
@@ -13,13 +13,13 @@ ghost use Rattle.dc_json.specs.Values.{current_of, received_fields, values_field
 ghost use Rattle.dc_json.specs.Reported.{reported_fields};
 
 use crate::also::put_also;
+use crate::latest::minute;
 use crate::values::put_if_current;
 use dc_frame_json::{Cell, put_row};
 use dc_io::Sink;
-use dc_latest::minute;
+use dc_record::value::{Seen, point_of};
 use dc_record::{Record, Records, Telegram};
 use dc_tokens::TokenWriter;
-use dc_value::{Seen, point_of};
 
 /// Writes the fields of a reading that a telegram received at this moment has: `moment`, `utc`,
 /// `status`, `values` and `also`, as [`values_json`](crate::values_json) writes them.

@@ -1,11 +1,11 @@
 //! A telegram as an aligned table.
 
 use dc_io::{IoFault, Sink, put_byte, put_hex, put_number};
-use dc_names::{application_name, function_name, medium_name};
 use dc_reading::{
     How, READING_ROOM, Reading, Sent, SentRecords, code_at, is_extension, label_text, maker_of,
     number_after, number_of, reading_of, told_of, unit_text, value_text, vife_at,
 };
+use dc_record::names::{application_name, function_name, medium_name};
 use dc_record::{Header, Record, Telegram};
 use itoa::Buffer;
 

@@ -4,7 +4,7 @@ ghost use Rattle.std.specs.Prelude.{◌≡◌, ◌∷◌, ◌++◌, [], IfOk, op
 ghost use Rattle.std.specs.List.{flat_map};
 ghost use Rattle.json.specs.Tree.{json_tokens};
 ghost use Rattle.dc_record.specs.Telegram.{telegram_at};
-ghost use Rattle.dc_latest.specs.Values.{is_current, last_part};
+ghost use Rattle.dc_json.specs.LatestValues.{is_current, last_part};
 ghost use Rattle.dc_io.specs.Written.{Wrote};
 ghost use Rattle.dc_tokens.specs.Writing.{Added};
 ghost use Rattle.dc_tokens.specs.Object.{fields_tokens, values_tokens};
@@ -14,13 +14,13 @@ ghost use Rattle.dc_json.specs.Values.{stands_json, stands_line, values_field, v
 
 use crate::also::put_also_of;
 use crate::grown::Grown;
+use crate::latest::{last_reading, minute};
 use crate::report::put_whose;
 use dc_frame_json::{Cell, put_object, put_row};
 use dc_io::{IoFault, NoMemory, Sink};
-use dc_latest::{last_reading, minute};
+use dc_record::value::Point;
 use dc_register::{House, Part, Place, Points, Reading};
 use dc_tokens::TokenWriter;
-use dc_value::Point;
 use std::alloc::Allocator;
 
 // Writes a current value.
@@ -194,7 +194,7 @@ fn add_place<A: Allocator + Copy>(
 }
 
 /// Returns what the registered meters stand at as JSON Lines (RFC 8259): an object for each, by flat
-/// and then by identity, as [`put_values`](dc_latest::put_values) writes it in words. The only error
+/// and then by identity, as [`put_values`](crate::latest::put_values) writes it in words. The only error
 /// is out of memory.
 pub fn values_json<A: Allocator + Copy>(alloc: A, house: &House<A>) -> Result<Vec<u8, A>, NoMemory>
     ensures { IfOk result (λ text. text.items ≡ values_lines house.now.state) }

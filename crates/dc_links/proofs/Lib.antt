@@ -1,1 +1,5 @@
 -- lemmas by topic
+-- of the module `reach`
+
+-- one line, and the lines after it
+pub mod Joining

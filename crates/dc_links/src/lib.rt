@@ -11,6 +11,7 @@ mod connection;
 mod linking;
 mod lock_file;
 mod peer;
+pub mod reach;
 mod socket;
 mod terminal;
 mod waiting;

@@ -3,7 +3,7 @@
 ghost use Rattle.std.specs.Prelude.{⊤};
 
 use crate::peer::Peer;
-use dc_reach::Connector;
+use crate::reach::Connector;
 use dc_words::LinkName;
 use std::fs::File;
 use std::io;

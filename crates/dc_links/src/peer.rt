@@ -4,7 +4,7 @@ use crate::bus::LinkBus;
 use crate::connection::Connection;
 use crate::socket::{Socket, Tcp, Terminal};
 use crate::terminal::Held;
-use dc_blocks::{BlockLink, Gateway};
+use dc_bus::blocks::{BlockLink, Gateway};
 use dc_io::{ReadSource, WriteSink};
 use dc_raw::{Line, PollWire};
 use dc_words::LinkName;

@@ -2,8 +2,8 @@
 
 use crate::bus::LinkBus;
 use crate::peer::{ByteBus, SystemBus};
+use dc_bus::trace::{Observed, Observer};
 use dc_bus::{HalfBus, Pause};
-use dc_trace::{Observed, Observer};
 use libc::net::{POLLIN, poll};
 use libc::types::pollfd;
 use std::net::{Net, TcpStream};

@@ -7,9 +7,9 @@ use Rattle.dc_disk.specs.Images.{only_one, settled_image}
 use Rattle.dc_disk.specs.declared.device.Disk.{Ghosts}
 use Rattle.dc_disk.specs.Runs.{LeavesOnly, IsSettled}
 use Rattle.dc_disk.proofs.Moments.{started, weakened}
-use Rattle.dc_pages.specs.declared.site.Site.{Site}
-use Rattle.dc_pages.specs.Draft.{Draft}
-use Rattle.dc_pages.specs.Writing.{IsPartOf, IsGoing, IsClosed}
+use Rattle.dc_log.specs.declared.pages.site.Site.{Site}
+use Rattle.dc_log.specs.Draft.{Draft}
+use Rattle.dc_log.specs.PagesWriting.{IsPartOf, IsGoing, IsClosed}
 use Rattle.dc_log.specs.Writing.{IsAttempt, IsWritten}
 
 -- drafts of one group

@@ -10,11 +10,11 @@ use Rattle.dc_disk.specs.Images.{added_here, added_elsewhere, only_one}
 use Rattle.dc_disk.specs.declared.device.Disk.{Ghosts}
 use Rattle.dc_disk.specs.Runs.{LeavesOnly, IsSettled}
 use Rattle.dc_disk.proofs.Moments.{weakened, followed}
-use Rattle.dc_roots.specs.declared.root.Root.{Root}
-use Rattle.dc_roots.specs.Root.{IsRoot, slot, next_of}
-use Rattle.dc_roots.specs.Choice.{IsRootWrite}
-use Rattle.dc_roots.proofs.Choices.{slot_range}
-use Rattle.dc_pages.specs.declared.site.Site.{Site}
+use Rattle.dc_log.specs.declared.roots.root.Root.{Root}
+use Rattle.dc_log.specs.Root.{IsRoot, slot, next_of}
+use Rattle.dc_log.specs.Choice.{IsRootWrite}
+use Rattle.dc_log.proofs.Choices.{slot_range}
+use Rattle.dc_log.specs.declared.pages.site.Site.{Site}
 use Rattle.dc_log.specs.Halves.{half_start, budget_of}
 use Rattle.dc_log.specs.Roots.{IsRootDone, first_root}
 use Rattle.dc_log.specs.Sites.{base_site}

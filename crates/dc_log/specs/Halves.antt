@@ -2,7 +2,7 @@
 use Rattle.std.specs.Prelude.{◌≡◌, ◌⊎◌, ◌<◌, ◌≤◌, ℕ, ◌+◌, ◌-◌, ◌*◌, ◌/◌, min}
 use Rattle.dc_disk.specs.declared.device.Disk.{Ghosts}
 use Rattle.dc_disk.specs.Disk.{Image}
-use Rattle.dc_pages.specs.Group.{page_payload}
+use Rattle.dc_log.specs.Group.{page_payload}
 
 -- minimum number of sectors of an image, and minimum and maximum number of sectors of a half
 abbrev pub fewest_sectors : ℕ

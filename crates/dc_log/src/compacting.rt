@@ -9,11 +9,11 @@ ghost use Rattle.dc_log.specs.Stands.{IsReady, StandsForEither};
 
 use crate::reading::VERSION;
 use crate::rooting::put_root;
+use crate::roots::Root;
 use crate::sites::base_site;
 use crate::writing::write_state;
 use dc_disk::{Disk, Failed};
 use dc_kept::Kept;
-use dc_roots::Root;
 
 /// Writes a base group of this version with the state of `kept` into the other half and syncs, and
 /// then puts the root in force that names it. Returns that root, and the place of the next group.

@@ -13,10 +13,10 @@ ghost use Rattle.dc_log.specs.declared.fault.OpenFault.TheVariants.{NotImage, De
 
 use crate::OpenFault;
 use crate::halves::{FEWEST_SECTORS, FIRST_SECTOR, half_end, half_len_of};
+use crate::pages::stamp_of;
 use crate::reading::{Found, read_image};
 use dc_disk::{Disk, Failed, ReadFault};
 use dc_kept::Kept;
-use dc_pages::stamp_of;
 
 /// Whether bytes are those of a sector that is ahead of a session and of the sequence after the last one.
 fn is_ahead(bytes: &[u8; 512], session: u64, last: u64) -> bool

@@ -10,17 +10,17 @@ ghost use Rattle.dc_log.specs.Halves.{longest_half, SparesRest};
 ghost use Rattle.dc_log.specs.Roots.{opened, IsOpenedRoot};
 ghost use Rattle.dc_log.specs.Stands.{image_version, IsRead, IsReady, IsBegun, StandsBy};
 ghost use Rattle.dc_log.specs.Stands.{Stands, ReadsBy, Reads, EachStands, StandsForOne};
-ghost use Rattle.dc_roots.specs.declared.root.Root.{Root};
-ghost use Rattle.dc_roots.specs.Root.{slot};
+ghost use Rattle.dc_log.specs.declared.roots.root.Root.{Root};
+ghost use Rattle.dc_log.specs.Root.{slot};
 ghost use Rattle.dc_log.specs.Refusal.{IsRefused, IsSpent, IsWorn};
 
 use crate::OpenFault;
 use crate::compacting::compact_into_other_half;
 use crate::reading::{Found, VERSION, read_chain};
 use crate::rooting::put_root;
+use crate::roots::Root;
 use dc_disk::{Disk, Failed};
 use dc_kept::Kept;
-use dc_roots::Root;
 
 /// Begins a session: writes the next root, which differs only in generation and session.
 fn begin_session<K: Kept, D: Disk>(disk: &mut D, root: &Root) -> Result<Root, OpenFault>

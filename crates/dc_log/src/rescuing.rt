@@ -14,10 +14,10 @@ ghost use Rattle.dc_log.specs.Stands.{IsRead, Stands};
 use crate::greatest::{Greatest, greatest_of};
 use crate::halves::{FEWEST_SECTORS, FIRST_SECTOR, half_len_of};
 use crate::reading::{Found, read_chain};
+use crate::roots::{RootFault, choose};
 use crate::{FormatFault, OpenFault, Store, StoreFault};
 use dc_disk::{Disk, Failed};
 use dc_kept::Kept;
-use dc_roots::{RootFault, choose};
 
 /// The part of an image that a rescued state is read from.
 #[derive(Clone, Copy)]

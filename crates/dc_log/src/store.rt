@@ -5,8 +5,8 @@ ghost use Rattle.std.specs.Prelude.{length, true, false, IsTrue, IfOk, IfErr, On
 ghost use Rattle.std.specs.Prelude.{IsErrOf, Err};
 ghost use Rattle.dc_disk.specs.Disk.{Image, IsImage};
 ghost use Rattle.dc_disk.specs.Runs.{LeavesOnly, Counts, IsSettled};
-ghost use Rattle.dc_roots.specs.declared.root.Root.{Root};
-ghost use Rattle.dc_roots.specs.Choice.{HasRoot, IsChosen};
+ghost use Rattle.dc_log.specs.declared.roots.root.Root.{Root};
+ghost use Rattle.dc_log.specs.Choice.{HasRoot, IsChosen};
 ghost use Rattle.dc_log.specs.Refusal.{IsRefused, IsWorn, TellsOfImage};
 ghost use Rattle.dc_log.specs.declared.fault.OpenFault.TheVariants.{NotImage};
 ghost use Rattle.dc_log.specs.declared.fault.OpenFault.TheVariants.{Worn as OpenWorn};
@@ -28,13 +28,13 @@ use crate::compacting::compact_into_other_half;
 use crate::formatting::format_on;
 use crate::halves::{FEWEST_SECTORS, budget_of, half_end, half_len_of};
 use crate::opening::open_on;
+use crate::pages::PAYLOAD;
 use crate::reading::Found;
+use crate::roots::Root;
 use crate::sites::change_site;
 use crate::{FormatFault, OpenFault, StoreFault};
 use dc_disk::{Disk, Failed};
 use dc_kept::Kept;
-use dc_pages::PAYLOAD;
-use dc_roots::Root;
 use std::marker::Model;
 
 /// An open image. It writes groups of changes after the existing ones, and the whole state into the

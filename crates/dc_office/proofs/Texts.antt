@@ -11,9 +11,9 @@ use Rattle.dc_change.specs.declared.command.Numbered.{Numbered}
 use Rattle.dc_change.proofs.LineSpellings.{number_is_word, one_word}
 use Rattle.dc_change.proofs.CommandSpellings.{one_line}
 use Rattle.std.specs.Prelude.{IsTrue}
-use Rattle.dc_value.specs.Date.{Day, exists}
-use Rattle.dc_value.specs.Text.{day_text}
-use Rattle.dc_value.proofs.DayTexts.{one_day}
+use Rattle.dc_record.specs.Date.{Day, exists}
+use Rattle.dc_record.specs.Text.{day_text}
+use Rattle.dc_record.proofs.DayTexts.{one_day}
 use Rattle.dc_office.specs.Line.{IsCount, IsOfficeLine, office_text}
 use Rattle.dc_office.specs.declared.line.OfficeLine.{OfficeLine}
 use Rattle.dc_office.specs.declared.line.OfficeLine.TheVariants.{Command, Window, Register, Report}

@@ -3,9 +3,9 @@
 use Rattle.std.specs.Prelude.{◌≡◌, ℕ, List, [], ◌++◌, codes, length, flat_map}
 use Rattle.dc_io.specs.Failures.{HasRisen}
 use Rattle.dc_io.specs.Stream.{PutsFront}
-use Rattle.dc_value.specs.Date.{Day}
+use Rattle.dc_record.specs.Date.{Day}
 use Rattle.dc_change.specs.State.{State, Held}
-use Rattle.dc_table.specs.DueTable.{due_rows, due_text}
+use Rattle.dc_office.specs.DueTable.{due_rows, due_text}
 use Rattle.dc_office.specs.Code.{word_of}
 use Rattle.dc_office.specs.Register.{meter_lines}
 use Rattle.dc_office.specs.Verdict.{verdict_of}

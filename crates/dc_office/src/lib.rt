@@ -10,6 +10,7 @@ mod fault;
 mod line;
 mod register;
 mod reply;
+pub mod table;
 mod verdict;
 mod window;
 mod words;

@@ -5,12 +5,12 @@ ghost use Rattle.std.specs.Prelude.{codes, length};
 ghost use Rattle.std.specs.Fmt.{decimal};
 ghost use Rattle.dc_change.specs.Command.{line_of};
 ghost use Rattle.dc_change.specs.Fields.{IsNumber};
-ghost use Rattle.dc_value.specs.Date.{Day, exists};
-ghost use Rattle.dc_value.specs.Text.{day_text};
+ghost use Rattle.dc_record.specs.Date.{Day, exists};
+ghost use Rattle.dc_record.specs.Text.{day_text};
 ghost use Rattle.dc_office.specs.Line.{IsCount, IsOfficeLine, office_text};
 
+use crate::table::Date;
 use dc_change::{Command, Numbered, parse_number, split_word};
-use dc_table::Date;
 
 /// A line of the billing office.
 #[derive(Clone, Copy)]
@@ -100,7 +100,7 @@ fn behind_report(text: &[u8]) -> Option<&[u8]>
 }
 
 // `date`
-#[tactic(auto, using(dc_value::proofs::DayTexts::day_length))]
+#[tactic(auto, using(dc_record::proofs::DayTexts::day_length))]
 fn parse_report(date: &[u8]) -> Option<OfficeLine>
     ensures found { IfSome result (λ line.
         IsOfficeLine line × (codes "REPORT" ++ 32 ∷ date.now ≡ office_text line)) }

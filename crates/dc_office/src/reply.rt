@@ -8,11 +8,11 @@ ghost use Rattle.dc_office.specs.Reply.{register_text, reply_text, report_text, 
 ghost use Rattle.dc_office.specs.Verdict.{IfDo, verdict_of};
 
 use crate::register::write_meters;
+use crate::table::{Date, counted_due_table};
 use crate::window::write_window;
 use crate::{Code, OfficeLine, ReplyFault, Verdict};
 use dc_io::{IoFault, Sink, put_number_word};
 use dc_register::House;
-use dc_table::{Date, counted_due_table};
 use std::alloc::Allocator;
 
 /// Writes the reply to a line by the verdict on it ([`judge`](crate::judge)). The line is no new

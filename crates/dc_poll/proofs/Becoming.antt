@@ -15,7 +15,7 @@ use Rattle.dc_readout.specs.declared.why.Why.TheVariants.{NoAnswer}
 use Rattle.dc_poll.specs.Happening.{Happening, does}
 use Rattle.dc_poll.specs.Queue.{Part, part, most_asks, Goes, stays, passes_on, starts_it, is_refused, asks_it, has_no_request, is_given_up, goes_on, is_accepted, is_put_off, fails_at_last, is_faulty}
 use Rattle.dc_poll.specs.Talking.{Talk, Talks, rests, begins, has_none, sends_it, waits_it, takes_it, hears_it}
-use Rattle.dc_misses.specs.Misses.{misses_of}
+use Rattle.dc_readout.specs.Misses.{misses_of}
 use Rattle.dc_poll.specs.Missed.{misses_heard}
 use Rattle.dc_poll.specs.Round.{LineGoes}
 use Rattle.dc_poll.specs.Station.{IsPass, IsSoundIn, IsSound, is_answered, taken_of, IsAfter, Listens, Next, part_of, talk_of, rounds_in, rounds_of, rounds_a_start, rounds_by_phase, ended, next_pass, put_off, after_answer, after_failure}

@@ -8,10 +8,10 @@ use Rattle.dc_change.specs.Accepts.{refusal}
 use Rattle.dc_change.specs.declared.change.Change.{Change}
 use Rattle.dc_record.specs.Body.{continues}
 use Rattle.dc_readout.specs.Summary.{Summary, Verdict, again, ready, new, failed, asked_by, verdict_by}
-use Rattle.dc_pending.specs.declared.fault.TakeFault.TheVariants.{PendingFull as TakePendingFull, Full as TakeFull}
-use Rattle.dc_pending.specs.Lines.{is_line}
-use Rattle.dc_pending.specs.Taking.{change_of}
-use Rattle.dc_pending.specs.Waiting.{most_waiting}
+use Rattle.dc_concentrator.specs.declared.pending.fault.TakeFault.TheVariants.{PendingFull as TakePendingFull, Full as TakeFull}
+use Rattle.dc_concentrator.specs.Lines.{is_line}
+use Rattle.dc_concentrator.specs.Taking.{change_of}
+use Rattle.dc_concentrator.specs.Waiting.{most_waiting}
 use Rattle.dc_concentrator.specs.Core.{Core, present, session_of}
 use Rattle.dc_concentrator.specs.Event.{Event, Answer, starts, asks, hears, commits, offices, started, asked, heard, committed, replied}
 use Rattle.dc_concentrator.specs.Step.{May, MayHear, next, unless_refused, verdict_answer, answer_on, hear_answer, and_pending, heard_on, settled_core}

@@ -46,3 +46,13 @@ pub mod Exhausting
 pub mod Planning
 -- a life of the concentrator from the disk to the disk
 pub mod ImagePolls
+-- of the module `events`
+
+-- events that a teller took, one after the other
+mod Printing
+-- of the module `dry`
+
+-- the rows of a register, and those of a queue
+pub mod Rows
+-- a prefix of one piece of a text
+pub mod Fronts

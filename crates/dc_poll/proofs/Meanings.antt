@@ -4,9 +4,9 @@ use Rattle.std.specs.Prelude.{is_some}
 use Rattle.dc_change.specs.declared.change.Change.{Change}
 use Rattle.dc_readout.specs.Summary.{Summary, Verdict, again, ready, new, failed, asked_by, verdict_by}
 use Rattle.dc_record.specs.Body.{continues}
-use Rattle.dc_pending.specs.Lines.{is_line}
-use Rattle.dc_pending.specs.Taking.{change_of, refuses}
-use Rattle.dc_pending.specs.declared.fault.TakeFault.{TakeFault}
+use Rattle.dc_concentrator.specs.Lines.{is_line}
+use Rattle.dc_concentrator.specs.Taking.{change_of, refuses}
+use Rattle.dc_concentrator.specs.declared.pending.fault.TakeFault.{TakeFault}
 use Rattle.dc_concentrator.specs.Core.{Core, session_of, present}
 use Rattle.dc_concentrator.specs.Event.{Event, Answer, Reply, starts, asks, hears, commits, offices, started, asked, heard, committed, replied, unread, unstored, repeated, refused, shown, out_of_memory, obeyed, uncommitted}
 use Rattle.dc_concentrator.specs.Step.{May, MayHear, next, unless_refused, verdict_answer, answer_on, hear_answer, and_pending, heard_on, after_hear, settled_core, after_reply}

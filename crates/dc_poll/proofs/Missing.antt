@@ -3,9 +3,9 @@ use Rattle.std.proofs.Common.{◌≡◌, ℕ, Bool, true, false, List, [], ◌�
 use Rattle.dc_address.specs.declared.identity.Identity.{Identity}
 use Rattle.dc_concentrator.specs.Event.{Event, Answer, starts, asks, hears, commits, offices, started, asked, heard, committed, replied}
 use Rattle.dc_concentrator.specs.Transcript.{Turn}
-use Rattle.dc_misses.specs.Misses.{and_missed, misses_of}
-use Rattle.dc_misses.specs.declared.misses.Misses.{Misses}
-use Rattle.dc_misses.proofs.Counting.{are_counted}
+use Rattle.dc_readout.specs.Misses.{and_missed, misses_of}
+use Rattle.dc_readout.specs.declared.misses.misses.Misses.{Misses}
+use Rattle.dc_readout.proofs.Counting.{are_counted}
 use Rattle.dc_readout.specs.declared.why.Why.{Why}
 use Rattle.dc_poll.specs.Bus.{Bus}
 use Rattle.dc_poll.specs.Happening.{Happening, does, tells}

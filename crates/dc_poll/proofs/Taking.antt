@@ -12,7 +12,7 @@ use Rattle.dc_poll.specs.declared.event.Event.TheVariants.{Lost as is_lost}
 use Rattle.dc_poll.specs.Keeping.{Store, IsNewest, AreTrue}
 use Rattle.dc_poll.specs.Queue.{part, Goes, IsToldAs, stays, is_told, loses_it}
 use Rattle.dc_poll.specs.Talking.{Talks, rests, tells_it, loses_it as talk_loses_it}
-use Rattle.dc_misses.specs.declared.misses.Misses.{Misses}
+use Rattle.dc_readout.specs.declared.misses.misses.Misses.{Misses}
 use Rattle.dc_poll.specs.Missed.{HasMisses}
 use Rattle.dc_poll.specs.Round.{LineGoes, Moves, AreTold, told_of, counted}
 use Rattle.dc_poll.specs.Station.{IsSoundIn, IsSound, rounds_in, rounds_of}

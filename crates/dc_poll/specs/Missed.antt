@@ -7,9 +7,9 @@ use Rattle.dc_concentrator.specs.declared.fault.HearFault.{HearFault}
 use Rattle.dc_concentrator.specs.declared.line_heard.LineHeard.{LineHeard}
 use Rattle.dc_concentrator.specs.declared.line_heard.LineHeard.TheVariants.{Again, Ready, Accepted}
 use Rattle.dc_concentrator.specs.declared.line_heard.LineHeard.TheVariants.{Failed as HasFailed}
-use Rattle.dc_misses.specs.Misses.{and_missed, misses_of}
-use Rattle.dc_misses.specs.Missing.{is_missing}
-use Rattle.dc_misses.specs.declared.misses.Misses.{Misses}
+use Rattle.dc_readout.specs.Misses.{and_missed, misses_of}
+use Rattle.dc_readout.specs.Missing.{is_missing}
+use Rattle.dc_readout.specs.declared.misses.misses.Misses.{Misses}
 use Rattle.dc_poll.specs.Happening.{Happening, does, tells}
 use Rattle.dc_poll.specs.Queue.{most_asks, starts_in}
 use Rattle.dc_poll.specs.declared.event.Event.{Event as Told}

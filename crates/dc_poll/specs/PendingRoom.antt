@@ -1,6 +1,6 @@
 -- Each answer of a poll finds room among the pending changes (this product).
 use Rattle.std.specs.Prelude.{◌≡◌, ◌≢◌, ℕ, ◌<◌, Bool, List, [], ◌∷◌, ◌++◌, length, Result, Err}
-use Rattle.dc_pending.specs.Waiting.{most_waiting}
+use Rattle.dc_concentrator.specs.Waiting.{most_waiting}
 use Rattle.dc_concentrator.specs.Core.{Core}
 use Rattle.dc_concentrator.specs.Event.{hears, heard}
 use Rattle.dc_concentrator.specs.Transcript.{Turn, leads, IsChain}

@@ -12,7 +12,7 @@ use Rattle.dc_concentrator.specs.declared.fault.StartFault.{StartFault}
 use Rattle.dc_concentrator.specs.declared.line_heard.LineHeard.{LineHeard}
 use Rattle.dc_concentrator.specs.declared.line_heard.LineHeard.TheVariants.{Again, Ready, Accepted}
 use Rattle.dc_concentrator.specs.declared.line_heard.LineHeard.TheVariants.{Failed as HasFailed}
-use Rattle.dc_misses.specs.declared.misses.Misses.{Misses}
+use Rattle.dc_readout.specs.declared.misses.misses.Misses.{Misses}
 use Rattle.dc_readout.specs.declared.why.Why.{Why}
 use Rattle.dc_readout.specs.declared.why.Why.TheVariants.{NoAnswer}
 use Rattle.dc_poll.specs.Happening.{Happening, does, tells}

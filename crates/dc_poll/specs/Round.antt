@@ -8,7 +8,7 @@ use Rattle.dc_concentrator.specs.Event.{commits, committed}
 use Rattle.dc_concentrator.specs.declared.fault.CommitFault.{CommitFault}
 use Rattle.dc_concentrator.specs.Images.{Machine}
 use Rattle.dc_concentrator.specs.Transcript.{Turn, leads}
-use Rattle.dc_misses.specs.declared.misses.Misses.{Misses}
+use Rattle.dc_readout.specs.declared.misses.misses.Misses.{Misses}
 use Rattle.dc_poll.specs.Bus.{Bus}
 use Rattle.dc_concentrator.specs.Went.{BehindAnyRun, Went}
 use Rattle.dc_poll.specs.Happening.{Happening, does, tells, happened_on, happened_events}

@@ -3,8 +3,8 @@
 use crate::end::Refusal;
 use crate::last_part::LastPart;
 use dc_address::Identity;
-use dc_misses::Misses;
 use dc_readout::Why;
+use dc_readout::misses::Misses;
 
 /// An event of a poll.
 #[derive(Debug, Drop)]

@@ -5,7 +5,7 @@ ghost use Rattle.std.specs.Prelude.{MatchResult, length, map, min};
 ghost use Rattle.dc_io.specs.Failures.{HasRisen};
 ghost use Rattle.dc_ending.specs.Fault.{IfOpen, IsOfImage};
 ghost use Rattle.dc_log.specs.Halves.{half_of};
-ghost use Rattle.dc_pending.specs.Images.{IsRefused, EachStands, StandsForOne};
+ghost use Rattle.dc_concentrator.specs.PendingImages.{IsRefused, EachStands, StandsForOne};
 ghost use Rattle.dc_log.specs.Refusal.{TellsOfImage};
 ghost use Rattle.dc_log.specs.declared.fault.OpenFault.TheVariants.{NotImage, Worn, Device};
 ghost use Rattle.dc_poll.specs.ImagePoll.{ImageTurned, PlanPolled};

@@ -10,8 +10,10 @@
 
 mod calls;
 mod clock;
+pub mod dry;
 mod end;
 mod event;
+pub mod events;
 mod image;
 mod last_part;
 mod laws;

@@ -4,7 +4,7 @@ ghost use Rattle.std.specs.Prelude.{◌≡◌, ◌⊎◌, ◌<◌, ◌≤◌, �
 ghost use Rattle.std.specs.Prelude.{IfErr, length, nat_lt, slice_get, true, false};
 ghost use Rattle.dc_concentrator.specs.Step.{longest_request};
 ghost use Rattle.dc_bus.specs.Halves.{most_waits};
-ghost use Rattle.dc_misses.specs.Misses.{misses_of};
+ghost use Rattle.dc_readout.specs.Misses.{misses_of};
 ghost use Rattle.dc_poll.specs.Missed.{is_miss, misses_heard};
 ghost use Rattle.dc_poll.specs.Queue.{most_asks};
 ghost use Rattle.dc_poll.specs.Station.{IsAfter, Listens, after_answer, ended, is_answered};
@@ -21,7 +21,7 @@ use dc_address::Identity;
 use dc_bus::HalfBus;
 use dc_concentrator::{CommitFault, HearFault, LineHeard, StartFault};
 use dc_frame::FrameBuf;
-use dc_misses::{Misses, is_missing};
+use dc_readout::misses::{Misses, is_missing};
 use std::mem;
 
 // No readout asks more often: three tries at a reset, a selection and each of 32 parts, and once more where nothing

@@ -21,7 +21,7 @@ use dc_bus::HalfBus;
 use dc_concentrator::Concentrator;
 use dc_disk::Disk;
 use dc_io::IoFault;
-use dc_misses::Misses;
+use dc_readout::misses::Misses;
 use dc_register::House;
 use std::alloc::Allocator;
 

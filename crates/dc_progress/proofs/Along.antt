@@ -28,8 +28,8 @@ use Rattle.dc_change.specs.declared.change.Change.{Change}
 use Rattle.dc_change.specs.History.{after}
 use Rattle.dc_change.specs.State.{State, MeterRow, row_of}
 use Rattle.dc_change.proofs.History.{after_of_push}
-use Rattle.dc_pending.specs.Lines.{is_line, line_count, settled_at, settled_on}
-use Rattle.dc_pending.specs.Taking.{change_of}
+use Rattle.dc_concentrator.specs.Lines.{is_line, line_count, settled_at, settled_on}
+use Rattle.dc_concentrator.specs.Taking.{change_of}
 use Rattle.dc_concentrator.specs.declared.fault.StartFault.{StartFault}
 use Rattle.dc_concentrator.specs.declared.fault.StartFault.TheVariants.{NoLine as StartNoLine, Unknown, Busy, Stopped as StartStopped}
 use Rattle.dc_concentrator.specs.declared.line_heard.LineHeard.{LineHeard}

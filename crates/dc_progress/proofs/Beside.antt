@@ -28,9 +28,9 @@ use Rattle.dc_change.specs.Apply.{applied}
 use Rattle.dc_change.specs.declared.change.Change.{Change}
 use Rattle.dc_change.specs.State.{State, MeterRow, row_of}
 use Rattle.dc_change.proofs.History.{after_of_push}
-use Rattle.dc_pending.specs.Lines.{is_line, line_count, settled_at, settled_on, settled_lines}
-use Rattle.dc_pending.specs.Taking.{change_of}
-use Rattle.dc_pending.specs.Waiting.{most_waiting}
+use Rattle.dc_concentrator.specs.Lines.{is_line, line_count, settled_at, settled_on, settled_lines}
+use Rattle.dc_concentrator.specs.Taking.{change_of}
+use Rattle.dc_concentrator.specs.Waiting.{most_waiting}
 use Rattle.dc_change.specs.Accepts.{refusal}
 use Rattle.dc_concentrator.specs.declared.fault.HearFault.TheVariants.{Stopped}
 use Rattle.dc_concentrator.specs.declared.line_heard.LineHeard.{LineHeard}

@@ -5,7 +5,7 @@ use Rattle.dc_address.specs.declared.identity.Identity.{Identity}
 use Rattle.dc_readout.specs.Summary.{Summary, begun, verdict_by}
 use Rattle.dc_change.specs.State.{row_of}
 use Rattle.dc_change.specs.declared.change.Change.{Change}
-use Rattle.dc_pending.specs.Lines.{settled_on, unless_of}
+use Rattle.dc_concentrator.specs.Lines.{settled_on, unless_of}
 use Rattle.dc_concentrator.specs.declared.fault.StartFault.{StartFault}
 use Rattle.dc_concentrator.specs.declared.fault.HearFault.{HearFault}
 use Rattle.dc_concentrator.specs.declared.line_heard.LineHeard.{LineHeard}

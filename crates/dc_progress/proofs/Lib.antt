@@ -26,3 +26,63 @@ pub mod Own
 pub mod Beside
 -- each session is on the line of its meter's row, so no meter is read on two lines (for the theorem of specs/Beside)
 pub mod Rows
+-- of the module `script`
+
+-- an answer without a telegram leaves the pending changes
+pub mod Quiet
+-- a poll, one thing after the other (the theorem of specs/Polled)
+pub mod Polls
+-- how long an answer of a meter is
+pub mod Lengths
+-- a poll that is served (the theorem of specs/Polled)
+pub mod Served
+-- of the module `poll`
+
+-- a talk that is served, thing after thing (for the theorem of specs/Talked)
+pub mod Talked
+-- what holds of each of a list, and what happens on one line
+pub mod Lists
+-- what the turns of lines leave of a meter
+pub mod Kept
+-- a concentrator that has what it needs, but for room in the register
+pub mod Supplied
+-- each telegram that a line's session takes is the next of its meter's parts
+pub mod Parted
+-- what is known of each thing on a line that carries its talk
+pub mod Facts
+-- a line on which no readout goes on
+pub mod Free
+-- a talk that its line carries, readout after readout
+pub mod Carried
+-- a queue whose line is served
+pub mod Following
+-- the meters of a queue are started in order
+pub mod Ordered
+-- sums over the lines
+pub mod Sums
+-- how much room a readout needs yet
+pub mod Spending
+-- no telegram is refused for want of room
+pub mod Rooms
+-- a meter that was read has one reading more
+pub mod New
+-- the turns of a poll, and what is pending after them
+pub mod Turns
+-- the meters of a line's queue have that line in their rows
+pub mod OwnLine
+-- where each line goes well, all does
+pub mod Whole
+-- as many meters are counted as read as the queues have
+pub mod Counted
+-- a register whose row ROOM suffices has room (the law of specs/RoomRow)
+pub mod RoomRow
+-- a register with one meter that is on its line (for the law of specs/Met)
+pub mod OneHouse
+-- its image, before and after the change of its telegram
+pub mod OneImage
+-- what a concentrator does while that meter is read
+pub mod OneRun
+-- every meter is read (for the theorem of specs/Every)
+pub mod Every
+-- the poll in which that meter is read (the law of specs/Met)
+pub mod OnePoll

@@ -15,7 +15,7 @@ use Rattle.dc_readout.specs.Summary.{Summary, settled_by}
 use Rattle.dc_change.specs.Apply.{heard as told_at, joined as joined_rows}
 use Rattle.dc_change.specs.State.{State, MeterRow, PartRow, ReadingRow, row_of}
 use Rattle.dc_register.specs.Orders.{is_of}
-use Rattle.dc_pending.specs.Lines.{is_line, line_count, settled_at, settled_on}
+use Rattle.dc_concentrator.specs.Lines.{is_line, line_count, settled_at, settled_on}
 use Rattle.dc_concentrator.specs.declared.fault.StartFault.{StartFault}
 use Rattle.dc_concentrator.specs.declared.fault.StartFault.TheVariants.{NoLine as StartNoLine, Unknown, Busy, Stopped as StartStopped}
 use Rattle.dc_concentrator.specs.declared.fault.HearFault.{HearFault}

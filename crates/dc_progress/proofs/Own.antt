@@ -14,7 +14,7 @@ use Rattle.dc_world.specs.World.{more_in, more_after, whole_readout}
 use Rattle.dc_change.specs.Apply.{applied, heard as told_at, joined as joined_rows}
 use Rattle.dc_change.specs.State.{State, MeterRow, PartRow, ReadingRow, row_of}
 use Rattle.dc_register.specs.Orders.{is_of}
-use Rattle.dc_pending.specs.Taking.{change_of}
+use Rattle.dc_concentrator.specs.Taking.{change_of}
 use Rattle.dc_concentrator.proofs.Registered.{row_of_same}
 use Rattle.dc_progress.specs.Beside.{readings_of, HasRead}
 use Rattle.dc_progress.specs.Needs.{IsOwnTelegram}

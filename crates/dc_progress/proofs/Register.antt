@@ -18,7 +18,7 @@ use Rattle.dc_change.specs.Size.{part_size, parts_size, size_of}
 use Rattle.dc_change.specs.State.{State, MeterRow, PartRow, row_of}
 use Rattle.dc_change.specs.Fields.{end_of_numbers}
 use Rattle.dc_register.proofs.Sizes.{size_of-heard_open, size_of-heard_last, parts_size-joined}
-use Rattle.dc_pending.specs.Taking.{change_of}
+use Rattle.dc_concentrator.specs.Taking.{change_of}
 use Rattle.dc_concentrator.proofs.Registered.{row_of_same}
 use Rattle.dc_progress.specs.Needs.{body_size, room_for}
 use Rattle.dc_progress.specs.Progress.{with_reading}

@@ -11,11 +11,11 @@ use Rattle.dc_change.specs.declared.change.Change.{Change}
 use Rattle.dc_change.specs.declared.fault.ChangeFault.{ChangeFault}
 use Rattle.dc_change.specs.Accepts.{refusal}
 use Rattle.dc_change.specs.History.{after}
-use Rattle.dc_pending.specs.declared.fault.TakeFault.{TakeFault}
-use Rattle.dc_pending.specs.declared.fault.TakeFault.TheVariants.{PendingFull as TakePendingFull, Full as TakeFull}
-use Rattle.dc_pending.specs.Lines.{is_line, line_count, settled_on, settled_lines}
-use Rattle.dc_pending.specs.Taking.{change_of, refuses}
-use Rattle.dc_pending.specs.Waiting.{most_waiting}
+use Rattle.dc_concentrator.specs.declared.pending.fault.TakeFault.{TakeFault}
+use Rattle.dc_concentrator.specs.declared.pending.fault.TakeFault.TheVariants.{PendingFull as TakePendingFull, Full as TakeFull}
+use Rattle.dc_concentrator.specs.Lines.{is_line, line_count, settled_on, settled_lines}
+use Rattle.dc_concentrator.specs.Taking.{change_of, refuses}
+use Rattle.dc_concentrator.specs.Waiting.{most_waiting}
 use Rattle.dc_concentrator.specs.declared.line_heard.LineHeard.{LineHeard}
 use Rattle.dc_concentrator.specs.declared.line_heard.LineHeard.TheVariants.{Again, Ready, Accepted, Failed}
 use Rattle.dc_concentrator.specs.declared.fault.HearFault.{HearFault}

@@ -16,8 +16,8 @@ use Rattle.dc_change.specs.Apply.{applied, heard as told_at, joined}
 use Rattle.dc_change.specs.declared.change.Change.{Change}
 use Rattle.dc_change.specs.State.{State, MeterRow, PartRow, row_of}
 use Rattle.dc_change.proofs.History.{after_of_push}
-use Rattle.dc_pending.specs.Lines.{is_line, line_count, settled_on}
-use Rattle.dc_pending.specs.Taking.{change_of}
+use Rattle.dc_concentrator.specs.Lines.{is_line, line_count, settled_on}
+use Rattle.dc_concentrator.specs.Taking.{change_of}
 use Rattle.dc_concentrator.specs.declared.fault.StartFault.{StartFault}
 use Rattle.dc_concentrator.specs.declared.fault.HearFault.{HearFault}
 use Rattle.dc_concentrator.specs.declared.fault.HearFault.TheVariants.{Stopped}

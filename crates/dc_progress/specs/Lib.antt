@@ -10,3 +10,19 @@ pub mod Needs
 pub mod Progress
 -- a readout beside those of other lines
 pub mod Beside
+-- of the module `script`
+
+-- a poll over a line that loses little, and what it comes to
+pub mod Polled
+-- of the module `poll`
+
+-- a readout within the talk on a bus, and what it comes to
+pub mod Talked
+-- the talk that a line carries, and a concentrator that refuses nothing
+pub mod Carried
+-- every meter is read
+pub mod Every
+-- what the row ROOM of `status` says of a poll
+pub mod RoomRow
+-- a whole poll that meets all premises
+pub mod Met

@@ -12,7 +12,7 @@ use Rattle.dc_world.specs.World.{AreRegular, whole_readout}
 use Rattle.dc_change.specs.State.{State, MeterRow, row_of}
 use Rattle.dc_change.specs.Size.{size_of}
 use Rattle.dc_change.specs.Fields.{end_of_numbers}
-use Rattle.dc_pending.specs.Lines.{line_count}
+use Rattle.dc_concentrator.specs.Lines.{line_count}
 use Rattle.dc_concentrator.specs.Core.{present, opened}
 use Rattle.dc_concentrator.specs.Step.{start_answer}
 use Rattle.dc_progress.specs.Rounds.{Scene}

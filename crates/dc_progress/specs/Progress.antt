@@ -10,7 +10,7 @@ use Rattle.dc_world.specs.declared.event.Outcome.TheVariants.{AsSent}
 use Rattle.dc_world.specs.Meter.{Meter}
 use Rattle.dc_change.specs.Apply.{with_row}
 use Rattle.dc_change.specs.State.{State, MeterRow, PartRow}
-use Rattle.dc_pending.specs.Lines.{line_count}
+use Rattle.dc_concentrator.specs.Lines.{line_count}
 use Rattle.dc_concentrator.specs.Core.{Core, present, session_of, opened}
 use Rattle.dc_concentrator.specs.Step.{ask_answer}
 use Rattle.dc_concentrator.specs.Transcript.{Turn, leads, IsChain}

@@ -15,6 +15,8 @@
 #![tactic(auto)]
 
 mod laws;
+pub mod poll;
+pub mod script;
 
 pub use laws::{
     a_concentrator_keeps_its_lines, a_meter_may_be_read, a_readout_beside_others_ends_in_a_reading,

@@ -6,3 +6,5 @@ mod Powers
 mod Units
 -- what is sent, by what stands at the front
 mod Turns
+
+-- of the module `real`

@@ -20,3 +20,7 @@ pub mod Text
 pub mod Names
 -- the records of a body with the length bytes of their data
 pub mod Sent
+-- of the module `real`
+
+-- the decimal of a REAL
+pub mod Real

@@ -4,7 +4,7 @@ ghost use Rattle.std.specs.Prelude.{◌≡◌, ◌≤◌, length, map};
 ghost use Rattle.dc_reading.specs.Codes.{AreNarrow, code_in, code_at, code_view, table_code, row_of, number_of, listed_at};
 ghost use Rattle.dc_reading.specs.Codes.{kind_of};
 
-use dc_value::Quantity;
+use dc_record::value::Quantity;
 
 /// How the data of a code are read.
 #[derive(Clone, Copy)]
@@ -514,9 +514,9 @@ fn listed_at(number: u16) -> Option<(Quantity, i8)>
     let high = (number / 256) as u8;
     let low = (number % 256) as u8;
     if high == 0 {
-        dc_value::unit_at(&[low])
+        dc_record::value::unit_at(&[low])
     } else {
-        dc_value::unit_at(&[high, low])
+        dc_record::value::unit_at(&[high, low])
     }
 }
 

@@ -17,6 +17,7 @@ mod meaning;
 mod names;
 mod parts;
 mod reading;
+pub mod real;
 mod sent;
 mod text;
 mod value;

@@ -12,7 +12,7 @@ use crate::meaning::{Meaning, meaning_of};
 use crate::parts::vifes_of;
 use crate::value::{Datum, NoValue, value_of};
 use dc_record::Record;
-use dc_value::{Point, Quantity, Seen, Value, point_of};
+use dc_record::value::{Point, Quantity, Seen, Value, point_of};
 
 /// By which table a record is read.
 #[derive(Clone, Copy)]

@@ -9,7 +9,7 @@ use crate::form::{DataType, Form};
 use crate::meaning::fitting;
 use dc_address::Identity;
 use dc_record::Header;
-use dc_value::{Date, Decimal, Value, bcd, digits_after, integer, unsigned};
+use dc_record::value::{Date, Decimal, Value, bcd, digits_after, integer, unsigned};
 
 /// Why data have no value.
 #[derive(Clone, Copy)]
@@ -50,7 +50,7 @@ fn real_in(content: &[u8]) -> Result<Decimal, NoValue>
         return Err(NoValue::Invalid);
     };
     let bits = u32::from(*a) + 256 * (u32::from(*b) + 256 * (u32::from(*c) + 256 * u32::from(*d)));
-    match dc_real::real_of(bits) {
+    match crate::real::real_of(bits) {
         Some(decimal) => Ok(decimal),
         None => {
             if bits % 0x80_0000 == 0 {
@@ -142,7 +142,7 @@ fn day_in(content: &[u8]) -> Datum
     requires { length content.now ≡ 2 }
     ensures { result ≡ day_in content.now }
 {
-    match dc_value::day(content) {
+    match dc_record::value::day(content) {
         Value::None => Datum::None(NoValue::NoDate),
         day => Datum::Known(day),
     }
@@ -156,7 +156,7 @@ fn minute_in(content: &[u8]) -> Datum
     let (first, second) = (content[0], content[1]);
     match clock_fault(first >= 0x80, second % 32, first % 64, 0) {
         Some(fault) => Datum::None(fault),
-        None => match dc_value::minute(content) {
+        None => match dc_record::value::minute(content) {
             Value::None => Datum::None(NoValue::NoDate),
             minute => Datum::Known(minute),
         },
@@ -173,7 +173,7 @@ fn second_in(content: &[u8]) -> Datum
     let (hour, minute, seconds) = (*third % 32, *second % 64, *first % 64);
     match clock_fault(*second >= 0x80, hour, minute, seconds) {
         Some(fault) => Datum::None(fault),
-        None => match dc_value::day(&[*low, *high]) {
+        None => match dc_record::value::day(&[*low, *high]) {
             Value::Day(date) => Datum::Second(date, hour, minute, seconds),
             _ => Datum::None(NoValue::NoDate),
         },

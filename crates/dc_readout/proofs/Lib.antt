@@ -12,3 +12,7 @@ pub mod Requests
 pub mod Bound
 -- the protocol's rules, from the summaries of a past and of the past with one thing more
 pub mod Protocol
+-- of the module `misses`
+
+-- failed tries, counted one after the other
+pub mod Counting

@@ -16,3 +16,13 @@ pub mod Protocol
 pub mod Seen
 -- what a telegram is that a session takes
 pub mod Taken
+-- of the module `misses`
+
+-- how many failed tries brought what
+pub mod Misses
+-- which failures of a readout are failed tries
+pub mod Missing
+-- the sentence that says so
+pub mod Text
+-- the line of a failed readout
+pub mod Reason

@@ -13,6 +13,7 @@
 mod answers;
 mod heard;
 mod laws;
+pub mod misses;
 mod session;
 mod stage;
 mod why;

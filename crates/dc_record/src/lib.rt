@@ -16,10 +16,12 @@ mod fault;
 mod front;
 mod header;
 mod laws;
+pub mod names;
 mod reading;
 mod record;
 mod records;
 mod telegram;
+pub mod value;
 
 pub use end::End;
 pub use fault::BodyFault;

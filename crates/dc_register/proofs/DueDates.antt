@@ -6,8 +6,8 @@ use Rattle.std.specs.List.{list_any, filter_map, cons_option}
 use Rattle.std.specs.Iterator.{YieldsFirst}
 use Rattle.std.specs.Ordering.{nat_cmp, ordering_then, is_eq}
 use Rattle.std.specs.Cmp.{both_tied, unsigned_ties}
-use Rattle.dc_value.specs.declared.point.Point.{Point}
-use Rattle.dc_value.specs.Date.{Day}
+use Rattle.dc_record.specs.declared.value.point.Point.{Point}
+use Rattle.dc_record.specs.Date.{Day}
 use Rattle.dc_register.specs.Due.{due_day, due_days, is_due, is_on, same_day, day_cmp}
 
 pub or-assoc : (a b c : Option Day) → option_or (option_or a b) c ≡ option_or a (option_or b c)

@@ -25,3 +25,7 @@ pub mod PlaceOrder  -- the orders of places
 mod Placed  -- places through the changes of the meters
 mod OnBus  -- the meters at a primary address
 mod Indexed  -- the orders of the meters
+-- of the module `named`
+
+-- the text of a whole word
+pub mod Wholes

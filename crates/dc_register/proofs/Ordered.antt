@@ -7,7 +7,7 @@ use Rattle.std.proofs.lemmas.List.Elements.{All-nil, All-push, All-tail}
 use Rattle.std.proofs.lemmas.Map.Keys.{sorted_tail}
 use Rattle.dc_address.specs.declared.identity.Identity.{Identity}
 use Rattle.dc_address.specs.Identity.{identity_cmp}
-use Rattle.dc_value.specs.Date.{Day}
+use Rattle.dc_record.specs.Date.{Day}
 use Rattle.dc_change.specs.State.{ReadingRow}
 use Rattle.dc_register.specs.declared.filed.Filed.{Filed}
 use Rattle.dc_register.specs.Due.{day_cmp, due_days, has_value}

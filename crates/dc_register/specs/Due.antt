@@ -7,10 +7,10 @@ use Rattle.std.specs.List.{filter_map, list_any}
 use Rattle.std.specs.Ordering.{nat_cmp, ordering_then}
 use Rattle.std.specs.declared.cmp.Ordering.{Ordering}
 use Rattle.std.specs.BTreeMap.{BTreeMap, get}
-use Rattle.dc_value.specs.declared.point.Point.{Point}
-use Rattle.dc_value.specs.Quantity.{is_time_point}
-use Rattle.dc_value.specs.Date.{Day}
-use Rattle.dc_value.specs.Value.{day_of}
+use Rattle.dc_record.specs.declared.value.point.Point.{Point}
+use Rattle.dc_record.specs.Quantity.{is_time_point}
+use Rattle.dc_record.specs.Date.{Day}
+use Rattle.dc_record.specs.Value.{day_of}
 use Rattle.dc_change.specs.State.{ReadingRow}
 use Rattle.dc_register.specs.Points.{points_of}
 

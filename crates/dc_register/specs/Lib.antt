@@ -17,3 +17,9 @@ pub mod Ascending
 pub mod Places
 -- the register as what a store keeps
 pub mod Language
+-- of the module `named`
+
+-- how a name is spelled
+pub mod Name
+-- which meter a name means
+pub mod Means

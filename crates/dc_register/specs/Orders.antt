@@ -10,7 +10,7 @@ use Rattle.std.specs.BTreeMap.Range.{range_contains}
 use Rattle.std.specs.declared.ops.Bound.TheVariants.{Included}
 use Rattle.dc_address.specs.declared.identity.Identity.{Identity}
 use Rattle.dc_address.specs.Identity.{identity_cmp}
-use Rattle.dc_value.specs.Date.{Day}
+use Rattle.dc_record.specs.Date.{Day}
 use Rattle.dc_change.specs.State.{ReadingRow}
 use Rattle.dc_change.specs.Valid.{IsReading}
 use Rattle.dc_register.specs.Due.{day_cmp, due_days, has_value}

@@ -4,10 +4,10 @@ use Rattle.std.specs.List.{flat_map}
 use Rattle.dc_record.specs.declared.fault.BodyFault.{BodyFault}
 use Rattle.dc_record.specs.Record.{Entry}
 use Rattle.dc_record.specs.Telegram.{Parsed, telegram_at}
-use Rattle.dc_value.specs.declared.point.Seen.{Seen}
-use Rattle.dc_value.specs.declared.point.Seen.TheVariants.{Point as Known, Other}
-use Rattle.dc_value.specs.declared.point.Point.{Point}
-use Rattle.dc_value.specs.Point.{seen_of}
+use Rattle.dc_record.specs.declared.value.point.Seen.{Seen}
+use Rattle.dc_record.specs.declared.value.point.Seen.TheVariants.{Point as Known, Other}
+use Rattle.dc_record.specs.declared.value.point.Point.{Point}
+use Rattle.dc_record.specs.Point.{seen_of}
 use Rattle.dc_change.specs.State.{PartRow}
 
 -- a record that isn't in the table of units has no point

@@ -11,7 +11,7 @@ ghost use Rattle.dc_register.specs.Due.{is_due, due_value, due_days};
 
 use crate::{Part, Points};
 use dc_io::NoMemory;
-use dc_value::{Date, Point};
+use dc_record::value::{Date, Point};
 use std::alloc::Allocator;
 use std::collections::BTreeMap;
 use std::marker::Model;
@@ -120,7 +120,7 @@ pub struct DuePoints<'d, 'a, A: Allocator + Copy> {
 
 impl<'d, 'a, A: Allocator + Copy> Model for DuePoints<'d, 'a, A> {
     ghost use Rattle.std.specs.Prelude.{List, filter};
-    ghost use Rattle.dc_value.specs.declared.point.Point.{Point};
+    ghost use Rattle.dc_record.specs.declared.value.point.Point.{Point};
     ghost use Rattle.dc_register.specs.Points.{points_of};
     ghost use Rattle.dc_register.specs.Due.{is_due};
 
@@ -158,7 +158,7 @@ pub struct DueDays<'d, 'a, A: Allocator + Copy> {
 impl<'d, 'a, A: Allocator + Copy> Model for DueDays<'d, 'a, A> {
     ghost use Rattle.std.specs.Prelude.{List};
     ghost use Rattle.std.specs.List.{filter_map};
-    ghost use Rattle.dc_value.specs.Date.{Day};
+    ghost use Rattle.dc_record.specs.Date.{Day};
     ghost use Rattle.dc_register.specs.Points.{points_of};
     ghost use Rattle.dc_register.specs.Due.{due_day};
 

@@ -19,7 +19,7 @@ mod telegram;
 use crate::{Meter, MeterMap, Place, Reading, ReadingList, Serials};
 use dc_address::Identity;
 use dc_change::CommandLine;
-use dc_value::Date;
+use dc_record::value::Date;
 use std::alloc::Allocator;
 use std::collections::btree_map::Iter;
 use std::collections::{VecDeque, btree_set, vec_deque};

@@ -23,6 +23,7 @@ mod house;
 mod meter;
 mod meter_map;
 mod meter_orders;
+pub mod named;
 mod orders;
 mod part;
 mod parts;

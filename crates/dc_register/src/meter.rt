@@ -18,7 +18,7 @@ use crate::{Part, Reading};
 use dc_address::Primary;
 use dc_change::Flat;
 use dc_io::NoMemory;
-use dc_value::Date;
+use dc_record::value::Date;
 use std::alloc::Allocator;
 use std::marker::Model;
 use std::mem::replace;

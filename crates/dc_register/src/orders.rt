@@ -8,7 +8,7 @@ ghost use Rattle.dc_register.specs.Orders.{found, IsUnfiled, is_under_meter, is_
 use crate::Filed;
 use dc_address::Identity;
 use dc_io::NoMemory;
-use dc_value::Date;
+use dc_record::value::Date;
 use std::alloc::Allocator;
 use std::collections::BTreeSet;
 
@@ -30,7 +30,7 @@ impl<A: Allocator + Copy> Orders<A> {
     ghost use Rattle.std.specs.Prelude.{[]};
     ghost use Rattle.dc_register.specs.declared.filed.Filed.{Filed};
     ghost use Rattle.dc_address.specs.declared.identity.Identity.{Identity};
-    ghost use Rattle.dc_value.specs.Date.{Day};
+    ghost use Rattle.dc_record.specs.Date.{Day};
 
     /// Returns empty indexes.
     pub(crate) fn new(alloc: A) -> Orders<A>
@@ -90,7 +90,7 @@ impl<A: Allocator + Copy> Orders<A> {
 }
 
 ghost use Rattle.dc_register.specs.declared.filed.Filed.{Filed};
-ghost use Rattle.dc_value.specs.Date.{Day};
+ghost use Rattle.dc_record.specs.Date.{Day};
 
 /// Adds a serial under each of these days.
 fn file_days<A: Allocator + Copy>(

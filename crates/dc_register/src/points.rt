@@ -7,7 +7,7 @@ ghost use Rattle.dc_register.specs.Points.{points_in, points_of, points_read};
 
 use crate::Part;
 use dc_record::Records;
-use dc_value::{Point, Seen, point_of};
+use dc_record::value::{Point, Seen, point_of};
 use std::alloc::Allocator;
 use std::marker::Model;
 
@@ -21,7 +21,7 @@ pub struct Points<'a, A: Allocator> {
 
 impl<'a, A: Allocator> Model for Points<'a, A> {
     ghost use Rattle.std.specs.Prelude.{List, ◌++◌};
-    ghost use Rattle.dc_value.specs.declared.point.Point.{Point};
+    ghost use Rattle.dc_record.specs.declared.value.point.Point.{Point};
     ghost use Rattle.dc_register.specs.Points.{points_left, points_of};
 
     ghost Value = { List Point };

@@ -10,7 +10,7 @@ use crate::Part;
 use crate::part::parts_size;
 use dc_address::Identity;
 use dc_change::Flat;
-use dc_value::Date;
+use dc_record::value::Date;
 use std::alloc::Allocator;
 use std::marker::Model;
 

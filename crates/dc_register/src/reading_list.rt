@@ -15,7 +15,7 @@ use crate::orders::{Ended, Orders};
 use crate::{Meter, Reading, Serials};
 use dc_address::Identity;
 use dc_io::NoMemory;
-use dc_value::Date;
+use dc_record::value::Date;
 use std::alloc::Allocator;
 use std::collections::VecDeque;
 use std::collections::vec_deque::Iter;

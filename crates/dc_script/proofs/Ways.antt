@@ -10,7 +10,7 @@ use Rattle.dc_io.proofs.Pieces.{puts-both, puts-none}
 use Rattle.dc_disk.specs.declared.device.Disk.{Ghosts}
 use Rattle.dc_change.specs.State.{State}
 use Rattle.dc_readout.specs.Summary.{Summary}
-use Rattle.dc_pending.specs.Lines.{requests_on, NoMoreRequests}
+use Rattle.dc_concentrator.specs.Lines.{requests_on, NoMoreRequests}
 use Rattle.dc_concentrator.specs.Core.{opened}
 use Rattle.dc_concentrator.specs.Event.{Event, Answer}
 use Rattle.dc_concentrator.specs.Images.{Machine, IsAt}

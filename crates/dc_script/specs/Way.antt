@@ -10,7 +10,7 @@ use Rattle.dc_io.specs.declared.stream.IoFault.{IoFault}
 use Rattle.dc_io.specs.declared.stream.Sink.{Ghosts as SinkGhosts}
 use Rattle.dc_disk.specs.declared.device.Disk.{Ghosts}
 use Rattle.dc_readout.specs.Summary.{Summary}
-use Rattle.dc_pending.specs.Lines.{requests_on}
+use Rattle.dc_concentrator.specs.Lines.{requests_on}
 use Rattle.dc_script.specs.Poll.{Phase, Due, Happening, IsWay, happened_exchanges, happened_text}
 use Rattle.dc_script.specs.Poll.{happened_turns, to_ask, is_over}
 use Rattle.dc_script.specs.Link.{Link, link_by}

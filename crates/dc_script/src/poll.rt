@@ -5,7 +5,7 @@ ghost use Rattle.std.specs.Prelude.{length};
 ghost use Rattle.dc_address.specs.declared.identity.Identity.{Identity as Meter};
 ghost use Rattle.dc_io.specs.Failures.{HasRisen};
 ghost use Rattle.dc_readout.specs.Summary.{Summary};
-ghost use Rattle.dc_pending.specs.Lines.{requests_on, NoMoreRequests};
+ghost use Rattle.dc_concentrator.specs.Lines.{requests_on, NoMoreRequests};
 ghost use Rattle.dc_concentrator.specs.Step.{longest_request};
 ghost use Rattle.dc_bus.specs.Limits.{most_answer};
 ghost use Rattle.dc_io.specs.Written.{Wrote};

@@ -19,8 +19,8 @@ ghost use Rattle.dc_script.specs.Traffic.{AreCarried, OverGateway, gateway_slot}
 use crate::halt::Halt;
 use crate::script::run_lines;
 use crate::slot::Slot;
-use dc_blocks::Gateway;
 use dc_bus::Bus;
+use dc_bus::blocks::Gateway;
 use dc_concentrator::Concentrator;
 use dc_disk::Disk;
 use dc_ending::ProgramFault;

@@ -2,7 +2,7 @@
 
 ghost use Rattle.std.specs.Prelude.{◌≡◌, ◌<◌, ◌≤◌, IfOk, IfSome, OnOk, OnErr, length};
 ghost use Rattle.dc_io.specs.Failures.{HasRisen};
-ghost use Rattle.dc_pending.specs.Lines.{requests_on, NoMoreRequests};
+ghost use Rattle.dc_concentrator.specs.Lines.{requests_on, NoMoreRequests};
 ghost use Rattle.dc_concentrator.specs.Event.{starts, asks, hears, commits, started, asked, heard};
 ghost use Rattle.dc_concentrator.specs.Event.{committed};
 ghost use Rattle.dc_concentrator.specs.Step.{longest_request};

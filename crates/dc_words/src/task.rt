@@ -3,8 +3,8 @@
 use crate::link::LinkName;
 use crate::links::Links;
 use dc_address::{Identity, Primary};
-use dc_consumption_table::Boundaries;
-use dc_named::Named;
+use dc_consumption::table::Boundaries;
+use dc_register::named::Named;
 use std::alloc::Global;
 
 /// How the frames of an input are printed.

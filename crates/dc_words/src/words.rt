@@ -9,8 +9,8 @@ use crate::task::{Call, Engine, Form, MeterName, PollTask, RunTask, Scan, Status
 use clap::{Arg, ArgAction, ArgMatches, Command, value_parser};
 use dc_address::Primary;
 use dc_change::parse_number;
-use dc_consumption_table::Boundaries;
-use dc_named::Named;
+use dc_consumption::table::Boundaries;
+use dc_register::named::Named;
 use std::alloc::{AllocError, Global};
 
 // The least and the greatest number of sectors: what the file of the largest image holds.

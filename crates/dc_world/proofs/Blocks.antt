@@ -7,9 +7,9 @@ use Rattle.std.proofs.lemmas.List.Folds.{concat-append}
 use Rattle.std.proofs.lemmas.List.Concat.{flat_map-append}
 use Rattle.dc_io.specs.Stream.{Puts, Takes}
 use Rattle.dc_io.proofs.Pieces.{puts-both, takes-both}
-use Rattle.dc_blocks.specs.Blocks.{Answers, IsBlock, block, blocks_bytes, most_block, most_blocks}
+use Rattle.dc_bus.specs.Blocks.{Answers, IsBlock, block, blocks_bytes, most_block, most_blocks}
 use Rattle.dc_bus.specs.Limits.{most_answer}
-use Rattle.dc_blocks.specs.Talk.{IsContent}
+use Rattle.dc_bus.specs.Talk.{IsContent}
 use Rattle.dc_world.specs.Standing.{Standing}
 use Rattle.dc_world.specs.Line.{Hears}
 use Rattle.dc_world.specs.Serving.{PutsAnswer, Serves, blocks_with}

@@ -1,7 +1,7 @@
 -- One exchange on the gateway's side (this product): a block is taken, and the blocks of an answer
 -- are put.
 use Rattle.std.specs.Prelude.{◌≡◌, ℕ, List, [], ◌∷◌, Option, length}
-use Rattle.dc_blocks.specs.Blocks.{Answers}
+use Rattle.dc_bus.specs.Blocks.{Answers}
 use Rattle.dc_world.specs.Standing.{Standing}
 use Rattle.dc_world.specs.Line.{Hears}
 use Rattle.dc_io.specs.Stream.{Puts, Takes}

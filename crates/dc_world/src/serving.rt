@@ -1,13 +1,13 @@
 //! The gateway's side of an exchange.
 
 ghost use Rattle.std.specs.Prelude.{◌≡◌, ◌+◌, ◌≤◌, length, IfOk, OnOk};
-ghost use Rattle.dc_blocks.specs.Blocks.{blocks_bytes, most_block};
+ghost use Rattle.dc_bus.specs.Blocks.{blocks_bytes, most_block};
 ghost use Rattle.dc_world.specs.Serving.{PutsAnswer, Serves, blocks_with};
 ghost use Rattle.dc_io.specs.Written.{PutsInto};
 
 use crate::line::SimulatedBus;
-use dc_blocks::{MOST_BLOCK, put_block, take_content, take_length};
 use dc_bus::AnswerBuf;
+use dc_bus::blocks::{MOST_BLOCK, put_block, take_content, take_length};
 use dc_io::{IoFault, Sink, Source};
 use std::alloc::Allocator;
 

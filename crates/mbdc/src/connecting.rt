@@ -3,8 +3,8 @@
 use dc_commands::links_of;
 use dc_ending::Ending;
 use dc_files::Host;
+use dc_links::reach::{Unconnected, connect_all, reach_all, release_all};
 use dc_links::{Linker, Peer};
-use dc_reach::{Unconnected, connect_all, reach_all, release_all};
 use dc_words::{LinkName, Links};
 use std::fs::File;
 use std::io;

@@ -3,12 +3,12 @@
 use crate::inspect::scan_file;
 use crate::names::meters_in;
 use crate::tasks::{ROOM, flushed};
-use dc_dry::{Dry, LINES, put_dry};
 use dc_ending::{Ending, ProgramFault, STREAM, ending_of};
 use dc_files::{Host, LookedAt, Noted, ROUNDS};
 use dc_inspect::register_of;
 use dc_io::{Buffered, WriteSink};
 use dc_log::OpenFault;
+use dc_poll::dry::{Dry, LINES, put_dry};
 use dc_register::House;
 use dc_words::{LinkName, PollTask};
 use std::alloc::Global;

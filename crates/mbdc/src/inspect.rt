@@ -110,7 +110,7 @@ where
     let Some(moment) = clock::moment(host.rt) else {
         return Ending::Clock;
     };
-    let clock = dc_status::Clock {
+    let clock = dc_json::status::Clock {
         now: moment.seconds,
         patience: silent,
     };

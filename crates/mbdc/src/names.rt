@@ -7,8 +7,8 @@ use dc_files::Host;
 use dc_inspect::register_of;
 use dc_io::{Bytes, IoFault, NoMemory, Sink, put_number};
 use dc_log::Greatest;
-use dc_named::{NameFault, Named, having, resolve_all};
 use dc_register::House;
+use dc_register::named::{NameFault, Named, having, resolve_all};
 use std::alloc::Global;
 use std::str;
 

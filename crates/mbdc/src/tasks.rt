@@ -10,7 +10,7 @@ use crate::poll::poll_on_image;
 use crate::rescue::rescue_image;
 use crate::script::run_on_image;
 use dc_bench::Work;
-use dc_consumption_table::{Boundaries, consumption_lines};
+use dc_consumption::table::{Boundaries, consumption_lines};
 use dc_decode::decode_lines;
 use dc_ending::{Ending, ProgramFault, STREAM};
 use dc_files::{Host, Noted, back_up, format_image};

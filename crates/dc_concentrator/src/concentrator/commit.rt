@@ -7,17 +7,17 @@ ghost use Rattle.dc_concentrator.specs.declared.fault.CommitFault.TheVariants.{D
 ghost use Rattle.dc_concentrator.specs.Core.{Core};
 ghost use Rattle.dc_concentrator.specs.Event.{commits, committed};
 ghost use Rattle.dc_concentrator.specs.Step.{May, next};
-ghost use Rattle.dc_pending.specs.Images.{StandsForFront};
-ghost use Rattle.dc_pending.specs.Lines.{NoMoreRequests};
+ghost use Rattle.dc_concentrator.specs.PendingImages.{StandsForFront};
+ghost use Rattle.dc_concentrator.specs.Lines.{NoMoreRequests};
 ghost use Rattle.dc_log.specs.Store.{Fits};
-ghost use Rattle.dc_pending.specs.Writing.{IsWornFor};
+ghost use Rattle.dc_concentrator.specs.Writing.{IsWornFor};
 ghost use Rattle.dc_concentrator.specs.Images.{IsAt};
 
 use super::Concentrator;
 use crate::CommitFault;
+use crate::pending::write_waiting;
 use dc_disk::Disk;
 use dc_log::StoreFault;
-use dc_pending::write_waiting;
 use std::alloc::Allocator;
 
 impl<D: Disk + Drop, A: Allocator + Copy> Concentrator<D, A> {

@@ -1,17 +1,17 @@
 //! Takes the answers on a line.
 
 ghost use Rattle.std.specs.Prelude.{◌≡◌, ◌<◌, OnOk};
-ghost use Rattle.dc_pending.specs.Lines.{requests_on, NoMoreRequests};
+ghost use Rattle.dc_concentrator.specs.Lines.{requests_on, NoMoreRequests};
 ghost use Rattle.dc_concentrator.specs.Core.{Core};
 ghost use Rattle.dc_concentrator.specs.Event.{hears, heard};
 ghost use Rattle.dc_concentrator.specs.Step.{May, next};
 ghost use Rattle.dc_concentrator.specs.Images.{IsAt};
 
 use super::Concentrator;
+use crate::pending::{is_line, take};
 use crate::{HearFault, LineHeard};
 use dc_change::Moment;
 use dc_disk::Disk;
-use dc_pending::{is_line, take};
 use dc_readout::Heard;
 use std::alloc::Allocator;
 

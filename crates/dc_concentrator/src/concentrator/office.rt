@@ -8,7 +8,7 @@ ghost use Rattle.dc_change.specs.Accepts.{Accepts};
 ghost use Rattle.dc_change.specs.Apply.{applied};
 ghost use Rattle.dc_change.specs.Valid.{IsChange};
 ghost use Rattle.dc_log.specs.Halves.{half_of};
-ghost use Rattle.dc_pending.specs.Images.{StandsForFront};
+ghost use Rattle.dc_concentrator.specs.PendingImages.{StandsForFront};
 ghost use Rattle.dc_office.specs.Line.{IsOfficeLine};
 ghost use Rattle.dc_office.specs.Reply.{refusal_line, reply_text, TakesMemory};
 ghost use Rattle.dc_office.specs.Verdict.{verdict_of, IfDo};
@@ -23,6 +23,7 @@ ghost use Rattle.dc_concentrator.specs.Images.{IsAt};
 ghost use Rattle.dc_concentrator.specs.Run.{IsShown, Answered, Turned};
 
 use super::Concentrator;
+use crate::pending::Lines;
 use crate::{CommitFault, WriteFault};
 use dc_address::Identity;
 use dc_change::Change;
@@ -31,7 +32,6 @@ use dc_io::{IoFault, NoMemory, Sink};
 use dc_office::{
     Code, OfficeLine, ReplyFault, Verdict, judge, parse_line, write_refusal, write_reply,
 };
-use dc_pending::Lines;
 use dc_register::House;
 use std::alloc::Allocator;
 

@@ -3,9 +3,9 @@
 
 use super::life::replay;
 use dc_address::{Identity, Primary};
+use dc_record::value::Date;
 use dc_register::House;
 use dc_search::{SearchFault, sweep};
-use dc_value::Date;
 use dc_world::Outcome::{AsSent, ReplyLost, ReplyUnreadable};
 use dc_world::WorldEvent::{Commit, Exchange, Start, Stop};
 use dc_world::{Bodies, Body, Held, MeterScript, WorldEvent, are_regular, play};

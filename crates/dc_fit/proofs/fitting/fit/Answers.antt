@@ -5,7 +5,7 @@ use Rattle.dc_change.specs.State.{Held}
 use Rattle.dc_change.specs.declared.change.Change.{Change}
 use Rattle.dc_fit.proofs.Fitted.{all_standing, all_written, all_wrong, some_written}
 use Rattle.dc_io.specs.Lines.{lines_of}
-use Rattle.dc_list.specs.Plan.{IsOneGroup, IsPlanned}
+use Rattle.dc_fit.specs.Plan.{IsOneGroup, IsPlanned}
 use Rattle.dc_fit.proofs.fitting.fit.Goals as goal
 
 pub returns-then-is_wrong-clause-fitted : goal.returns-then-is_wrong-clause-fitted

@@ -1,6 +1,6 @@
 use Rattle.std.proofs.Common.{ℕ, List, [], ◌∷◌, ◌∙◌, ap}
-use Rattle.dc_misses.specs.Misses.{and_missed, misses_of}
-use Rattle.dc_misses.proofs.Counting.{are_counted}
+use Rattle.dc_readout.specs.Misses.{and_missed, misses_of}
+use Rattle.dc_readout.proofs.Counting.{are_counted}
 use Rattle.dc_installer.proofs.primary.missed.Goals as goal
 
 pub returns : goal.returns

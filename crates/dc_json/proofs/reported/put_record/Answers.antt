@@ -1,7 +1,7 @@
 use Rattle.std.proofs.Common.{sym, ◌∙◌}
 use Rattle.std.specs.List.{flat_map}
 use Rattle.dc_record.specs.Record.{view}
-use Rattle.dc_value.specs.Point.{seen_of}
+use Rattle.dc_record.specs.Point.{seen_of}
 use Rattle.dc_register.specs.Points.{shown}
 use Rattle.dc_tokens.specs.Object.{values_tokens}
 use Rattle.dc_tokens.proofs.Adding.{unchanged, said}

@@ -1,6 +1,6 @@
 use Rattle.std.proofs.Common.{List, ap, ◌∙◌}
 use Rattle.std.specs.List.{flat_map}
-use Rattle.dc_value.specs.declared.point.Point.{Point}
+use Rattle.dc_record.specs.declared.value.point.Point.{Point}
 use Rattle.dc_tokens.specs.Object.{values_tokens}
 use Rattle.dc_tokens.proofs.Objects.{no_values}
 use Rattle.dc_tokens.proofs.Rests.{rest_begun, rest_more, rest_all}

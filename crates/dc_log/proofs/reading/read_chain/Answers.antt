@@ -2,7 +2,7 @@ use Rattle.std.proofs.Common.{◌≡◌, ◌∙◌, ap, sym, subst, Err}
 use Rattle.std.proofs.lemmas.Result.{err_from_is_err_and}
 use Rattle.dc_disk.specs.Disk.{Image}
 use Rattle.dc_disk.specs.Runs.{OnlyLooked}
-use Rattle.dc_roots.specs.declared.root.Root.{Root}
+use Rattle.dc_log.specs.declared.roots.root.Root.{Root}
 use Rattle.dc_log.specs.declared.fault.OpenFault.TheVariants.{Device}
 use Rattle.dc_log.specs.Refusal.{IsUnread}
 use Rattle.dc_log.specs.Stands.{IsCurrent, IsReached, IsRead}

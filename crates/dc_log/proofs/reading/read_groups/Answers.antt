@@ -1,6 +1,6 @@
 use Rattle.std.proofs.Common.{arith, ap, subst, sym, ◌∙◌, Ok}
 use Rattle.dc_disk.specs.Disk.{Image}
-use Rattle.dc_pages.specs.Group.{IsComplete}
+use Rattle.dc_log.specs.Group.{IsComplete}
 use Rattle.dc_log.specs.Sites.{change_site}
 use Rattle.dc_log.specs.Stands.{IsReached}
 use Rattle.dc_log.proofs.ReadMoments.{looked_on}

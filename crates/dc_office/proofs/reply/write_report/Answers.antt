@@ -1,7 +1,7 @@
 use Rattle.std.proofs.Common.{ℕ, List, ◌++◌, ap, ◌∙◌, subst, arith}
 use Rattle.std.specs.Io.KnownBytes.{append_known}
 use Rattle.dc_io.specs.Stream.{PutsFront}
-use Rattle.dc_table.specs.DueTable.{due_text}
+use Rattle.dc_office.specs.DueTable.{due_text}
 use Rattle.dc_office.specs.Reply.{end_line, report_text}
 use Rattle.dc_office.proofs.reply.write_report.Goals as goal
 

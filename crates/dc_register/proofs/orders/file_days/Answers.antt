@@ -1,7 +1,7 @@
 use Rattle.std.proofs.Common.{List, ap, ◌∙◌, arith}
 use Rattle.dc_register.specs.Due.{day_cmp}
 use Rattle.dc_register.specs.Orders.{found}
-use Rattle.dc_value.specs.Date.{Day}
+use Rattle.dc_record.specs.Date.{Day}
 use Rattle.dc_register.specs.declared.filed.Filed.{Filed}
 use Rattle.dc_register.proofs.FiledDays.{filed_day, filed_back, taken_more}
 use Rattle.dc_register.proofs.orders.file_days.Goals as goal

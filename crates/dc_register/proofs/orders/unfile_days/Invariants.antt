@@ -1,6 +1,6 @@
 use Rattle.std.proofs.Common.{◌≡◌, take}
 use Rattle.std.specs.Prelude.{◌&&◌, not}
-use Rattle.dc_value.specs.Date.{Day}
+use Rattle.dc_record.specs.Date.{Day}
 use Rattle.dc_register.specs.declared.filed.Filed.{Filed}
 use Rattle.dc_register.specs.Due.{day_cmp}
 use Rattle.dc_register.specs.Orders.{found, is_under_days}

@@ -7,7 +7,7 @@ use Rattle.dc_concentrator.specs.Event.{hears, heard}
 use Rattle.dc_concentrator.specs.declared.fault.HearFault.{HearFault}
 use Rattle.dc_concentrator.specs.declared.fault.HearFault.TheVariants.{PendingFull}
 use Rattle.dc_concentrator.specs.declared.line_heard.LineHeard.{LineHeard}
-use Rattle.dc_pending.specs.Lines.{requests_on}
+use Rattle.dc_concentrator.specs.Lines.{requests_on}
 use Rattle.dc_script.specs.Poll.{does, Due, to_hear, told_text}
 use Rattle.dc_script.proofs.LineRuns.{on_ok}
 use Rattle.dc_script.proofs.Ways.{then_spends, way_turn, turn_then, turn_last, is_full, behind_other, fails_in_one, if_fails_later}

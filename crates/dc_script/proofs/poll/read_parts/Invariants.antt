@@ -6,7 +6,7 @@ use Rattle.dc_concentrator.specs.Images.{IsAt}
 use Rattle.dc_concentrator.specs.Transcript.{Turn, leads, IsChain}
 use Rattle.dc_bus.specs.Bus.{AreExchanged}
 use Rattle.dc_io.specs.Stream.{Puts}
-use Rattle.dc_pending.specs.Lines.{requests_on}
+use Rattle.dc_concentrator.specs.Lines.{requests_on}
 use Rattle.dc_script.specs.Run.{run_of}
 use Rattle.dc_script.specs.Link.{link_by}
 use Rattle.dc_script.specs.Poll.{to_ask, happened_exchanges}

@@ -4,7 +4,7 @@ use Rattle.dc_change.specs.State.{State}
 use Rattle.dc_concentrator.specs.Core.{opened}
 use Rattle.dc_concentrator.specs.Images.{Machine, IsAt}
 use Rattle.dc_log.specs.Halves.{half_of}
-use Rattle.dc_pending.specs.Images.{EachStands}
+use Rattle.dc_concentrator.specs.PendingImages.{EachStands}
 use Rattle.dc_io.specs.Stream.{Puts}
 use Rattle.dc_io.specs.Lines.{lines_of}
 use Rattle.dc_script.specs.Run.{run_of}

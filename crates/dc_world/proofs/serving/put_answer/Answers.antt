@@ -1,5 +1,5 @@
 use Rattle.std.proofs.Common.{◌≡◌, ◌≤◌, ◌++◌, length, arith, sym, ap, ◌∙◌}
-use Rattle.dc_blocks.specs.Blocks.{most_block}
+use Rattle.dc_bus.specs.Blocks.{most_block}
 use Rattle.dc_world.proofs.Blocks.{answered, put_in_turn}
 use Rattle.dc_world.proofs.serving.put_answer.Goals as goal
 

@@ -1,5 +1,5 @@
 use Rattle.std.proofs.Common.{List, ℕ, subst}
-use Rattle.dc_blocks.specs.Talk.{IsContent}
+use Rattle.dc_bus.specs.Talk.{IsContent}
 use Rattle.dc_world.proofs.Blocks.{served}
 use Rattle.dc_world.proofs.serving.serve.Goals as goal
 

@@ -4,7 +4,7 @@ use Rattle.dc_frame.specs.Frame.{spelling}
 use Rattle.dc_readout.specs.Summary.{asked_by}
 use Rattle.dc_readout.specs.Bound.{requests_left}
 use Rattle.dc_readout.proofs.Bound.{falls}
-use Rattle.dc_pending.specs.Lines.{on_line, requests_of, requests_on}
+use Rattle.dc_concentrator.specs.Lines.{on_line, requests_of, requests_on}
 use Rattle.dc_concentrator.specs.Images.{Machine}
 use Rattle.dc_concentrator.proofs.Requests.{request_is_short}
 use Rattle.dc_concentrator.proofs.concentrator.Concentrator.ask.Goals as goal

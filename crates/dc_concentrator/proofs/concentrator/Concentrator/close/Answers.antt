@@ -1,7 +1,7 @@
 use Rattle.std.proofs.Common.{◌≡◌, sym, subst}
 use Rattle.dc_disk.specs.Disk.{Image, IsImage}
 use Rattle.dc_log.specs.Halves.{half_of}
-use Rattle.dc_pending.specs.Images.{Stands, Reads}
+use Rattle.dc_concentrator.specs.PendingImages.{Stands, Reads}
 use Rattle.dc_log.proofs.Life.{close_open}
 use Rattle.dc_register.specs.Language.{register}
 use Rattle.dc_concentrator.proofs.concentrator.Concentrator.close.Goals as goal

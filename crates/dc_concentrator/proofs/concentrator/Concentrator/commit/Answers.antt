@@ -4,12 +4,12 @@ use Rattle.dc_disk.specs.Runs.{LeavesOnly}
 use Rattle.dc_disk.proofs.Moments.{started, weakened, at_end}
 use Rattle.dc_change.specs.History.{AcceptsAll}
 use Rattle.dc_log.specs.Halves.{half_of, half_len_of}
-use Rattle.dc_pending.specs.Images.{StandsForFront}
+use Rattle.dc_concentrator.specs.PendingImages.{StandsForFront}
 use Rattle.dc_log.specs.Store.{Fits, Opened}
 use Rattle.dc_log.proofs.Fronts.{either_is_front}
 use Rattle.dc_register.specs.Language.{register}
-use Rattle.dc_pending.specs.Lines.{NoMoreRequests}
-use Rattle.dc_pending.specs.Writing.{IsWornFor}
+use Rattle.dc_concentrator.specs.Lines.{NoMoreRequests}
+use Rattle.dc_concentrator.specs.Writing.{IsWornFor}
 use Rattle.dc_concentrator.specs.Core.{Core}
 use Rattle.dc_concentrator.specs.Images.{Machine, IsAt}
 use Rattle.dc_concentrator.proofs.At.{at_committed, at_device}

@@ -11,13 +11,13 @@ use Rattle.dc_record.specs.Telegram.{parsed}
 use Rattle.dc_readout.specs.Summary.{Summary, again, ready, new, failed, heard_by, asked_by}
 use Rattle.dc_concentrator.specs.declared.line_heard.LineHeard.TheVariants.{Again, Ready, Accepted, Failed}
 use Rattle.dc_readout.specs.Bound.{requests_left}
-use Rattle.dc_pending.specs.Lines.{is_line, on_line, put_on, requests_of, requests_on, NoMoreRequests}
-use Rattle.dc_pending.proofs.Requests.{put_fewer, put_no_more}
+use Rattle.dc_concentrator.specs.Lines.{is_line, on_line, put_on, requests_of, requests_on, NoMoreRequests}
+use Rattle.dc_concentrator.proofs.PendingRequests.{put_fewer, put_no_more}
 use Rattle.dc_concentrator.specs.Step.{hear_answer, unless_refused, MayHear}
 use Rattle.dc_concentrator.specs.Fault.{hear_fault}
-use Rattle.dc_pending.specs.declared.fault.TakeFault.{TakeFault}
-use Rattle.dc_pending.specs.Taking.{change_of, IsTaken, refuses}
-use Rattle.dc_pending.specs.Waiting.{Waiting}
+use Rattle.dc_concentrator.specs.declared.pending.fault.TakeFault.{TakeFault}
+use Rattle.dc_concentrator.specs.Taking.{change_of, IsTaken, refuses}
+use Rattle.dc_concentrator.specs.Waiting.{Waiting}
 use Rattle.dc_change.specs.State.{Held, State}
 use Rattle.dc_concentrator.specs.Images.{Machine}
 use Rattle.dc_concentrator.proofs.At.{at_heard, at_taken}

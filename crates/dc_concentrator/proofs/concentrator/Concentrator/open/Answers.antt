@@ -1,7 +1,7 @@
 use Rattle.std.proofs.Common.{rules, ap, sym, subst}
 use Rattle.dc_log.specs.Halves.{half_of}
-use Rattle.dc_pending.specs.Images.{EachStands}
-use Rattle.dc_pending.specs.Waiting.{Waiting}
+use Rattle.dc_concentrator.specs.PendingImages.{EachStands}
+use Rattle.dc_concentrator.specs.Waiting.{Waiting}
 use Rattle.dc_concentrator.specs.Images.{Machine}
 use Rattle.dc_concentrator.proofs.At.{at_opened}
 use Rattle.dc_concentrator.proofs.Headline.{stopped_reads}

@@ -3,8 +3,8 @@ use Rattle.std.proofs.lemmas.Grind.{common_steps}
 use Rattle.dc_change.specs.State.{MeterRow, Held, row_of}
 use Rattle.dc_readout.specs.Summary.{Summary, begun}
 use Rattle.dc_readout.specs.Bound.{most_requests, requests_left}
-use Rattle.dc_pending.specs.Lines.{is_line, on_line, put_on, requests_of, requests_on}
-use Rattle.dc_pending.proofs.Requests.{put_at_most, put_elsewhere}
+use Rattle.dc_concentrator.specs.Lines.{is_line, on_line, put_on, requests_of, requests_on}
+use Rattle.dc_concentrator.proofs.PendingRequests.{put_at_most, put_elsewhere}
 use Rattle.dc_concentrator.specs.Core.{present, with_session}
 use Rattle.dc_concentrator.specs.Step.{address_in}
 use Rattle.dc_concentrator.specs.Images.{Machine, IsAt}

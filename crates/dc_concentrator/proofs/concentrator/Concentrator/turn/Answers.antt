@@ -1,7 +1,7 @@
 use Rattle.std.proofs.Common.{refl, [], ◌++◌}
 use Rattle.dc_disk.proofs.Moments.{weakened}
 use Rattle.dc_log.specs.Halves.{half_of}
-use Rattle.dc_pending.specs.Images.{StandsForFront}
+use Rattle.dc_concentrator.specs.PendingImages.{StandsForFront}
 use Rattle.dc_log.proofs.Fronts.{longer_front}
 use Rattle.dc_register.specs.Language.{register}
 use Rattle.dc_concentrator.specs.Event.{starts, asks, hears, started, asked, heard, committed}

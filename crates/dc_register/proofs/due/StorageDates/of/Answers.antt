@@ -2,7 +2,7 @@ use Rattle.std.proofs.Common.{rules, ◌≡◌, List, ◌∷◌, [], sym, ap, �
 use Rattle.std.specs.Option.{option_or}
 use Rattle.std.specs.Ordering.{nat_cmp}
 use Rattle.std.specs.BTreeMap.{get}
-use Rattle.dc_value.specs.declared.point.Point.{Point}
+use Rattle.dc_record.specs.declared.value.point.Point.{Point}
 use Rattle.dc_register.specs.Due.{dated, day_for}
 use Rattle.dc_register.proofs.DueDates.{or-assoc, or-none}
 use Rattle.dc_register.proofs.due.StorageDates.of.Goals as goal

@@ -1,4 +1,0 @@
--- the definitions that contracts cite
-
--- what a poll would do
-pub mod Dry

@@ -1,0 +1,64 @@
+-- The lines of `status` as JSON objects (RFC 8259; this product), a line each.
+use Rattle.std.specs.Prelude.{ℕ, List, [], ◌∷◌, ◌++◌, codes, Option, None, Some}
+use Rattle.std.specs.List.{flat_map}
+use Rattle.json.specs.Json.{Json, string, boolean, null}
+use Rattle.dc_change.specs.Size.{size_of}
+use Rattle.dc_change.specs.State.{State, Held}
+use Rattle.dc_register.specs.Places.{by_flat}
+use Rattle.dc_register.specs.declared.place.Place.{Place}
+use Rattle.dc_tokens.specs.Object.{object_of, count}
+use Rattle.dc_frame_json.specs.Meter.{identity_fields, status_fields}
+use Rattle.dc_frame_json.specs.Record.{value_json}
+use Rattle.dc_frame_json.specs.Text.{value_line}
+use Rattle.dc_json.specs.Utc.{minute_of}
+use Rattle.dc_json.specs.Row.{row_at}
+use Rattle.dc_json.specs.Status.{days_left, readings_left}
+use Rattle.dc_json.specs.declared.status.row.Row.{Row}
+
+-- a number, or null
+abbrev pub maybe_json : Option ℕ → Json
+maybe_json None = null
+maybe_json (Some number) = count number
+
+-- the minute (UTC) of a moment
+abbrev pub utc_json : Option ℕ → Json
+utc_json None = null
+utc_json (Some moment) = value_json (minute_of moment)
+
+-- a status byte
+abbrev pub state_json : Option ℕ → Json
+state_json None = null
+state_json (Some status) = object_of (status_fields status)
+
+-- THE OBJECT OF A METER
+unfoldable pub row_object : Row → List ℕ
+row_object row = value_line (object_of (
+    (codes "flat", string row.flat)
+    ∷ (codes "meter", object_of (identity_fields row.meter))
+    ∷ (codes "moment", maybe_json row.heard)
+    ∷ (codes "utc", utc_json row.heard)
+    ∷ (codes "age", maybe_json row.age)
+    ∷ (codes "silent", boolean row.is_silent)
+    ∷ (codes "status", state_json row.status)
+    ∷ []))
+
+-- that of a meter at a clock, which is silent after so many seconds
+abbrev pub object_at : ℕ → ℕ → State → Place → List ℕ
+object_at patience now s place = row_object (row_at patience now s place)
+
+unfoldable pub row_objects : ℕ → ℕ → State → List ℕ
+row_objects patience now s = flat_map (object_at patience now s) (by_flat s.meters)
+
+-- how full the image is
+unfoldable pub image_object : ℕ → ℕ → State → List ℕ
+image_object budget now s = value_line (object_of (
+    (codes "bytes", count (size_of s))
+    ∷ (codes "budget", count budget)
+    ∷ (codes "days", maybe_json (days_left budget now s))
+    ∷ (codes "room", maybe_json (readings_left budget s))
+    ∷ []))
+
+-- THE OBJECTS at a clock
+unfoldable pub status_objects : ℕ → ℕ → Held → List ℕ
+status_objects patience now house = row_objects patience now house.state
+    ++ image_object house.budget now house.state

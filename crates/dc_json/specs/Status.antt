@@ -1,0 +1,119 @@
+-- The lines of `status` (this product): of each registered meter when it was last heard, and how full the image is.
+use Rattle.std.specs.Prelude.{ℕ, ◌-◌, ◌/◌, max, ◌==◌, if◌then◌else◌, Bool, true, false, List, [], ◌∷◌, ◌++◌}
+use Rattle.std.specs.Prelude.{codes, length, slice_get, Option, None, Some}
+use Rattle.std.specs.List.{flat_map, list_any}
+use Rattle.dc_io.specs.Words.{number_word}
+use Rattle.dc_address.specs.Text.{text_of}
+use Rattle.dc_record.specs.Text.{value_text}
+use Rattle.dc_record.specs.Fields.{application_name}
+use Rattle.dc_change.specs.Size.{size_of, empty_size}
+use Rattle.dc_change.specs.State.{State, Held, ReadingRow}
+use Rattle.dc_register.specs.Places.{by_flat}
+use Rattle.dc_register.specs.declared.place.Place.{Place}
+use Rattle.dc_json.specs.Utc.{minute_of}
+use Rattle.dc_json.specs.LatestValues.{bits_words}
+use Rattle.dc_json.specs.Heard.{ago, heard, is_silent, moment_of}
+use Rattle.dc_json.specs.Row.{row_at}
+use Rattle.dc_json.specs.declared.status.row.Row.{Row}
+
+-- ---- the line of a meter
+
+-- the minute (UTC), and the seconds since
+unfoldable pub heard_words : Option ℕ → Option ℕ → List ℕ
+heard_words None age = codes " NONE"
+heard_words (Some moment) None = codes " NONE"
+heard_words (Some moment) (Some age) = codes " " ++ (value_text (minute_of moment)
+    ++ (codes "Z" ++ number_word age))
+
+abbrev pub silent_words : Bool → List ℕ
+silent_words true = codes " SILENT"
+silent_words false = []
+
+-- what the last reading says of the meter (EN 13757-3, status byte)
+unfoldable pub byte_words : ℕ → List ℕ
+byte_words status = codes " " ++ (application_name status ++ bits_words status)
+
+unfoldable pub state_words : Option ℕ → List ℕ
+state_words None = []
+state_words (Some status) = byte_words status
+
+unfoldable pub meter_words : Row → List ℕ
+meter_words row = codes "METER " ++ (row.flat ++ (codes " " ++ text_of row.meter))
+
+unfoldable pub row_text : Row → List ℕ
+row_text row = meter_words row
+    ++ (heard_words row.heard row.age
+    ++ (silent_words row.is_silent ++ (state_words row.status ++ codes "\n")))
+
+-- ---- how full it is
+
+-- when the first reading that is held began
+abbrev pub began : Option ReadingRow → Option ℕ
+began None = None
+began (Some r) = moment_of (slice_get r.parts 0)
+
+abbrev pub first_moment : State → Option ℕ
+first_moment s = began (slice_get s.readings 0)
+
+-- the whole days since then, at least one
+abbrev pub days_since : ℕ → ℕ → ℕ
+days_since now first = max 1 (ago now first / 86400)
+
+-- what is held came at so many bytes a day
+abbrev pub bytes_a_day : ℕ → State → Option ℕ → ℕ
+bytes_a_day now s None = 0
+bytes_a_day now s (Some first) = (size_of s - empty_size) / days_since now first
+
+-- in how many days the budget is spent at this pace; none where there is no pace
+abbrev pub days_left : ℕ → ℕ → State → Option ℕ
+days_left budget now s =
+    if bytes_a_day now s (first_moment s) == 0 then None
+    else Some ((budget - size_of s) / bytes_a_day now s (first_moment s))
+
+-- a number after its name
+unfoldable pub number_line : List ℕ → Option ℕ → List ℕ
+number_line name None = name ++ codes " NONE\n"
+number_line name (Some number) = name ++ (number_word number ++ codes "\n")
+
+unfoldable pub days_words : Option ℕ → List ℕ
+days_words days = number_line (codes "DAYS") days
+
+unfoldable pub size_line : ℕ → State → List ℕ
+size_line budget s = codes "SIZE" ++ (number_word (size_of s) ++ (number_word budget ++ codes "\n"))
+
+-- the bytes that a reading takes, of those that are held
+abbrev pub bytes_a_reading : State → ℕ
+bytes_a_reading s =
+    if length s.readings == 0 then 0
+    else (size_of s - empty_size) / length s.readings
+
+-- how many more readings of that size the budget has room for; none where none is held
+abbrev pub readings_left : ℕ → State → Option ℕ
+readings_left budget s =
+    if bytes_a_reading s == 0 then None
+    else Some ((budget - size_of s) / bytes_a_reading s)
+
+unfoldable pub room_words : Option ℕ → List ℕ
+room_words readings = number_line (codes "ROOM") readings
+
+-- ---- all
+
+-- a meter at a clock, which is silent after so many seconds
+abbrev pub row_line : ℕ → ℕ → State → Place → List ℕ
+row_line patience now s place = row_text (row_at patience now s place)
+
+unfoldable pub row_lines : ℕ → ℕ → State → List ℕ
+row_lines patience now s = flat_map (row_line patience now s) (by_flat s.meters)
+
+-- THE TEXT at a clock, where a meter is silent after so many seconds
+unfoldable pub status_text : ℕ → ℕ → Held → List ℕ
+status_text patience now house = row_lines patience now house.state
+    ++ (size_line house.budget house.state
+    ++ (days_words (days_left house.budget now house.state)
+    ++ room_words (readings_left house.budget house.state)))
+
+-- one of them is silent
+abbrev pub any_silent : ℕ → ℕ → State → Bool
+any_silent patience now s =
+    list_any (λ (place : Place). is_silent patience now s.confirmed (heard s place.meter))
+    (by_flat s.meters)

@@ -1,0 +1,17 @@
+//! What the meters of a house stand at: the text of `mbdc values`.
+//!
+//! [`put_values`] writes, for each registered meter by flat, the moment of the last reading that the register holds (in
+//! UTC), the status that the meter reported in it, and its current values with their units (EN 13757-3: storage number
+//! 0, instantaneous). A reading that the billing office has confirmed is no longer held.
+//!
+//! Proved: the text is exactly the one that `specs/Values.antt` defines of the register's state. The days of
+//! `specs/Utc.antt` are those of the calendar ([`minute`] finds them by the kit's dates).
+
+mod lines;
+mod reading;
+mod status;
+mod utc;
+
+pub use lines::put_values;
+pub use reading::last_reading;
+pub use utc::minute;

@@ -1,0 +1,30 @@
+//! The last reading of a meter.
+
+ghost use Rattle.std.specs.Prelude.{◌≡◌, option_copied};
+ghost use Rattle.dc_json.specs.LatestValues.{last_of, last_reading};
+
+use dc_address::Identity;
+use dc_register::{House, Reading, Serials};
+use std::alloc::Allocator;
+
+/// The last reading of a meter that the register holds; none where the office has confirmed all, or none was taken.
+pub fn last_reading<'a, A: Allocator + Copy>(
+    house: &'a House<A>,
+    meter: &Identity,
+) -> Option<&'a Reading<A>>
+    ensures { option_copied result ≡ last_reading meter.now house.now.state }
+{
+    let serial = last(house.serials_of(meter))?;
+    house.reading(serial)
+}
+
+// The last of some serials.
+fn last(serials: Serials<'_, Identity>) -> Option<u64>
+    ensures { result ≡ last_of serials.entry }
+{
+    let mut last = None;
+    for serial in serials {
+        last = Some(serial);
+    }
+    last
+}

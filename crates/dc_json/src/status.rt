@@ -1,0 +1,26 @@
+//! When the meters of a house were last heard, and how full its image is: the text of `mbdc status`.
+//!
+//! [`put_status`] writes, at a clock that is handed in, a line for each registered meter by flat: the newest telegram
+//! of it that the register holds, how long ago that was, whether it is silent, and what its status byte says; then how
+//! full the image is, in how many days it is full at this pace, and how many more readings it has room for.
+//! [`put_status_objects`] writes the same as JSON objects, [`put_metrics`] as metrics for Prometheus. [`any_silent`]
+//! says whether a meter is silent.
+//!
+//! What is told of a meter is one row (`specs/Row.antt`), which each form writes.
+//!
+//! Proved: each text is exactly the one that `specs/` defines of the state and the clock. What its rows mean is a law:
+//! [`rows_mean_what_they_say`].
+
+mod full;
+mod laws;
+mod lines;
+mod metrics;
+mod object;
+mod row;
+mod silence;
+
+pub use laws::rows_mean_what_they_say;
+pub use lines::{put_room_left, put_status};
+pub use metrics::put_metrics;
+pub use object::put_status_objects;
+pub use silence::{Clock, any_silent};

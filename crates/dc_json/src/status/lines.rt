@@ -1,0 +1,190 @@
+//! The lines of `status`.
+
+ghost use Rattle.std.specs.Prelude.{◌≡◌, ◌≤◌, IfSome};
+ghost use Rattle.dc_io.specs.Written.{Wrote};
+ghost use Rattle.dc_change.specs.Fields.{last_moment};
+ghost use Rattle.dc_json.specs.LatestValues.{bit_words, bits_words};
+ghost use Rattle.dc_json.specs.Status.{byte_words, heard_words, meter_words, number_line};
+ghost use Rattle.dc_json.specs.Status.{readings_left};
+ghost use Rattle.dc_json.specs.Status.{room_words, row_lines, row_text, silent_words, size_line};
+ghost use Rattle.dc_json.specs.Status.{state_words, status_text};
+
+use crate::latest::minute;
+use crate::status::full::{days_left, readings_left};
+use crate::status::row::{Row, row_at};
+use crate::status::silence::Clock;
+use dc_io::{IoFault, Sink};
+use dc_record::names::application_name;
+use dc_record::value::TEXT_ROOM;
+use dc_register::House;
+use dc_tokens::{Piece, put_pieces};
+use std::alloc::Allocator;
+
+/// Writes when the registered meters were last heard, by flat and then by identity, and how full the image is.
+#[tactic(auto, using(dc_io::proofs::Pieces::written), unfolding(crate::specs::Status::status_text, crate::specs::Status::days_words, crate::specs::Status::room_words))]
+pub fn put_status<A: Allocator + Copy, W: Sink>(
+    out: &mut W,
+    house: &House<A>,
+    clock: Clock,
+) -> Result<(), IoFault>
+    ensures { Wrote W.Sink result out.old out.new
+        (status_text clock.patience clock.now house.now) }
+{
+    put_rows(out, house, clock)?;
+    put_size(out, house)?;
+    put_number(out, b"DAYS", days_left(house, clock.now))?;
+    put_number(out, b"ROOM", readings_left(house))
+}
+
+// Writes the line of each meter.
+#[tactic(auto, using(dc_io::proofs::Pieces::written), unfolding(crate::specs::Status::row_lines))]
+fn put_rows<A: Allocator + Copy, W: Sink>(
+    out: &mut W,
+    house: &House<A>,
+    clock: Clock,
+) -> Result<(), IoFault>
+    ensures { Wrote W.Sink result out.old out.new
+        (row_lines clock.patience clock.now house.now.state) }
+{
+    for place in house.meters_by_flat() {
+        put_row(out, &row_at(house, clock, place))?;
+    }
+    Ok(())
+}
+
+// Writes the line of a meter.
+#[tactic(auto, using(dc_io::proofs::Pieces::written), unfolding(crate::specs::Status::row_text))]
+fn put_row<W: Sink>(out: &mut W, row: &Row) -> Result<(), IoFault>
+    requires { IfSome row.now.heard (λ moment. moment ≤ last_moment) }
+    ensures { Wrote W.Sink result out.old out.new (row_text row.now) }
+{
+    put_place(out, row)?;
+    put_heard(out, row.heard, row.age)?;
+    out.put(silent_words(row.is_silent))?;
+    put_state(out, row.status)?;
+    out.put(b"\n")
+}
+
+#[tactic(auto, unfolding(crate::specs::Status::meter_words))]
+fn put_place<W: Sink>(out: &mut W, row: &Row) -> Result<(), IoFault>
+    ensures { Wrote W.Sink result out.old out.new (meter_words row.now) }
+{
+    put_pieces(
+        out,
+        &[
+            Piece::Text(b"METER "),
+            Piece::Text(row.flat.as_slice()),
+            Piece::Text(b" "),
+            Piece::Text(&row.meter.text()),
+        ],
+    )
+}
+
+// Writes the minute (UTC) of the moment at which a meter was last heard, and how many seconds ago it was.
+#[tactic(auto, unfolding(crate::specs::Status::heard_words))]
+fn put_heard<W: Sink>(out: &mut W, moment: Option<u64>, age: Option<u64>) -> Result<(), IoFault>
+    requires { IfSome moment (λ moment. moment ≤ last_moment) }
+    ensures { Wrote W.Sink result out.old out.new (heard_words moment age) }
+{
+    let mut text = [0u8; TEXT_ROOM];
+    match moment {
+        Some(moment) => match age {
+            Some(age) => put_pieces(
+                out,
+                &[
+                    Piece::Text(b" "),
+                    Piece::Text(minute(moment).write_into(&mut text)),
+                    Piece::Text(b"Z"),
+                    Piece::Word(age),
+                ],
+            ),
+            None => out.put(b" NONE"),
+        },
+        None => out.put(b" NONE"),
+    }
+}
+
+// Writes what the last reading of a meter says of it.
+#[tactic(auto, unfolding(crate::specs::Status::state_words))]
+fn put_state<W: Sink>(out: &mut W, status: Option<u8>) -> Result<(), IoFault>
+    ensures { Wrote W.Sink result out.old out.new (state_words status) }
+{
+    match status {
+        Some(status) => put_byte(out, status),
+        None => Ok(()),
+    }
+}
+
+// Writes what a status byte says (EN 13757-3).
+#[tactic(auto, using(dc_io::proofs::Pieces::written), unfolding(crate::specs::Status::byte_words))]
+fn put_byte<W: Sink>(out: &mut W, status: u8) -> Result<(), IoFault>
+    ensures { Wrote W.Sink result out.old out.new (byte_words status) }
+{
+    out.put(b" ")?;
+    out.put(application_name(status).as_bytes())?;
+    put_bits(out, status)
+}
+
+#[tactic(auto, using(dc_io::proofs::Pieces::written), unfolding(crate::specs::LatestValues::bits_words))]
+fn put_bits<W: Sink>(out: &mut W, status: u8) -> Result<(), IoFault>
+    ensures { Wrote W.Sink result out.old out.new (bits_words status) }
+{
+    put_bit(out, status / 4, b", power low")?;
+    put_bit(out, status / 8, b", permanent error")?;
+    put_bit(out, status / 16, b", temporary error")
+}
+
+#[tactic(auto, unfolding(crate::specs::LatestValues::bit_words))]
+fn put_bit<W: Sink>(out: &mut W, bit: u8, words: &[u8]) -> Result<(), IoFault>
+    ensures { Wrote W.Sink result out.old out.new (bit_words bit words.now) }
+{
+    if bit % 2 == 1 { out.put(words) } else { Ok(()) }
+}
+
+fn silent_words(is_silent: bool) -> &'static [u8]
+    ensures { result.now ≡ silent_words is_silent }
+{
+    if is_silent { b" SILENT" } else { b"" }
+}
+
+// Writes the size of the register and its maximum.
+#[tactic(auto, unfolding(crate::specs::Status::size_line))]
+fn put_size<A: Allocator + Copy, W: Sink>(out: &mut W, house: &House<A>) -> Result<(), IoFault>
+    ensures { Wrote W.Sink result out.old out.new (size_line house.now.budget house.now.state) }
+{
+    put_pieces(
+        out,
+        &[
+            Piece::Text(b"SIZE"),
+            Piece::Word(u64::from(house.size())),
+            Piece::Word(u64::from(house.budget())),
+            Piece::Text(b"\n"),
+        ],
+    )
+}
+
+// Writes a number after its name.
+#[tactic(auto, unfolding(crate::specs::Status::number_line))]
+fn put_number<W: Sink>(out: &mut W, name: &'static [u8], number: Option<u64>) -> Result<(), IoFault>
+    ensures { Wrote W.Sink result out.old out.new (number_line name.now number) }
+{
+    match number {
+        Some(number) => put_pieces(
+            out,
+            &[Piece::Text(name), Piece::Word(number), Piece::Text(b"\n")],
+        ),
+        None => put_pieces(out, &[Piece::Text(name), Piece::Text(b" NONE\n")]),
+    }
+}
+
+/// Writes how many more readings the image has room for: the row `ROOM` of `status`.
+#[tactic(auto, unfolding(crate::specs::Status::room_words))]
+pub fn put_room_left<A: Allocator + Copy, W: Sink>(
+    out: &mut W,
+    house: &House<A>,
+) -> Result<(), IoFault>
+    ensures { Wrote W.Sink result out.old out.new
+        (room_words (readings_left house.now.budget house.now.state)) }
+{
+    put_number(out, b"ROOM", readings_left(house))
+}

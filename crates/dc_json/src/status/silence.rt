@@ -1,0 +1,104 @@
+//! Whether a meter is silent.
+
+ghost use Rattle.std.specs.Prelude.{◌≡◌, ◌≤◌, IfSome, option_copied};
+ghost use Rattle.dc_change.specs.Fields.{last_moment};
+ghost use Rattle.dc_json.specs.LatestValues.{last_part};
+ghost use Rattle.dc_json.specs.Heard.{heard, is_silent, last_of_parts, later, moment_of, part_in};
+ghost use Rattle.dc_json.specs.Heard.{open_part};
+ghost use Rattle.dc_json.specs.Status.{any_silent};
+
+use crate::latest::last_reading;
+use dc_address::Identity;
+use dc_register::{House, Meter, Part, Reading};
+use std::alloc::Allocator;
+
+/// The moment at which a status is asked for.
+#[derive(Clone, Copy)]
+pub struct Clock {
+    /// Seconds since 1970.
+    pub now: u64,
+    /// A meter that isn't heard for longer than this many seconds is silent.
+    pub patience: u64,
+}
+
+fn last_of<A: Allocator>(parts: &[Part<A>]) -> Option<&Part<A>>
+    ensures { option_copied result ≡ last_of_parts parts.now }
+{
+    parts.get(parts.len().saturating_sub(1))
+}
+
+/// When a part was received.
+pub(crate) fn moment_of<A: Allocator>(part: Option<&Part<A>>) -> Option<u64>
+    ensures moment { result ≡ moment_of (option_copied part.entry) }
+    ensures within { IfSome result (λ moment. moment ≤ last_moment) }
+{
+    match part {
+        Some(part) => Some(part.moment()),
+        None => None,
+    }
+}
+
+fn open_part<A: Allocator>(row: Option<&Meter<A>>) -> Option<&Part<A>>
+    ensures { option_copied result ≡ open_part (option_copied row.entry) }
+{
+    match row {
+        Some(row) => last_of(row.parts()),
+        None => None,
+    }
+}
+
+/// The last part of a reading.
+pub(crate) fn part_in<A: Allocator>(reading: Option<&Reading<A>>) -> Option<&Part<A>>
+    ensures { option_copied result ≡ part_in (option_copied reading.entry) }
+{
+    match reading {
+        Some(reading) => last_of(reading.parts()),
+        None => None,
+    }
+}
+
+fn later(first: Option<u64>, second: Option<u64>) -> Option<u64>
+    requires first { IfSome first (λ moment. moment ≤ last_moment) }
+    requires second { IfSome second (λ moment. moment ≤ last_moment) }
+    ensures later { result ≡ later first second }
+    ensures within { IfSome result (λ moment. moment ≤ last_moment) }
+{
+    match (first, second) {
+        (None, second) => second,
+        (Some(first), None) => Some(first),
+        (Some(first), Some(second)) => Some(first.max(second)),
+    }
+}
+
+/// The moment at which a meter was last heard; none where nothing of it is held.
+#[tactic(auto, unfolding(crate::specs::Heard::heard))]
+pub(crate) fn heard<A: Allocator + Copy>(house: &House<A>, meter: &Identity) -> Option<u64>
+    ensures heard { result ≡ heard house.now.state meter.now }
+    ensures within { IfSome result (λ moment. moment ≤ last_moment) }
+{
+    let open = moment_of(open_part(house.meter(meter)));
+    let read = moment_of(part_in(last_reading(house, meter)));
+    later(open, read)
+}
+
+/// Whether a meter is silent that was last heard then.
+pub(crate) fn is_silent(clock: Clock, confirmed: u64, heard: Option<u64>) -> bool
+    ensures { result ≡ is_silent clock.patience clock.now confirmed heard }
+{
+    match heard {
+        Some(moment) => clock.now.saturating_sub(moment) > clock.patience,
+        None => confirmed == 0,
+    }
+}
+
+/// Whether a registered meter is silent.
+pub fn any_silent<A: Allocator + Copy>(house: &House<A>, clock: Clock) -> bool
+    ensures { result ≡ any_silent clock.patience clock.now house.now.state }
+{
+    for place in house.meters_by_flat() {
+        if is_silent(clock, house.confirmed(), heard(house, &place.meter)) {
+            return true;
+        }
+    }
+    false
+}

@@ -1,4 +1,0 @@
--- lemmas by topic
-
--- the text of a whole word
-pub mod Wholes

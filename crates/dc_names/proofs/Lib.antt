@@ -1,1 +1,0 @@
--- the lemmas that proofs cite

@@ -1,4 +1,0 @@
--- lemmas by topic
-
--- what silence and room mean
-mod Room

@@ -1,4 +1,0 @@
--- lemmas by topic
-
--- events that a teller took, one after the other
-mod Printing
