@@ -1,4 +1,4 @@
-//! The calls of dc_library and dc_check under the names by which C and WebAssembly know them.
+//! The calls of dc_library and of dc_consumption's check under the names by which C and WebAssembly know them.
 //!
 //! A slice is two arguments there, its address and its length. Nothing here takes memory or keeps a
 //! state. `tools/library` makes libmbdc of it for C, and a module for web pages.

@@ -2,7 +2,7 @@
 //! converters, and gateways of the block protocol.
 //!
 //! [`Peer::connect`] connects a link by its name, and [`Peer::bus`] returns its bus ([`LinkBus`]). A [`Linker`]
-//! connects those of all bus lines, as dc_reach asks it to. A [`Watch`] waits until one of several buses may have
+//! connects those of all bus lines, as [`reach`] asks it to. A [`Watch`] waits until one of several buses may have
 //! received something.
 #![tactic(auto)]
 

@@ -5,7 +5,7 @@
 //! asks. Then time passes, what is complete of the answers is heard, one commit writes all that was accepted, and
 //! each readout that ended gives an event ([`read_all`]).
 //!
-//! Events go to a [`Teller`]. dc_teller has tellers that print them as text and as JSON.
+//! Events go to a [`Teller`]. [`events`] has tellers that print them as text and as JSON.
 #![tactic(auto)]
 
 mod calls;

@@ -138,7 +138,7 @@ pub fn run_script_over<D: Disk + Drop, A: Allocator + Copy, R: Source, W: Sink, 
 }
 
 /// Runs a script as [`run_script_over`] does, where only line 1 may have a bus: a gateway over this
-/// reader and writer of blocks (their form is dc_blocks's). They aren't returned.
+/// reader and writer of blocks (their form is that of dc_bus's `blocks`). They aren't returned.
 ///
 /// # Errors
 /// Those of [`run_script_over`].

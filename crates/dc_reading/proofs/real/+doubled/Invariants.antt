@@ -1,4 +1,4 @@
-use Rattle.dc_real.proofs.+doubled.Given as goal
+use Rattle.dc_reading.proofs.real.+doubled.Given as goal
 
 abbrev pub decreases-doubled : goal.decreases-doubled
 decreases-doubled l = l.count

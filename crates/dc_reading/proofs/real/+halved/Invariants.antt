@@ -1,4 +1,4 @@
-use Rattle.dc_real.proofs.+halved.Given as goal
+use Rattle.dc_reading.proofs.real.+halved.Given as goal
 
 abbrev pub decreases-halved : goal.decreases-halved
 decreases-halved l = l.count
