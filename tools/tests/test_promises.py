@@ -37,6 +37,7 @@ pub fn law()
     ensures { true }
 {}
 '''
+EDIT = "file: src/store.rt\nold:         {0}\nnew:         8\n"
 
 
 @pytest.fixture
@@ -73,25 +74,38 @@ def test_a_cell_that_names_no_function_ends_the_tool(promises: types.ModuleType,
 
 def test_a_promise_that_nothing_carries_is_a_fault(promises: types.ModuleType) -> None:
     tree = types.SimpleNamespace(faults=[])
-    assert promises.Promise("| All is well | dc_x | - |").carried_by(tree) == ""
+    assert promises.Promise("| All is well | dc_x |").carried_by(tree) == ""
     assert tree.faults == ["dc_x: nothing carries: All is well"]
 
 
-def crate_with(promises: types.ModuleType, file: pathlib.Path) -> types.SimpleNamespace:
-    functions = promises.functions_of("dc_x", file)
-    return types.SimpleNamespace(name="dc_x", functions=functions, types=set(), mutants={"keeps_nothing": "must-fail", "waits": "mutants"},
-                                 find=lambda name: [function for function in functions if name in function.names()])
+@pytest.fixture
+def tree(promises: types.ModuleType, tmp_path: pathlib.Path) -> types.SimpleNamespace:
+    """A tree of one crate, with a mutant that changes `Store::append` and one that changes `Display::fmt`."""
+    for folder, name, text in (("src", "store.rt", SOURCE), ("must-fail", "keeps_nothing.edit", EDIT.format("self.write(data)")),
+                               ("must-fail", "shows_eight.edit", EDIT.format("7"))):
+        (tmp_path / folder).mkdir(exist_ok=True)
+        (tmp_path / folder / name).write_text(text)
+    crate = promises.Crate.__new__(promises.Crate)
+    crate.name, crate.folder, crate.types = "dc_x", tmp_path, set()
+    crate.functions = promises.functions_of("dc_x", tmp_path / "src/store.rt")
+    tree: types.SimpleNamespace = promises.Tree.__new__(promises.Tree)
+    tree.crates, tree.faults = {"dc_x": crate}, []
+    return tree
 
 
-def test_rows_are_marked_and_other_mutants_listed(promises: types.ModuleType, tmp_path: pathlib.Path) -> None:
-    (tmp_path / "store.rt").write_text(SOURCE)
-    tree = promises.Tree.__new__(promises.Tree)
-    tree.crates, tree.faults = {"dc_x": crate_with(promises, tmp_path / "store.rt")}, []
-    text = f"{promises.ROWS}\n|---|---|---|\n| Kept \\| dropped | dc_x internal `Store::append` (done, gone) | `keeps_nothing` |\n\nProse.\n"
+def test_rows_are_marked_and_checked(promises: types.ModuleType, tree: types.SimpleNamespace) -> None:
+    text = f"{promises.ROWS}\n|---|---|\n| Kept \\| dropped | dc_x internal `Store::append` (done, gone) |\n\nProse.\n"
     page = promises.page(tree, text)
-    assert "| Kept \\| dropped | dc_x `Store::append` (done, gone) | **`keeps_nothing`** |\n\nProse.\n" in page
-    assert page.endswith("* dc_x: `waits`\n") and promises.page(tree, page) == page
-    assert set(tree.faults) == {"dc_x: Store::append has no clause gone", "dc_x: no promise names the theorem law"}
+    assert page.endswith("| Kept \\| dropped | dc_x `Store::append` (done, gone) |\n\nProse.\n") and promises.page(tree, page) == page
+    assert set(tree.faults) == {"dc_x: Store::append has no clause gone", "dc_x: no promise names the theorem law",
+                                "dc_x: no promise rests on what must-fail/shows_eight changes"}
+
+
+def test_a_function_that_a_carrier_calls_is_beneath_it(promises: types.ModuleType, tree: types.SimpleNamespace) -> None:
+    crate = tree.crates["dc_x"]
+    append, shown, law = crate.functions
+    append.text += "\nlaw();"
+    assert crate.beneath({append}) == {append, law} and list(crate.loose({append, shown})) == []
 
 
 def test_a_crate_of_theorems_needs_a_closed_example(promises: types.ModuleType) -> None:
