@@ -79,8 +79,8 @@ def test_definitions_that_a_clause_reaches(headline: types.ModuleType) -> None:
 
 def test_its_table_takes_the_place_of_the_old_one(headline: types.ModuleType) -> None:
     rows = headline.table()
-    assert rows[2:] == ["| first | dc_x Headline 3; dc_y State 5; types of `src/` 3 | 11 |", "| second | dc_y Lower 4 | 4 |",
-                        "| disk | dc_x Headline 2 | 2 |", "| to be read | 6 definitions | 15 |"]
+    assert rows[2:] == ["| first | dc_x Headline; dc_y State | 11 |", "| second | dc_y Lower | 4 |", "| disk | dc_x Headline | 2 |",
+                        "| to be read | 6 definitions | 15 |"]
     page = f"# P\n\n{headline.ROWS}\n|---|---|---|\n| old | x | 1 |\n\nAfter it.\n"
     made = headline.replaced(page, rows)
     assert made.startswith("# P\n\n") and made.endswith("| 6 definitions | 15 |\n\nAfter it.\n") and headline.replaced(made, rows) == made
