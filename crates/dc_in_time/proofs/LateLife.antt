@@ -14,7 +14,7 @@ use Rattle.dc_frame.specs.Frame.{FrameSeen, ack, long, spelling}
 use Rattle.dc_frame.specs.Reading.{frame_of}
 use Rattle.dc_frame.proofs.Spellings.{frame_of-spelling}
 use Rattle.dc_raw.specs.Heard.{Answers, Drains, HasByte, at_silence, has_gap, is_whole, not_yet}
-use Rattle.dc_raw.specs.Line.{GivesOne, LineSends, a_copy, gives_now, gives_one, goes_out, hold, judged, no_copy, out_of}
+use Rattle.dc_raw.specs.Line.{GivesOne, LineSends, a_copy, gives_now, gives_one, goes_out, hold, judged, no_copy, one_answer, out_of}
 use Rattle.dc_raw.specs.Wire.{gap, nothing, piece, silence}
 use Rattle.dc_raw.specs.declared.line.Gone.TheVariants.{Out}
 use Rattle.dc_raw.specs.declared.line.Line.{Line}
@@ -221,10 +221,10 @@ abbrev out_2 : Lined
 out_2 = out_of (spelling request) false (record (hold (spelling request) false line_1) { wire = on (acked ∷ []); state = Answered; late = 0 }) (on (acked ∷ sent 1 ∷ []))
 
 abbrev past_copy : Lined
-past_copy = record out_2 { wire = on (sent 1 ∷ []); hearing = record { request = spelling request; bytes = [] }; last = None; copied = true }
+past_copy = record out_2 { wire = on (sent 1 ∷ []); hearing = record { request = spelling request; bytes = [] }; copied = true }
 
 abbrev line_2 : Lined
-line_2 = record { wire = on (sent 1 ∷ []); lost = false; state = Busy; kind = One; hearing = record { request = spelling request; bytes = [] }; gathered = []; held = None; last = None; copied = true; late = 0 }
+line_2 = record { wire = on (sent 1 ∷ []); lost = false; state = Busy; kind = One; hearing = record { request = spelling request; bytes = [] }; gathered = []; held = None; last = Some acked; copied = true; late = 0 }
 
 abbrev out_3 : Lined
 out_3 = out_of (spelling request) false (record (hold (spelling request) false line_2) { wire = on []; state = Quiet; late = 0 }) (on (sent 2 ∷ []))
@@ -314,7 +314,7 @@ module _ (reply : Option (List ℕ)) (is : reply ≡ Some acked) where
   asks_1 = record {
     out = out_1;
     sent = sends_1;
-    given = gives_now (record { loss = record { untouched = λ e. absurd cc; failed = λ a b. absurd cc }; silence = λ e. absurd cc; given = λ runs. gives_one refl kind_1 one_1 });
+    given = gives_now (record { loss = record { untouched = λ e. absurd cc; failed = λ a b. absurd cc }; silence = λ e. absurd cc; given = λ runs. gives_one refl kind_1 (one_answer one_1) });
     no_stray = λ runs. (tt, oldest 0 refl);
   }
 
@@ -342,7 +342,7 @@ module _ (reply : Option (List ℕ)) (is : reply ≡ Some (sent 1)) where
   asks_2 = record {
     out = out_2;
     sent = sends_2;
-    given = gives_now (record { loss = record { untouched = λ e. absurd cc; failed = λ a b. absurd cc }; silence = λ e. absurd cc; given = λ runs. gives_one refl kind_2 one_2 });
+    given = gives_now (record { loss = record { untouched = λ e. absurd cc; failed = λ a b. absurd cc }; silence = λ e. absurd cc; given = λ runs. gives_one refl kind_2 (one_answer one_2) });
     no_stray = λ runs. (oldest 0 refl, no_frame broken_is_none);
   }
 
@@ -354,6 +354,7 @@ module _ (reply : Option (List ℕ)) (is : reply ≡ Some (sent 2)) where
   }
 
   one_3 : GivesOne (g reply) out_3 (sent 2) line_3
+  unfolding frame_of
   one_3 = record {
     between = out_3;
     skips = no_copy refl;
@@ -367,7 +368,7 @@ module _ (reply : Option (List ℕ)) (is : reply ≡ Some (sent 2)) where
   asks_3 = record {
     out = out_3;
     sent = sends_3;
-    given = gives_now (record { loss = record { untouched = λ e. absurd cc; failed = λ a b. absurd cc }; silence = λ e. absurd cc; given = λ runs. gives_one refl kind_3 one_3 });
+    given = gives_now (record { loss = record { untouched = λ e. absurd cc; failed = λ a b. absurd cc }; silence = λ e. absurd cc; given = λ runs. gives_one refl kind_3 (one_answer one_3) });
     no_stray = λ runs. (tt, oldest 0 refl);
   }
 

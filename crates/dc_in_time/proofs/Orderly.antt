@@ -6,8 +6,8 @@ use Rattle.std.proofs.lemmas.Slice.Eq.{bytes_eq-Decides}
 use Rattle.dc_frame.specs.Frame.{FrameSeen}
 use Rattle.dc_frame.specs.Reading.{frame_of}
 use Rattle.dc_raw.specs.Heard.{Drains, Ends, IsGathered, state_with, has_gap, is_loud as loud_end, is_quiet, is_silent, is_whole}
-use Rattle.dc_raw.specs.Line.{behind as reopened, Gives, GivesNothing, GivesOne, GivesOver, Goes, LineSends, LineWaits, Looks, Skips, a_copy, gives_all, gives_nothing, gives_now, gives_one, gives_then, gives_up, goes_out, hold, no_copy, out_of, too_loud, waits_all, waits_held, waits_nothing, waits_on, waits_one}
-use Rattle.dc_raw.specs.Turn.{is_answer, is_copy, is_reset, kind_of, last_behind, may_go, quiet_by, state_by, state_taken}
+use Rattle.dc_raw.specs.Line.{behind as reopened, Gives, GivesNothing, GivesOne, GivesOver, GivesUp, Goes, LineSends, LineWaits, Looks, Skips, a_copy, gives_all, gives_nothing, gives_now, gives_one, gives_then, gives_up, goes_out, hold, no_copy, one_answer, out_of, too_loud, two_copies, waiting, waits_all, waits_held, waits_nothing, waits_on, waits_one}
+use Rattle.dc_raw.specs.Turn.{is_ack, is_answer, is_copy, is_reset, kind_of, last_behind, last_waited, may_go, quiet_by, state_by, state_taken, telegram_in}
 use Rattle.dc_raw.specs.Wire.{AreHeard, Sound, gap, nothing, piece, pieces, silence}
 use Rattle.dc_raw.specs.declared.line.Gone.{Gone}
 use Rattle.dc_raw.specs.declared.line.Gone.TheVariants.{Out, Waits as WaitsOn, Loud}
@@ -54,6 +54,25 @@ busy_stands last way = record { quiet = λ e. absurd cc; answered = λ e. absurd
 
 state_stands : (state : State) (last : Option (List ℕ)) (way : Way) → state ≡ Busy → Standing state last way
 state_stands state last way is = subst (λ (s : State). Standing s last way) (sym is) (busy_stands last way)
+
+-- once a line that was answered is quiet, its last answer is forgotten
+waited_stands : (before after : State) (last : Option (List ℕ)) (way : Way) → Standing after last way → Standing after (last_waited before after last) way
+waited_stands Quiet after last way stands = stands
+waited_stands Listened after last way stands = stands
+waited_stands Answered Quiet last way stands = record { quiet = stands.quiet; answered = λ e. absurd cc }
+waited_stands Answered Listened last way stands = stands
+waited_stands Answered Answered last way stands = stands
+waited_stands Answered Busy last way stands = stands
+waited_stands Busy after last way stands = stands
+
+waited_framed : (before after : State) (last : Option (List ℕ)) → Framed last → Framed (last_waited before after last)
+waited_framed Quiet after last framed = framed
+waited_framed Listened after last framed = framed
+waited_framed Answered Quiet last framed = λ answer is. absurd cc
+waited_framed Answered Listened last framed = framed
+waited_framed Answered Answered last framed = framed
+waited_framed Answered Busy last framed = framed
+waited_framed Busy after last framed = framed
 
 sounded : (sound : Sound) (state : State) (last : Option (List ℕ)) (old new : Way) → Passes sound old new → Standing state last old → Standing (state_by sound state) last new
 sounded (piece bytes) state last old new passes stands = busy_stands last new
@@ -133,22 +152,27 @@ module _ {W : Type 0} (wire : WireGhosts W) (reply : Option (List ℕ)) where
 
   behind : (state : State) (last : Option (List ℕ)) (old new : Way) (before request : List ℕ) (many : Bool) → many ≡ false → may_go state before request many ≡ true → Standing state last old → Puts reply old new
       → Under (last_behind state last) reply new
-  behind Quiet last old new before request many one may stands puts = puts_under None reply old new (copies_none None old (stands.quiet refl)) puts
+  behind Quiet last old new before request many one may stands puts = puts_under (telegram_in last) reply old new (copies_none (telegram_in last) old (stands.quiet refl)) puts
   behind Listened last old new before request many one may stands puts = absurd (false≢true (sym one ∙ may))
   behind Answered last old new before request many one may stands puts = puts_under last reply old new (stands.answered refl) puts
   behind Busy last old new before request many one may stands puts = absurd (false≢true may)
 
+  framed_telegram : (answer : List ℕ) (ack : Bool) → Framed (Some answer) → Framed (if ack then None else Some answer)
+  framed_telegram answer true framed = λ other is. absurd cc
+  framed_telegram answer false framed = framed
+
   framed_behind : (state : State) (last : Option (List ℕ)) → Framed last → Framed (last_behind state last)
-  framed_behind Quiet last framed = λ answer is. absurd cc
+  framed_behind Quiet None framed = framed
+  framed_behind Quiet (Some answer) framed = framed_telegram answer (is_ack (frame_of answer)) framed
   framed_behind Listened last framed = λ answer is. absurd cc
   framed_behind Answered last framed = framed
   framed_behind Busy last framed = framed
 
   drained : (old : Line On) (loud : Bool) (between : On) (state : State) (late : ℕ) → Orderly old → Drains g.hears old.wire old.state old.late loud between state late
-      → Orderly (record old { wire = between; state = state; late = late })
+      → Orderly (waiting between state late old)
   drained old loud between state late orderly drains = record {
-    standing = subst (λ (s : State). Standing s old.last between.way) (sym drains.moved) (stood old.last (pieces drains.bursts ++ drains.end) old.wire between old.state drains.gave orderly.standing);
-    framed = orderly.framed;
+    standing = waited_stands old.state state old.last between.way (subst (λ (s : State). Standing s old.last between.way) (sym drains.moved) (stood old.last (pieces drains.bursts ++ drains.end) old.wire between old.state drains.gave orderly.standing));
+    framed = waited_framed old.state state old.last orderly.framed;
   }
 
   gone_out : (request : List ℕ) (many : Bool) (line : Line On) (on : On) → many ≡ false → Orderly line → may_go line.state line.hearing.request request many ≡ true → Puts reply line.wire.way on.way
@@ -169,13 +193,13 @@ module _ {W : Type 0} (wire : WireGhosts W) (reply : Option (List ℕ)) where
     went Loud line same is (too_loud same_new) = inl (subst IsHeld (sym same_new) (record { held = record { request = request; many = many }; is = same ∙ is_held; one = one; orderly = is }))
 
     looked : (gone : Gone) → Looks g request many old gone new → Within new
-    looked gone looks = went gone (record old { wire = looks.between; state = looks.state; late = looks.late }) refl (drained old _ looks.between looks.state looks.late orderly looks.drains) looks.goes
+    looked gone looks = went gone (waiting looks.between looks.state looks.late old) refl (drained old _ looks.between looks.state looks.late orderly looks.drains) looks.goes
 
     loud : Looks g request many old Loud new → Orderly new
     loud looks = go looks.goes
       where
         line : Line On
-        line = record old { wire = looks.between; state = looks.state; late = looks.late }
+        line = waiting looks.between looks.state looks.late old
 
         go : Goes g request many line Loud new → Orderly new
         go (too_loud same) = subst Orderly (sym same) (drained old _ looks.between looks.state looks.late orderly looks.drains)
@@ -186,12 +210,12 @@ module _ {W : Type 0} (wire : WireGhosts W) (reply : Option (List ℕ)) where
   skipped old new is (no_copy same) so = subst IsOut (sym same) is
   skipped old new is (a_copy copy answers copied same) comes =
       let was : old.last ≡ Some copy = copy_of_last old.last copy copied in
-      let last : new.last ≡ None = ap (λ (l : Line On). l.last) same in
+      let last : new.last ≡ old.last = ap (λ (l : Line On). l.last) same in
       record {
         none = ap (λ (l : Line On). l.held) same ∙ is.none;
         busy = ap (λ (l : Line On). l.state) same ∙ is.busy;
         under = inl (own comes was);
-        framed = λ answer e. absurd (let bad : None ≡ Some answer = sym last ∙ e in cc);
+        framed = subst Framed (sym last) is.framed;
         kind = λ e. is.kind (sym (ap (λ (l : Line On). l.kind) same) ∙ e);
       }
     where
@@ -239,24 +263,39 @@ module _ {W : Type 0} (wire : WireGhosts W) (reply : Option (List ℕ)) where
     copies_then (oldest lost left) answered = let t = took lost left in subst (λ (r : Option (List ℕ)). Copies r new.wire.way) t.0 t.1
 
     stands_then : (short answered copied : Bool) → (length answer == 0) ≡ short → is_answer request (frame_of answer) ≡ answered
-        → Standing (state_taken short answered copied) (if answered && not copied then Some answer else None) new.wire.way
+        → Standing (state_taken short answered copied) (if answered then Some answer else mid.last) new.wire.way
     stands_then true answered copied short_is answered_is = record { quiet = λ e. quiet_then short_is; answered = λ e. absurd cc }
     stands_then false true true short_is answered_is = busy_stands _ new.wire.way
     stands_then false true false short_is answered_is = record { quiet = λ e. absurd cc; answered = λ e. copies_then comes answered_is }
     stands_then false false copied short_is answered_is = busy_stands _ new.wire.way
 
-    framed_then : (answered copied : Bool) → is_answer request (frame_of answer) ≡ answered → Framed (if answered && not copied then Some answer else None)
-    framed_then true true answered_is = λ last e. absurd cc
-    framed_then true false answered_is = λ last e none.
+    framed_then : (answered copied : Bool) → is_answer request (frame_of answer) ≡ answered → Framed (if answered then Some answer else mid.last)
+    framed_then true copied answered_is = λ last e none.
         let same : answer ≡ last = cc in
         false≢true (sym (no_frame_no_answer request answer (ap frame_of same ∙ none)) ∙ answered_is)
-    framed_then false copied answered_is = λ last e. absurd cc
+    framed_then false copied answered_is = out.framed
 
     one_orderly : Orderly new
     one_orderly = subst Orderly (sym gives.kept) (record {
       standing = stands_then (length answer == 0) (is_answer request (frame_of answer)) mid.copied refl refl;
       framed = framed_then (is_answer request (frame_of answer)) mid.copied refl;
     })
+
+  -- ---- copies alone
+
+  skips_state : (old new : Line On) → Skips g old new → new.state ≡ old.state
+  skips_state old new (no_copy same) = ap (λ (l : Line On). l.state) same
+  skips_state old new (a_copy copy answers copied same) = ap (λ (l : Line On). l.state) same
+
+  skips_last : (old new : Line On) → Skips g old new → new.last ≡ old.last
+  skips_last old new (no_copy same) = ap (λ (l : Line On). l.last) same
+  skips_last old new (a_copy copy answers copied same) = ap (λ (l : Line On). l.last) same
+
+  given_up_orderly : (old new : Line On) → IsOut old → GivesUp g old new → Orderly new
+  given_up_orderly old new is gives = record {
+    standing = state_stands new.state new.last new.wire.way (ap (λ (l : Line On). l.state) gives.kept ∙ skips_state old gives.between gives.skips ∙ is.busy);
+    framed = subst Framed (sym (ap (λ (l : Line On). l.last) gives.kept ∙ skips_last old gives.between gives.skips)) is.framed;
+  }
 
   -- ---- the reset of all selected meters
 
@@ -334,7 +373,8 @@ module _ {W : Type 0} (wire : WireGhosts W) (reply : Option (List ℕ)) where
       given_up orderly = record { standing = orderly.standing; framed = orderly.framed }
   gave old new answer (inr is) (gives_up held line some none looks same) so = absurd (not_out old held is some)
   gave old new answer (inl is) (gives_one none one gives) so = absurd (not_held old is none)
-  gave old new answer (inr is) (gives_one none one gives) so = record {
+  gave old new answer (inr is) (gives_one none one (two_copies silent gives)) so = silent_ended answer new silent (λ runs. given_up_orderly old new is gives)
+  gave old new answer (inr is) (gives_one none one (one_answer gives)) so = record {
     orderly = λ runs. one_orderly old answer new is gives so.0 so.1;
     to_it = one_to_it old answer new is gives so.0 so.1 so.1;
   }

@@ -3,8 +3,8 @@ use Rattle.std.specs.Prelude.{◌≡◌, ◌⊎◌, ℕ, false, List, Option, So
 use Rattle.dc_frame.specs.Reading.{frame_of}
 use Rattle.dc_raw.specs.Line.{Gives, GivesOver, LineSends, LineWaits, Skips}
 use Rattle.dc_raw.specs.Line.{a_copy, gives_all, gives_nothing, gives_now, gives_one}
-use Rattle.dc_raw.specs.Line.{gives_then, gives_up, no_copy, waits_all, waits_held, waits_nothing}
-use Rattle.dc_raw.specs.Line.{waits_one}
+use Rattle.dc_raw.specs.Line.{gives_then, gives_up, no_copy, one_answer, two_copies, waits_all}
+use Rattle.dc_raw.specs.Line.{waits_held, waits_nothing, waits_one}
 use Rattle.dc_raw.specs.declared.line.Line.{Line}
 use Rattle.dc_raw.specs.declared.state.State.TheVariants.{Busy}
 use Rattle.dc_raw.specs.declared.wire.Wire.{Ghosts as WireGhosts}
@@ -19,7 +19,8 @@ module _ {W : Type 0} {wire : WireGhosts (OnWay W)} where
   abbrev pub GivesNoStray : {old new : Line (OnWay W)} {answer : List ℕ}
       → Gives wire old answer new → Type 0
   GivesNoStray (gives_up held line is none looks same) = Unit {0}
-  GivesNoStray {new} {answer} (gives_one none one gives) =
+  GivesNoStray (gives_one none one (two_copies silent gives)) = Unit {0}
+  GivesNoStray {new} {answer} (gives_one none one (one_answer gives)) =
       SkipsNoStray gives.skips × Comes answer gives.between.wire.way new.wire.way
   GivesNoStray (gives_all none all gives) = Unit {0}
   GivesNoStray (gives_nothing none nobody silent gives) = Unit {0}

@@ -12,7 +12,7 @@ use Rattle.dc_raw.specs.declared.line.Line.{Line}
 use Rattle.dc_raw.specs.declared.wire.Wire.{Ghosts as WireGhosts}
 use Rattle.dc_raw.specs.Wire.{Sound, AreHeard, bytes_in, bytes_of, pieces}
 use Rattle.dc_raw.specs.Heard.{Answers, ComesFrom, Ends, Heard, Hearing, IsByte, IsFrame, Lasts, Waits, answer_of, begins, past_echo, heard_of, front_by, is_over, missing_of, missing_by, is_whole, is_silent, has_gap, still, still_none}
-use Rattle.dc_raw.specs.Line.{Gives, GivesOver, Skips, a_copy, gives_all, gives_nothing, gives_now, gives_one, gives_then, gives_up, no_copy, waits_all, waits_held, waits_nothing, waits_one}
+use Rattle.dc_raw.specs.Line.{Gives, GivesOver, Skips, a_copy, gives_all, gives_nothing, gives_now, gives_one, gives_then, gives_up, no_copy, one_answer, two_copies, waits_all, waits_held, waits_nothing, waits_one}
 use Rattle.dc_raw.specs.Turn.{is_copy}
 use Rattle.dc_raw.specs.declared.state.Kind.TheVariants.{One, All as Whole_window, Nobody}
 use Rattle.dc_raw.proofs.Echoes.{begins_front, begins_same, past_plain, past_echoed, shorter_front}
@@ -222,7 +222,10 @@ module _ {W : Type 0} (wire : WireGhosts W) where
 
   by_gives : {old new : Line W} {answer : List ℕ} → Gives wire old answer new → old.held ≡ None → old.kind ≡ One → old.last ≡ None → Over wire.hears old.wire old.hearing answer new.wire
   by_gives {old} (gives_up held line is silent looks kept) none one plain = absurd (let both : Some held ≡ None = sym is ∙ none in cc)
-  by_gives {old} {new} {answer} (gives_one free kind g) none one plain =
+  by_gives {old} (gives_one free kind (two_copies silent g)) none one plain =
+      let same = no_skip g.skips plain in
+      absurd (let no : is_copy g.between.last g.copy ≡ false = ap (λ (l : Line W). is_copy l.last g.copy) same ∙ ap (λ (last : Option (List ℕ)). is_copy last g.copy) plain in let both : true ≡ false = sym g.again ∙ no in cc)
+  by_gives {old} {new} {answer} (gives_one free kind (one_answer g)) none one plain =
       let same = no_skip g.skips plain in
       over_now old.wire old.hearing answer new.wire new.hearing (subst (λ (l : Line W). Answers wire.hears l.wire l.hearing answer new.wire new.hearing) same g.heard)
   by_gives {old} (gives_all free kind g) none one plain = absurd (let both : Whole_window ≡ One = sym kind ∙ one in cc)

@@ -1,12 +1,12 @@
 -- A line over a wire, on which one request at most is under way, until it is lost (this product).
-use Rattle.std.specs.Prelude.{◌≡◌, ℕ, ◌+◌, Bool, true, false, not, ◌&&◌, ◌==◌, length, List, []}
+use Rattle.std.specs.Prelude.{◌≡◌, ℕ, ◌+◌, Bool, true, false, ◌==◌, length, List, []}
 use Rattle.std.specs.Prelude.{Option, Some, None, if◌then◌else◌}
 use Rattle.dc_io.specs.Failures.{HasRisen}
 use Rattle.dc_frame.specs.Reading.{frame_of}
 use Rattle.dc_raw.specs.Looks.{most_looks}
 use Rattle.dc_raw.specs.Heard.{Answers, Drains, Gathers, Waits, past_echo}
-use Rattle.dc_raw.specs.Turn.{is_answer, is_copy, is_wrong, kind_of, last_behind, may_go, one_more}
-use Rattle.dc_raw.specs.Turn.{quiet_by, state_taken}
+use Rattle.dc_raw.specs.Turn.{is_answer, is_copy, is_wrong, kind_of, last_behind, last_waited}
+use Rattle.dc_raw.specs.Turn.{may_go, one_more, quiet_by, state_taken}
 use Rattle.dc_raw.specs.declared.line.Gone.{Gone}
 use Rattle.dc_raw.specs.declared.line.Gone.TheVariants.{Out, Waits as WaitsOn, Loud}
 use Rattle.dc_raw.specs.declared.line.Held.{Held}
@@ -68,6 +68,15 @@ is_loud Out = false
 is_loud WaitsOn = false
 is_loud Loud = true
 
+-- the line once what had arrived was dropped
+abbrev pub waiting : {W : Type 0} → W → State → ℕ → Line W → Line W
+waiting between state late line = record line {
+  wire = between;
+  state = state;
+  last = last_waited line.state state line.last;
+  late = late;
+}
+
 -- ONE LOOK at a line on which a request is held
 pub record Looks {W : Type 0} (wire : WireGhosts W) (request : List ℕ) (many : Bool) (old : Line W)
     (gone : Gone) (new : Line W) : Type 0 where
@@ -75,8 +84,7 @@ pub record Looks {W : Type 0} (wire : WireGhosts W) (request : List ℕ) (many :
   pub state : State
   pub late : ℕ
   pub drains : Drains wire.hears old.wire old.state old.late (is_loud gone) between state late
-  pub goes : Goes wire request many (record old { wire = between; state = state; late = late })
-      gone new
+  pub goes : Goes wire request many (waiting between state late old) gone new
 
 pub record LineSends {W : Type 0} (wire : WireGhosts W) (many : Bool) (old : Line W)
     (request : List ℕ) (new : Line W) : Type 0 where
@@ -91,18 +99,18 @@ abbrev pub judged : {W : Type 0} → List ℕ → Line W → Line W
 judged answer line = record line {
   state = state_taken (length answer == 0)
       (is_answer (frame_of line.hearing.request) (frame_of answer)) line.copied;
-  last = if is_answer (frame_of line.hearing.request) (frame_of answer) && not line.copied
-      then Some answer else None;
+  last = if is_answer (frame_of line.hearing.request) (frame_of answer)
+      then Some answer else line.last;
   late = if is_wrong (frame_of line.hearing.request) (frame_of answer)
       then one_more line.late else line.late;
 }
 
--- the first answer is dropped where it is a copy of the last
+-- an answer is dropped where it is a copy of the last
 pub data Skips {W : Type 0} (wire : WireGhosts W) (old new : Line W) : Type 0 where
   no_copy : new ≡ old → Skips wire old new
   a_copy : (copy : List ℕ) → Answers wire.hears old.wire old.hearing copy new.wire new.hearing
       → is_copy old.last copy ≡ true
-      → new ≡ record old { wire = new.wire; hearing = new.hearing; last = None; copied = true }
+      → new ≡ record old { wire = new.wire; hearing = new.hearing; copied = true }
       → Skips wire old new
 
 -- the answer, which is no copy, and how it leaves the line
@@ -113,6 +121,21 @@ pub record GivesOne {W : Type 0} (wire : WireGhosts W) (old : Line W) (answer : 
   pub heard : Answers wire.hears between.wire between.hearing answer new.wire new.hearing
   pub plain : is_copy between.last answer ≡ false
   pub kept : new ≡ judged answer (record between { wire = new.wire; hearing = new.hearing })
+
+-- two copies came at once: the request is given up, and the line stays busy
+pub record GivesUp {W : Type 0} (wire : WireGhosts W) (old new : Line W) : Type 0 where
+  pub between : Line W
+  pub skips : Skips wire old between
+  pub copy : List ℕ
+  pub heard : Answers wire.hears between.wire between.hearing copy new.wire new.hearing
+  pub again : is_copy between.last copy ≡ true
+  pub kept : new ≡ record between { wire = new.wire; hearing = new.hearing }
+
+-- one answer, or none
+pub data GivesAtMostOne {W : Type 0} (wire : WireGhosts W) (old : Line W) (answer : List ℕ)
+    (new : Line W) : Type 0 where
+  one_answer : GivesOne wire old answer new → GivesAtMostOne wire old answer new
+  two_copies : answer ≡ [] → GivesUp wire old new → GivesAtMostOne wire old answer new
 
 pub record WaitsOne {W : Type 0} (wire : WireGhosts W) (old new : Line W) : Type 0 where
   pub between : Line W
@@ -159,7 +182,7 @@ pub data Gives {W : Type 0} (wire : WireGhosts W) (old : Line W) (answer : List 
   gives_up : (held : Held) (line : Line W) → old.held ≡ Some held → answer ≡ []
       → Looks wire held.request held.many old Loud line → new ≡ record line { held = None }
       → Gives wire old answer new
-  gives_one : old.held ≡ None → old.kind ≡ One → GivesOne wire old answer new
+  gives_one : old.held ≡ None → old.kind ≡ One → GivesAtMostOne wire old answer new
       → Gives wire old answer new
   gives_all : old.held ≡ None → old.kind ≡ All → GivesAll wire old answer new
       → Gives wire old answer new

@@ -3,6 +3,7 @@ use Rattle.std.specs.Prelude.{ℕ, ◌+◌, ◌-◌, ◌^◌, min, Bool, true, f
 use Rattle.std.specs.Prelude.{Option, Some, None, bytes_eq, if◌then◌else◌}
 use Rattle.dc_frame.specs.Control.{selected, snd_nke, snd_ud}
 use Rattle.dc_frame.specs.Frame.{FrameSeen, ack, short, long}
+use Rattle.dc_frame.specs.Reading.{frame_of}
 use Rattle.dc_raw.specs.Wire.{Sound, piece, nothing, gap, silence}
 use Rattle.dc_raw.specs.declared.state.State.{State}
 use Rattle.dc_raw.specs.declared.state.State.TheVariants.{Quiet, Listened, Answered, Busy}
@@ -89,12 +90,36 @@ state_taken false true false = Answered
 state_taken false true true = Busy
 state_taken false false copied = Busy
 
--- on a quiet line no copy is under way
+-- on a quiet line no copy is under way; that of a telegram may come later than the patience allows
+abbrev pub is_ack : Option FrameSeen → Bool
+is_ack None = false
+is_ack (Some ack) = true
+is_ack (Some (short control address)) = false
+is_ack (Some (long control address ci body)) = false
+
+abbrev pub telegram_in : Option (List ℕ) → Option (List ℕ)
+telegram_in None = None
+telegram_in (Some answer) = if is_ack (frame_of answer) then None else Some answer
+
 abbrev pub last_behind : State → Option (List ℕ) → Option (List ℕ)
-last_behind Quiet last = None
+last_behind Quiet last = telegram_in last
 last_behind Listened last = None
 last_behind Answered last = last
 last_behind Busy last = last
+
+-- a request that waits on a line which was answered is the one that was answered: once the line is
+-- quiet it may have the same answer again
+abbrev pub unless_quiet : State → Option (List ℕ) → Option (List ℕ)
+unless_quiet Quiet last = None
+unless_quiet Listened last = last
+unless_quiet Answered last = last
+unless_quiet Busy last = last
+
+abbrev pub last_waited : State → State → Option (List ℕ) → Option (List ℕ)
+last_waited Quiet after last = last
+last_waited Listened after last = last
+last_waited Answered after last = unless_quiet after last
+last_waited Busy after last = last
 
 -- a line on which silence came is in the next state
 abbrev pub quiet_by : Bool → State → State → State

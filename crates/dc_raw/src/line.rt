@@ -3,8 +3,9 @@
 ghost use Rattle.std.specs.Prelude.{◌≡◌, ◌≤◌, ◌<◌, [], None, Some, true, false, IfSome, IfNone};
 ghost use Rattle.std.specs.Prelude.{IfOk, OnOk, OnErr};
 ghost use Rattle.dc_io.specs.Failures.{HasRisen};
-ghost use Rattle.dc_raw.specs.Line.{Gives, GivesAll, GivesNothing, GivesOne, LineGives, LineSends, LineWaits};
-ghost use Rattle.dc_raw.specs.Line.{Looks, WaitsAll, WaitsNothing, WaitsOne, is_loud, judged, left_of};
+ghost use Rattle.dc_raw.specs.Line.{Gives, GivesAll, GivesAtMostOne, GivesNothing, LineGives};
+ghost use Rattle.dc_raw.specs.Line.{LineSends, LineWaits, Looks, WaitsAll, WaitsNothing, WaitsOne};
+ghost use Rattle.dc_raw.specs.Line.{is_loud, judged, left_of};
 ghost use Rattle.dc_raw.specs.declared.line.Gone.TheVariants.{Loud};
 ghost use Rattle.dc_raw.specs.declared.line.Gone.{Gone as Left};
 ghost use Rattle.dc_raw.specs.declared.line.Line.{Line};
@@ -14,7 +15,8 @@ ghost use Rattle.dc_raw.specs.declared.state.State.TheVariants.{Busy};
 use crate::hearing::Hearing;
 use crate::listening::{drain, gather, hear, without_echo};
 use crate::state::{
-    Kind, State, copy_of, is_answer, is_copy, is_wrong, kind_of, last_behind, may_go, quiet_by,
+    Kind, State, copy_of, is_answer, is_copy, is_wrong, kind_of, last_behind, last_waited, may_go,
+    quiet_by,
 };
 use crate::wire::{Asking, Wire};
 use dc_bus::{AnswerBuf, HalfBus};
@@ -58,7 +60,7 @@ pub struct Line<W: Wire + Drop> {
     pub gathered: AnswerBuf,
     /// The request that isn't sent yet.
     pub held: Option<Held>,
-    /// The last answer, where a copy of it may be under way.
+    /// The last answer to another request, of which a copy may come.
     pub last: Option<AnswerBuf>,
     /// Whether a copy came since the last request.
     pub copied: bool,
@@ -177,7 +179,9 @@ impl<W: Wire + Drop> Line<W> {
             (HasRisen (W.failures self.old.wire) (W.failures self.new.wire)) }
         ensures lost { self.new.lost ≡ self.old.lost }
     {
+        let before = self.state;
         let loud = drain(&mut self.wire, &mut self.state, &mut self.late)?;
+        self.last = last_waited(before, self.state, self.last.take());
         if loud {
             return Ok(Gone::Loud);
         }
@@ -228,11 +232,12 @@ impl<W: Wire + Drop> Line<W> {
         }
     }
 
-    // Takes the answer of one meter; the first one is dropped where it is a copy of the last.
+    // Takes the answer of one meter; copies of the last one are dropped. Where two come at once,
+    // the request is given up: silence on a busy line.
     fn take_one(&mut self) -> Result<Option<AnswerBuf>, IoFault>
         requires { self.old.held ≡ None }
         ensures gives { IfOk result (λ taken. IfSome taken (λ answer.
-            GivesOne W.Wire self.old answer self.new)) }
+            GivesAtMostOne W.Wire self.old answer self.new)) }
         ensures waits { IfOk result (λ taken. IfNone taken (WaitsOne W.Wire self.old self.new)) }
         ensures fewer { IfOk result (λ taken. IfNone taken
             (W.waits_left self.new.wire < W.waits_left self.old.wire)) }
@@ -252,16 +257,17 @@ impl<W: Wire + Drop> Line<W> {
             self.judge(&first);
             return Ok(Some(first));
         }
-        self.last = None;
         self.copied = true;
         let then = hear(&mut self.wire, &mut self.hearing)?;
-        match then {
-            None => Ok(None),
-            Some(answer) => {
-                self.judge(&answer);
-                Ok(Some(answer))
-            }
+        let answer = match then {
+            None => return Ok(None),
+            Some(answer) => answer,
+        };
+        if is_copy(&self.last, &answer) {
+            return Ok(Some(AnswerBuf::new()));
         }
+        self.judge(&answer);
+        Ok(Some(answer))
     }
 
     // Judges what was taken as the answer.
@@ -269,18 +275,16 @@ impl<W: Wire + Drop> Line<W> {
         ensures { self.new ≡ judged answer.now self.old }
     {
         let request = self.hearing.request();
-        let is_answered = is_answer(request.as_slice(), answer.as_slice()) && !self.copied;
+        let is_answered = is_answer(request.as_slice(), answer.as_slice());
         if is_wrong(request.as_slice(), answer.as_slice()) {
             self.late = self.late.saturating_add(1);
         }
-        self.last = if is_answered {
-            Some(copy_of(answer))
-        } else {
-            None
-        };
+        if is_answered {
+            self.last = Some(copy_of(answer));
+        }
         self.state = if answer.as_slice().is_empty() {
             State::Quiet
-        } else if is_answered {
+        } else if is_answered && !self.copied {
             State::Answered
         } else {
             State::Busy

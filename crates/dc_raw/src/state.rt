@@ -3,7 +3,8 @@
 ghost use Rattle.std.specs.Prelude.{◌≡◌};
 ghost use Rattle.dc_frame.specs.Reading.{frame_of};
 ghost use Rattle.dc_raw.specs.Turn.{is_answer, is_copy, is_reset, is_wrong, kind_of};
-ghost use Rattle.dc_raw.specs.Turn.{last_behind, may_go, quiet_by, wants_ack};
+ghost use Rattle.dc_raw.specs.Turn.{last_behind, last_waited, may_go, quiet_by, telegram_in};
+ghost use Rattle.dc_raw.specs.Turn.{wants_ack};
 
 use dc_bus::AnswerBuf;
 use dc_frame::control::{SELECTED, SND_NKE, SND_UD};
@@ -120,15 +121,38 @@ pub fn copy_of(answer: &AnswerBuf) -> AnswerBuf
     copy
 }
 
-/// The last answer, once a request goes out: on a quiet line no copy of it is under way.
+/// The last answer, once a request goes out. On a quiet line a telegram is still remembered: its
+/// copy may come later than the patience allows, and would pass for the next telegram.
 pub fn last_behind(state: State, last: Option<AnswerBuf>) -> Option<AnswerBuf>
     ensures { result ≡ last_behind state last }
 {
     match state {
-        State::Quiet => None,
+        State::Quiet => telegram_in(last),
         State::Listened => None,
         State::Answered => last,
         State::Busy => last,
+    }
+}
+
+// The last answer, if it isn't an acknowledgement.
+fn telegram_in(last: Option<AnswerBuf>) -> Option<AnswerBuf>
+    ensures { result ≡ telegram_in last }
+{
+    let answer = last?;
+    match parse(answer.as_slice()) {
+        Ok(Frame::Ack) => None,
+        _ => Some(answer),
+    }
+}
+
+/// The last answer, while a request waits. On a line that was answered it is the request which was
+/// answered: once the line is quiet, it may have the same answer again.
+pub fn last_waited(before: State, after: State, last: Option<AnswerBuf>) -> Option<AnswerBuf>
+    ensures { result ≡ last_waited before after last }
+{
+    match (before, after) {
+        (State::Answered, State::Quiet) => None,
+        _ => last,
     }
 }
 

@@ -11,7 +11,7 @@ returns-then-loud-clause-looks g c = record {
   state = c.drain.new.state;
   late = c.drain.new.late;
   drains = subst (λ (loud : Bool). Drains g.W.Wire.hears c.args.self.now.wire c.args.self.now.state c.args.self.now.late loud c.drain.new.wire c.drain.new.state c.drain.new.late) c.if-loud.true c.in_ok-loud.ensures.drained;
-  goes = too_loud refl;
+  goes = too_loud (search rules);
 }
 
 pub returns-then-not-may_go-clause-looks : goal.returns-then-not-may_go-clause-looks
@@ -20,7 +20,7 @@ returns-then-not-may_go-clause-looks g c = record {
   state = c.drain.new.state;
   late = c.drain.new.late;
   drains = subst (λ (loud : Bool). Drains g.W.Wire.hears c.args.self.now.wire c.args.self.now.state c.args.self.now.late loud c.drain.new.wire c.drain.new.state c.drain.new.late) c.if-loud.false c.in_ok-loud.ensures.drained;
-  goes = waits_on (ap (λ (last : List ℕ). may_go c.drain.new.state last c.args.request.now c.args.many) (sym c.request.ensures) ∙ sym c.may_go.ensures ∙ c.if-not-may_go.true) refl;
+  goes = waits_on (ap (λ (last : List ℕ). may_go c.drain.new.state last c.args.request.now c.args.many) (sym c.request.ensures) ∙ sym c.may_go.ensures ∙ c.if-not-may_go.true) (search rules);
 }
 
 pub returns-then-not-may_go-clause-fewer : goal.returns-then-not-may_go-clause-fewer

@@ -1,6 +1,6 @@
-use Rattle.std.proofs.Common.{ℕ, true, List, Option, None, IfSome, IfNone, refl, sym, ◌∙◌, subst}
+use Rattle.std.proofs.Common.{ℕ, true, List, Option, IfSome, IfNone, refl, sym, ◌∙◌, subst}
 use Rattle.dc_raw.specs.Heard.{Answers, Waits}
-use Rattle.dc_raw.specs.Line.{a_copy, no_copy}
+use Rattle.dc_raw.specs.Line.{a_copy, no_copy, one_answer, two_copies}
 use Rattle.dc_raw.proofs.Calls.{gives_one_of}
 use Rattle.dc_raw.proofs.line.Line.take_one.Goals as goal
 
@@ -14,13 +14,13 @@ returns-in-None-clause-waits g c = record {
 
 pub returns-then-not-is_copy-clause-gives : goal.returns-then-not-is_copy-clause-gives
 returns-then-not-is_copy-clause-gives g c =
-    gives_one_of g.W.Wire c.args.self.now c.args.self.now c.in-Some.first c.hear.new.wire c.hear.new.hearing c.judge.new.self (no_copy refl)
+    one_answer (gives_one_of g.W.Wire c.args.self.now c.args.self.now c.in-Some.first c.hear.new.wire c.hear.new.hearing c.judge.new.self (no_copy refl)
     (subst (λ (heard : Option (List ℕ)). IfSome heard (λ answer. Answers g.W.Wire.hears c.args.self.now.wire c.args.self.now.hearing answer c.hear.new.wire c.hear.new.hearing)) c.in-Some.is c.in_ok-heard.ensures.heard)
-    (sym c.is_copy.ensures ∙ c.if-not-is_copy.true) c.judge.ensures
+    (sym c.is_copy.ensures ∙ c.if-not-is_copy.true) c.judge.ensures)
 
 pub returns-in-None-then-clause-waits : goal.returns-in-None-then-clause-waits
 returns-in-None-then-clause-waits g c = record {
-  between = record c.args.self.now { wire = c.hear.new.wire; hearing = c.hear.new.hearing; last = None; copied = true };
+  between = record c.args.self.now { wire = c.hear.new.wire; hearing = c.hear.new.hearing; copied = true };
   skips = a_copy c.in-Some.first
       (subst (λ (heard : Option (List ℕ)). IfSome heard (λ answer. Answers g.W.Wire.hears c.args.self.now.wire c.args.self.now.hearing answer c.hear.new.wire c.hear.new.hearing)) c.in-Some.is c.in_ok-heard.ensures.heard)
       (sym c.is_copy.ensures ∙ c.if-not-is_copy.false) refl;
@@ -28,11 +28,23 @@ returns-in-None-then-clause-waits g c = record {
   kept = refl;
 }
 
-pub returns-in-Some-then-clause-gives : goal.returns-in-Some-then-clause-gives
-returns-in-Some-then-clause-gives g c =
-    gives_one_of g.W.Wire c.args.self.now (record c.args.self.now { wire = c.hear.new.wire; hearing = c.hear.new.hearing; last = None; copied = true }) c.in-Some-then.answer c.hear-2.new.wire c.hear-2.new.hearing c.judge-in-Some-then.new.self
+pub returns-then-is_copy-clause-gives : goal.returns-then-is_copy-clause-gives
+returns-then-is_copy-clause-gives g c = two_copies c.new.ensures (record {
+  between = record c.args.self.now { wire = c.hear.new.wire; hearing = c.hear.new.hearing; copied = true };
+  skips = a_copy c.in-Some.first
+      (subst (λ (heard : Option (List ℕ)). IfSome heard (λ answer. Answers g.W.Wire.hears c.args.self.now.wire c.args.self.now.hearing answer c.hear.new.wire c.hear.new.hearing)) c.in-Some.is c.in_ok-heard.ensures.heard)
+      (sym c.is_copy.ensures ∙ c.if-not-is_copy.false) refl;
+  copy = c.in-Some-then.answer;
+  heard = subst (λ (heard : Option (List ℕ)). IfSome heard (λ answer. Answers g.W.Wire.hears c.hear.new.wire c.hear.new.hearing answer c.hear-2.new.wire c.hear-2.new.hearing)) c.in-Some-then.is c.in_ok-then.ensures.heard;
+  again = sym c.is_copy-2.ensures ∙ c.if-is_copy.true;
+  kept = refl;
+})
+
+pub returns-clause-gives : goal.returns-clause-gives
+returns-clause-gives g c =
+    one_answer (gives_one_of g.W.Wire c.args.self.now (record c.args.self.now { wire = c.hear.new.wire; hearing = c.hear.new.hearing; copied = true }) c.in-Some-then.answer c.hear-2.new.wire c.hear-2.new.hearing c.judge-2.new.self
     (a_copy c.in-Some.first
     (subst (λ (heard : Option (List ℕ)). IfSome heard (λ answer. Answers g.W.Wire.hears c.args.self.now.wire c.args.self.now.hearing answer c.hear.new.wire c.hear.new.hearing)) c.in-Some.is c.in_ok-heard.ensures.heard)
     (sym c.is_copy.ensures ∙ c.if-not-is_copy.false) refl)
     (subst (λ (heard : Option (List ℕ)). IfSome heard (λ answer. Answers g.W.Wire.hears c.hear.new.wire c.hear.new.hearing answer c.hear-2.new.wire c.hear-2.new.hearing)) c.in-Some-then.is c.in_ok-then.ensures.heard)
-    refl c.judge-in-Some-then.ensures
+    (sym c.is_copy-2.ensures ∙ c.if-is_copy.false) c.judge-2.ensures)
