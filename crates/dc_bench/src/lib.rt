@@ -16,6 +16,7 @@ mod reading;
 mod remark;
 
 pub use command::{Done, Work, run_over, work_over};
+pub use meter_text::put_found;
 pub use printer::Printer;
 pub use progress::{Progress, Show};
 pub use remark::put_remark;

@@ -9,7 +9,7 @@ use dc_record::value::{Point, Seen, point_of};
 
 /// Writes the meter of a telegram, its medium, and its first current value where it sends one:
 /// `found 12345678.PAD.01.07 water 12.345 m3`.
-pub(crate) fn put_found<W: Sink>(out: &mut W, answer: &[u8]) -> Result<(), IoFault> {
+pub fn put_found<W: Sink>(out: &mut W, answer: &[u8]) -> Result<(), IoFault> {
     let Ok(Frame::Long { body, .. }) = parse(answer) else {
         return Ok(());
     };

@@ -17,6 +17,7 @@ use dc_frame_json::json_lines;
 use dc_inspect::{Asked, Form, Outlook, Report, answer, scan};
 use dc_io::{Bytes, Sink, TextFault, first_line};
 use dc_json::explain_lines;
+use dc_json::journal::Journal;
 use dc_log::Store;
 use dc_register::House;
 use dc_script::{Halt, fold_lines, run_script, search};
@@ -297,7 +298,14 @@ fn report_on<W: Sink>(
     writer: &mut W,
 ) -> Result<Outlook, ProgramFault> {
     let greatest = scan(disk)?;
-    let table = answer(heap, disk, &greatest, Asked::Table(report, Form::Text))?;
+    let journal = Journal::none(heap);
+    let table = answer(
+        heap,
+        disk,
+        &greatest,
+        Asked::Table(report, Form::Text),
+        &journal,
+    )?;
     match writer.put(table.text.as_slice()) {
         Ok(()) => Ok(table.outlook),
         Err(_) => Err(ProgramFault::Write),

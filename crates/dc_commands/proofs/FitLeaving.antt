@@ -7,6 +7,7 @@ use Rattle.dc_disk.specs.Disk.{Image, IsImage}
 use Rattle.dc_ending.specs.Unopened.{Stands}
 use Rattle.dc_ending.specs.declared.ending.Ending.TheVariants.{Memory}
 use Rattle.dc_fit.specs.declared.fault.FitFault.TheVariants.{NoMemory}
+use Rattle.dc_fit.specs.declared.list.wish.Wish.{Wish}
 use Rattle.dc_log.specs.Halves.{half_of}
 use Rattle.dc_concentrator.specs.PendingImages.{StandsForOne}
 use Rattle.dc_disk.specs.declared.device.Disk.{Ghosts}
@@ -14,8 +15,8 @@ use Rattle.dc_fit.specs.Fit.{FitsAll}
 use Rattle.dc_fit.specs.declared.fault.FitFault.{FitFault}
 
 -- memory ran out before anything was done
-module _ {D O : Type 0} (g : Ghosts D) (list : List ℕ) (contents : O → Option (List ℕ)) (out : O) (disk : D) where
-  pub none_done : ((d : D) (image : Image) → g.images_since d (g.moment d) image → IsImage (g.choices d) image) → Stands g disk → FitsOver g list contents out disk disk Memory
+module _ {D O : Type 0} (g : Ghosts D) (wish : Wish) (contents : O → Option (List ℕ)) (out : O) (disk : D) where
+  pub none_done : ((d : D) (image : Image) → g.images_since d (g.moment d) image → IsImage (g.choices d) image) → Stands g disk → FitsOver g wish contents out disk disk Memory
   none_done only stands = record {
     outcome = Err NoMemory;
     is_printed = false;
@@ -28,10 +29,10 @@ module _ {D O : Type 0} (g : Ghosts D) (list : List ℕ) (contents : O → Optio
         record { state = one.0; stands = one.1; was = image; was_image = now; stood = one.1 });
   }
 
-module _ {D : Type 0} (g : Ghosts D) (list : List ℕ) (disk left : D) (wrote written : List ℕ → Type 0) (shows : (text : List ℕ) → wrote text → written text) where
-  fits_as : (wrong : Bool) → FitsAll g list wrote wrong disk left → FitsAll g list written wrong disk left
+module _ {D : Type 0} (g : Ghosts D) (wish : Wish) (disk left : D) (wrote written : List ℕ → Type 0) (shows : (text : List ℕ) → wrote text → written text) where
+  fits_as : (wrong : Bool) → FitsAll g wish wrote wrong disk left → FitsAll g wish written wrong disk left
   fits_as wrong a = record { fits = a.fits; wrong_is = a.wrong_is; text = shows _ a.text; stands = a.stands; durable = a.durable }
 
-  pub fitted_as : (outcome : Result Bool FitFault) → IfOk outcome (λ wrong. FitsAll g list wrote wrong disk left) → IfOk outcome (λ wrong. FitsAll g list written wrong disk left)
+  pub fitted_as : (outcome : Result Bool FitFault) → IfOk outcome (λ wrong. FitsAll g wish wrote wrong disk left) → IfOk outcome (λ wrong. FitsAll g wish written wrong disk left)
   fitted_as (Ok wrong) a = fits_as wrong a
   fitted_as (Err fault) a = tt

@@ -1,4 +1,4 @@
--- What the command `fit` does to an image, what it prints, and how it ends (this product).
+-- What the commands `fit`, `swap`, `move` and `out` do to an image, what it prints, and how it ends (this product).
 use Rattle.std.specs.Prelude.{◌≡◌, ◌⊎◌, Bool, true, false, List, ℕ, codes, Option, Result, Ok, Err, IfOk, IfErr}
 use Rattle.dc_commands.specs.Bytes.{IsPrinted}
 use Rattle.dc_concentrator.specs.declared.fault.CommitFault.{CommitFault}
@@ -11,6 +11,7 @@ use Rattle.dc_ending.specs.declared.ending.Ending.TheVariants.{Clean, Faulty, Di
 use Rattle.dc_fit.specs.Fit.{Fits, FitsAll, IfDisk, IsBefore}
 use Rattle.dc_fit.specs.declared.fault.FitFault.{FitFault}
 use Rattle.dc_fit.specs.declared.fault.FitFault.TheVariants.{Open, NoMemory, Write, Disk as NotWritten}
+use Rattle.dc_fit.specs.declared.list.wish.Wish.{Wish}
 use Rattle.dc_log.specs.Halves.{half_of}
 use Rattle.dc_log.specs.declared.fault.StoreFault.{StoreFault}
 use Rattle.dc_log.specs.declared.fault.StoreFault.TheVariants.{Device as Failed, Worn as Exhausted, Stopped as Halted}
@@ -32,14 +33,14 @@ FitEnds (Err NoMemory) is_printed ending = ending ≡ Memory
 FitEnds (Err Write) is_printed ending = IsOfFile ending (codes "-")
 FitEnds (Err (NotWritten fault)) is_printed ending = ending ≡ Disk (commit_fault fault)
 
--- THE COMMAND `fit`, from the disk that is ready to the disk and to the ending: all of the list is done, or nothing of it.
-pub record FitsOver {D O : Type 0} (g : Ghosts D) (list : List ℕ) (contents : O → Option (List ℕ)) (out : O)
+-- THE COMMANDS, from the disk that is ready to the disk and to the ending: all that is asked is done, or nothing of it.
+pub record FitsOver {D O : Type 0} (g : Ghosts D) (wish : Wish) (contents : O → Option (List ℕ)) (out : O)
     (disk left : D) (ending : Ending) : Type 0 where
   pub outcome : Result Bool FitFault
   pub is_printed : Bool
   pub ends : FitEnds outcome is_printed ending
   pub fitted : IfOk outcome (λ wrong.
-      FitsAll g list (IsPrinted contents out is_printed) wrong disk left)
-  pub broken : IfErr outcome (λ fault. IfDisk fault (λ e. Fits g list disk left))
+      FitsAll g wish (IsPrinted contents out is_printed) wrong disk left)
+  pub broken : IfErr outcome (λ fault. IfDisk fault (λ e. Fits g wish disk left))
   pub before : IfErr outcome (λ fault. IsBefore fault → g.keeps left
       → LeavesOnly g disk left (StandsForOne (half_of g disk) (g.choices disk)))

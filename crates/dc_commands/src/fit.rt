@@ -1,4 +1,4 @@
-//! The command `fit` over an image that is open.
+//! The commands `fit`, `swap`, `move` and `out` over an image that is open.
 
 ghost use Rattle.std.specs.Prelude.{◌≡◌, is_some};
 ghost use Rattle.dc_ending.specs.Unopened.{Stands};
@@ -11,44 +11,46 @@ use crate::known_sink::{KnownSink, is_written_out};
 use dc_concentrator::CommitFault;
 use dc_disk::Disk;
 use dc_ending::{Ending, STREAM};
+use dc_fit::list::Wish;
 use dc_fit::{FitFault, fit_on};
 use dc_log::{OpenFault, StoreFault};
 use std::alloc::Global;
 use std::io::{LineWriter, Write};
 use std::marker::Brand;
 
-/// Looks at the image, adds the meters of a list to its register, prints what comes of each row, and says how that ended.
-pub fn fit_over<'a, D, O>(alloc: Global, disk: D, list: &[u8], out: O) -> (D, Ending<'a>)
+/// Looks at the image, adds the meters of a list to its register or does one command, prints what comes of it, and says
+/// how that ended.
+pub fn fit_over<'a, D, O>(alloc: Global, disk: D, wish: &Wish<'_>, out: O) -> (D, Ending<'a>)
 where
     D: Disk + Drop,
     O: Write + Drop,
-    // All of the list is done or nothing of it, whatever became of the image before.
+    // All that is asked is done or nothing of it, whatever became of the image before.
     ensures { Guards D.Disk disk result.0 result.1 (λ ready.
-        FitsOver D.Disk list.now O.contents out ready result.0 result.1) }
+        FitsOver D.Disk wish.now O.contents out ready result.0 result.1) }
 {
     let mut disk = disk;
     match guarded(alloc, &mut disk) {
         Ok(()) => {}
         Err(ending) => return (disk, ending),
     }
-    fit_printed::<D, O, Brand>(alloc, disk, list, out)
+    fit_printed::<D, O, Brand>(alloc, disk, wish, out)
 }
 
-// Adds the meters of a list, and prints what comes of each row.
-fn fit_printed<'a, D, O, K>(alloc: Global, disk: D, list: &[u8], out: O) -> (D, Ending<'a>)
+// Does what is asked, and prints what comes of it.
+fn fit_printed<'a, D, O, K>(alloc: Global, disk: D, wish: &Wish<'_>, out: O) -> (D, Ending<'a>)
 where
     D: Disk + Drop,
     O: Write + Drop,
     K: Known,
     requires known { K.writes ≡ is_some (O.contents out) }
     requires stands { Stands D.Disk disk }
-    ensures { FitsOver D.Disk list.now O.contents out disk result.0 result.1 }
+    ensures { FitsOver D.Disk wish.now O.contents out disk result.0 result.1 }
 {
     let Ok(out) = LineWriter::new(alloc, out) else {
         return (disk, Ending::Memory);
     };
     let mut out: KnownSink<LineWriter<O>, K> = KnownSink::new(out);
-    let (disk, outcome) = fit_on(alloc, disk, list, &mut out);
+    let (disk, outcome) = fit_on(alloc, disk, wish, &mut out);
     let is_printed = is_written_out(out);
     (disk, fit_ending(outcome, is_printed))
 }

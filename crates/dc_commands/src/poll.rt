@@ -20,7 +20,7 @@ use dc_change::Moment;
 use dc_disk::Disk;
 use dc_ending::{Ending, ProgramFault};
 use dc_poll::events::{
-    JsonTeller, Progress, Shown, TextTeller, Unfailing, events_are_printed_as_json,
+    JsonTeller, Notes, Progress, Shown, TextTeller, Unfailing, events_are_printed_as_json,
     events_are_printed_as_text, events_are_taken_up_to_a_failure,
 };
 use dc_poll::{Outcome, Plan, Teller, poll_image};
@@ -42,8 +42,9 @@ pub struct Printing {
 }
 
 /// Looks at the image, reads the meters of the plan, prints their events line by line, and says how that ended. Where
-/// they can't be printed, the poll goes on without.
-pub fn poll_over<'h, 'a, D, B, W, R, O>(
+/// they can't be printed, the poll goes on without. The journal takes each event, too; no clause names it, since all that
+/// is promised here holds whatever becomes of it.
+pub fn poll_over<'h, 'a, D, B, W, R, O, J>(
     alloc: Global,
     rt: &'h R,
     disk: D,
@@ -51,6 +52,7 @@ pub fn poll_over<'h, 'a, D, B, W, R, O>(
     waits: W,
     out: O,
     printing: Printing,
+    notes: J,
     image: &'a str,
 ) -> (D, Ending<'a>)
 where
@@ -59,6 +61,7 @@ where
     W: Waits<B> + Drop,
     R: Clock + Eprint,
     O: Write + Drop,
+    J: Notes + Drop,
     requires { 0 < plan.tries }
     // One poll of the image, whatever became of it before, gives the disk, the text and the ending.
     ensures { Guards D.Disk disk result.0 result.1 (λ ready. PollsOver R D.Disk B.HalfBus O.contents
@@ -70,14 +73,14 @@ where
         Ok(()) => {}
         Err(ending) => return (disk, ending),
     }
-    let (disk, outcome, is_printed) = poll_printed::<D, B, W, R, O, Brand>(
-        alloc, rt, disk, plan, waits, out, printing,
+    let (disk, outcome, is_printed) = poll_printed::<D, B, W, R, O, J, Brand>(
+        alloc, rt, disk, plan, waits, out, printing, notes,
     );
     (disk, poll_ending(outcome, is_printed, image))
 }
 
 // Reads the meters of the plan and prints their events. The last value is whether all was printed.
-fn poll_printed<D, B, W, R, O, K>(
+fn poll_printed<D, B, W, R, O, J, K>(
     alloc: Global,
     rt: &R,
     disk: D,
@@ -85,6 +88,7 @@ fn poll_printed<D, B, W, R, O, K>(
     waits: W,
     out: O,
     printing: Printing,
+    notes: J,
 ) -> (D, Result<Outcome, ProgramFault>, bool)
 where
     D: Disk + Drop,
@@ -92,6 +96,7 @@ where
     W: Waits<B> + Drop,
     R: Clock + Eprint,
     O: Write + Drop,
+    J: Notes + Drop,
     K: Known,
     requires tries { 0 < plan.tries }
     requires known { K.writes ≡ is_some (O.contents out) }
@@ -108,20 +113,21 @@ where
     let progress = Progress::new(rt, printing.is_shown);
     let timer = HostTimer::new(rt, printing.begun, &progress, waits);
     if printing.is_json {
-        poll_json(alloc, disk, plan, timer, &progress, out)
+        poll_json(alloc, disk, plan, timer, &progress, out, notes)
     } else {
-        poll_text(alloc, disk, plan, timer, &progress, out)
+        poll_text(alloc, disk, plan, timer, &progress, out, notes)
     }
 }
 
 // Reads the meters of the plan and prints their events as text.
-fn poll_text<'p, 'h, D, B, W, R, O, K>(
+fn poll_text<'p, 'h, D, B, W, R, O, J, K>(
     alloc: Global,
     disk: D,
     plan: Plan<'_, Global, B>,
     timer: HostTimer<'p, 'h, R, W>,
     progress: &'p Progress<'h, R>,
     out: KnownSink<LineWriter<O>, K>,
+    notes: J,
 ) -> (D, Result<Outcome, ProgramFault>, bool)
 where
     D: Disk + Drop,
@@ -129,6 +135,7 @@ where
     W: Waits<B> + Drop,
     R: Clock + Eprint,
     O: Write + Drop,
+    J: Notes + Drop,
     K: Known,
     requires tries { 0 < plan.tries }
     requires well { out.sink.failures ≡ 0 }
@@ -140,19 +147,20 @@ where
 {
     events_are_printed_as_text::<KnownSink<LineWriter<O>, K>>();
     let teller = TextTeller { out };
-    let (disk, outcome, done) = poll(alloc, disk, plan, timer, progress, teller, true);
+    let (disk, outcome, done) = poll(alloc, disk, plan, timer, progress, teller, notes, true);
     let is_printed = is_printed(done.has_failed, done.teller.out);
     (disk, outcome, is_printed)
 }
 
 // Reads the meters of the plan and prints their events as JSON Lines.
-fn poll_json<'p, 'h, D, B, W, R, O, K>(
+fn poll_json<'p, 'h, D, B, W, R, O, J, K>(
     alloc: Global,
     disk: D,
     plan: Plan<'_, Global, B>,
     timer: HostTimer<'p, 'h, R, W>,
     progress: &'p Progress<'h, R>,
     out: KnownSink<LineWriter<O>, K>,
+    notes: J,
 ) -> (D, Result<Outcome, ProgramFault>, bool)
 where
     D: Disk + Drop,
@@ -160,6 +168,7 @@ where
     W: Waits<B> + Drop,
     R: Clock + Eprint,
     O: Write + Drop,
+    J: Notes + Drop,
     K: Known,
     requires tries { 0 < plan.tries }
     requires well { out.sink.failures ≡ 0 }
@@ -171,19 +180,20 @@ where
 {
     events_are_printed_as_json::<KnownSink<LineWriter<O>, K>>();
     let teller = JsonTeller { out };
-    let (disk, outcome, done) = poll(alloc, disk, plan, timer, progress, teller, false);
+    let (disk, outcome, done) = poll(alloc, disk, plan, timer, progress, teller, notes, false);
     let is_printed = is_printed(done.has_failed, done.teller.out);
     (disk, outcome, is_printed)
 }
 
 // Reads the meters of the plan. The teller gets their events up to its first failure.
-fn poll<'p, 'h, D, B, W, R, N>(
+fn poll<'p, 'h, D, B, W, R, N, J>(
     alloc: Global,
     disk: D,
     plan: Plan<'_, Global, B>,
     timer: HostTimer<'p, 'h, R, W>,
     progress: &'p Progress<'h, R>,
     teller: N,
+    notes: J,
     explains: bool,
 ) -> (D, Result<Outcome, ProgramFault>, Unfailing<N>)
 where
@@ -192,6 +202,7 @@ where
     W: Waits<B> + Drop,
     R: Clock + Eprint,
     N: Teller + Drop,
+    J: Notes + Drop,
     requires tries { 0 < plan.tries }
     requires stands { Stands D.Disk disk }
     ensures { PollLeaves D.Disk (ArePolled R B.HalfBus plan.entry.buses.items plan.entry.only.now
@@ -202,6 +213,7 @@ where
     let mut timer = timer;
     let mut shown = Shown {
         teller: Unfailing::new(teller),
+        notes,
         progress,
         explains,
     };

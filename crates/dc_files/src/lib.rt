@@ -6,6 +6,8 @@
 //! [`format_image`] makes an image in a file of its own ([`HalfMade`]), which gets the name once it is whole; no file that
 //! holds anything but zeros is touched. [`hold`] gives each closed standard stream to `/dev/null`, so that no image gets its number.
 //!
+//! [`Journal`] appends lines to the file beside an image, whose failures change nothing of a command.
+//!
 //! A [`Host`] is the system as the commands see it, with the record of its failed calls ([`Why`]). A
 //! [`Noted`] file or stream puts its failed calls there. [`holder_of`] names the process that has a file locked.
 //!
@@ -21,6 +23,7 @@ mod holder;
 mod host;
 mod image;
 mod image_file;
+mod journal;
 mod looking;
 mod patient;
 mod streams;
@@ -34,6 +37,7 @@ pub use holder::{holder_in, holder_of};
 pub use host::Host;
 pub use image::{lock, no_file, open_image, open_to_look, within_limit};
 pub use image_file::{ImageFile, open_disk};
+pub use journal::{Journal, journal_lines};
 pub use looking::{LookDisk, LookedAt, ROUNDS};
 pub use patient::Patient;
 pub use streams::{NOWHERE, hold};

@@ -15,8 +15,9 @@ use Rattle.dc_fit.proofs.Copies.{same_held}
 use Rattle.dc_fit.specs.declared.fault.FitFault.{FitFault}
 use Rattle.dc_fit.specs.declared.fault.FitFault.TheVariants.{Open, NoMemory, Write, Disk}
 use Rattle.dc_fit.specs.Fit.{Fits, FitsAll, IfDisk, IsBefore, IsListed, Lists, ListsAll, fit_text, fitted}
-use Rattle.dc_io.specs.Lines.{lines_of}
-use Rattle.dc_fit.specs.Plan.{IsOneGroup, IsPlanned, Outcome}
+use Rattle.dc_fit.specs.Plan.{IsOneGroup, Outcome}
+use Rattle.dc_fit.specs.Wish.{IsMetBy}
+use Rattle.dc_fit.specs.declared.list.wish.Wish.{Wish}
 use Rattle.dc_log.specs.Halves.{budget_of, half_len_of, half_of}
 use Rattle.dc_log.specs.Store.{Opened}
 use Rattle.dc_concentrator.specs.PendingImages.{Keeps, Reads, Stands, StandsForEither, StandsForOne}
@@ -37,9 +38,9 @@ no_bytes (b ∷ bytes) none = absurd (omega (arith, none))
 none_spelled : (bytes : List ℕ) (changes : List Change) → length bytes ≡ 0 → SpellsChanges bytes changes → changes ≡ []
 none_spelled bytes changes none spells = one_history bytes changes [] spells (record { spelled = no_bytes bytes none; are_changes = All-nil IsChange })
 
-module _ {D : Type 0} (g : Ghosts D) (list : List ℕ) (house : Held) (plan : Outcome) (planned : IsPlanned (lines_of list) house plan) where
+module _ {D : Type 0} (g : Ghosts D) (wish : Wish) (house : Held) (plan : Outcome) (planned : IsMetBy wish house plan) where
   -- a row is wrong: nothing is done
-  pub all_wrong : IsOneGroup house plan → plan.wrong ≡ true → (wrote : List ℕ → Type 0) (old : Opened D) → wrote (fit_text plan) → ListsAll g list house wrote true old old
+  pub all_wrong : IsOneGroup house plan → plan.wrong ≡ true → (wrote : List ℕ → Type 0) (old : Opened D) → wrote (fit_text plan) → ListsAll g wish house wrote true old old
   all_wrong group is wrote old text = record {
     lists = record { plan = plan; changes = group.changes; listed = record { planned = planned; spells = group.spells; accepted = group.accepted }; did = inl refl };
     wrong_is = sym is;
@@ -48,7 +49,7 @@ module _ {D : Type 0} (g : Ghosts D) (list : List ℕ) (house : Held) (plan : Ou
   }
 
   -- each row stands already
-  pub all_standing : IsOneGroup house plan → plan.wrong ≡ false → length plan.payload ≡ 0 → (wrote : List ℕ → Type 0) (old : Opened D) → wrote (fit_text plan) → ListsAll g list house wrote false old old
+  pub all_standing : IsOneGroup house plan → plan.wrong ≡ false → length plan.payload ≡ 0 → (wrote : List ℕ → Type 0) (old : Opened D) → wrote (fit_text plan) → ListsAll g wish house wrote false old old
   all_standing group is none wrote old text = record {
     lists = record { plan = plan; changes = group.changes; listed = record { planned = planned; spells = group.spells; accepted = group.accepted }; did = inl refl };
     wrong_is = sym is;
@@ -61,7 +62,7 @@ module _ {D : Type 0} (g : Ghosts D) (list : List ℕ) (house : Held) (plan : Ou
       (is : plan.wrong ≡ false) (old new : Opened D) where
     -- the changes were written, or a failure of the disk ended it
     pub some_written : (Keeps g old house.state → LeavesOnly g old.disk new.disk (StandsForEither (half_of g old.disk) house.state (after house.state changes)))
-        → Lists g list house old new
+        → Lists g wish house old new
     some_written leaves = record {
       plan = plan;
       changes = changes;
@@ -71,7 +72,7 @@ module _ {D : Type 0} (g : Ghosts D) (list : List ℕ) (house : Held) (plan : Ou
 
     pub all_written : (wrote : List ℕ → Type 0) → wrote (fit_text plan)
         → (Keeps g old house.state → LeavesOnly g old.disk new.disk (StandsForEither (half_of g old.disk) house.state (after house.state changes)))
-        → (Keeps g old house.state → Keeps g new (after house.state changes)) → ListsAll g list house wrote false old new
+        → (Keeps g old house.state → Keeps g new (after house.state changes)) → ListsAll g wish house wrote false old new
     unfolding some_written
     all_written wrote text leaves kept = record {
       lists = some_written leaves;
@@ -82,14 +83,14 @@ module _ {D : Type 0} (g : Ghosts D) (list : List ℕ) (house : Held) (plan : Ou
 
 -- ---- from the disk to the disk
 
-module _ {D : Type 0} (g : Ghosts D) (list : List ℕ) (house : Held) (disk left : D) (old new : Opened D) (same : left ≡ new.disk) (count : g.sectors old.disk ≡ g.sectors disk) (still : g.sectors new.disk ≡ g.sectors old.disk)
+module _ {D : Type 0} (g : Ghosts D) (wish : Wish) (house : Held) (disk left : D) (old new : Opened D) (same : left ≡ new.disk) (count : g.sectors old.disk ≡ g.sectors disk) (still : g.sectors new.disk ≡ g.sectors old.disk)
     (budget : house.budget ≡ budget_of (half_of g disk)) (back : g.keeps new.disk → g.keeps old.disk)
     (reads : g.keeps old.disk → Reads (half_of g disk) house.state (g.reads disk)) (kept : g.keeps old.disk → Keeps g old house.state)
     (opens : g.keeps old.disk → LeavesOnly g disk old.disk (StandsForOne (half_of g disk) (g.choices disk))) where
   half_is : half_of g old.disk ≡ half_of g disk
   half_is = ap half_len_of count
 
-  pub fits : Lists g list house old new → Fits g list disk left
+  pub fits : Lists g wish house old new → Fits g wish disk left
   fits l =
       let S = fitted l.plan l.changes house.state in
       let One : Image → Type 0 = StandsForOne (half_of g disk) (g.choices disk) in
@@ -99,7 +100,7 @@ module _ {D : Type 0} (g : Ghosts D) (list : List ℕ) (house : Held) (disk left
         plan = l.plan;
         changes = l.changes;
         reads_as = λ h. reads (back (subst g.keeps same h));
-        listed = subst (λ (held : Held). IsListed list held l.plan l.changes) (same_held house (record { state = house.state; budget = budget_of (half_of g disk) }) refl budget) l.listed;
+        listed = subst (λ (held : Held). IsListed wish held l.plan l.changes) (same_held house (record { state = house.state; budget = budget_of (half_of g disk) }) refl budget) l.listed;
         at_once = λ h.
             let h_old = back (subst g.keeps same h) in
             subst (λ (d : D). LeavesOnly g disk d (λ image. One image ⊎ Either image)) (sym same)
@@ -111,7 +112,7 @@ module _ {D : Type 0} (g : Ghosts D) (list : List ℕ) (house : Held) (disk left
             l.did);
       }
 
-  pub fits_all : (wrote : List ℕ → Type 0) (wrong : Bool) → ListsAll g list house wrote wrong old new → FitsAll g list wrote wrong disk left
+  pub fits_all : (wrote : List ℕ → Type 0) (wrong : Bool) → ListsAll g wish house wrote wrong old new → FitsAll g wish wrote wrong disk left
   unfolding fits
   fits_all wrote wrong a =
       let l = a.lists in
@@ -129,11 +130,11 @@ module _ {D : Type 0} (g : Ghosts D) (list : List ℕ) (house : Held) (disk left
         durable = λ h. let k = ends h in subst (λ (d : D). g.choices d ≡ settled (g.reads d)) (sym same) k.is_settled;
       }
 
-  pub fits_ok : (wrote : List ℕ → Type 0) (result : Result Bool FitFault) → IfOk result (λ wrong. ListsAll g list house wrote wrong old new) → IfOk result (λ wrong. FitsAll g list wrote wrong disk left)
+  pub fits_ok : (wrote : List ℕ → Type 0) (result : Result Bool FitFault) → IfOk result (λ wrong. ListsAll g wish house wrote wrong old new) → IfOk result (λ wrong. FitsAll g wish wrote wrong disk left)
   fits_ok wrote (Ok wrong) all = fits_all wrote wrong all
   fits_ok wrote (Err fault) all = tt
 
-  pub fits_err : (result : Result Bool FitFault) → IfErr result (λ fault. IfDisk fault (λ e. Lists g list house old new)) → IfErr result (λ fault. IfDisk fault (λ e. Fits g list disk left))
+  pub fits_err : (result : Result Bool FitFault) → IfErr result (λ fault. IfDisk fault (λ e. Lists g wish house old new)) → IfErr result (λ fault. IfDisk fault (λ e. Fits g wish disk left))
   fits_err (Ok wrong) some = tt
   fits_err (Err (Open e)) some = tt
   fits_err (Err NoMemory) some = tt

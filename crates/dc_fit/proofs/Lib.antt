@@ -10,3 +10,5 @@ mod Fitted
 pub mod Steps
 -- nothing is no address
 pub mod Addresses
+-- the changes of an order
+mod Orders

@@ -1,6 +1,5 @@
 -- The rows of a list, one after the other.
-use Rattle.std.proofs.Common.{◌≡◌, ℕ, ◌+◌, List, [], ◌∷◌, ◌++◌, Bool, false, length, arith, refl, sym, subst, append_assoc, append-nil, ap, ◌∙◌, inl, inr}
-use Rattle.std.specs.Prelude.{◌||◌}
+use Rattle.std.proofs.Common.{◌≡◌, ℕ, ◌+◌, List, [], ◌∷◌, ◌++◌, length, arith, refl, sym, subst, append_assoc, append-nil, ap, ◌∙◌, inl, inr}
 use Rattle.dc_io.specs.Lines.{lines_of}
 use Rattle.dc_io.proofs.Bools.{or_assoc, or_false}
 use Rattle.dc_change.specs.State.{Held, State}
@@ -8,7 +7,6 @@ use Rattle.dc_change.specs.Apply.{applied}
 use Rattle.dc_change.specs.Accepts.{Accepts}
 use Rattle.dc_change.specs.Valid.{IsChange}
 use Rattle.dc_change.specs.History.{after, AcceptsAll}
-use Rattle.dc_change.specs.Spelled.{SpellsChanges}
 use Rattle.dc_change.specs.Encoding.{change_bytes, changes_bytes}
 use Rattle.std.specs.Prelude.{All}
 use Rattle.std.proofs.lemmas.List.Elements.{All-cons, All-nil}

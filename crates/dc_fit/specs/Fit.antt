@@ -1,7 +1,6 @@
--- What `fit` does to an image (this product): the list is planned on the register that the image stands for, and all of it
--- is written at once, or nothing of it.
+-- What `fit`, `swap`, `move` and `out` do to an image (this product): the list or the command is planned on the register
+-- that the image stands for, and all of it is written at once, or nothing of it.
 use Rattle.std.specs.Prelude.{◌≡◌, ◌⊎◌, ℕ, Bool, List, [], ◌++◌, codes, if◌then◌else◌}
-use Rattle.dc_io.specs.Lines.{lines_of}
 use Rattle.dc_change.specs.State.{State, Held}
 use Rattle.dc_change.specs.History.{after, AcceptsAll}
 use Rattle.dc_change.specs.Spelled.{SpellsChanges}
@@ -10,7 +9,9 @@ use Rattle.dc_disk.specs.declared.device.Disk.{Ghosts}
 use Rattle.dc_disk.specs.Runs.{IsSettled, LeavesOnly}
 use Rattle.dc_fit.specs.declared.fault.FitFault.{FitFault}
 use Rattle.dc_fit.specs.declared.fault.FitFault.TheVariants.{Open, NoMemory, Write, Disk}
-use Rattle.dc_fit.specs.Plan.{IsPlanned, Outcome}
+use Rattle.dc_fit.specs.Plan.{Outcome}
+use Rattle.dc_fit.specs.Wish.{IsMetBy}
+use Rattle.dc_fit.specs.declared.list.wish.Wish.{Wish}
 use Rattle.dc_log.specs.Halves.{budget_of, half_of}
 use Rattle.dc_log.specs.Store.{Opened}
 use Rattle.dc_log.specs.declared.fault.OpenFault.{OpenFault}
@@ -21,34 +22,34 @@ use Rattle.dc_concentrator.specs.PendingImages.{EachStands, Keeps, Reads, Stands
 abbrev pub nothing_done : List ℕ
 nothing_done = codes "nothing is done\n"
 
--- what is printed: what is said of each row and, where one is wrong, that nothing is done
+-- what is printed: what is said of each row or of the command and, where one is wrong, that nothing is done
 abbrev pub fit_text : Outcome → List ℕ
 fit_text plan = plan.text ++ (if plan.wrong then nothing_done else [])
 
--- the register with the whole list; where a row is wrong it is as it was
+-- the register with all that is asked; where a row or the command is wrong it is as it was
 abbrev pub fitted : Outcome → List Change → State → State
 fitted plan changes state = if plan.wrong then state else after state changes
 
--- what the list comes to on a register: its plan, and the changes that the plan spells, each accepted in turn
-pub record IsListed (list : List ℕ) (house : Held) (plan : Outcome) (changes : List Change) : Type 0 where
-  pub planned : IsPlanned (lines_of list) house plan
+-- what is asked comes to this on a register: its plan, and the changes that the plan spells, each accepted in turn
+pub record IsListed (wish : Wish) (house : Held) (plan : Outcome) (changes : List Change) : Type 0 where
+  pub planned : IsMetBy wish house plan
   pub spells : SpellsChanges plan.payload changes
   pub accepted : AcceptsAll house.budget house.state changes
 
 -- ---- an open store that keeps the register
 
 -- the store is as it was, or a crash leaves either all of the list or nothing of it
-pub record Lists {D : Type 0} (g : Ghosts D) (list : List ℕ) (house : Held) (old new : Opened D) : Type 0 where
+pub record Lists {D : Type 0} (g : Ghosts D) (wish : Wish) (house : Held) (old new : Opened D) : Type 0 where
   pub plan : Outcome
   pub changes : List Change
-  pub listed : IsListed list house plan changes
+  pub listed : IsListed wish house plan changes
   pub did : (new ≡ old) ⊎ (Keeps g old house.state → LeavesOnly g old.disk new.disk
       (StandsForEither (half_of g old.disk) house.state (fitted plan changes house.state)))
 
 -- and all was done, and said
-pub record ListsAll {D : Type 0} (g : Ghosts D) (list : List ℕ) (house : Held) (wrote : List ℕ → Type 0)
+pub record ListsAll {D : Type 0} (g : Ghosts D) (wish : Wish) (house : Held) (wrote : List ℕ → Type 0)
     (wrong : Bool) (old new : Opened D) : Type 0 where
-  pub lists : Lists g list house old new
+  pub lists : Lists g wish house old new
   pub wrong_is : wrong ≡ lists.plan.wrong
   pub text : wrote (fit_text lists.plan)
   pub kept : Keeps g old house.state → Keeps g new (fitted lists.plan lists.changes house.state)
@@ -61,20 +62,20 @@ IsStanding g disk = g.keeps disk → EachStands (half_of g disk) (g.choices disk
 
 -- ALL OR NOTHING. The image stood for a state, and the list was planned on it. A crash at any moment leaves an image that
 -- stands for a state that the disk stood for before, for this one, or for the one after the whole list.
-pub record Fits {D : Type 0} (g : Ghosts D) (list : List ℕ) (disk left : D) : Type 0 where
+pub record Fits {D : Type 0} (g : Ghosts D) (wish : Wish) (disk left : D) : Type 0 where
   pub state : State
   pub plan : Outcome
   pub changes : List Change
   pub reads_as : g.keeps left → Reads (half_of g disk) state (g.reads disk)
-  pub listed : IsListed list (record { state = state; budget = budget_of (half_of g disk) }) plan changes
+  pub listed : IsListed wish (record { state = state; budget = budget_of (half_of g disk) }) plan changes
   pub at_once : g.keeps left → LeavesOnly g disk left (λ image.
       StandsForOne (half_of g disk) (g.choices disk) image
       ⊎ StandsForEither (half_of g disk) state (fitted plan changes state) image)
 
 -- DONE: the disk has the whole list, durably, or a row was wrong and nothing is done; which of both was said.
-pub record FitsAll {D : Type 0} (g : Ghosts D) (list : List ℕ) (wrote : List ℕ → Type 0) (wrong : Bool)
+pub record FitsAll {D : Type 0} (g : Ghosts D) (wish : Wish) (wrote : List ℕ → Type 0) (wrong : Bool)
     (disk left : D) : Type 0 where
-  pub fits : Fits g list disk left
+  pub fits : Fits g wish disk left
   pub wrong_is : wrong ≡ fits.plan.wrong
   pub text : wrote (fit_text fits.plan)
   pub stands : g.keeps left → Stands (half_of g disk) (fitted fits.plan fits.changes fits.state) (g.reads left)

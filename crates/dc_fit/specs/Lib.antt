@@ -8,3 +8,7 @@ pub mod Fit
 pub mod Rows
 -- what a list of meters asks of a register
 pub mod Plan
+-- what a command that is given at the box asks of one
+pub mod Order
+-- either of both
+pub mod Wish

@@ -3,7 +3,6 @@
 use Rattle.std.specs.Prelude.{◌≡◌, ◌≢◌, ◌⊎◌, ℕ, ◌+◌, ◌==◌, Bool, true, false, ◌||◌, ◌&&◌, if◌then◌else◌, List, []}
 use Rattle.std.specs.Prelude.{◌∷◌, ◌++◌, codes, nat_le, Option, Some, None}
 use Rattle.std.specs.Str.{bytes_eq}
-use Rattle.dc_io.specs.Lines.{lines_of}
 use Rattle.dc_io.specs.Words.{number_word}
 use Rattle.dc_address.specs.Text.{text_of}
 use Rattle.dc_address.specs.declared.identity.Identity.{Identity}
@@ -40,9 +39,12 @@ use Rattle.dc_fit.specs.Rows.{AreReadAs, IsReadAs, header_text, row_text}
 abbrev pub command_of : Row → Command
 command_of row = Fit row.meter row.line row.address row.flat
 
--- its command, under the number after the last one
+-- a command under the number after the last one
+abbrev pub numbered : Command → State → Change
+numbered command s = Numbered (s.last_number + 1) command
+
 abbrev pub change_of : Row → State → Change
-change_of row s = Numbered (s.last_number + 1) (command_of row)
+change_of row s = numbered (command_of row) s
 
 abbrev pub same_address : Option ℕ → Option ℕ → Bool
 same_address None None = true
@@ -171,14 +173,24 @@ unfoldable pub holder_words : Option Identity → List ℕ
 holder_words None = []
 holder_words (Some meter) = text_of meter
 
+-- where a meter is registered
+unfoldable pub is_at_words : Identity → State → List ℕ
+is_at_words meter s = text_of meter ++ (mark_words IsAt ++ known_words (row_of meter s))
+
+-- which meter has a primary address on a bus line
+unfoldable pub taken_words : ℕ → Option ℕ → State → List ℕ
+taken_words line address s = mark_words AnAddress ++ (address_text address
+    ++ (mark_words IsThatOf ++ holder_words (holder_in line address s.meters)))
+
+unfoldable pub full_words : List ℕ
+full_words = codes "the image is full"
+
 unfoldable pub refusal_words : ChangeFault → Row → State → List ℕ
 refusal_words Unknown row s = []
-refusal_words Known row s = text_of row.meter ++ (mark_words IsAt
-    ++ known_words (row_of row.meter s))
-refusal_words AddressTaken row s = mark_words AnAddress ++ (address_text row.address
-    ++ (mark_words IsThatOf ++ holder_words (holder_in row.line row.address s.meters)))
+refusal_words Known row s = is_at_words row.meter s
+refusal_words AddressTaken row s = taken_words row.line row.address s
 refusal_words Beyond row s = []
-refusal_words Full row s = codes "the image is full"
+refusal_words Full row s = full_words
 
 unfoldable pub stands_words : Row → List ℕ
 stands_words row = text_of row.meter ++ codes " stands already"

@@ -12,7 +12,7 @@ ghost use Rattle.dc_fit.specs.Fit.{fit_text, Fits, FitsAll, IfDisk, IfOpen, IsBe
 ghost use Rattle.dc_fit.specs.Fit.{Lists, ListsAll, nothing_done};
 
 use crate::FitFault;
-use crate::list::{Plan, plan_on};
+use crate::list::{Plan, Wish, plan_wish};
 use dc_change::DecodeFault;
 use dc_concentrator::pending::write_changes;
 use dc_disk::Disk;
@@ -38,19 +38,19 @@ fn copy_of<A: Allocator + Copy>(alloc: A, house: &House<A>) -> Result<House<A>, 
     }
 }
 
-// Plans the list, says what comes of its rows, and writes it where none is wrong.
+// Plans what is asked, says what comes of it, and writes it where nothing is wrong.
 fn fit<D: Disk + Drop, A: Allocator + Copy, W: Sink>(
     alloc: A,
     store: &mut Store<D>,
     house: House<A>,
-    list: &[u8],
+    wish: &Wish<'_>,
     out: &mut W,
 ) -> Result<bool, FitFault>
     requires { house.budget ≡ budget_of (half_of D.Disk store.old.disk) }
-    ensures fitted { IfOk result (λ wrong. ListsAll D.Disk list.now house
+    ensures fitted { IfOk result (λ wrong. ListsAll D.Disk wish.now house
         (PutsInto W.Sink out.old out.new) wrong store.old store.new) }
     ensures broken { IfErr result (λ fault. IfDisk fault (λ e.
-        Lists D.Disk list.now house store.old store.new)) }
+        Lists D.Disk wish.now house store.old store.new)) }
     ensures before { IfErr result (λ fault. IsBefore fault → store.new ≡ store.old) }
     ensures opened { IfErr result (λ fault. IfOpen fault (λ e. ⊥)) }
     ensures write { IsErrOf result FitFault.Write
@@ -59,7 +59,7 @@ fn fit<D: Disk + Drop, A: Allocator + Copy, W: Sink>(
     ensures count { D.sectors store.new.disk ≡ D.sectors store.old.disk }
 {
     let copy = copy_of(alloc, &house)?;
-    let plan = plan_on(alloc, list, copy)?;
+    let plan = plan_wish(alloc, wish, copy)?;
     say(&plan, out)?;
     let is_wrong = plan.is_wrong();
     if is_wrong {
@@ -96,25 +96,26 @@ fn last_line(wrong: bool) -> &'static [u8]
     if wrong { b"nothing is done\n" } else { b"" }
 }
 
-/// Opens the image, fits the meters of a list, and closes it. The list is planned on the register first
-/// ([`plan_on`]), and what is said of its rows is written. Where one of them is wrong nothing is done, and the last
-/// line says so. Else the changes of the plan are written as one group; a row that stands already asks for none. The
-/// result is whether a row was wrong: at `false` each row stands. The disk is returned in every case.
+/// Opens the image, fits the meters of a list or does one command, and closes it. What is asked is planned on the
+/// register first ([`plan_wish`]), and what is said of it is written. Where a row or the command is wrong nothing is
+/// done, and the last line says so. Else the changes of the plan are written as one group; a row that stands already
+/// asks for none. The result is whether something was wrong: at `false` each row stands, and the command is done. The
+/// disk is returned in every case.
 ///
 /// # Errors
 /// [`FitFault::Open`], [`FitFault::NoMemory`] and [`FitFault::Write`] before anything is done; [`FitFault::Disk`] where
-/// the image couldn't be written: it has all of the list then, or nothing of it.
+/// the image couldn't be written: it has all that is asked then, or nothing of it.
 pub fn fit_on<D: Disk + Drop, A: Allocator + Copy, W: Sink>(
     alloc: A,
     disk: D,
-    list: &[u8],
+    wish: &Wish<'_>,
     out: &mut W,
 ) -> (D, Result<bool, FitFault>)
-    // Where each image of the disk stands for some state: all of the list is done, or nothing.
+    // Where each image of the disk stands for some state: all that is asked is done, or nothing.
     ensures fitted { IsStanding D.Disk disk → IfOk result.1 (λ wrong.
-        FitsAll D.Disk list.now (PutsInto W.Sink out.old out.new) wrong disk result.0) }
+        FitsAll D.Disk wish.now (PutsInto W.Sink out.old out.new) wrong disk result.0) }
     ensures broken { IsStanding D.Disk disk → IfErr result.1 (λ fault.
-        IfDisk fault (λ e. Fits D.Disk list.now disk result.0)) }
+        IfDisk fault (λ e. Fits D.Disk wish.now disk result.0)) }
     ensures before { IsStanding D.Disk disk → IfErr result.1 (λ fault.
         IsBefore fault → D.keeps result.0 → LeavesOnly D.Disk disk result.0
         (StandsForOne (half_of D.Disk disk) (D.choices disk))) }
@@ -138,7 +139,7 @@ pub fn fit_on<D: Disk + Drop, A: Allocator + Copy, W: Sink>(
     match Store::open::<House<A>>(alloc, disk) {
         Ok((store, house)) => {
             let mut store = store;
-            let fitted = fit(alloc, &mut store, house, list, out);
+            let fitted = fit(alloc, &mut store, house, wish, out);
             (store.close(), fitted)
         }
         Err((fault, disk)) => (disk, Err(FitFault::Open(fault))),

@@ -10,6 +10,7 @@ use Rattle.dc_log.specs.declared.fault.OpenFault.TheVariants.{NotImage}
 use Rattle.dc_record.specs.Text.{day_text}
 use Rattle.dc_office.specs.DueTable.{due_text}
 use Rattle.dc_office.specs.RegisterTable.{register_text}
+use Rattle.dc_json.specs.Journal.{Notes}
 use Rattle.dc_json.specs.Report.{due_lines, register_lines}
 use Rattle.dc_json.specs.Values.{values_lines}
 use Rattle.dc_json.specs.LatestValues.{values_text}
@@ -38,10 +39,10 @@ abbrev pub values_in : Form → State → List ℕ
 values_in Text state = values_text state
 values_in Json state = values_lines state
 
-abbrev pub status_in : StatusForm → Clock → Held → List ℕ
-status_in Lines clock house = status_text clock.patience clock.now house
-status_in Objects clock house = status_objects clock.patience clock.now house
-status_in Metrics clock house = metrics_text clock.patience clock.now house
+abbrev pub status_in : StatusForm → Clock → Notes → Held → List ℕ
+status_in Lines clock journal house = status_text clock.patience clock.now journal house
+status_in Objects clock journal house = status_objects clock.patience clock.now journal house
+status_in Metrics clock journal house = metrics_text clock.patience clock.now journal house
 
 abbrev pub table_text : Form → Report → State → List ℕ
 table_text Text Register state = register_text state
@@ -49,16 +50,16 @@ table_text Text (Due date) state = due_text date state
 table_text Json Register state = register_lines state
 table_text Json (Due date) state = due_lines date state
 
--- what is printed of the register of a state
-abbrev pub house_text : Asked → Held → List ℕ
-house_text Contents house = []
-house_text (Values form) house = values_in form house.state
-house_text (Status form clock) house = status_in form clock house
-house_text (Table report form) house = table_text form report house.state
+-- what is printed of the register of a state, beside a journal
+abbrev pub house_text : Asked → Notes → Held → List ℕ
+house_text Contents journal house = []
+house_text (Values form) journal house = values_in form house.state
+house_text (Status form clock) journal house = status_in form clock journal house
+house_text (Table report form) journal house = table_text form report house.state
 
-abbrev pub seen_house : Asked → ℕ → Option Seen → List ℕ
-seen_house asked budget None = []
-seen_house asked budget (Some seen) = house_text asked (record { state = seen.state; budget = budget })
+abbrev pub seen_house : Asked → Notes → ℕ → Option Seen → List ℕ
+seen_house asked journal budget None = []
+seen_house asked journal budget (Some seen) = house_text asked journal (record { state = seen.state; budget = budget })
 
 -- and of the image
 abbrev pub contents_text : Asked → ℕ → Slot → Slot → Option Seen → Outlook → List ℕ
@@ -76,12 +77,12 @@ small_text (Status form clock) sectors = []
 small_text (Table report form) sectors = []
 
 -- whether a meter is silent; only who asks for the status hears of it
-abbrev pub is_silent : Asked → Option Seen → Bool
-is_silent asked None = false
-is_silent Contents (Some seen) = false
-is_silent (Values form) (Some seen) = false
-is_silent (Status form clock) (Some seen) = any_silent clock.patience clock.now seen.state
-is_silent (Table report form) (Some seen) = false
+abbrev pub is_silent : Asked → Notes → Option Seen → Bool
+is_silent asked journal None = false
+is_silent Contents journal (Some seen) = false
+is_silent (Values form) journal (Some seen) = false
+is_silent (Status form clock) journal (Some seen) = any_silent clock.patience clock.now journal seen.state
+is_silent (Table report form) journal (Some seen) = false
 
 pub record IsSmall (asked : Asked) (sectors : ℕ) (text : List ℕ) (outlook : Outlook) (silent : Bool)
     : Type 0 where
@@ -90,7 +91,7 @@ pub record IsSmall (asked : Asked) (sectors : ℕ) (text : List ℕ) (outlook : 
   pub outlook_is : outlook ≡ no_image
   pub silent_is : silent ≡ false
 
-pub record IsSeen (asked : Asked) (sectors : ℕ) (greatest : Greatest) (image : Image) (text : List ℕ)
+pub record IsSeen (asked : Asked) (journal : Notes) (sectors : ℕ) (greatest : Greatest) (image : Image) (text : List ℕ)
     (outlook : Outlook) (silent : Bool) : Type 0 where
   pub enough : fewest_sectors ≤ sectors
   pub first : Slot
@@ -100,11 +101,11 @@ pub record IsSeen (asked : Asked) (sectors : ℕ) (greatest : Greatest) (image :
   pub seen : Option Seen
   pub look : IsLook (half_len_of sectors) greatest image seen outlook
   pub text_is : text ≡ contents_text asked sectors first second seen outlook
-      ++ seen_house asked (budget_of (half_len_of sectors)) seen
-  pub silent_is : silent ≡ is_silent asked seen
+      ++ seen_house asked journal (budget_of (half_len_of sectors)) seen
+  pub silent_is : silent ≡ is_silent asked journal seen
 
 -- WHAT IS PRINTED of a disk of this many sectors with that image, what opening would make of it, and whether a meter is
 -- silent; `greatest` is what a scan of the halves found
-abbrev pub IsAnswer : Asked → ℕ → Greatest → Image → List ℕ → Outlook → Bool → Type 0
-IsAnswer asked sectors greatest image text outlook silent =
-    IsSmall asked sectors text outlook silent ⊎ IsSeen asked sectors greatest image text outlook silent
+abbrev pub IsAnswer : Asked → Notes → ℕ → Greatest → Image → List ℕ → Outlook → Bool → Type 0
+IsAnswer asked journal sectors greatest image text outlook silent =
+    IsSmall asked sectors text outlook silent ⊎ IsSeen asked journal sectors greatest image text outlook silent

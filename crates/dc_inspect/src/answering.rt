@@ -19,6 +19,7 @@ use crate::text::{put_image, put_number_line, put_small};
 use dc_disk::{Disk, Failed};
 use dc_ending::ProgramFault;
 use dc_io::{Bytes, IoFault, NoMemory, Sink};
+use dc_json::journal::Journal;
 use dc_json::latest::put_values;
 use dc_json::status::{Clock, any_silent, put_metrics, put_status, put_status_objects};
 use dc_json::{due_json, register_json, values_json};
@@ -53,14 +54,15 @@ fn put_status_in<A: Allocator + Copy, W: Sink>(
     out: &mut W,
     form: StatusForm,
     clock: Clock,
+    journal: &Journal<A>,
     house: &House<A>,
 ) -> Result<(), IoFault>
-    ensures { Wrote W.Sink result out.old out.new (status_in form clock house.now) }
+    ensures { Wrote W.Sink result out.old out.new (status_in form clock journal.now house.now) }
 {
     match form {
-        StatusForm::Text => put_status(out, house, clock),
-        StatusForm::Json => put_status_objects(out, house, clock),
-        StatusForm::Metrics => put_metrics(out, house, clock),
+        StatusForm::Text => put_status(out, house, clock, journal),
+        StatusForm::Json => put_status_objects(out, house, clock, journal),
+        StatusForm::Metrics => put_metrics(out, house, clock, journal),
     }
 }
 
@@ -85,10 +87,12 @@ fn table_of<A: Allocator + Copy>(
 fn add_house<A: Allocator + Copy>(
     alloc: A,
     asked: &Asked,
+    journal: &Journal<A>,
     house: &House<A>,
     text: &mut Bytes<A>,
 ) -> Result<(), NoMemory>
-    ensures { OnOk result (text.new.bytes ≡ text.old.bytes ++ house_text asked.now house.now) }
+    ensures { OnOk result (text.new.bytes
+        ≡ text.old.bytes ++ house_text asked.now journal.now house.now) }
 {
     match asked {
         Asked::Contents => Ok(()),
@@ -97,7 +101,7 @@ fn add_house<A: Allocator + Copy>(
             let lines = values_json(alloc, house)?;
             kept(text.put(lines.as_slice()))
         }
-        Asked::Status(form, clock) => kept(put_status_in(text, *form, *clock, house)),
+        Asked::Status(form, clock) => kept(put_status_in(text, *form, *clock, journal, house)),
         Asked::Table(report, form) => {
             let table = table_of(alloc, house, *report, *form)?;
             kept(text.put(table.as_slice()))
@@ -129,11 +133,11 @@ fn add_contents<A: Allocator + Copy>(
 }
 
 // Whether a meter is silent, if the status is asked for.
-fn has_silent<A: Allocator + Copy>(asked: &Asked, look: &Look<A>) -> bool
-    ensures { result ≡ is_silent asked.now (option_map seen_of look.now.found) }
+fn has_silent<A: Allocator + Copy>(asked: &Asked, journal: &Journal<A>, look: &Look<A>) -> bool
+    ensures { result ≡ is_silent asked.now journal.now (option_map seen_of look.now.found) }
 {
     match (&look.found, asked) {
-        (Some(found), Asked::Status(_, clock)) => any_silent(&found.house, *clock),
+        (Some(found), Asked::Status(_, clock)) => any_silent(&found.house, *clock, journal),
         (Some(_), Asked::Contents | Asked::Values(_) | Asked::Table(..)) => false,
         (None, _) => false,
     }
@@ -144,6 +148,7 @@ fn answer_of<A: Allocator + Copy>(
     alloc: A,
     sectors: u32,
     asked: &Asked,
+    journal: &Journal<A>,
     slots: &Slots,
     look: &Look<A>,
 ) -> Result<Bytes<A>, NoMemory>
@@ -152,12 +157,12 @@ fn answer_of<A: Allocator + Copy>(
     ensures { IfOk result (λ text. text.bytes
         ≡ contents_text asked.now sectors slots.now.first slots.now.second (option_map seen_of look.now.found)
         look.now.outlook
-        ++ seen_house asked.now (budget_of (half_len_of sectors)) (option_map seen_of look.now.found)) }
+        ++ seen_house asked.now journal.now (budget_of (half_len_of sectors)) (option_map seen_of look.now.found)) }
 {
     let mut text = Bytes::new(alloc);
     kept(add_contents(asked, sectors, slots, look, &mut text))?;
     match &look.found {
-        Some(found) => add_house(alloc, asked, &found.house, &mut text)?,
+        Some(found) => add_house(alloc, asked, journal, &found.house, &mut text)?,
         None => {}
     }
     Ok(text)
@@ -182,11 +187,12 @@ fn answer_image<A: Allocator + Copy, D: Disk>(
     sectors: u32,
     greatest: &Greatest,
     asked: &Asked,
+    journal: &Journal<A>,
 ) -> Result<Shown<A>, ProgramFault>
     requires sectors { sectors ≡ D.sectors disk.old }
     requires enough { fewest_sectors ≤ sectors }
-    ensures told { D.keeps disk.new → IfOk result (λ answer. IsSeen asked.now sectors greatest.now (D.reads disk.old)
-        answer.text.bytes answer.outlook answer.is_silent) }
+    ensures told { D.keeps disk.new → IfOk result (λ answer. IsSeen asked.now journal.now sectors greatest.now
+        (D.reads disk.old) answer.text.bytes answer.outlook answer.is_silent) }
     ensures looked { OnlyLooked D.Disk disk.old disk.new }
     ensures ends { EndsLook D.Disk disk.old disk.new result }
 {
@@ -195,9 +201,9 @@ fn answer_image<A: Allocator + Copy, D: Disk>(
         Err(Failed) => return Err(ProgramFault::Open(OpenFault::Device)),
     };
     let look = look_at(alloc, disk, half_len_of(sectors), greatest)?;
-    let is_silent = has_silent(asked, &look);
+    let is_silent = has_silent(asked, journal, &look);
     let outlook = look.outlook;
-    match answer_of(alloc, sectors, asked, &slots, &look) {
+    match answer_of(alloc, sectors, asked, journal, &slots, &look) {
         Ok(text) => Ok(Shown {
             text,
             outlook,
@@ -232,7 +238,7 @@ pub fn scan<D: Disk>(disk: &mut D) -> Result<Greatest, ProgramFault>
 }
 
 /// Looks at an image: reads the root slots and the state that the image reads as, each sector of the chain once, and
-/// returns the text of what is asked. Nothing is written to the disk and nothing is synced, not even the next root. Of an
+/// returns the text of what is asked; of the status with what the journal says. Nothing is written to the disk and nothing is synced, not even the next root. Of an
 /// image that can't be read the text says why, or is empty.
 ///
 /// # Errors
@@ -242,10 +248,11 @@ pub fn answer<A: Allocator + Copy, D: Disk>(
     disk: &mut D,
     greatest: &Greatest,
     asked: Asked,
+    journal: &Journal<A>,
 ) -> Result<Shown<A>, ProgramFault>
     // The text states what the image reads as and a sector that is ahead of it, or the image's one refusal.
-    ensures told { D.keeps disk.new → IfOk result (λ answer. IsAnswer asked (D.sectors disk.old) greatest.now
-        (D.reads disk.old) answer.text.bytes answer.outlook answer.is_silent) }
+    ensures told { D.keeps disk.new → IfOk result (λ answer. IsAnswer asked journal.now (D.sectors disk.old)
+        greatest.now (D.reads disk.old) answer.text.bytes answer.outlook answer.is_silent) }
 
     // The disk reads as before, and so does what a stop at any moment leaves.
     ensures looked { OnlyLooked D.Disk disk.old disk.new }
@@ -256,7 +263,7 @@ pub fn answer<A: Allocator + Copy, D: Disk>(
 {
     let sectors = disk.count();
     if sectors >= FEWEST_SECTORS {
-        return answer_image(alloc, disk, sectors, greatest, &asked);
+        return answer_image(alloc, disk, sectors, greatest, &asked, journal);
     }
     match answer_small(alloc, sectors, asked) {
         Ok(text) => Ok(Shown {

@@ -12,3 +12,9 @@ pub mod Days
 
 -- what silence and room mean
 mod Room
+-- of the module `journal`
+
+-- lines, one after the other
+mod Adding
+-- the words of events
+mod Events

@@ -23,8 +23,9 @@ pub lasting : DaysLast
 lasting budget now count s within is = fits budget (size_of s) (bytes_a_day now s (first_moment s)) count within (left_is _ _ count is)
 
 pub silent : SilentWasNotHeard
-silent patience now confirmed moment is = grind (arith, nat_tests)
+silent patience now confirmed moment failing is = grind (arith, nat_tests)
 
 pub lasts : SilenceLasts
-lasts patience now later confirmed None le is = is
-lasts patience now later confirmed (Some moment) le is = grind (arith, nat_tests)
+lasts patience now later confirmed None None le is = is
+lasts patience now later confirmed (Some since) None le is = grind (arith, nat_tests)
+lasts patience now later confirmed failing (Some moment) le is = grind (arith, nat_tests)

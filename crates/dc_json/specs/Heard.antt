@@ -1,6 +1,6 @@
 -- When a meter was last heard (this product): the newest part of it that the image holds, in a reading or in a readout
 -- that isn't finished.
-use Rattle.std.specs.Prelude.{ℕ, ◌-◌, max, Bool, ◌==◌, nat_lt, List, length, slice_get}
+use Rattle.std.specs.Prelude.{ℕ, ◌-◌, max, Bool, false, ◌||◌, ◌==◌, nat_lt, List, length, slice_get}
 use Rattle.std.specs.Prelude.{Option, None, Some}
 use Rattle.dc_address.specs.declared.identity.Identity.{Identity}
 use Rattle.dc_change.specs.State.{State, MeterRow, ReadingRow, PartRow, row_of}
@@ -37,8 +37,14 @@ heard s meter = later (moment_of (open_part (row_of meter s)))
 abbrev pub ago : ℕ → ℕ → ℕ
 ago now moment = now - moment
 
--- SILENT: not heard for longer than that. Where nothing of it is held, it was never read if the office has confirmed
--- nothing yet; else that isn't known, and it isn't called silent.
-abbrev pub is_silent : ℕ → ℕ → ℕ → Option ℕ → Bool
-is_silent patience now confirmed None = confirmed == 0
-is_silent patience now confirmed (Some moment) = nat_lt patience (ago now moment)
+-- since a moment longer than that
+abbrev pub is_long : ℕ → ℕ → Option ℕ → Bool
+is_long patience now None = false
+is_long patience now (Some moment) = nat_lt patience (ago now moment)
+
+-- SILENT: not heard for longer than that. Where nothing of it is known, it was never read if the office has confirmed
+-- nothing yet, or if its readouts have failed for longer than that, by the journal; else that isn't known, and it isn't
+-- called silent.
+abbrev pub is_silent : ℕ → ℕ → ℕ → Option ℕ → Option ℕ → Bool
+is_silent patience now confirmed failing None = confirmed == 0 || is_long patience now failing
+is_silent patience now confirmed failing (Some moment) = nat_lt patience (ago now moment)

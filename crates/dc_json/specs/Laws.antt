@@ -7,13 +7,14 @@ use Rattle.dc_json.specs.Status.{bytes_a_day, bytes_a_reading, days_left, first_
 
 -- A silent meter of which something is held wasn't heard within the time.
 abbrev pub SilentWasNotHeard : Type 0
-SilentWasNotHeard = (patience now confirmed moment : ℕ)
-    → is_silent patience now confirmed (Some moment) ≡ true → moment + patience < now
+SilentWasNotHeard = (patience now confirmed moment : ℕ) (failing : Option ℕ)
+    → is_silent patience now confirmed failing (Some moment) ≡ true → moment + patience < now
 
 -- Who is silent stays silent until something of it comes.
 abbrev pub SilenceLasts : Type 0
-SilenceLasts = (patience now later confirmed : ℕ) (heard : Option ℕ) → now ≤ later
-    → is_silent patience now confirmed heard ≡ true → is_silent patience later confirmed heard ≡ true
+SilenceLasts = (patience now later confirmed : ℕ) (failing heard : Option ℕ) → now ≤ later
+    → is_silent patience now confirmed failing heard ≡ true
+    → is_silent patience later confirmed failing heard ≡ true
 
 -- ROOM: so many more readings of the size of those that are held keep the state within its budget.
 abbrev pub RoomIsEnough : Type 0

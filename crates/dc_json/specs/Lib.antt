@@ -28,3 +28,11 @@ pub mod Object
 pub mod Metrics
 -- what SILENT, ROOM and DAYS mean
 pub mod Laws
+-- of the module `journal`
+
+-- the lines of a journal
+pub mod Entry
+-- what is noted of a meter
+pub mod Noted
+-- what a journal says of the meters
+pub mod Journal

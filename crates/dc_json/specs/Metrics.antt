@@ -8,6 +8,7 @@ use Rattle.dc_change.specs.Size.{size_of}
 use Rattle.dc_change.specs.State.{State, Held}
 use Rattle.dc_register.specs.Places.{by_flat}
 use Rattle.dc_register.specs.declared.place.Place.{Place}
+use Rattle.dc_json.specs.Journal.{Notes}
 use Rattle.dc_json.specs.Row.{row_at}
 use Rattle.dc_json.specs.Status.{readings_left}
 use Rattle.dc_json.specs.declared.status.row.Row.{Row}
@@ -51,18 +52,18 @@ sample_of name row (Some value) = name
     ++ (labels_of row ++ (codes "\"}" ++ (number_word value ++ codes "\n")))
 
 -- at a clock
-abbrev pub meter_sample : Metric → ℕ → ℕ → State → Place → List ℕ
-meter_sample metric patience now s place =
-    sample_of (name_of metric) (row_at patience now s place) (value_of metric (row_at patience now s place))
+abbrev pub meter_sample : Metric → ℕ → ℕ → Notes → State → Place → List ℕ
+meter_sample metric patience now journal s place =
+    sample_of (name_of metric) (row_at patience now journal s place) (value_of metric (row_at patience now journal s place))
 
-unfoldable pub meter_samples : Metric → ℕ → ℕ → State → List ℕ
-meter_samples metric patience now s =
-    flat_map (meter_sample metric patience now s) (by_flat s.meters)
+unfoldable pub meter_samples : Metric → ℕ → ℕ → Notes → State → List ℕ
+meter_samples metric patience now journal s =
+    flat_map (meter_sample metric patience now journal s) (by_flat s.meters)
 
 -- A METRIC OF THE METERS at a clock
-unfoldable pub metric_text : Metric → ℕ → ℕ → State → List ℕ
-metric_text metric patience now s =
-    head_of (name_of metric) (help_of metric) ++ meter_samples metric patience now s
+unfoldable pub metric_text : Metric → ℕ → ℕ → Notes → State → List ℕ
+metric_text metric patience now journal s =
+    head_of (name_of metric) (help_of metric) ++ meter_samples metric patience now journal s
 
 -- ---- of the image
 
@@ -81,8 +82,8 @@ image_text budget s =
     (readings_left budget s))
 
 -- THE METRICS at a clock, where a meter is silent after so many seconds
-unfoldable pub metrics_text : ℕ → ℕ → Held → List ℕ
-metrics_text patience now house = metric_text Silent patience now house.state
-    ++ (metric_text Age patience now house.state
-    ++ (metric_text Code patience now house.state
+unfoldable pub metrics_text : ℕ → ℕ → Notes → Held → List ℕ
+metrics_text patience now journal house = metric_text Silent patience now journal house.state
+    ++ (metric_text Age patience now journal house.state
+    ++ (metric_text Code patience now journal house.state
     ++ image_text house.budget house.state))

@@ -1,19 +1,21 @@
 -- The lines of `status` as JSON objects (RFC 8259; this product), a line each.
-use Rattle.std.specs.Prelude.{ℕ, List, [], ◌∷◌, ◌++◌, codes, Option, None, Some}
+use Rattle.std.specs.Prelude.{ℕ, Bool, true, false, List, [], ◌∷◌, ◌++◌, codes, Option, None, Some}
 use Rattle.std.specs.List.{flat_map}
 use Rattle.json.specs.Json.{Json, string, boolean, null}
 use Rattle.dc_change.specs.Size.{size_of}
 use Rattle.dc_change.specs.State.{State, Held}
 use Rattle.dc_register.specs.Places.{by_flat}
 use Rattle.dc_register.specs.declared.place.Place.{Place}
-use Rattle.dc_tokens.specs.Object.{object_of, count}
+use Rattle.dc_tokens.specs.Object.{Field, object_of, count}
 use Rattle.dc_frame_json.specs.Meter.{identity_fields, status_fields}
 use Rattle.dc_frame_json.specs.Record.{value_json}
 use Rattle.dc_frame_json.specs.Text.{value_line}
 use Rattle.dc_json.specs.Utc.{minute_of}
+use Rattle.dc_json.specs.Journal.{Notes}
 use Rattle.dc_json.specs.Row.{row_at}
-use Rattle.dc_json.specs.Status.{days_left, readings_left}
+use Rattle.dc_json.specs.Status.{days_left, failure_name, readings_left}
 use Rattle.dc_json.specs.declared.status.row.Row.{Row}
+use Rattle.dc_json.specs.declared.status.row.Told.{Told}
 
 -- a number, or null
 abbrev pub maybe_json : Option ℕ → Json
@@ -30,6 +32,26 @@ abbrev pub state_json : Option ℕ → Json
 state_json None = null
 state_json (Some status) = object_of (status_fields status)
 
+-- where the reading comes from
+abbrev pub source_json : Bool → Option ℕ → Json
+source_json true heard = string (codes "journal")
+source_json false None = null
+source_json false (Some moment) = string (codes "image")
+
+abbrev pub failure_json : Option ℕ → ℕ → Json
+failure_json None number = null
+failure_json (Some moment) number = string (failure_name number)
+
+-- what the journal adds, where there is one
+abbrev pub told_fields : Option Told → Option ℕ → List Field
+told_fields None heard = []
+told_fields (Some told) heard =
+    (codes "from", source_json told.is_noted heard)
+    ∷ (codes "failed", maybe_json told.failed)
+    ∷ (codes "failed_utc", utc_json told.failed)
+    ∷ (codes "failure", failure_json told.failed told.number)
+    ∷ []
+
 -- THE OBJECT OF A METER
 unfoldable pub row_object : Row → List ℕ
 row_object row = value_line (object_of (
@@ -40,14 +62,14 @@ row_object row = value_line (object_of (
     ∷ (codes "age", maybe_json row.age)
     ∷ (codes "silent", boolean row.is_silent)
     ∷ (codes "status", state_json row.status)
-    ∷ []))
+    ∷ told_fields row.told row.heard))
 
 -- that of a meter at a clock, which is silent after so many seconds
-abbrev pub object_at : ℕ → ℕ → State → Place → List ℕ
-object_at patience now s place = row_object (row_at patience now s place)
+abbrev pub object_at : ℕ → ℕ → Notes → State → Place → List ℕ
+object_at patience now journal s place = row_object (row_at patience now journal s place)
 
-unfoldable pub row_objects : ℕ → ℕ → State → List ℕ
-row_objects patience now s = flat_map (object_at patience now s) (by_flat s.meters)
+unfoldable pub row_objects : ℕ → ℕ → Notes → State → List ℕ
+row_objects patience now journal s = flat_map (object_at patience now journal s) (by_flat s.meters)
 
 -- how full the image is
 unfoldable pub image_object : ℕ → ℕ → State → List ℕ
@@ -59,6 +81,6 @@ image_object budget now s = value_line (object_of (
     ∷ []))
 
 -- THE OBJECTS at a clock
-unfoldable pub status_objects : ℕ → ℕ → Held → List ℕ
-status_objects patience now house = row_objects patience now house.state
+unfoldable pub status_objects : ℕ → ℕ → Notes → Held → List ℕ
+status_objects patience now journal house = row_objects patience now journal house.state
     ++ image_object house.budget now house.state

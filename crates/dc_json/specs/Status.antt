@@ -12,9 +12,15 @@ use Rattle.dc_register.specs.Places.{by_flat}
 use Rattle.dc_register.specs.declared.place.Place.{Place}
 use Rattle.dc_json.specs.Utc.{minute_of}
 use Rattle.dc_json.specs.LatestValues.{bits_words}
-use Rattle.dc_json.specs.Heard.{ago, heard, is_silent, moment_of}
+use Rattle.dc_json.specs.Heard.{ago, moment_of}
+use Rattle.dc_json.specs.Journal.{Notes}
 use Rattle.dc_json.specs.Row.{row_at}
+use Rattle.dc_readout.specs.Why.{name_of}
+use Rattle.dc_readout.specs.declared.why.Why.TheVariants.{NoAnswer, WrongFrame, WrongAddress}
+use Rattle.dc_readout.specs.declared.why.Why.TheVariants.{ApplicationError, Content, Stranger, TooManyParts}
+use Rattle.dc_record.specs.declared.fault.BodyFault.TheVariants.{Short}
 use Rattle.dc_json.specs.declared.status.row.Row.{Row}
+use Rattle.dc_json.specs.declared.status.row.Told.{Told}
 
 -- ---- the line of a meter
 
@@ -40,10 +46,37 @@ state_words (Some status) = byte_words status
 unfoldable pub meter_words : Row → List ℕ
 meter_words row = codes "METER " ++ (row.flat ++ (codes " " ++ text_of row.meter))
 
+-- the reading is the journal's
+abbrev pub source_words : Option Told → List ℕ
+source_words None = []
+source_words (Some told) = if told.is_noted then codes " JOURNAL" else []
+
+-- the name of a failure by its number
+unfoldable pub failure_name : ℕ → List ℕ
+failure_name number =
+    if number == 1 then name_of NoAnswer else
+    if number == 2 then name_of WrongFrame else
+    if number == 3 then name_of WrongAddress else
+    if number == 4 then name_of ApplicationError else
+    if number == 5 then name_of (Content Short) else
+    if number == 6 then name_of Stranger else
+    if number == 7 then name_of TooManyParts else codes "Other"
+
+unfoldable pub failed_line : Option ℕ → ℕ → List ℕ
+failed_line None number = []
+failed_line (Some moment) number = codes "FAILED " ++ (value_text (minute_of moment)
+    ++ (codes "Z" ++ (number_word number ++ (codes " " ++ (failure_name number ++ codes "\n")))))
+
+-- the last failed readout since
+unfoldable pub failed_text : Option Told → List ℕ
+failed_text None = []
+failed_text (Some told) = failed_line told.failed told.number
+
 unfoldable pub row_text : Row → List ℕ
 row_text row = meter_words row
     ++ (heard_words row.heard row.age
-    ++ (silent_words row.is_silent ++ (state_words row.status ++ codes "\n")))
+    ++ (silent_words row.is_silent ++ (state_words row.status
+    ++ (source_words row.told ++ (codes "\n" ++ failed_text row.told)))))
 
 -- ---- how full it is
 
@@ -99,21 +132,20 @@ room_words readings = number_line (codes "ROOM") readings
 -- ---- all
 
 -- a meter at a clock, which is silent after so many seconds
-abbrev pub row_line : ℕ → ℕ → State → Place → List ℕ
-row_line patience now s place = row_text (row_at patience now s place)
+abbrev pub row_line : ℕ → ℕ → Notes → State → Place → List ℕ
+row_line patience now journal s place = row_text (row_at patience now journal s place)
 
-unfoldable pub row_lines : ℕ → ℕ → State → List ℕ
-row_lines patience now s = flat_map (row_line patience now s) (by_flat s.meters)
+unfoldable pub row_lines : ℕ → ℕ → Notes → State → List ℕ
+row_lines patience now journal s = flat_map (row_line patience now journal s) (by_flat s.meters)
 
 -- THE TEXT at a clock, where a meter is silent after so many seconds
-unfoldable pub status_text : ℕ → ℕ → Held → List ℕ
-status_text patience now house = row_lines patience now house.state
+unfoldable pub status_text : ℕ → ℕ → Notes → Held → List ℕ
+status_text patience now journal house = row_lines patience now journal house.state
     ++ (size_line house.budget house.state
     ++ (days_words (days_left house.budget now house.state)
     ++ room_words (readings_left house.budget house.state)))
 
 -- one of them is silent
-abbrev pub any_silent : ℕ → ℕ → State → Bool
-any_silent patience now s =
-    list_any (λ (place : Place). is_silent patience now s.confirmed (heard s place.meter))
-    (by_flat s.meters)
+abbrev pub any_silent : ℕ → ℕ → Notes → State → Bool
+any_silent patience now journal s =
+    list_any (λ (place : Place). (row_at patience now journal s place).is_silent) (by_flat s.meters)

@@ -13,6 +13,7 @@
 mod also;
 mod explain;
 mod grown;
+pub mod journal;
 pub mod latest;
 mod place;
 mod report;

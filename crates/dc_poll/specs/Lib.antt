@@ -50,6 +50,8 @@ pub mod Unfailing
 pub mod Tally
 -- what the tellers make of all events of a poll
 pub mod Printed
+-- the lines of an image's journal
+pub mod Note
 -- of the module `dry`
 
 -- what a poll would do

@@ -3,9 +3,11 @@
 //! [`TextTeller`] prints a line of text for each event, [`JsonTeller`] a JSON object (RFC 8259);
 //! `specs/Text.antt` and `specs/Object.antt` define them. The object of a meter that was read has what its last
 //! telegram reports. [`Unfailing`] goes on without output where another teller fails. [`Progress`] shows a terminal
-//! how many meters are done with, and [`put_reason`] writes what the failed tries of a readout brought.
+//! how many meters are done with, and [`put_reason`] writes what the failed tries of a readout brought. [`put_note`]
+//! writes the line of an event in an image's journal; what takes such lines ([`Notes`]) changes nothing of the poll.
 
 mod laws;
+mod note;
 mod objects;
 mod progress;
 mod read;
@@ -17,6 +19,7 @@ mod unfailing;
 pub use laws::{
     events_are_printed_as_json, events_are_printed_as_text, events_are_taken_up_to_a_failure,
 };
+pub use note::{Notes, put_command_note, put_note};
 pub use objects::{JsonTeller, put_object};
 pub use progress::{Progress, Shown};
 pub use reason::put_reason;

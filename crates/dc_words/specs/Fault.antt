@@ -1,7 +1,7 @@
 -- What is wrong with the words (this product).
 use Rattle.dc_words.specs.declared.fault.WordsFault.{WordsFault}
 use Rattle.dc_words.specs.declared.fault.WordsFault.TheVariants.{Clap, Link, Meter, NoLink}
-use Rattle.dc_words.specs.declared.fault.WordsFault.TheVariants.{Boundaries, Silence, Dash, NoMemory}
+use Rattle.dc_words.specs.declared.fault.WordsFault.TheVariants.{Boundaries, Silence, Dash, Flat, Address, NoMemory}
 
 -- what is said where they are a mistake of which `clap` knows nothing
 abbrev pub IfMistake : WordsFault → Type 0 → Type 0
@@ -12,4 +12,6 @@ IfMistake NoLink said = said
 IfMistake Boundaries said = said
 IfMistake Silence said = said
 IfMistake Dash said = said
+IfMistake Flat said = said
+IfMistake Address said = said
 IfMistake NoMemory said = Unit {0}

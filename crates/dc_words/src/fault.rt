@@ -50,6 +50,10 @@ pub enum WordsFault {
     Silence,
     /// `-` for a file that can't be standard input.
     Dash,
+    /// A word that has to be a flat isn't.
+    Flat,
+    /// A word that has to be an address of the register isn't.
+    Address,
     /// Out of memory.
     NoMemory,
 }

@@ -30,6 +30,9 @@ Bill:
 Maintain:
   format   Makes an image that holds an empty register
   fit      Adds the meters of a list to an image's register, all of them or none
+  swap     Replaces a registered meter by another at the same place
+  move     Gives a registered meter another flat
+  out      Removes a meter from an image's register
   copy     Copies an image as it is at one instant, also while mbdc writes it
   rescue   Writes what an image reads as, or what is left of it, to a new image
   address  Gives one meter on one bus another primary address
@@ -187,9 +190,11 @@ pub const STATUS: &str = "Example:
 
 Printed, for each registered meter by flat: METER flat ident, the minute (UTC)
   at which it was last heard and the seconds since, or NONE where nothing of it
-  is held; SILENT where that is longer ago than TIME; and the status byte of its
-  last reading in words. Then SIZE bytes most; DAYS n: in n days the image is
-  full at this pace; ROOM n: n more readings fit
+  is held; SILENT where that is longer ago than TIME; the status byte of its
+  last reading in words; JOURNAL where IMAGE.journal has a later reading. After
+  it FAILED minute n Name where the last readout since then failed. Then SIZE
+  bytes most; DAYS n: in n days the image is full at this pace; ROOM n: n more
+  readings fit
 A meter of which nothing is held is silent as long as the office has confirmed
 no reading. Nothing is written, and the image may be open in another mbdc.
 Status: 0 no meter is silent, 1 one is, 3 the image, 4 a file or memory.";
@@ -199,10 +204,11 @@ pub const FIT: &str = "Example:
   mbdc fit house.image meters.csv
 
 Lines of the list; a comma, a semicolon, a tab or a space ends a field:
-  meter,line,address,flat    the first line
+  meter,line,address,flat    the first line; its columns may have any order
   12345678.PAD.01.07,1,2,A1  identity, bus line 1 to 8, primary address 1 to
                              250, flat of 1 to 12 of A-Z a-z 0-9 . - / _
   18034063.PAD.49.06,1,S,A2  S or nothing: secondary addressing
+Other columns are left out; what report IMAGE register prints is a list, too.
 All rows are checked before the first is done. Printed of each row:
   line i: n FIT ident line addr flat  a new meter: its command and its number
   line i: ident stands already        the register has it at this place
@@ -211,6 +217,35 @@ The whole list is written at once: after a power cut all of it is done, or
 nothing.
 Status: 0 every meter stands, 1 a row is wrong, 3 the image or its disk, 4 a
   file or memory.";
+
+/// Of `swap`.
+pub const SWAP: &str = "Example:
+  mbdc swap house.image 12345678 87654321.PAD.01.07 --flat A1
+
+The new meter gets bus line and flat of the old one; the readings of the old one
+stay. Printed is the command, n SWAP old new addr, n being its number; where it
+is refused, why, and that nothing is done. A number alone is the registered
+meter that has it. At a terminal, standard error says first what is done.
+Status: 0 done, 1 refused, 2 the words, 3 the image or its disk, 4 a file or
+  memory.";
+
+/// Of `move`.
+pub const MOVE: &str = "Example:
+  mbdc move house.image 12345678 B2
+
+Readings that are held keep the flat that they have. Printed is the command,
+n MOVE ident flat, or why it is refused, as of swap.
+Status: 0 done, 1 refused, 2 the words, 3 the image or its disk, 4 a file or
+  memory.";
+
+/// Of `out`.
+pub const OUT: &str = "Example:
+  mbdc out house.image 12345678
+
+Readings that are held stay; the parts of a readout that isn't finished go.
+Printed is the command, n OUT ident, or why it is refused, as of swap.
+Status: 0 done, 1 refused, 2 the words, 3 the image or its disk, 4 a file or
+  memory.";
 
 /// Of `copy`.
 pub const COPY: &str = "Example:
@@ -301,6 +336,9 @@ meter begins its readout anew afterwards; nothing is stored. On a terminal,
 standard error shows how far it is, and each meter as it answers, with its
 medium and value. Where answers were no frame, a line on standard error counts
 them at the end.
+--csv N prints a list of bus line N that fit takes once its flats are filled in:
+  meter,line,address,flat,medium,value
+All else that was found goes to standard error then. --json: an object a meter.
 Nobody answers: is the bus powered, are speed and parity right? SHARED: read
 these meters by their primary addresses (scan --primary).
 --trace FILE gets milliseconds, bus line, > or <, hex digits, and what they are:

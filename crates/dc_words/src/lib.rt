@@ -19,5 +19,8 @@ pub use help::VERSION;
 pub use link::LinkName;
 pub use links::{LINES, Links};
 pub use near::nearest;
-pub use task::{Call, Engine, Form, MeterName, PollTask, RunTask, Scan, StatusForm, Task};
+pub use task::{
+    Call, Engine, Form, Listing, MeterName, OrderTask, PollTask, RunTask, Scan, StatusForm, Task,
+    Turn,
+};
 pub use words::call_of;

@@ -1,7 +1,7 @@
 //! The command that a mistyped word is nearly.
 
 // The commands, the shortest words first among those that begin alike.
-const COMMANDS: [&str; 16] = [
+const COMMANDS: [&str; 19] = [
     "consumption",
     "copy",
     "decode",
@@ -10,6 +10,8 @@ const COMMANDS: [&str; 16] = [
     "fold",
     "format",
     "inspect",
+    "move",
+    "out",
     "poll",
     "read",
     "report",
@@ -17,6 +19,7 @@ const COMMANDS: [&str; 16] = [
     "run",
     "scan",
     "status",
+    "swap",
     "values",
 ];
 

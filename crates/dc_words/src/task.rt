@@ -3,6 +3,7 @@
 use crate::link::LinkName;
 use crate::links::Links;
 use dc_address::{Identity, Primary};
+use dc_change::Flat;
 use dc_consumption::table::Boundaries;
 use dc_register::named::Named;
 use std::alloc::Global;
@@ -47,6 +48,17 @@ pub enum Scan {
     Wildcards(u32),
     /// At each primary address.
     Primary,
+}
+
+/// How what a search finds is printed.
+#[derive(Clone, Copy, Debug, PartialEq, Eq)]
+pub enum Listing {
+    /// Lines of words.
+    Text,
+    /// A list of the meters of that bus line, as `fit` takes it, with the flats left out.
+    Csv(u8),
+    /// JSON Lines: an object a meter, and one for all else.
+    Json,
 }
 
 /// How a meter is named on a bus.
@@ -94,6 +106,35 @@ pub struct PollTask<'a> {
     pub trace: Option<&'a str>,
     /// Whether it prints what a poll would do, in place of it.
     pub is_dry: bool,
+}
+
+/// What becomes of a registered meter.
+#[derive(Clone, Copy)]
+pub enum Turn {
+    /// Another meter takes its place.
+    Swap {
+        /// The new meter.
+        new: Identity,
+        /// Its primary address; `None` for secondary addressing.
+        address: Option<Primary>,
+        /// The flat in which the old one has to be, if one is named.
+        flat: Option<Flat>,
+    },
+    /// It gets another flat.
+    Move(Flat),
+    /// It is removed.
+    Out,
+}
+
+/// One command on the register of an image.
+#[derive(Clone, Copy)]
+pub struct OrderTask<'a> {
+    /// The image's file.
+    pub image: &'a str,
+    /// The registered meter.
+    pub meter: Named,
+    /// What becomes of it.
+    pub turn: Turn,
 }
 
 /// A call of the program: what it is asked to do, and how much it says.
@@ -168,6 +209,8 @@ pub enum Task<'a> {
         /// The list's file.
         list: &'a str,
     },
+    /// One command on the register of an image.
+    Order(OrderTask<'a>),
     /// A copy of an image, in a new file.
     Copy {
         /// The image's file.
@@ -190,6 +233,8 @@ pub enum Task<'a> {
         link: LinkName<'a>,
         /// How they are searched for.
         scan: Scan,
+        /// How they are printed.
+        listing: Listing,
         /// The time-out of an answer in milliseconds.
         patience: u16,
         /// The file of the trace, if one is written; `-` is standard error.

@@ -5,12 +5,15 @@ use crate::help;
 use crate::link::LinkName;
 use crate::links::Links;
 use crate::silence::silence_of;
-use crate::task::{Call, Engine, Form, MeterName, PollTask, RunTask, Scan, StatusForm, Task};
+use crate::task::{
+    Call, Engine, Form, Listing, MeterName, OrderTask, PollTask, RunTask, Scan, StatusForm, Task,
+    Turn,
+};
 use clap::{Arg, ArgAction, ArgMatches, Command, value_parser};
 use dc_address::Primary;
-use dc_change::parse_number;
+use dc_change::{Flat, parse_number};
 use dc_consumption::table::Boundaries;
-use dc_register::named::Named;
+use dc_register::named::{Named, identity_of};
 use std::alloc::{AllocError, Global};
 
 // The least and the greatest number of sectors: what the file of the largest image holds.
@@ -18,6 +21,9 @@ const SECTORS: (i64, i64) = (131, 131_075);
 
 // The word for standard input.
 const DASH: &str = "-";
+
+// The word for secondary addressing.
+const SECONDARY: &str = "S";
 
 // The place in help of an option that each command has: after its own.
 const LAST: usize = 90;
@@ -303,6 +309,53 @@ fn fit_command<'a>(alloc: Global) -> Result<Command<'a>, AllocError> {
     command_of(alloc, "fit", about, help::FIT, args)
 }
 
+// A meter that is registered.
+fn registered_arg<'a>(alloc: Global) -> Arg<'a> {
+    required_arg(
+        alloc,
+        "METER",
+        "The registered meter, by identity or number",
+    )
+}
+
+fn swap_command<'a>(alloc: Global) -> Result<Command<'a>, AllocError> {
+    let address = option_arg(alloc, "ADDRESS", "address", "A")
+        .default_value(SECONDARY)
+        .help("Its primary address, 1 to 250, or S for secondary addressing");
+    let flat = option_arg(alloc, "FLAT", "flat", "F").help(
+        "Does nothing where the registered meter isn't in this flat",
+    );
+    let args = vec![in alloc;
+        image_arg(alloc),
+        registered_arg(alloc),
+        required_arg(
+            alloc,
+            "NEWMETER",
+            "The meter that replaces it, by its whole identity"
+        ),
+        address,
+        flat,
+    ]?;
+    let about = "Replaces a registered meter by another at the same place";
+    command_of(alloc, "swap", about, help::SWAP, args)
+}
+
+fn move_command<'a>(alloc: Global) -> Result<Command<'a>, AllocError> {
+    let args = vec![in alloc;
+        image_arg(alloc),
+        registered_arg(alloc),
+        required_arg(alloc, "FLAT", "Its new flat"),
+    ]?;
+    let about = "Gives a registered meter another flat";
+    command_of(alloc, "move", about, help::MOVE, args)
+}
+
+fn out_command<'a>(alloc: Global) -> Result<Command<'a>, AllocError> {
+    let args = vec![in alloc; image_arg(alloc), registered_arg(alloc)]?;
+    let about = "Removes a meter from an image's register";
+    command_of(alloc, "out", about, help::OUT, args)
+}
+
 fn copy_command<'a>(alloc: Global) -> Result<Command<'a>, AllocError> {
     let args = vec![in alloc; image_arg(alloc), new_arg(alloc)]?;
     let about = "Copies an image as it is at one instant, also while mbdc writes it";
@@ -315,13 +368,28 @@ fn rescue_command<'a>(alloc: Global) -> Result<Command<'a>, AllocError> {
     command_of(alloc, "rescue", about, help::RESCUE, args)
 }
 
+// The bus line of a list.
+fn csv_arg<'a>(alloc: Global) -> Arg<'a> {
+    option_arg(alloc, "CSV", "csv", "N")
+        .value_parser(value_parser!(u8).range(1..=8))
+        .help("Prints a list of bus line N that fit takes once its flats are filled in")
+}
+
 fn scan_command<'a>(alloc: Global) -> Result<Command<'a>, AllocError> {
     let primary = "Asks each primary address from 1 to 250 in place of the wildcard search";
     let primary = flag_arg(alloc, "PRIMARY", "primary", primary).conflicts_with("BUDGET")?;
+    let csv = csv_arg(alloc).conflicts_with("JSON")?;
     let args = vec![in alloc;
         link_arg(alloc),
         budget_arg(alloc),
         primary,
+        csv,
+        flag_arg(
+            alloc,
+            "JSON",
+            "json",
+            "Prints JSON Lines, an object a meter"
+        ),
         patience_arg(alloc),
         trace_arg(alloc),
     ]?;
@@ -369,6 +437,9 @@ fn program<'a>(alloc: Global) -> Result<Command<'a>, AllocError> {
     let program = with_command(program, poll_command(alloc));
     let program = with_command(program, run_command(alloc));
     let program = with_command(program, fit_command(alloc));
+    let program = with_command(program, swap_command(alloc));
+    let program = with_command(program, move_command(alloc));
+    let program = with_command(program, out_command(alloc));
     let program = with_command(program, copy_command(alloc));
     let program = with_command(program, rescue_command(alloc));
     let program = with_command(program, report_command(alloc));
@@ -497,6 +568,7 @@ fn bus_task<'a>(name: &str, inner: &ArgMatches<'a>) -> Result<Task<'a>, WordsFau
             } else {
                 Scan::Wildcards(budget)
             },
+            listing: listing_of(inner),
             patience,
             trace: inner.get_str("TRACE"),
         });
@@ -516,6 +588,17 @@ fn bus_task<'a>(name: &str, inner: &ArgMatches<'a>) -> Result<Task<'a>, WordsFau
         patience,
         trace: inner.get_str("TRACE"),
     })
+}
+
+fn listing_of(inner: &ArgMatches<'_>) -> Listing {
+    if let Some(line) = inner.get_one("CSV") {
+        return Listing::Csv(line);
+    }
+    if inner.get_flag("JSON") {
+        Listing::Json
+    } else {
+        Listing::Text
+    }
 }
 
 // The tasks over an image.
@@ -545,6 +628,7 @@ fn image_task<'a>(
             image,
             list: file_of(inner, "LIST")?,
         }),
+        "swap" | "move" | "out" => order_task(name, image, inner),
         "copy" => Ok(Task::Copy {
             image,
             file: file_of(inner, "FILE")?,
@@ -556,6 +640,43 @@ fn image_task<'a>(
         "run" => run_task(image, inner),
         _ => poll_task(alloc, image, inner),
     }
+}
+
+// One command on the register.
+fn order_task<'a>(
+    name: &str,
+    image: &'a str,
+    inner: &ArgMatches<'a>,
+) -> Result<Task<'a>, WordsFault> {
+    let meter = inner.get_str("METER").unwrap_or_default();
+    let meter = Named::parse(meter.as_bytes()).ok_or(WordsFault::Meter)?;
+    let flat = flat_of(inner)?;
+    let turn = match (name, flat) {
+        ("swap", flat) => swap_of(inner, flat)?,
+        (_, Some(flat)) => Turn::Move(flat),
+        (_, None) => Turn::Out,
+    };
+    Ok(Task::Order(OrderTask { image, meter, turn }))
+}
+
+fn flat_of(inner: &ArgMatches<'_>) -> Result<Option<Flat>, WordsFault> {
+    match inner.get_str("FLAT") {
+        Some(word) => Ok(Some(Flat::new(word.as_bytes()).ok_or(WordsFault::Flat)?)),
+        None => Ok(None),
+    }
+}
+
+fn swap_of(inner: &ArgMatches<'_>, flat: Option<Flat>) -> Result<Turn, WordsFault> {
+    let new = inner.get_str("NEWMETER").unwrap_or_default();
+    let new = identity_of(new.as_bytes()).ok_or(WordsFault::Meter)?;
+    let address = match inner.get_str("ADDRESS").unwrap_or(SECONDARY) {
+        SECONDARY => None,
+        word => {
+            let number = word.parse::<u8>().ok().ok_or(WordsFault::Address)?;
+            Some(Primary::new(number).ok_or(WordsFault::Address)?)
+        }
+    };
+    Ok(Turn::Swap { new, address, flat })
 }
 
 fn status_task<'a>(image: &'a str, inner: &ArgMatches<'a>) -> Result<Task<'a>, WordsFault> {

@@ -1,6 +1,7 @@
 //! The commands `scan`, `read` and `address`: one bus, without an image.
 
 use crate::connecting::{connected_alone, released};
+use crate::rows::{Answers, Listed, Seen};
 use crate::tracing::{shows_progress, trace_file_of, tracer_of};
 use dc_bench::{Progress, Show, Work, run_over};
 use dc_bus::Both;
@@ -8,9 +9,10 @@ use dc_bus::trace::{Observed, Observer, Pair, TraceFile};
 use dc_ending::Ending;
 use dc_files::{Host, Noted};
 use dc_links::{Peer, Waiter};
-use dc_words::LinkName;
+use dc_words::{LinkName, Listing};
 use std::fs::File;
 use std::io;
+use std::io::Write;
 use std::net::{Net, TcpStream};
 use std::rt::{Clock, Files};
 
@@ -22,6 +24,7 @@ pub fn on_bus<'a, R>(
     host: &Host<'a, R>,
     link: &LinkName<'_>,
     work: Work,
+    listing: Listing,
     patience: u16,
     trace: Option<&'a str>,
 ) -> Ending<'a>
@@ -37,7 +40,7 @@ where
         Err(ending) => return ending,
     };
     let ending = match peers.as_slice().first() {
-        Some(Some(peer)) => over_peer(host, peer, &work, patience, file.as_ref()),
+        Some(Some(peer)) => over_peer(host, peer, &work, listing, patience, file.as_ref()),
         _ => Ending::Gateway,
     };
     released(host, peers.as_slice());
@@ -49,6 +52,7 @@ fn over_peer<'a, R>(
     host: &Host<'_, R>,
     peer: &Peer<R>,
     work: &Work,
+    listing: Listing,
     patience: u16,
     trace: Option<&TraceFile<'_, R>>,
 ) -> Ending<'a>
@@ -57,7 +61,7 @@ where
 {
     let is_shown = matches!(work, Work::Search(_)) && shows_progress(host, trace);
     let progress = Progress::new(host.rt, is_shown, *work, patience);
-    let ending = over_watched(host, peer, *work, patience, trace, &progress);
+    let ending = over_watched(host, peer, *work, listing, patience, trace, &progress);
     progress.clear();
     ending
 }
@@ -67,6 +71,7 @@ fn over_watched<'a, R>(
     host: &Host<'_, R>,
     peer: &Peer<R>,
     work: Work,
+    listing: Listing,
     patience: u16,
     trace: Option<&TraceFile<'_, R>>,
     progress: &Progress<'_, R>,
@@ -74,26 +79,34 @@ fn over_watched<'a, R>(
 where
     R: Net<Stream = TcpStream> + Clock + Copy + Print + Eprint + AllocGlobal,
 {
+    let answers = Answers::new(host.rt.alloc());
     let observer = Pair {
         first: tracer_of(trace, LINE),
-        second: Show { progress },
+        second: Pair {
+            first: Show { progress },
+            second: Seen { answers: &answers },
+        },
     };
-    over_bus(host, peer, work, patience, observer, progress)
+    let out = Noted::new(io::writer(host.rt), host.why);
+    let out = Listed::new(out, host, listing, &answers);
+    over_bus(host, peer, work, patience, observer, out, progress)
 }
 
 // Makes the bus of a link, and does the work on it. The observer is any, for the checker meets its step limit over the
 // parts of this one.
-fn over_bus<'a, R, O>(
+fn over_bus<'a, R, O, W>(
     host: &Host<'_, R>,
     peer: &Peer<R>,
     work: Work,
     patience: u16,
     observer: O,
+    out: W,
     progress: &Progress<'_, R>,
 ) -> Ending<'a>
 where
     R: Net<Stream = TcpStream> + Clock + Copy + Print + Eprint + AllocGlobal,
     O: Observer + Drop,
+    W: Write + Drop,
 {
     let bus = match peer.bus(*host.rt, patience) {
         Ok(bus) => bus,
@@ -103,7 +116,6 @@ where
         bus: Observed { bus, observer },
         pause: Waiter,
     };
-    let out = Noted::new(io::writer(host.rt), host.why);
     let ending = run_over(host.rt.alloc(), work, &mut bus, out, progress);
     if matches!(ending, Ending::Gateway) {
         host.why.say("the connection ended or failed");

@@ -1,7 +1,7 @@
 //! `poll --dry-run`: what a poll would do, printed from the image alone.
 
 use crate::inspect::scan_file;
-use crate::names::meters_in;
+use crate::names::{ONLY, meters_in};
 use crate::tasks::{ROOM, flushed};
 use dc_ending::{Ending, ProgramFault, STREAM, ending_of};
 use dc_files::{Host, LookedAt, Noted, ROUNDS};
@@ -60,7 +60,7 @@ fn foresee<'a, R: Print + AllocGlobal>(
     house: &House<Global>,
     task: &PollTask<'a>,
 ) -> Ending<'a> {
-    let only = match meters_in(host.rt.alloc(), house, task.only.as_slice()) {
+    let only = match meters_in(host.rt.alloc(), house, task.only.as_slice(), ONLY) {
         Ok(only) => only,
         Err(ending) => return ending,
     };

@@ -32,6 +32,13 @@ const NO_BOUNDARIES: &str =
 const NO_SILENCE: &str =
     "--silent takes days, as 2 or 2d, from 1 to 366, or hours, as 12h; try mbdc status --help";
 
+// A word that has to be a flat isn't.
+const NO_FLAT: &str = "a flat is 1 to 12 of A-Z a-z 0-9 . - / _";
+
+// A word that has to be an address of the register isn't.
+const NO_ADDRESS: &str =
+    "--address takes a primary address, 1 to 250, or S for secondary addressing";
+
 // `-` for a file that isn't a stream.
 const NO_DASH: &str =
     "- is standard input for decode and fold, and standard error for --trace; a file of that name is ./-";
@@ -194,6 +201,8 @@ pub fn told_words(rt: &HostRuntime, fault: &WordsFault, words: &[String]) -> Exi
         WordsFault::Boundaries => told(rt, &Ending::Words(NO_BOUNDARIES)),
         WordsFault::Silence => told(rt, &Ending::Words(NO_SILENCE)),
         WordsFault::Dash => told(rt, &Ending::Words(NO_DASH)),
+        WordsFault::Flat => told(rt, &Ending::Words(NO_FLAT)),
+        WordsFault::Address => told(rt, &Ending::Words(NO_ADDRESS)),
     }
 }
 

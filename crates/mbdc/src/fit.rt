@@ -1,24 +1,31 @@
 //! The command `fit`: the meters of a list, added to the register of an image in a file.
 
+use crate::columns::in_order;
+use crate::journal::{Kept, Printed, note_printed};
 use dc_commands::fit_over;
+use dc_disk::FileDisk;
 use dc_ending::{Ending, ProgramFault};
 use dc_files::{Host, Noted, open_disk};
+use dc_fit::list::Wish;
+use dc_inspect::register_of;
 use dc_io::{CHUNK, MOST, ReadSource, read_input, room};
-use std::fs::File;
+use dc_log::Greatest;
+use std::fs::{File, OpenFile};
 use std::io::Read;
-use std::rt::Files;
+use std::os::unix::fs::FileExt;
+use std::rt::{Clock, Files};
 use std::{fs, io};
 
 /// Adds the meters of the list in that file to the image in that file.
 pub fn fit_on_image<'a, R>(host: &Host<'_, R>, image: &'a str, list: &'a str) -> Ending<'a>
 where
-    R: Files<File = File> + Print + AllocGlobal,
+    R: Files<File = File> + Clock + Print + Eprint + AllocGlobal,
 {
     let rows = match fs::open(host.rt, list) {
         Ok(rows) => Noted::new(rows, host.why),
         Err(error) => return host.why.file(list, error),
     };
-    let disk = match open_disk(host, image) {
+    let mut disk = match open_disk(host, image) {
         Ok(disk) => disk,
         Err(ending) => return ending,
     };
@@ -26,8 +33,36 @@ where
         Ok(rows) => rows,
         Err(fault) => return host.why.ended(Err(fault), list),
     };
-    let out = Noted::new(io::writer(host.rt), host.why);
-    let (_, ending) = fit_over(host.rt.alloc(), disk, rows.as_slice(), out);
+    // An image that doesn't open is refused next.
+    let house = match register_of(host.rt.alloc(), &mut disk, &Greatest::NONE) {
+        Ok((house, _)) => Some(house),
+        Err(_) => None,
+    };
+    let rows = match in_order(host.rt, rows, house.as_ref()) {
+        Ok(rows) => rows,
+        Err(_) => return Ending::Memory,
+    };
+    wished(host, disk, image, &Wish::List(rows.as_slice()))
+}
+
+/// Does what is asked on the image, and puts the commands that were done into its journal.
+pub fn wished<'a, D, R>(
+    host: &Host<'_, R>,
+    disk: FileDisk<D>,
+    image: &str,
+    wish: &Wish<'_>,
+) -> Ending<'a>
+where
+    D: FileExt + OpenFile + Drop,
+    R: Files<File = File> + Clock + Print + Eprint + AllocGlobal,
+{
+    let alloc = host.rt.alloc();
+    let mut printed = Printed::new(alloc);
+    let out = Kept::new(Noted::new(io::writer(host.rt), host.why), &mut printed);
+    let (_disk, ending) = fit_over(alloc, disk, wish, out);
+    if matches!(ending, Ending::Clean) {
+        note_printed(host, image, &printed);
+    }
     ending
 }
 

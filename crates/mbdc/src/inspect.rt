@@ -3,8 +3,10 @@
 use crate::clock;
 use dc_commands::look_ending;
 use dc_ending::{Ending, ProgramFault, STREAM, ending_of};
-use dc_files::{Host, LookedAt, Noted, ROUNDS};
+use dc_files::{Host, LookedAt, Noted, ROUNDS, journal_lines};
 use dc_inspect::{Asked, Form, Report, Shown, StatusForm, answer, scan};
+use dc_io::NoMemory;
+use dc_json::journal::{Journal, read_journal};
 use dc_log::Greatest;
 use std::alloc::Global;
 use std::fs::File;
@@ -21,7 +23,11 @@ pub fn look_into<'a, R>(host: &Host<'_, R>, asked: Asked, image: &'a str) -> End
 where
     R: Files<File = File> + Print + AllocGlobal,
 {
-    let shown = match look(host, asked, image) {
+    let journal = match journal_for(host, &asked, image) {
+        Ok(journal) => journal,
+        Err(ending) => return ending,
+    };
+    let shown = match look(host, asked, &journal, image) {
         Ok(shown) => shown,
         Err(ending) => return ending,
     };
@@ -32,16 +38,37 @@ where
     look_ending(shown.outlook.refusal, shown.outlook.ahead, shown.is_silent)
 }
 
+// What the journal beside the image says, where it is asked for.
+fn journal_for<'a, R: Files<File = File> + AllocGlobal>(
+    host: &Host<'_, R>,
+    asked: &Asked,
+    image: &str,
+) -> Result<Journal<Global>, Ending<'a>> {
+    let alloc = host.rt.alloc();
+    let Asked::Status(_, clock) = asked else {
+        return Ok(Journal::none(alloc));
+    };
+    match journal_lines(host.rt, image) {
+        Ok(Some(lines)) => match read_journal(alloc, lines.as_slice(), clock.now) {
+            Ok(journal) => Ok(journal),
+            Err(NoMemory) => Err(Ending::Memory),
+        },
+        Ok(None) => Ok(Journal::none(alloc)),
+        Err(_) => Err(Ending::Memory),
+    }
+}
+
 // What is asked of the image.
 fn look<'a, R: Files<File = File> + AllocGlobal>(
     host: &Host<'_, R>,
     asked: Asked,
+    journal: &Journal<Global>,
     image: &'a str,
 ) -> Result<Shown<Global>, Ending<'a>> {
     let file = LookedAt::open(host, image)?;
     let greatest = scan_file(&file, image)?;
     for _ in 0..ROUNDS {
-        if let Some(shown) = look_once(host, &file, &greatest, &asked, image)? {
+        if let Some(shown) = look_once(host, &file, &greatest, &asked, journal, image)? {
             return Ok(shown);
         }
     }
@@ -54,10 +81,11 @@ fn look_once<'a, R: AllocGlobal>(
     file: &LookedAt<'_>,
     greatest: &Greatest,
     asked: &Asked,
+    journal: &Journal<Global>,
     image: &'a str,
 ) -> Result<Option<Shown<Global>>, Ending<'a>> {
     let mut sample = file.sample(host.rt.alloc(), image)?;
-    let shown = match answer(host.rt.alloc(), &mut sample, greatest, *asked) {
+    let shown = match answer(host.rt.alloc(), &mut sample, greatest, *asked, journal) {
         Ok(shown) => shown,
         Err(fault) => return Err(ending_of(Err(fault), image)),
     };

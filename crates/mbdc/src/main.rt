@@ -4,16 +4,20 @@
 
 mod bench;
 mod clock;
+mod columns;
 mod connecting;
 mod demo;
 mod dry;
 mod ending;
 mod fit;
 mod inspect;
+mod journal;
 mod loose;
 mod names;
+mod order;
 mod poll;
 mod rescue;
+mod rows;
 mod script;
 mod tasks;
 mod tracing;

@@ -2,6 +2,7 @@
 
 use crate::clock::moment;
 use crate::connecting::{reached, released};
+use crate::journal::PollNotes;
 use crate::names::meters_of;
 use crate::tracing::{shows_progress, trace_file_of, tracers_of};
 use dc_address::Identity;
@@ -12,6 +13,7 @@ use dc_ending::Ending;
 use dc_files::{Host, Patient, open_disk};
 use dc_links::{LinkBus, Peer, SystemBus, Watch};
 use dc_poll::Plan;
+use dc_poll::events::Notes;
 use dc_words::PollTask;
 use std::alloc::Global;
 use std::fs::{File, OpenFile};
@@ -34,8 +36,8 @@ where
         Ok(disk) => disk,
         Err(ending) => return ending,
     };
-    let only = match meters_of(host, &mut disk, task.only.as_slice(), task.image) {
-        Ok(only) => only,
+    let (only, house) = match meters_of(host, &mut disk, task.only.as_slice(), task.image) {
+        Ok(found) => found,
         Err(ending) => return ending,
     };
     let trace = match trace_file_of(host, task.trace) {
@@ -59,6 +61,7 @@ where
             observers,
             only.as_slice(),
             printing,
+            PollNotes::new(host, task.image, house),
             task,
         ),
         Err(ending) => ending,
@@ -69,18 +72,20 @@ where
 
 // Makes the buses of connected links, and reads the meters over them. The observers are any, for the checker meets its
 // step limit over the parts of a trace.
-fn poll_peers<'a, D, O, R>(
+fn poll_peers<'a, D, O, J, R>(
     host: &Host<'_, R>,
     disk: FileDisk<D>,
     peers: &[Option<Peer<R>>],
     observers: Vec<O>,
     only: &[Identity],
     printing: Printing,
+    notes: J,
     task: &PollTask<'a>,
 ) -> Ending<'a>
 where
     D: FileExt + OpenFile + Drop,
     O: Observer + Drop,
+    J: Notes + Drop,
     R: Files<File = File> + Net<Stream = TcpStream> + Clock + Copy + Print + Eprint + AllocGlobal,
 {
     let buses = match buses_of(host, peers, observers, task.patience) {
@@ -102,6 +107,7 @@ where
         Watch::new(),
         out,
         printing,
+        notes,
         task.image,
     );
     ending

@@ -6,6 +6,7 @@ use dc_ending::{Ending, ProgramFault, STREAM, ending_of};
 use dc_files::{HalfMade, Host, Noted, begin_image, copy_disk, end_image};
 use dc_inspect::{Asked, answer, scan};
 use dc_io::{Sink, WriteSink};
+use dc_json::journal::Journal;
 use dc_log::Rescued;
 use dc_register::House;
 use std::alloc::Global;
@@ -61,7 +62,13 @@ fn print<R: Print + AllocGlobal>(
     let alloc = host.rt.alloc();
     let mut new = new;
     let greatest = scan(&mut new)?;
-    let shown = answer(alloc, &mut new, &greatest, Asked::Contents)?;
+    let shown = answer(
+        alloc,
+        &mut new,
+        &greatest,
+        Asked::Contents,
+        &Journal::none(alloc),
+    )?;
     let mut out = WriteSink::new(Noted::new(io::writer(host.rt), host.why));
     if put_rescued(rescued, &mut out).is_err()
         || out.put(shown.text.as_slice()).is_err()

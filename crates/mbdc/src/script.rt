@@ -1,6 +1,7 @@
 //! The command `run`: a script over an image in a file.
 
 use crate::connecting::{connected, released};
+use crate::journal::{Kept, Printed, note_answered};
 use dc_bus::Both;
 use dc_commands::{run_over, run_over_gateway};
 use dc_disk::FileDisk;
@@ -10,7 +11,7 @@ use dc_links::{Connection, Peer, SystemBus, Waiter};
 use dc_script::Slot;
 use dc_words::RunTask;
 use std::fs::{File, OpenFile};
-use std::io::Read;
+use std::io::{Read, Write};
 use std::net::{Net, TcpStream};
 use std::os::unix::fs::FileExt;
 use std::rt::{Clock, Files};
@@ -33,23 +34,29 @@ where
         Ok(lines) => Noted::new(lines, host.why),
         Err(error) => return host.why.file(task.script, error),
     };
-    if task.links.is_empty() {
-        run_alone(host, disk, lines, task)
+    let mut printed = Printed::new(host.rt.alloc());
+    let out = Kept::new(Noted::new(io::writer(host.rt), host.why), &mut printed);
+    let ending = if task.links.is_empty() {
+        run_alone(host, disk, lines, out, task)
     } else {
-        run_over_links(host, disk, lines, task)
-    }
+        run_over_links(host, disk, lines, out, task)
+    };
+    note_answered(host, task.image, task.script, &printed);
+    ending
 }
 
 // Runs the lines of a file over a disk, with the gateway of bus line 1, where one is named.
-fn run_alone<'a, F, D, R>(
+fn run_alone<'a, F, D, O, R>(
     host: &Host<'_, R>,
     disk: FileDisk<D>,
     lines: F,
+    out: O,
     task: &RunTask<'a>,
 ) -> Ending<'a>
 where
     F: Read + Drop,
     D: FileExt + OpenFile + Drop,
+    O: Write + Drop,
     R: Net<Stream = TcpStream> + Clock + Copy + Print + AllocGlobal,
 {
     let connection = match task.gateway {
@@ -60,51 +67,53 @@ where
         },
     };
     let ends = connection.as_ref().map(Connection::ends);
-    let out = Noted::new(io::writer(host.rt), host.why);
     let alloc = host.rt.alloc();
     let (_, ending) = run_over_gateway(alloc, host.why, disk, lines, out, ends, task.script);
     ending
 }
 
 // Runs the lines of a file over a disk, with the links of the bus lines.
-fn run_over_links<'a, F, D, R>(
+fn run_over_links<'a, F, D, O, R>(
     host: &Host<'_, R>,
     disk: FileDisk<D>,
     lines: F,
+    out: O,
     task: &RunTask<'a>,
 ) -> Ending<'a>
 where
     F: Read + Drop,
     D: FileExt + OpenFile + Drop,
+    O: Write + Drop,
     R: Files<File = File> + Net<Stream = TcpStream> + Clock + Copy + Print + Eprint + AllocGlobal,
 {
     let peers = match connected(host, &task.links) {
         Ok(peers) => peers,
         Err(ending) => return ending,
     };
-    let ending = run_over_peers(host, disk, lines, peers.as_slice(), task);
+    let ending = run_over_peers(host, disk, lines, out, peers.as_slice(), task);
     released(host, peers.as_slice());
     ending
 }
 
 // Runs the lines of a file over a disk, with connected links.
-fn run_over_peers<'a, F, D, R>(
+fn run_over_peers<'a, F, D, O, R>(
     host: &Host<'_, R>,
     disk: FileDisk<D>,
     lines: F,
+    out: O,
     peers: &[Option<Peer<R>>],
     task: &RunTask<'a>,
 ) -> Ending<'a>
 where
     F: Read + Drop,
     D: FileExt + OpenFile + Drop,
+    O: Write + Drop,
     R: Net<Stream = TcpStream> + Clock + Copy + Print + AllocGlobal,
 {
     let mut slots = match slots_of(host, peers, task.patience) {
         Ok(slots) => slots,
         Err(ending) => return ending,
     };
-    let out = Noted::new(io::writer(host.rt), host.why);
     let (alloc, slots) = (host.rt.alloc(), slots.as_mut_slice());
     let (_, ending) = run_over(alloc, host.why, disk, lines, out, slots, task.script);
     ending

@@ -6,6 +6,7 @@ use crate::dry::dry_run;
 use crate::fit::fit_on_image;
 use crate::inspect::{form_of, look_into, report_on_image, tell_status};
 use crate::loose::decode_pasted;
+use crate::order::order_on_image;
 use crate::poll::poll_on_image;
 use crate::rescue::rescue_image;
 use crate::script::run_on_image;
@@ -20,7 +21,7 @@ use dc_io::{Buffered, ReadSource, Sink, Source, WriteSink};
 use dc_json::explain_lines;
 use dc_paste::Pointed;
 use dc_script::fold_lines;
-use dc_words::{Engine, Form, Task};
+use dc_words::{Engine, Form, Listing, Task};
 use std::alloc::{Allocator, Global};
 use std::fs::File;
 use std::io::{Read, Write};
@@ -80,26 +81,42 @@ where
             form,
         } => tell_status(host, image, *silent, *form),
         Task::Fit { image, list } => fit_on_image(host, image, list),
+        Task::Order(task) => order_on_image(host, task),
         Task::Copy { image, file } => back_up(host, image, file),
         Task::Rescue { image, file } => rescue_image(host, image, file),
         Task::Scan {
             link,
             scan,
+            listing,
             patience,
             trace,
-        } => on_bus(host, link, Work::Search(*scan), *patience, *trace),
+        } => on_bus(host, link, Work::Search(*scan), *listing, *patience, *trace),
         Task::Read {
             link,
             meter,
             patience,
             trace,
-        } => on_bus(host, link, Work::Read(*meter), *patience, *trace),
+        } => on_bus(
+            host,
+            link,
+            Work::Read(*meter),
+            Listing::Text,
+            *patience,
+            *trace,
+        ),
         Task::Address {
             link,
             from,
             to,
             patience,
-        } => on_bus(host, link, Work::Address(*from, *to), *patience, None),
+        } => on_bus(
+            host,
+            link,
+            Work::Address(*from, *to),
+            Listing::Text,
+            *patience,
+            None,
+        ),
         Task::Poll(task) if task.is_dry => dry_run(host, task),
         Task::Poll(task) => poll_on_image(host, task),
         Task::Demo => demo::play(host),

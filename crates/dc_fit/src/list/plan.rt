@@ -9,15 +9,13 @@ ghost use Rattle.dc_change.specs.Apply.{applied};
 ghost use Rattle.dc_change.specs.Encoding.{change_bytes};
 ghost use Rattle.dc_change.specs.Command.{line_of};
 ghost use Rattle.dc_change.specs.Valid.{IsChange};
-ghost use Rattle.dc_fit.specs.Plan.{change_of, command_of};
+ghost use Rattle.dc_fit.specs.Plan.{change_of, numbered};
 ghost use Rattle.dc_fit.specs.Plan.{AreSteps, IsLineStep, IsOneGroup, IsPlanned, IsStep, IsStepBy, no_header, nothing};
 ghost use Rattle.dc_fit.specs.declared.list.row.Entry.TheVariants.{Row as Spelled, Bad};
 
 use crate::list::row::{Entry, Row, RowFault, read_line, row_text};
-use crate::list::verdict::{
-    Verdict, change_of, command_of, fault_words, put_row, put_said, verdict_on,
-};
-use dc_change::{CommandLine, encode_change};
+use crate::list::verdict::{Verdict, command_of, fault_words, put_row, put_said, verdict_on};
+use dc_change::{Change, Command, CommandLine, encode_change};
 use dc_io::{Bytes, IoFault, NoMemory, first_line};
 use dc_register::House;
 use std::alloc::Allocator;
@@ -30,8 +28,8 @@ const NO_HEADER: &str = "the first line has to be meter,line,address,flat";
 pub struct Plan<A: Allocator> {
     commands: Vec<CommandLine, A>,
     changes: Bytes<A>,
-    is_wrong: bool,
-    text: Bytes<A>,
+    pub(crate) is_wrong: bool,
+    pub(crate) text: Bytes<A>,
 }
 
 impl<A: Allocator> Model for Plan<A> {
@@ -48,7 +46,7 @@ impl<A: Allocator> Model for Plan<A> {
 }
 
 // A put into memory fails if memory runs out.
-fn kept(put: Result<(), IoFault>) -> Result<(), NoMemory>
+pub(crate) fn kept(put: Result<(), IoFault>) -> Result<(), NoMemory>
     ensures { IsOk result ↔ IsOk put }
 {
     match put {
@@ -87,7 +85,7 @@ impl<A: Allocator + Copy> Plan<A> {
     }
 
     // Nothing is planned yet.
-    fn empty(alloc: A) -> Plan<A>
+    pub(crate) fn empty(alloc: A) -> Plan<A>
         ensures { result ≡ nothing }
     {
         Plan {
@@ -133,7 +131,7 @@ impl<A: Allocator + Copy> Plan<A> {
     {
         kept(put_row(&mut self.text, number, verdict, row, house))?;
         match verdict {
-            Verdict::New => self.order(row, house),
+            Verdict::New => self.order(command_of(row), house),
             Verdict::Stands => Ok(()),
             Verdict::Spent | Verdict::Refused(_) => {
                 self.is_wrong = true;
@@ -142,24 +140,24 @@ impl<A: Allocator + Copy> Plan<A> {
         }
     }
 
-    // Adds the command of a new meter, and does it to the house.
-    fn order(&mut self, row: &Row, house: &mut House<A>) -> Result<(), NoMemory>
-        requires change { IsChange (change_of row.now house.old.state) }
-        requires accepted { Accepts house.old.budget (change_of row.now house.old.state)
+    // Adds a command, and does it to the house.
+    pub(crate) fn order(&mut self, command: Command, house: &mut House<A>) -> Result<(), NoMemory>
+        requires change { IsChange (numbered command house.old.state) }
+        requires accepted { Accepts house.old.budget (numbered command house.old.state)
             house.old.state }
         ensures house { OnOk result (house.new ≡ record house.old {
-          state = applied (change_of row.now house.old.state) house.old.state;
+          state = applied (numbered command house.old.state) house.old.state;
         }) }
         ensures plan { OnOk result (self.new ≡ record self.old {
           commands = self.old.commands
-              ++ line_of (house.old.state.last_number + 1) (command_of row.now) ∷ [];
-          payload = self.old.payload ++ change_bytes (change_of row.now house.old.state);
+              ++ line_of (house.old.state.last_number + 1) command ∷ [];
+          payload = self.old.payload ++ change_bytes (numbered command house.old.state);
         }) }
     {
-        let change = change_of(row, house);
+        let number = house.last_number() + 1;
+        let change = Change::Command { number, command };
         kept(encode_change(&change, &mut self.changes))?;
-        let line = command_of(row).line(house.last_number() + 1);
-        self.commands.push(line)?;
+        self.commands.push(command.line(number))?;
         house.apply(&change)
     }
 

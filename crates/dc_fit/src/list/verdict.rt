@@ -9,6 +9,7 @@ ghost use Rattle.dc_fit.specs.Rows.{IsRow};
 ghost use Rattle.dc_fit.specs.Plan.{address_text, change_of, command_of, fault_words, holder_in, holder_words};
 ghost use Rattle.dc_fit.specs.Plan.{is_at_place, known_words, mark_words, place_words};
 ghost use Rattle.dc_fit.specs.Plan.{refusal_words, said, same_address, stands, verdict_on};
+ghost use Rattle.dc_fit.specs.Plan.{full_words, is_at_words, taken_words};
 ghost use Rattle.dc_fit.specs.Plan.{spent_words, stands_words, verdict_words};
 
 use crate::list::row::{Row, RowFault};
@@ -183,24 +184,28 @@ fn put_known<A: Allocator + Copy, W: Sink>(
     }
 }
 
-// The first meter that has a row's primary address on its line.
-fn holder<A: Allocator + Copy>(house: &House<A>, row: &Row) -> Option<Identity>
-    ensures { result ≡ holder_in row.now.line row.now.address house.now.state.meters }
+// The first meter that has this primary address on the line.
+fn holder<A: Allocator + Copy>(
+    house: &House<A>,
+    line: u8,
+    address: &Option<Primary>,
+) -> Option<Identity>
+    ensures { result ≡ holder_in line address.now house.now.state.meters }
 {
     'meters: for (meter, known) in house.meters() {
-        if occupies(row, known) {
+        if occupies(line, address, known) {
             return Some(*meter);
         }
     }
     None
 }
 
-// Whether a meter has a row's primary address on its line.
-fn occupies<A: Allocator + Copy>(row: &Row, known: &Meter<A>) -> bool
-    ensures { result ≡ occupies row.now.line row.now.address known.now }
+// Whether a meter has this primary address on the line.
+fn occupies<A: Allocator + Copy>(line: u8, address: &Option<Primary>, known: &Meter<A>) -> bool
+    ensures { result ≡ occupies line address.now known.now }
 {
-    match (row.address, known.address()) {
-        (Some(address), Some(taken)) => known.line() == row.line && taken.get() == address.get(),
+    match (*address, known.address()) {
+        (Some(address), Some(taken)) => known.line() == line && taken.get() == address.get(),
         _ => false,
     }
 }
@@ -216,33 +221,42 @@ fn put_holder<W: Sink>(out: &mut W, meter: Option<Identity>) -> Result<(), IoFau
     }
 }
 
-#[tactic(auto, using(dc_io::proofs::Pieces::written), unfolding(crate::specs::Plan::refusal_words))]
-fn put_known_line<A: Allocator + Copy, W: Sink>(
+// Writes where a meter is registered.
+#[tactic(auto, using(dc_io::proofs::Pieces::written), unfolding(crate::specs::Plan::is_at_words))]
+pub(crate) fn put_is_at<A: Allocator + Copy, W: Sink>(
     out: &mut W,
-    row: &Row,
+    meter: &Identity,
     house: &House<A>,
 ) -> Result<(), IoFault>
-    ensures { Wrote W.Sink result out.old out.new
-        (refusal_words ChangeFault.Known row.now house.now.state) }
+    ensures { Wrote W.Sink result out.old out.new (is_at_words meter.now house.now.state) }
 {
-    out.put(&row.meter.text())?;
+    out.put(&meter.text())?;
     put_mark(out, Mark::IsAt)?;
-    put_known(out, house.meter(&row.meter))
+    put_known(out, house.meter(meter))
 }
 
-#[tactic(auto, using(dc_io::proofs::Pieces::written), unfolding(crate::specs::Plan::refusal_words))]
-fn put_taken<A: Allocator + Copy, W: Sink>(
+// Writes which meter has a primary address on a bus line.
+#[tactic(auto, using(dc_io::proofs::Pieces::written), unfolding(crate::specs::Plan::taken_words))]
+pub(crate) fn put_taken<A: Allocator + Copy, W: Sink>(
     out: &mut W,
-    row: &Row,
+    line: u8,
+    address: &Option<Primary>,
     house: &House<A>,
 ) -> Result<(), IoFault>
-    ensures { Wrote W.Sink result out.old out.new
-        (refusal_words ChangeFault.AddressTaken row.now house.now.state) }
+    ensures { Wrote W.Sink result out.old out.new (taken_words line address.now house.now.state) }
 {
     put_mark(out, Mark::AnAddress)?;
-    put_address(out, row.address)?;
+    put_address(out, *address)?;
     put_mark(out, Mark::IsThatOf)?;
-    put_holder(out, holder(house, row))
+    put_holder(out, holder(house, line, address))
+}
+
+// Writes that there is no room.
+#[tactic(auto, unfolding(crate::specs::Plan::full_words))]
+pub(crate) fn put_full<W: Sink>(out: &mut W) -> Result<(), IoFault>
+    ensures { Wrote W.Sink result out.old out.new full_words }
+{
+    out.put(b"the image is full")
 }
 
 // Writes why a row is refused.
@@ -256,9 +270,9 @@ fn put_refusal<A: Allocator + Copy, W: Sink>(
     ensures { Wrote W.Sink result out.old out.new (refusal_words fault row.now house.now.state) }
 {
     match fault {
-        ChangeFault::Known => put_known_line(out, row, house),
-        ChangeFault::AddressTaken => put_taken(out, row, house),
-        ChangeFault::Full => out.put(b"the image is full"),
+        ChangeFault::Known => put_is_at(out, &row.meter, house),
+        ChangeFault::AddressTaken => put_taken(out, row.line, &row.address, house),
+        ChangeFault::Full => put_full(out),
         ChangeFault::Unknown | ChangeFault::Beyond => Ok(()),
     }
 }
@@ -274,7 +288,7 @@ fn put_stands<W: Sink>(out: &mut W, row: &Row) -> Result<(), IoFault>
 
 // Writes that no command can be numbered.
 #[tactic(auto, unfolding(crate::specs::Plan::spent_words))]
-fn put_spent<W: Sink>(out: &mut W) -> Result<(), IoFault>
+pub(crate) fn put_spent<W: Sink>(out: &mut W) -> Result<(), IoFault>
     ensures { Wrote W.Sink result out.old out.new spent_words }
 {
     out.put(b"no number is left for a command")

@@ -4,16 +4,19 @@ ghost use Rattle.std.specs.Prelude.{◌≡◌, ◌≤◌, IfSome};
 ghost use Rattle.dc_io.specs.Written.{Wrote};
 ghost use Rattle.dc_change.specs.Fields.{last_moment};
 ghost use Rattle.dc_json.specs.LatestValues.{bit_words, bits_words};
-ghost use Rattle.dc_json.specs.Status.{byte_words, heard_words, meter_words, number_line};
-ghost use Rattle.dc_json.specs.Status.{readings_left};
+ghost use Rattle.dc_json.specs.Status.{byte_words, failed_line, failed_text, failure_name, heard_words, meter_words};
+ghost use Rattle.dc_json.specs.Status.{number_line, readings_left, source_words};
 ghost use Rattle.dc_json.specs.Status.{room_words, row_lines, row_text, silent_words, size_line};
 ghost use Rattle.dc_json.specs.Status.{state_words, status_text};
 
+use crate::journal::Journal;
 use crate::latest::minute;
 use crate::status::full::{days_left, readings_left};
-use crate::status::row::{Row, row_at};
+use crate::status::row::{Row, Told, row_at};
 use crate::status::silence::Clock;
 use dc_io::{IoFault, Sink};
+use dc_readout::Why;
+use dc_record::BodyFault;
 use dc_record::names::application_name;
 use dc_record::value::TEXT_ROOM;
 use dc_register::House;
@@ -26,11 +29,12 @@ pub fn put_status<A: Allocator + Copy, W: Sink>(
     out: &mut W,
     house: &House<A>,
     clock: Clock,
+    journal: &Journal<A>,
 ) -> Result<(), IoFault>
     ensures { Wrote W.Sink result out.old out.new
-        (status_text clock.patience clock.now house.now) }
+        (status_text clock.patience clock.now journal.now house.now) }
 {
-    put_rows(out, house, clock)?;
+    put_rows(out, house, clock, journal)?;
     put_size(out, house)?;
     put_number(out, b"DAYS", days_left(house, clock.now))?;
     put_number(out, b"ROOM", readings_left(house))
@@ -42,12 +46,13 @@ fn put_rows<A: Allocator + Copy, W: Sink>(
     out: &mut W,
     house: &House<A>,
     clock: Clock,
+    journal: &Journal<A>,
 ) -> Result<(), IoFault>
     ensures { Wrote W.Sink result out.old out.new
-        (row_lines clock.patience clock.now house.now.state) }
+        (row_lines clock.patience clock.now journal.now house.now.state) }
 {
     for place in house.meters_by_flat() {
-        put_row(out, &row_at(house, clock, place))?;
+        put_row(out, &row_at(house, clock, journal, place))?;
     }
     Ok(())
 }
@@ -55,14 +60,80 @@ fn put_rows<A: Allocator + Copy, W: Sink>(
 // Writes the line of a meter.
 #[tactic(auto, using(dc_io::proofs::Pieces::written), unfolding(crate::specs::Status::row_text))]
 fn put_row<W: Sink>(out: &mut W, row: &Row) -> Result<(), IoFault>
-    requires { IfSome row.now.heard (λ moment. moment ≤ last_moment) }
+    requires heard { IfSome row.now.heard (λ moment. moment ≤ last_moment) }
+    requires failed { IfSome row.now.told (λ told.
+        IfSome told.failed (λ moment. moment ≤ last_moment)) }
     ensures { Wrote W.Sink result out.old out.new (row_text row.now) }
 {
     put_place(out, row)?;
     put_heard(out, row.heard, row.age)?;
     out.put(silent_words(row.is_silent))?;
     put_state(out, row.status)?;
-    out.put(b"\n")
+    out.put(source_words(row.told))?;
+    out.put(b"\n")?;
+    put_told(out, row.told)
+}
+
+// Whether the reading is the journal's.
+fn source_words(told: Option<Told>) -> &'static [u8]
+    ensures { result.now ≡ source_words told }
+{
+    match told {
+        Some(told) if told.is_noted => b" JOURNAL",
+        _ => b"",
+    }
+}
+
+// Writes the last failed readout since.
+#[tactic(auto, unfolding(crate::specs::Status::failed_text))]
+fn put_told<W: Sink>(out: &mut W, told: Option<Told>) -> Result<(), IoFault>
+    requires { IfSome told (λ told. IfSome told.failed (λ moment. moment ≤ last_moment)) }
+    ensures { Wrote W.Sink result out.old out.new (failed_text told) }
+{
+    match told {
+        Some(told) => put_failed(out, told.failed, told.number),
+        None => Ok(()),
+    }
+}
+
+#[tactic(auto, unfolding(crate::specs::Status::failed_line))]
+fn put_failed<W: Sink>(out: &mut W, moment: Option<u64>, number: u8) -> Result<(), IoFault>
+    requires { IfSome moment (λ moment. moment ≤ last_moment) }
+    ensures { Wrote W.Sink result out.old out.new (failed_line moment number) }
+{
+    let mut text = [0u8; TEXT_ROOM];
+    match moment {
+        Some(moment) => put_pieces(
+            out,
+            &[
+                Piece::Text(b"FAILED "),
+                Piece::Text(minute(moment).write_into(&mut text)),
+                Piece::Text(b"Z"),
+                Piece::Word(u64::from(number)),
+                Piece::Text(b" "),
+                Piece::Text(failure_name(number).as_bytes()),
+                Piece::Text(b"\n"),
+            ],
+        ),
+        None => Ok(()),
+    }
+}
+
+/// The name of a failure by its number.
+#[tactic(auto, unfolding(crate::specs::Status::failure_name))]
+pub(crate) fn failure_name(number: u8) -> &'static str
+    ensures { result.now ≡ failure_name number }
+{
+    match number {
+        1 => Why::NoAnswer.name(),
+        2 => Why::WrongFrame.name(),
+        3 => Why::WrongAddress.name(),
+        4 => Why::ApplicationError.name(),
+        5 => Why::Content(BodyFault::Short).name(),
+        6 => Why::Stranger.name(),
+        7 => Why::TooManyParts.name(),
+        _ => "Other",
+    }
 }
 
 #[tactic(auto, unfolding(crate::specs::Status::meter_words))]

@@ -6,6 +6,7 @@ ghost use Rattle.dc_json.specs.Metrics.{gauge_text, head_of, help_of, image_text
 ghost use Rattle.dc_json.specs.Metrics.{meter_samples, metric_text, metrics_text};
 ghost use Rattle.dc_json.specs.Metrics.{name_of, sample_of, value_of};
 
+use crate::journal::Journal;
 use crate::status::full::readings_left;
 use crate::status::row::{Row, row_at};
 use crate::status::silence::Clock;
@@ -53,13 +54,14 @@ pub fn put_metrics<A: Allocator + Copy, W: Sink>(
     out: &mut W,
     house: &House<A>,
     clock: Clock,
+    journal: &Journal<A>,
 ) -> Result<(), IoFault>
     ensures { Wrote W.Sink result out.old out.new
-        (metrics_text clock.patience clock.now house.now) }
+        (metrics_text clock.patience clock.now journal.now house.now) }
 {
-    put_metric(out, house, clock, Metric::Silent)?;
-    put_metric(out, house, clock, Metric::Age)?;
-    put_metric(out, house, clock, Metric::Code)?;
+    put_metric(out, house, clock, journal, Metric::Silent)?;
+    put_metric(out, house, clock, journal, Metric::Age)?;
+    put_metric(out, house, clock, journal, Metric::Code)?;
     put_image(out, house)
 }
 
@@ -69,13 +71,14 @@ fn put_metric<A: Allocator + Copy, W: Sink>(
     out: &mut W,
     house: &House<A>,
     clock: Clock,
+    journal: &Journal<A>,
     metric: Metric,
 ) -> Result<(), IoFault>
     ensures { Wrote W.Sink result out.old out.new
-        (metric_text metric clock.patience clock.now house.now.state) }
+        (metric_text metric clock.patience clock.now journal.now house.now.state) }
 {
     put_head(out, metric.name(), metric.help())?;
-    put_samples(out, house, clock, metric)
+    put_samples(out, house, clock, journal, metric)
 }
 
 // Writes the sample of each meter that has one.
@@ -84,13 +87,14 @@ fn put_samples<A: Allocator + Copy, W: Sink>(
     out: &mut W,
     house: &House<A>,
     clock: Clock,
+    journal: &Journal<A>,
     metric: Metric,
 ) -> Result<(), IoFault>
     ensures { Wrote W.Sink result out.old out.new
-        (meter_samples metric clock.patience clock.now house.now.state) }
+        (meter_samples metric clock.patience clock.now journal.now house.now.state) }
 {
     for place in house.meters_by_flat() {
-        let row = row_at(house, clock, place);
+        let row = row_at(house, clock, journal, place);
         put_sample(out, metric.name(), &row, value_of(metric, &row))?;
     }
     Ok(())

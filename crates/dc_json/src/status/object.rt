@@ -5,11 +5,13 @@ ghost use Rattle.dc_io.specs.Written.{Wrote};
 ghost use Rattle.dc_change.specs.Fields.{last_moment};
 ghost use Rattle.dc_frame_json.specs.Record.{value_json};
 ghost use Rattle.dc_frame_json.specs.Row.{field_of};
-ghost use Rattle.dc_json.specs.Object.{image_object, maybe_json, row_object, row_objects};
+ghost use Rattle.dc_json.specs.Object.{failure_json, image_object, maybe_json, row_object, row_objects, source_json};
 ghost use Rattle.dc_json.specs.Object.{state_json, status_objects, utc_json};
 
+use crate::journal::Journal;
 use crate::latest::minute;
 use crate::status::full::{days_left, readings_left};
+use crate::status::lines::failure_name;
 use crate::status::row::{Row, row_at};
 use crate::status::silence::Clock;
 use dc_frame_json::{Cell, put_line};
@@ -24,11 +26,12 @@ pub fn put_status_objects<A: Allocator + Copy, W: Sink>(
     out: &mut W,
     house: &House<A>,
     clock: Clock,
+    journal: &Journal<A>,
 ) -> Result<(), IoFault>
     ensures { Wrote W.Sink result out.old out.new
-        (status_objects clock.patience clock.now house.now) }
+        (status_objects clock.patience clock.now journal.now house.now) }
 {
-    put_rows(out, house, clock)?;
+    put_rows(out, house, clock, journal)?;
     put_image(out, house, clock.now)
 }
 
@@ -38,12 +41,13 @@ fn put_rows<A: Allocator + Copy, W: Sink>(
     out: &mut W,
     house: &House<A>,
     clock: Clock,
+    journal: &Journal<A>,
 ) -> Result<(), IoFault>
     ensures { Wrote W.Sink result out.old out.new
-        (row_objects clock.patience clock.now house.now.state) }
+        (row_objects clock.patience clock.now journal.now house.now.state) }
 {
     for place in house.meters_by_flat() {
-        put_row(out, &row_at(house, clock, place))?;
+        put_row(out, &row_at(house, clock, journal, place))?;
     }
     Ok(())
 }
@@ -51,21 +55,58 @@ fn put_rows<A: Allocator + Copy, W: Sink>(
 // Writes the object of a meter.
 #[tactic(auto, unfolding(crate::specs::Object::row_object))]
 fn put_row<W: Sink>(out: &mut W, row: &Row) -> Result<(), IoFault>
-    requires { IfSome row.now.heard (λ moment. moment ≤ last_moment) }
+    requires heard { IfSome row.now.heard (λ moment. moment ≤ last_moment) }
+    requires failed { IfSome row.now.told (λ told.
+        IfSome told.failed (λ moment. moment ≤ last_moment)) }
     ensures { Wrote W.Sink result out.old out.new (row_object row.now) }
 {
-    put_line(
-        out,
-        &[
-            Cell::Text("flat", row.flat.as_slice()),
-            Cell::Meter("meter", row.meter),
-            maybe("moment", row.heard),
-            Cell::Value("utc", utc(row.heard)),
-            maybe("age", row.age),
-            Cell::Flag("silent", row.is_silent),
-            state(row.status),
-        ],
-    )
+    let flat = Cell::Text("flat", row.flat.as_slice());
+    let meter = Cell::Meter("meter", row.meter);
+    let moment = maybe("moment", row.heard);
+    let utc_of = Cell::Value("utc", utc(row.heard));
+    let age = maybe("age", row.age);
+    let silent = Cell::Flag("silent", row.is_silent);
+    let status = state(row.status);
+    match row.told {
+        None => put_line(out, &[flat, meter, moment, utc_of, age, silent, status]),
+        Some(told) => put_line(
+            out,
+            &[
+                flat,
+                meter,
+                moment,
+                utc_of,
+                age,
+                silent,
+                status,
+                source(told.is_noted, row.heard),
+                maybe("failed", told.failed),
+                Cell::Value("failed_utc", utc(told.failed)),
+                failure(told.failed, told.number),
+            ],
+        ),
+    }
+}
+
+// The cell of where the reading comes from.
+fn source(is_noted: bool, heard: Option<u64>) -> Cell<'static>
+    ensures { field_of result ≡ (codes "from", source_json is_noted heard) }
+{
+    match (is_noted, heard) {
+        (true, _) => Cell::Text("from", b"journal"),
+        (false, Some(_)) => Cell::Text("from", b"image"),
+        (false, None) => Cell::Null("from"),
+    }
+}
+
+// The cell of the name of the last failure.
+fn failure(failed: Option<u64>, number: u8) -> Cell<'static>
+    ensures { field_of result ≡ (codes "failure", failure_json failed number) }
+{
+    match failed {
+        Some(_) => Cell::Text("failure", failure_name(number).as_bytes()),
+        None => Cell::Null("failure"),
+    }
 }
 
 // The cell of a number, or of none.

@@ -1,13 +1,15 @@
 //! Whether a meter is silent.
 
-ghost use Rattle.std.specs.Prelude.{◌≡◌, ◌≤◌, IfSome, option_copied};
+ghost use Rattle.std.specs.Prelude.{◌≡◌, ◌≤◌, Some, IfSome, option_copied};
 ghost use Rattle.dc_change.specs.Fields.{last_moment};
 ghost use Rattle.dc_json.specs.LatestValues.{last_part};
-ghost use Rattle.dc_json.specs.Heard.{heard, is_silent, last_of_parts, later, moment_of, part_in};
-ghost use Rattle.dc_json.specs.Heard.{open_part};
+ghost use Rattle.dc_json.specs.Heard.{heard, is_long, is_silent, last_of_parts, later, moment_of};
+ghost use Rattle.dc_json.specs.Heard.{open_part, part_in};
 ghost use Rattle.dc_json.specs.Status.{any_silent};
 
+use crate::journal::Journal;
 use crate::latest::last_reading;
+use crate::status::row::row_at;
 use dc_address::Identity;
 use dc_register::{House, Meter, Part, Reading};
 use std::alloc::Allocator;
@@ -81,22 +83,35 @@ pub(crate) fn heard<A: Allocator + Copy>(house: &House<A>, meter: &Identity) -> 
     later(open, read)
 }
 
-/// Whether a meter is silent that was last heard then.
-pub(crate) fn is_silent(clock: Clock, confirmed: u64, heard: Option<u64>) -> bool
-    ensures { result ≡ is_silent clock.patience clock.now confirmed heard }
+// Whether a moment is longer ago than a meter may be silent.
+fn is_long(clock: Clock, moment: u64) -> bool
+    ensures { result ≡ is_long clock.patience clock.now (Some moment) }
 {
-    match heard {
-        Some(moment) => clock.now.saturating_sub(moment) > clock.patience,
-        None => confirmed == 0,
+    clock.now.saturating_sub(moment) > clock.patience
+}
+
+/// Whether a meter is silent that was last heard then, and whose readouts have failed since that moment.
+pub(crate) fn is_silent(
+    clock: Clock,
+    confirmed: u64,
+    failing: Option<u64>,
+    heard: Option<u64>,
+) -> bool
+    ensures { result ≡ is_silent clock.patience clock.now confirmed failing heard }
+{
+    match (heard, failing) {
+        (Some(moment), _) => is_long(clock, moment),
+        (None, Some(since)) => confirmed == 0 || is_long(clock, since),
+        (None, None) => confirmed == 0,
     }
 }
 
 /// Whether a registered meter is silent.
-pub fn any_silent<A: Allocator + Copy>(house: &House<A>, clock: Clock) -> bool
-    ensures { result ≡ any_silent clock.patience clock.now house.now.state }
+pub fn any_silent<A: Allocator + Copy>(house: &House<A>, clock: Clock, journal: &Journal<A>) -> bool
+    ensures { result ≡ any_silent clock.patience clock.now journal.now house.now.state }
 {
     for place in house.meters_by_flat() {
-        if is_silent(clock, house.confirmed(), heard(house, &place.meter)) {
+        if row_at(house, clock, journal, place).is_silent {
             return true;
         }
     }

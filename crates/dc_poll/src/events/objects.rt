@@ -73,7 +73,11 @@ pub(crate) fn put_field<W: Sink>(out: &mut W, before: &[u8], number: u64) -> Res
 
 // Writes what stands before a text, and the text with the quotation mark that ends it.
 #[tactic(auto, using(dc_io::proofs::Pieces::written), unfolding(crate::specs::Object::text_field))]
-fn put_text_field<W: Sink>(out: &mut W, before: &[u8], text: &[u8]) -> Result<(), IoFault>
+pub(crate) fn put_text_field<W: Sink>(
+    out: &mut W,
+    before: &[u8],
+    text: &[u8],
+) -> Result<(), IoFault>
     ensures { Wrote W.Sink result out.old out.new (text_field before.now text.now) }
 {
     out.put(before)?;

@@ -1,5 +1,6 @@
 //! The progress of a poll, on a terminal.
 
+use crate::events::note::Notes;
 use crate::events::reason::put_reason;
 use crate::events::tally::Tally;
 use crate::{Event, Phase, Station, Teller};
@@ -111,18 +112,20 @@ fn explain<R: Eprint>(rt: &R, event: &Event<'_>) {
     }
 }
 
-/// Hands events on to a teller. The progress counts them, and its line is cleared before.
+/// Hands events on to a teller, and to the journal. The progress counts them, and its line is cleared before.
 #[derive(Drop)]
-pub struct Shown<'p, 'h, R, N: Teller + Drop> {
+pub struct Shown<'p, 'h, R, N: Teller + Drop, J: Notes + Drop> {
     /// The teller.
     pub teller: N,
+    /// The journal.
+    pub notes: J,
     /// The progress.
     pub progress: &'p Progress<'h, R>,
     /// Whether standard error says what the failed tries of a readout brought.
     pub explains: bool,
 }
 
-impl<R: Clock + Eprint, N: Teller + Drop> Teller for Shown<'_, '_, R, N> {
+impl<R: Clock + Eprint, N: Teller + Drop, J: Notes + Drop> Teller for Shown<'_, '_, R, N, J> {
     ghost takes = { λ old event new. N.takes old.teller event new.teller };
 
     ghost breaks = { λ old event new. N.breaks old.teller event new.teller };
@@ -133,6 +136,7 @@ impl<R: Clock + Eprint, N: Teller + Drop> Teller for Shown<'_, '_, R, N> {
         self.progress.clear();
         let tally = &self.progress.tally;
         tally.set(tally.get().after(event));
+        self.notes.note(event);
         let told = self.teller.tell(event);
         if self.explains {
             explain(self.progress.rt, event);

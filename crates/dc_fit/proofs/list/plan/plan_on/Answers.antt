@@ -1,4 +1,4 @@
-use Rattle.std.proofs.Common.{◌≡◌, ◌∷◌, ◌∙◌, List, ℕ, [], eqb-true, inl, inr, sym, subst, rules}
+use Rattle.std.proofs.Common.{◌∙◌, List, ℕ, eqb-true, inl, sym, subst, rules}
 use Rattle.dc_io.specs.Lines.{lines_of}
 use Rattle.dc_fit.specs.Plan.{AreSteps, IsPlanned, Outcome}
 use Rattle.dc_fit.proofs.Steps.{no_line, planned, one_group, no_group}

@@ -1,5 +1,4 @@
-use Rattle.std.proofs.Common.{◌≡◌, ℕ, List, [], Option, None, Some, inl, inr, length, arith, eqb-true, ap, sym, refl}
-use Rattle.std.specs.Prelude.{codes}
+use Rattle.std.proofs.Common.{Some, inl, inr, arith, eqb-true, ap, sym}
 use Rattle.dc_change.proofs.LineSpellings.{s_is_secondary}
 use Rattle.dc_fit.proofs.Addresses.{empty_is_secondary}
 use Rattle.dc_fit.proofs.list.row.parse_address.Goals as goal

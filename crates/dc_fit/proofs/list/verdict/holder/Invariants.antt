@@ -7,5 +7,5 @@ abbrev pub invariant-meters : goal.invariant-meters
 invariant-meters g l = record {
   can : (goal.iterator-meters g).can_next l.meter-iterator;
   ends : (goal.iterator-meters g).is_finite l.meter-iterator;
-  rest : holder_in l.row.line l.row.address l.meter-iterator ≡ holder_in l.row.line l.row.address l.house.state.meters;
+  rest : holder_in l.line l.address l.meter-iterator ≡ holder_in l.line l.address l.house.state.meters;
 }

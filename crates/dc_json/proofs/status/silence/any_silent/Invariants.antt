@@ -1,7 +1,7 @@
 use Rattle.std.proofs.Common.{◌≡◌}
 use Rattle.std.specs.List.{list_any}
 use Rattle.dc_register.specs.declared.place.Place.{Place}
-use Rattle.dc_json.specs.Heard.{heard, is_silent}
+use Rattle.dc_json.specs.Row.{row_at}
 use Rattle.dc_json.specs.Status.{any_silent}
 use Rattle.dc_json.proofs.status.silence.any_silent.Given as goal
 
@@ -10,5 +10,5 @@ abbrev pub invariant-loop-place : goal.invariant-loop-place
 invariant-loop-place g l = record {
   can : (goal.iterator-loop-place g).can_next l.place-iterator;
   ends : (goal.iterator-loop-place g).is_finite l.place-iterator;
-  rest : list_any (λ (place : Place). is_silent l.clock.patience l.clock.now l.house.state.confirmed (heard l.house.state place.meter)) l.place-iterator ≡ any_silent l.clock.patience l.clock.now l.house.state;
+  rest : list_any (λ (place : Place). (row_at l.clock.patience l.clock.now l.journal l.house.state place).is_silent) l.place-iterator ≡ any_silent l.clock.patience l.clock.now l.journal l.house.state;
 }

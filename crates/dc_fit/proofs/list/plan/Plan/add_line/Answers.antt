@@ -1,4 +1,4 @@
-use Rattle.std.proofs.Common.{◌≡◌, subst}
+use Rattle.std.proofs.Common.{subst}
 use Rattle.dc_fit.specs.Rows.{IsReadAs}
 use Rattle.dc_fit.specs.declared.list.row.Entry.{Entry}
 use Rattle.dc_fit.specs.declared.list.row.Entry.TheVariants.{Bad}

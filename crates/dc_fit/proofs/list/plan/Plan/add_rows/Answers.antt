@@ -1,4 +1,4 @@
-use Rattle.std.proofs.Common.{arith, ◌≡◌, ◌+◌, ◌≤◌, Bool, List, ℕ, [], length, eqb-true, sym, subst}
+use Rattle.std.proofs.Common.{arith, ◌≡◌, List, ℕ, [], eqb-true, sym, subst}
 use Rattle.dc_io.specs.Lines.{lines_of}
 use Rattle.dc_fit.specs.Plan.{AreSteps}
 use Rattle.dc_fit.proofs.Steps.{no_line, no_steps, step_and_steps}

@@ -1,4 +1,4 @@
-use Rattle.std.proofs.Common.{◌≡◌, ◌+◌, ◌≤◌, length, List, ℕ}
+use Rattle.std.proofs.Common.{◌+◌, ◌≤◌, length}
 use Rattle.dc_change.specs.State.{Held}
 use Rattle.dc_io.specs.Lines.{lines_of}
 use Rattle.dc_fit.specs.Plan.{AreSteps, Outcome}
