@@ -62,10 +62,16 @@ failure_name number =
     if number == 6 then name_of Stranger else
     if number == 7 then name_of TooManyParts else codes "Other"
 
+unfoldable pub failed_words : ℕ → ℕ → List ℕ
+failed_words moment number = codes "FAILED " ++ (value_text (minute_of moment)
+    ++ (codes "Z" ++ number_word number))
+
+unfoldable pub name_end : ℕ → List ℕ
+name_end number = codes " " ++ (failure_name number ++ codes "\n")
+
 unfoldable pub failed_line : Option ℕ → ℕ → List ℕ
 failed_line None number = []
-failed_line (Some moment) number = codes "FAILED " ++ (value_text (minute_of moment)
-    ++ (codes "Z" ++ (number_word number ++ (codes " " ++ (failure_name number ++ codes "\n")))))
+failed_line (Some moment) number = failed_words moment number ++ name_end number
 
 -- the last failed readout since
 unfoldable pub failed_text : Option Told → List ℕ

@@ -25,30 +25,60 @@ const OFFICE: &[u8] = b"OFFICE ";
 
 const OK: &[u8] = b"OK ";
 
+// The journal of an image, which is opened for its first line: a file that is no image gets none.
+#[derive(Drop)]
+struct Lines<'h, 'i, R> {
+    rt: &'h R,
+    image: &'i str,
+    journal: Option<Journal<'h, R>>,
+    is_open: bool,
+}
+
+impl<'h, 'i, R: Files<File = File> + Eprint + AllocGlobal> Lines<'h, 'i, R> {
+    fn new(rt: &'h R, image: &'i str) -> Self {
+        Lines {
+            rt,
+            image,
+            journal: None,
+            is_open: false,
+        }
+    }
+
+    fn append(&mut self, line: &[u8]) {
+        if !self.is_open {
+            self.journal = Journal::open(self.rt, self.image);
+            self.is_open = true;
+        }
+        if let Some(journal) = &mut self.journal {
+            journal.append(line);
+        }
+    }
+}
+
 /// Puts the events of a poll into the journal.
 #[derive(Drop)]
-pub struct PollNotes<'h, R> {
+pub struct PollNotes<'h, 'i, R> {
     rt: &'h R,
-    journal: Option<Journal<'h, R>>,
+    lines: Lines<'h, 'i, R>,
     // The register, for the flats.
     house: Option<House<Global>>,
 }
 
-impl<'h, R: Files<File = File> + Eprint + AllocGlobal> PollNotes<'h, R> {
-    /// Opens the journal of the image with this register.
-    pub fn new(host: &Host<'h, R>, image: &str, house: Option<House<Global>>) -> Self {
+impl<'h, 'i, R: Files<File = File> + Eprint + AllocGlobal> PollNotes<'h, 'i, R> {
+    /// The journal of the image with this register.
+    pub fn new(host: &Host<'h, R>, image: &'i str, house: Option<House<Global>>) -> Self {
         PollNotes {
             rt: host.rt,
-            journal: Journal::open(host.rt, image),
+            lines: Lines::new(host.rt, image),
             house,
         }
     }
 }
 
-impl<R: Files<File = File> + Clock + Eprint + AllocGlobal> Notes for PollNotes<'_, R> {
+impl<R: Files<File = File> + Clock + Eprint + AllocGlobal> Notes for PollNotes<'_, '_, R> {
     fn note(&mut self, event: &Event<'_>) {
         let alloc = self.rt.alloc();
-        let (Some(journal), Some(at)) = (&mut self.journal, moment(self.rt)) else {
+        let Some(at) = moment(self.rt) else {
             return;
         };
         let flat = match (meter_of(event), &self.house) {
@@ -61,7 +91,7 @@ impl<R: Files<File = File> + Clock + Eprint + AllocGlobal> Notes for PollNotes<'
         };
         let mut line = Bytes::new(alloc);
         if put_note(alloc, &mut line, at.seconds, flat, event).is_ok() {
-            journal.append(line.as_slice());
+            self.lines.append(line.as_slice());
         }
     }
 }
@@ -149,11 +179,11 @@ pub fn note_printed<R>(host: &Host<'_, R>, image: &str, printed: &Printed)
 where
     R: Files<File = File> + Clock + Eprint + AllocGlobal,
 {
-    let mut commands = Commands::new(host.rt, image);
+    let mut journal = Lines::new(host.rt, image);
     let mut rest = printed.lines.as_slice();
     while !rest.is_empty() {
         let (line, after) = first_line(rest);
-        commands.note(after_row(line));
+        note_command(&mut journal, after_row(line));
         rest = after;
     }
 }
@@ -170,39 +200,17 @@ fn after_row(line: &[u8]) -> &[u8] {
     line
 }
 
-// Puts lines that are commands into the journal, which is opened for the first one.
-#[derive(Drop)]
-struct Commands<'h, 'i, R> {
-    rt: &'h R,
-    image: &'i str,
-    journal: Option<Journal<'h, R>>,
-    is_open: bool,
-}
-
-impl<'h, 'i, R: Files<File = File> + Clock + Eprint + AllocGlobal> Commands<'h, 'i, R> {
-    fn new(rt: &'h R, image: &'i str) -> Self {
-        Commands {
-            rt,
-            image,
-            journal: None,
-            is_open: false,
-        }
-    }
-
-    fn note(&mut self, line: &[u8]) {
-        let (Some(command), Some(at)) = (Command::parse_line(line), moment(self.rt)) else {
-            return;
-        };
-        if !self.is_open {
-            self.journal = Journal::open(self.rt, self.image);
-            self.is_open = true;
-        }
-        let mut text = Bytes::new(self.rt.alloc());
-        if let Some(journal) = &mut self.journal
-            && put_command_note(&mut text, at.seconds, command.number, line).is_ok()
-        {
-            journal.append(text.as_slice());
-        }
+// Puts a line into the journal, if it is a command.
+fn note_command<R>(lines: &mut Lines<'_, '_, R>, line: &[u8])
+where
+    R: Files<File = File> + Clock + Eprint + AllocGlobal,
+{
+    let (Some(command), Some(at)) = (Command::parse_line(line), moment(lines.rt)) else {
+        return;
+    };
+    let mut text = Bytes::new(lines.rt.alloc());
+    if put_command_note(&mut text, at.seconds, command.number, line).is_ok() {
+        lines.append(text.as_slice());
     }
 }
 
@@ -215,7 +223,7 @@ where
     let Some(lines) = script_of(host, script) else {
         return;
     };
-    let mut commands = Commands::new(host.rt, image);
+    let mut journal = Lines::new(host.rt, image);
     let mut rest = lines.as_slice();
     let mut answers = printed.lines.as_slice();
     while !rest.is_empty() {
@@ -225,7 +233,7 @@ where
             && let Some(command) = Command::parse_line(line)
             && let Some(left) = after_answer(answers, command.number)
         {
-            commands.note(line);
+            note_command(&mut journal, line);
             answers = left;
         }
     }

@@ -4,8 +4,9 @@ ghost use Rattle.std.specs.Prelude.{◌≡◌, ◌≤◌, IfSome};
 ghost use Rattle.dc_io.specs.Written.{Wrote};
 ghost use Rattle.dc_change.specs.Fields.{last_moment};
 ghost use Rattle.dc_json.specs.LatestValues.{bit_words, bits_words};
-ghost use Rattle.dc_json.specs.Status.{byte_words, failed_line, failed_text, failure_name, heard_words, meter_words};
-ghost use Rattle.dc_json.specs.Status.{number_line, readings_left, source_words};
+ghost use Rattle.dc_json.specs.Status.{byte_words, failed_line, failed_text, failed_words, failure_name};
+ghost use Rattle.dc_json.specs.Status.{heard_words, meter_words, name_end, number_line, readings_left};
+ghost use Rattle.dc_json.specs.Status.{source_words};
 ghost use Rattle.dc_json.specs.Status.{room_words, row_lines, row_text, silent_words, size_line};
 ghost use Rattle.dc_json.specs.Status.{state_words, status_text};
 
@@ -96,27 +97,46 @@ fn put_told<W: Sink>(out: &mut W, told: Option<Told>) -> Result<(), IoFault>
     }
 }
 
-#[tactic(auto, unfolding(crate::specs::Status::failed_line))]
+#[tactic(auto, using(dc_io::proofs::Pieces::written), unfolding(crate::specs::Status::failed_line))]
 fn put_failed<W: Sink>(out: &mut W, moment: Option<u64>, number: u8) -> Result<(), IoFault>
     requires { IfSome moment (λ moment. moment ≤ last_moment) }
     ensures { Wrote W.Sink result out.old out.new (failed_line moment number) }
 {
-    let mut text = [0u8; TEXT_ROOM];
     match moment {
-        Some(moment) => put_pieces(
-            out,
-            &[
-                Piece::Text(b"FAILED "),
-                Piece::Text(minute(moment).write_into(&mut text)),
-                Piece::Text(b"Z"),
-                Piece::Word(u64::from(number)),
-                Piece::Text(b" "),
-                Piece::Text(failure_name(number).as_bytes()),
-                Piece::Text(b"\n"),
-            ],
-        ),
+        Some(moment) => {
+            put_failed_words(out, moment, number)?;
+            put_name_end(out, number)
+        }
         None => Ok(()),
     }
+}
+
+// Writes the minute (UTC) of a failure, and its number.
+#[tactic(auto, unfolding(crate::specs::Status::failed_words))]
+fn put_failed_words<W: Sink>(out: &mut W, moment: u64, number: u8) -> Result<(), IoFault>
+    requires { moment ≤ last_moment }
+    ensures { Wrote W.Sink result out.old out.new (failed_words moment number) }
+{
+    let mut text = [0u8; TEXT_ROOM];
+    put_pieces(
+        out,
+        &[
+            Piece::Text(b"FAILED "),
+            Piece::Text(minute(moment).write_into(&mut text)),
+            Piece::Text(b"Z"),
+            Piece::Word(u64::from(number)),
+        ],
+    )
+}
+
+// Writes the name of a failure, at the end of its line.
+#[tactic(auto, using(dc_io::proofs::Pieces::written), unfolding(crate::specs::Status::name_end))]
+fn put_name_end<W: Sink>(out: &mut W, number: u8) -> Result<(), IoFault>
+    ensures { Wrote W.Sink result out.old out.new (name_end number) }
+{
+    out.put(b" ")?;
+    out.put(failure_name(number).as_bytes())?;
+    out.put(b"\n")
 }
 
 /// The name of a failure by its number.
