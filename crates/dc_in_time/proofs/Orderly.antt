@@ -1,6 +1,7 @@
 -- A request goes out only where nothing but a copy of the last answer is under way: by what each step of a
 -- line keeps.
-use Rattle.std.proofs.Common.{◌≡◌, ◌⊎◌, inl, inr, ℕ, Bool, true, false, not, ◌&&◌, ◌==◌, List, [], ◌∷◌, ◌++◌, length, drop, Option, Some, None, cond, if◌then◌else◌, arith, refl, sym, ◌∙◌, ap, subst}
+use Rattle.std.proofs.Common.{◌≡◌, ◌⊎◌, inl, inr, ℕ, Bool, true, false, ◌==◌, List, [], ◌∷◌, ◌++◌, length, drop, Option, Some, None, cond, if◌then◌else◌, arith, refl, sym, ◌∙◌, ap, subst}
+use Rattle.std.specs.Str.{bytes_eq}
 use Rattle.std.proofs.lemmas.Bool.{eqb-true, false≢true}
 use Rattle.std.proofs.lemmas.Slice.Eq.{bytes_eq-Decides}
 use Rattle.dc_frame.specs.Frame.{FrameSeen}
@@ -55,24 +56,26 @@ busy_stands last way = record { quiet = λ e. absurd cc; answered = λ e. absurd
 state_stands : (state : State) (last : Option (List ℕ)) (way : Way) → state ≡ Busy → Standing state last way
 state_stands state last way is = subst (λ (s : State). Standing s last way) (sym is) (busy_stands last way)
 
--- once a line that was answered is quiet, its last answer is forgotten
-waited_stands : (before after : State) (last : Option (List ℕ)) (way : Way) → Standing after last way → Standing after (last_waited before after last) way
-waited_stands Quiet after last way stands = stands
-waited_stands Listened after last way stands = stands
-waited_stands Answered Quiet last way stands = record { quiet = stands.quiet; answered = λ e. absurd cc }
-waited_stands Answered Listened last way stands = stands
-waited_stands Answered Answered last way stands = stands
-waited_stands Answered Busy last way stands = stands
-waited_stands Busy after last way stands = stands
+-- where the answered request is repeated its answer is forgotten, once the line is quiet
+waited_stands : (repeats : Bool) (before after : State) (last : Option (List ℕ)) (way : Way) → Standing after last way → Standing after (last_waited repeats before after last) way
+waited_stands false before after last way stands = stands
+waited_stands true Quiet after last way stands = stands
+waited_stands true Listened after last way stands = stands
+waited_stands true Answered Quiet last way stands = record { quiet = stands.quiet; answered = λ e. absurd cc }
+waited_stands true Answered Listened last way stands = stands
+waited_stands true Answered Answered last way stands = stands
+waited_stands true Answered Busy last way stands = stands
+waited_stands true Busy after last way stands = stands
 
-waited_framed : (before after : State) (last : Option (List ℕ)) → Framed last → Framed (last_waited before after last)
-waited_framed Quiet after last framed = framed
-waited_framed Listened after last framed = framed
-waited_framed Answered Quiet last framed = λ answer is. absurd cc
-waited_framed Answered Listened last framed = framed
-waited_framed Answered Answered last framed = framed
-waited_framed Answered Busy last framed = framed
-waited_framed Busy after last framed = framed
+waited_framed : (repeats : Bool) (before after : State) (last : Option (List ℕ)) → Framed last → Framed (last_waited repeats before after last)
+waited_framed false before after last framed = framed
+waited_framed true Quiet after last framed = framed
+waited_framed true Listened after last framed = framed
+waited_framed true Answered Quiet last framed = λ answer is. absurd cc
+waited_framed true Answered Listened last framed = framed
+waited_framed true Answered Answered last framed = framed
+waited_framed true Answered Busy last framed = framed
+waited_framed true Busy after last framed = framed
 
 sounded : (sound : Sound) (state : State) (last : Option (List ℕ)) (old new : Way) → Passes sound old new → Standing state last old → Standing (state_by sound state) last new
 sounded (piece bytes) state last old new passes stands = busy_stands last new
@@ -168,11 +171,11 @@ module _ {W : Type 0} (wire : WireGhosts W) (reply : Option (List ℕ)) where
   framed_behind Answered last framed = framed
   framed_behind Busy last framed = framed
 
-  drained : (old : Line On) (loud : Bool) (between : On) (state : State) (late : ℕ) → Orderly old → Drains g.hears old.wire old.state old.late loud between state late
-      → Orderly (waiting between state late old)
-  drained old loud between state late orderly drains = record {
-    standing = waited_stands old.state state old.last between.way (subst (λ (s : State). Standing s old.last between.way) (sym drains.moved) (stood old.last (pieces drains.bursts ++ drains.end) old.wire between old.state drains.gave orderly.standing));
-    framed = waited_framed old.state state old.last orderly.framed;
+  drained : (request : List ℕ) (old : Line On) (loud : Bool) (between : On) (state : State) (late : ℕ) → Orderly old → Drains g.hears old.wire old.state old.late loud between state late
+      → Orderly (waiting request between state late old)
+  drained request old loud between state late orderly drains = record {
+    standing = waited_stands (bytes_eq old.hearing.request request) old.state state old.last between.way (subst (λ (s : State). Standing s old.last between.way) (sym drains.moved) (stood old.last (pieces drains.bursts ++ drains.end) old.wire between old.state drains.gave orderly.standing));
+    framed = waited_framed (bytes_eq old.hearing.request request) old.state state old.last orderly.framed;
   }
 
   gone_out : (request : List ℕ) (many : Bool) (line : Line On) (on : On) → many ≡ false → Orderly line → may_go line.state line.hearing.request request many ≡ true → Puts reply line.wire.way on.way
@@ -193,16 +196,16 @@ module _ {W : Type 0} (wire : WireGhosts W) (reply : Option (List ℕ)) where
     went Loud line same is (too_loud same_new) = inl (subst IsHeld (sym same_new) (record { held = record { request = request; many = many }; is = same ∙ is_held; one = one; orderly = is }))
 
     looked : (gone : Gone) → Looks g request many old gone new → Within new
-    looked gone looks = went gone (waiting looks.between looks.state looks.late old) refl (drained old _ looks.between looks.state looks.late orderly looks.drains) looks.goes
+    looked gone looks = went gone (waiting request looks.between looks.state looks.late old) refl (drained request old _ looks.between looks.state looks.late orderly looks.drains) looks.goes
 
     loud : Looks g request many old Loud new → Orderly new
     loud looks = go looks.goes
       where
         line : Line On
-        line = waiting looks.between looks.state looks.late old
+        line = waiting request looks.between looks.state looks.late old
 
         go : Goes g request many line Loud new → Orderly new
-        go (too_loud same) = subst Orderly (sym same) (drained old _ looks.between looks.state looks.late orderly looks.drains)
+        go (too_loud same) = subst Orderly (sym same) (drained request old _ looks.between looks.state looks.late orderly looks.drains)
 
   -- ---- the answer of one meter
 

@@ -1,6 +1,6 @@
 -- A line over a wire, on which one request at most is under way, until it is lost (this product).
 use Rattle.std.specs.Prelude.{◌≡◌, ℕ, ◌+◌, Bool, true, false, ◌==◌, length, List, []}
-use Rattle.std.specs.Prelude.{Option, Some, None, if◌then◌else◌}
+use Rattle.std.specs.Prelude.{Option, Some, None, bytes_eq, if◌then◌else◌}
 use Rattle.dc_io.specs.Failures.{HasRisen}
 use Rattle.dc_frame.specs.Reading.{frame_of}
 use Rattle.dc_raw.specs.Looks.{most_looks}
@@ -69,11 +69,11 @@ is_loud WaitsOn = false
 is_loud Loud = true
 
 -- the line once what had arrived was dropped
-abbrev pub waiting : {W : Type 0} → W → State → ℕ → Line W → Line W
-waiting between state late line = record line {
+abbrev pub waiting : {W : Type 0} → List ℕ → W → State → ℕ → Line W → Line W
+waiting request between state late line = record line {
   wire = between;
   state = state;
-  last = last_waited line.state state line.last;
+  last = last_waited (bytes_eq line.hearing.request request) line.state state line.last;
   late = late;
 }
 
@@ -84,7 +84,7 @@ pub record Looks {W : Type 0} (wire : WireGhosts W) (request : List ℕ) (many :
   pub state : State
   pub late : ℕ
   pub drains : Drains wire.hears old.wire old.state old.late (is_loud gone) between state late
-  pub goes : Goes wire request many (waiting between state late old) gone new
+  pub goes : Goes wire request many (waiting request between state late old) gone new
 
 pub record LineSends {W : Type 0} (wire : WireGhosts W) (many : Bool) (old : Line W)
     (request : List ℕ) (new : Line W) : Type 0 where

@@ -107,19 +107,20 @@ last_behind Listened last = None
 last_behind Answered last = last
 last_behind Busy last = last
 
--- a request that waits on a line which was answered is the one that was answered: once the line is
--- quiet it may have the same answer again
+-- a request that waits, and repeats the one that was answered, may have the same answer again once the
+-- line is quiet
 abbrev pub unless_quiet : State → Option (List ℕ) → Option (List ℕ)
 unless_quiet Quiet last = None
 unless_quiet Listened last = last
 unless_quiet Answered last = last
 unless_quiet Busy last = last
 
-abbrev pub last_waited : State → State → Option (List ℕ) → Option (List ℕ)
-last_waited Quiet after last = last
-last_waited Listened after last = last
-last_waited Answered after last = unless_quiet after last
-last_waited Busy after last = last
+abbrev pub last_waited : Bool → State → State → Option (List ℕ) → Option (List ℕ)
+last_waited false before after last = last
+last_waited true Quiet after last = last
+last_waited true Listened after last = last
+last_waited true Answered after last = unless_quiet after last
+last_waited true Busy after last = last
 
 -- a line on which silence came is in the next state
 abbrev pub quiet_by : Bool → State → State → State

@@ -181,7 +181,8 @@ impl<W: Wire + Drop> Line<W> {
     {
         let before = self.state;
         let loud = drain(&mut self.wire, &mut self.state, &mut self.late)?;
-        self.last = last_waited(before, self.state, self.last.take());
+        let answered = self.hearing.request();
+        self.last = last_waited(answered, request, before, self.state, self.last.take());
         if loud {
             return Ok(Gone::Loud);
         }

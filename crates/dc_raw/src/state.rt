@@ -1,6 +1,6 @@
 //! What may be under way on a line, and which frame answers a request.
 
-ghost use Rattle.std.specs.Prelude.{◌≡◌};
+ghost use Rattle.std.specs.Prelude.{◌≡◌, bytes_eq};
 ghost use Rattle.dc_frame.specs.Reading.{frame_of};
 ghost use Rattle.dc_raw.specs.Turn.{is_answer, is_copy, is_reset, is_wrong, kind_of};
 ghost use Rattle.dc_raw.specs.Turn.{last_behind, last_waited, may_go, quiet_by, telegram_in};
@@ -145,13 +145,25 @@ fn telegram_in(last: Option<AnswerBuf>) -> Option<AnswerBuf>
     }
 }
 
-/// The last answer, while a request waits. On a line that was answered it is the request which was
-/// answered: once the line is quiet, it may have the same answer again.
-pub fn last_waited(before: State, after: State, last: Option<AnswerBuf>) -> Option<AnswerBuf>
-    ensures { result ≡ last_waited before after last }
+/// The last answer, while a request waits. Where that one was answered, and the line is quiet now, it
+/// may have the same answer again.
+pub fn last_waited(
+    answered: &FrameBuf,
+    request: &FrameBuf,
+    before: State,
+    after: State,
+    last: Option<AnswerBuf>,
+) -> Option<AnswerBuf>
+    ensures { result ≡ last_waited (bytes_eq answered.now request.now) before after last }
 {
     match (before, after) {
-        (State::Answered, State::Quiet) => None,
+        (State::Answered, State::Quiet) => {
+            if answered.as_slice() == request.as_slice() {
+                None
+            } else {
+                last
+            }
+        }
         _ => last,
     }
 }
