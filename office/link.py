@@ -59,6 +59,12 @@ class Seen(NamedTuple):
     is_all: bool  # there are no further ones
 
 
+class Command(NamedTuple):
+    """A numbered line that a box has done."""
+    number: int
+    line: str
+
+
 Reply = List[str]
 
 
@@ -120,6 +126,14 @@ class Link:
             return self.seen_from(first)
         except (ValueError, IndexError, OverflowError, StopIteration) as fault:
             raise Unreached(f"an answer can't be read: {fault}") from fault
+
+    def commands(self, first: int, last: int) -> List[Command]:
+        """The commands with these numbers, as the journal beside the box's image has them; none of a box without one.
+
+        Raises Unreached and Disagreement."""
+        rows = [line.split(" ", 2) for line in self.run([f"JOURNAL {first}"])[0][:-1]]
+        found = [Command(int(row[1]), row[2]) for row in rows if row[0] == "COMMAND" and len(row) == 3 and row[1].isdecimal()]
+        return [command for command in found if command.number <= last]
 
     def seen_from(self, first: int) -> Seen:
         order, mark, register, window = self.run([PROBE, "WINDOW 1 1", "REGISTER", f"WINDOW {first} {PAGE}"])

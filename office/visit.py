@@ -15,7 +15,7 @@ import psycopg2
 from box_commands import change_of
 from database import Cursor, Database, insert, one
 from decoding import Undecoded
-from link import Disagreement, Link, Meter, Reading, Seen, Unreached
+from link import Command, Disagreement, Link, Meter, Reading, Seen, Unreached
 from stamps import Window
 from storing import store_readings, stored
 
@@ -24,6 +24,9 @@ REFUSALS = ("SYNTAX", "KNOWN", "UNKNOWN", "ADDRESS", "FULL")  # of an order; its
 NO_BOX = "there is no such box in the database"
 IS_OPEN = "state IN ('pending', 'queued')"  # in the words of the index open_orders
 TRANSIENT = (Unreached, Undecoded, psycopg2.Error)  # a lost database is any psycopg2.Error
+# What a command that the box can't have done is to the database, which doesn't take it
+IMPOSSIBLE = (Disagreement, psycopg2.IntegrityError, psycopg2.DataError, psycopg2.InternalError)
+COLUMNS = "id, line, confirms, number, state, answer"  # of an Order
 LAST_SERIAL = 2**63 - 1
 
 Result = TypeVar("Result")
@@ -119,8 +122,7 @@ class Visit:
 
     def order(self, cursor: Cursor, where: str, *values: object) -> Optional[Order]:
         """The first order of the box of which that is so, or None."""
-        cursor.execute("SELECT id, line, confirms, number, state, answer FROM orders"
-                       f" WHERE box = %s AND {where} ORDER BY id LIMIT 1", (self.box, *values))
+        cursor.execute(f"SELECT {COLUMNS} FROM orders WHERE box = %s AND {where} ORDER BY id LIMIT 1", (self.box, *values))
         row = cursor.fetchone()
         return Order(*row) if row else None
 
@@ -148,6 +150,9 @@ class Visit:
                 number = known.number
             else:
                 number = self.look(cursor, link, known)[0].number
+                queued = self.order(cursor, "state = 'queued'")  # (the box may have done it)
+                if queued is None:
+                    return None
             self.number(cursor, queued.id, number + 1)
             return queued.id
 
@@ -175,6 +180,8 @@ class Visit:
         if known.number is None or known.confirmed is None or order.number is None:
             raise Disagreement(f"order {order.number} is pending, and the database doesn't know the box's last number")
         seen, standing = link.look(known.confirmed + 1), Standing(known.number, known.confirmed)
+        if self.caught_up(cursor, link, standing, seen) != standing:
+            return False
         if seen.number == order.number and self.took_its_number(cursor, link, order):
             return False
         if seen.number == order.number:  # it was done, if that was its line: the box compares it
@@ -221,23 +228,68 @@ class Visit:
         late = self.done_late(cursor, link, order.number)
         if late is None:
             return False
-        if order.confirms is None:
-            cursor.execute("UPDATE orders SET state = 'queued', number = NULL WHERE id = %s", (order.id,))
-        else:
-            self.end(cursor, order.id, "given_up", "another order took its number")
+        self.give_back(cursor, order)
         self.note_done(cursor, late)
         self.is_checked = False
         return True
 
+    def give_back(self, cursor: Cursor, order: Order) -> None:
+        """Takes the number of a pending order, which the box has given to another."""
+        if order.confirms is None:
+            cursor.execute("UPDATE orders SET state = 'queued', number = NULL WHERE id = %s", (order.id,))
+        else:
+            self.end(cursor, order.id, "given_up", "another order took its number")
+
     def done_late(self, cursor: Cursor, link: Link, number: Optional[int]) -> Optional[Order]:
         """The refused order that the box did as its last one, of that number, or None. The box says which: it answers
         the line of its last number OK again, and any other line of that number ERR ORDER."""
-        cursor.execute("SELECT id, line, confirms, number, state, answer FROM orders"
-                       " WHERE box = %s AND state = 'refused' AND number = %s ORDER BY id DESC", (self.box, number))
+        cursor.execute(f"SELECT {COLUMNS} FROM orders WHERE box = %s AND state = 'refused' AND number = %s ORDER BY id DESC",
+                       (self.box, number))
         for order in [Order(*row) for row in cursor]:
             if link.run([f"{number} {order.line}"])[0][-1] == f"OK {number}":
                 return order
         return None
+
+    # ---- what was done at the box itself, as its journal has it
+
+    def caught_up(self, cursor: Cursor, link: Link, known: Standing, seen: Seen) -> Standing:
+        """Does the commands that the box has done besides to the register that is known; returns what is known then. It is
+        believed only where they end in the box's number, in its last line, which the box compares, and in its register,
+        equal in each row. Else nothing is changed, and `known` is returned: the caller compares, and stops."""
+        if seen.number <= known.number:
+            return known
+        commands = link.commands(known.number + 1, seen.number)
+        if len(commands) != seen.number - known.number or any(it.number != number for number, it in enumerate(commands, known.number + 1)):
+            return known
+        cursor.execute("SAVEPOINT journal")
+        try:
+            self.replay(cursor, link, commands)
+            cursor.execute("SELECT number, confirmed FROM boxes WHERE name = %s", (self.box,))
+            standing = Standing(*one(cursor))
+            self.check_state(cursor, standing, seen)
+        except IMPOSSIBLE:
+            cursor.execute("ROLLBACK TO SAVEPOINT journal")
+            return known
+        return standing
+
+    def replay(self, cursor: Cursor, link: Link, commands: List[Command]) -> None:
+        """Notes that the box has done these commands: each as the order that it was, or else as one that is done.
+
+        Raises Disagreement where the last one isn't the box's last, and at a CONFIRM that no order was."""
+        if link.run([" ".join(map(str, commands[-1]))])[0][-1] != f"OK {commands[-1].number}":
+            raise Disagreement("the journal's last line isn't the box's")
+        pending = self.order(cursor, "state = 'pending'")
+        if pending is not None and Command(pending.number or 0, pending.line) not in commands:
+            self.give_back(cursor, pending)
+        for number, line in commands:
+            order = self.order(cursor, "line = %s AND (state = 'queued' OR state IN ('pending', 'refused') AND number = %s)", line, number)
+            if order is not None:
+                cursor.execute("UPDATE orders SET state = 'pending', number = %s, answer = NULL WHERE id = %s", (number, order.id))
+            else:
+                cursor.execute("INSERT INTO orders (box, line, number, state) VALUES (%s, %s, %s, 'pending')", (self.box, line, number))
+            done = self.order(cursor, "state = 'pending'")
+            assert done is not None
+            self.note_done(cursor, done)
 
     # ---- the box's state
 
@@ -253,6 +305,7 @@ class Visit:
             if late is not None:
                 self.note_done(cursor, late)
                 standing = Standing(seen.number, known.confirmed)
+        standing = self.caught_up(cursor, link, standing, seen)
         self.check_state(cursor, standing, seen)
         self.keep_identity(cursor, seen)
         return standing, seen

@@ -1,4 +1,4 @@
-# Shell functions that poll, office-inbox and office-line share: the settings of a house, the lock of its image, and
+# Shell functions that mbdc-house, metrics, office-inbox and office-line share: the settings of a house, the lock of its image, and
 # what the office may send.
 # Sourced with `program` set to the name that messages begin with.
 # shellcheck shell=sh disable=SC2034,SC2154
@@ -47,6 +47,7 @@ set_value() {
     esac
     case $1 in
     IMAGE) [ "${2#/}" != "$2" ] && image=$2 ;;
+    BACKUP) [ "${2#/}" != "$2" ] && backups=$2 ;;
     BAUD) is_number "$2" && baud=$2 ;;
     BAUD_[1-8]) is_number "$2" && bauds="$bauds ${1#BAUD_}=$2" ;;
     TRIES) is_number "$2" && tries=$2 ;;
@@ -65,11 +66,11 @@ speed_of() {
     echo "$speed"
 }
 
-# Reads /etc/mbdc/HOUSE.conf into image, lines (words N=LINK), baud, bauds (words N=BAUD), tries and patience. (MBDC_SETTINGS names another
-# folder, for tries without the package; neither sudo nor a unit passes it on.)
+# Reads /etc/mbdc/HOUSE.conf into image, backups, lines (words N=LINK), baud, bauds (words N=BAUD), tries and patience.
+# (MBDC_SETTINGS names another folder, for tries without the package; neither sudo nor a unit passes it on.)
 read_settings() {
     settings=${MBDC_SETTINGS:-/etc/mbdc}/$1.conf
-    image=/var/lib/mbdc/$1.image lines='' baud=2400 bauds='' tries=2 patience=''
+    image=/var/lib/mbdc/$1.image backups='' lines='' baud=2400 bauds='' tries=2 patience=''
     [ -r "$settings" ] || fail "$CONFIGURATION" "$settings: it can't be read"
     number=0
     while IFS= read -r line || [ -n "$line" ]; do
@@ -79,6 +80,7 @@ read_settings() {
         esac
         set_value "${line%%=*}" "${line#*=}" || fail "$CONFIGURATION" "$settings:$number: no setting: $line"
     done <"$settings"
+    backups=${backups:-$image.backup}
 }
 
 # Prints the lines of a file as lines of a script. Only office lines get through: any other one becomes an office line
@@ -92,6 +94,7 @@ as_script() {
 lock_image() {
     (: >>"$image.lock") 2>/dev/null || fail "$CONFIGURATION" "$image.lock: it can't be written"
     exec 9>>"$image.lock"
+    flock --nonblock 9 || say "$image: another program of the package has it; waiting"
     flock --timeout "$LOCK_SECONDS" 9 || fail "$LOCKED" "$image: in use for $LOCK_SECONDS s"
     [ ! -f "$image" ] || flock --timeout "$LOCK_SECONDS" --shared "$image" true \
         || fail "$LOCKED" "$image: in use for $LOCK_SECONDS s"

@@ -48,8 +48,9 @@ return [...beyond, ...cut].map((one) => `${one.tagName}#${one.id}.${one.classNam
 class Browser:
     """Chromium without a window, and a page in it."""
 
-    def __init__(self, page: pathlib.Path) -> None:
-        self.page = page
+    def __init__(self, page: pathlib.Path, is_script: bool = True) -> None:
+        """A page that says by a script when it is ready, or one without a script."""
+        self.page, self.is_script = page, is_script
         from selenium import webdriver
         from selenium.webdriver.chrome.service import Service
         options = webdriver.ChromeOptions()
@@ -77,7 +78,8 @@ class Browser:
         self.tell("Emulation.setDeviceMetricsOverride", width=width, height=900, deviceScaleFactor=1, mobile=False)
         self.driver.get("about:blank")
         self.driver.get(self.page.as_uri() + (f"#{fragment}" if fragment else ""))
-        self.until_ready()
+        if self.is_script:
+            self.until_ready()
 
     def until_ready(self) -> None:
         """Waits for the page's module."""

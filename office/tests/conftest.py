@@ -112,6 +112,7 @@ class Box:
 
     def __init__(self, folder: pathlib.Path, name: str, room: int) -> None:
         self.folder, self.name, self.image = folder, name, folder / f"{name}.image"
+        self.journal = folder / f"{name}.image.journal"
         (folder / f"{name}.conf").write_text(f"IMAGE={self.image}\n", encoding="ascii")
         self.write({"number": 0, "line": "", "confirmed": 0, "serial": 0, "room": room, "meters": {}, "readings": []})
 

@@ -90,9 +90,10 @@ def test_a_refused_order_that_takes_the_number_of_a_confirm(office: Office, box:
 
 
 def test_a_number_that_nobody_gave(office: Office, box: Box) -> None:
-    """Somebody sent a numbered line by hand: nothing is done until a person has looked."""
+    """Somebody sent a numbered line by hand, and the box has no journal: nothing is done until a person has looked."""
     full(office, box)
     assert box.says(f"3 {FOURTH}") == ["OK 3"]
+    box.journal.unlink()
     ended = office.order("house-1", MOVED)
     assert ended.status == 5 and "the box's last order is 3, the database's 2" in ended.printed
     assert len(box.done()) == 3
@@ -107,6 +108,7 @@ def test_the_cure_after_an_older_dump_ends_what_was_queued(office: Office, box: 
     office.sql("UPDATE orders SET state = 'queued', number = NULL, answer = NULL WHERE key = 'one.1'")
     office.sql("UPDATE boxes SET number = %s, confirmed = %s", *dumped)
     office.sql("UPDATE meters SET flat = 'A1' WHERE flat = 'C1'")
+    box.journal.unlink()
     ended = office.collect()
     assert ended.status == 1 and "STOPPED: the box's last order is 4, the database's 2" in ended.printed
     listed = office.sql("SELECT t.box, t.line, t.answer FROM boxes b, take_as_it_is(b.name) t"
