@@ -24,7 +24,8 @@ const WORDS = {
     meter: "Meter", medium: "Medium", access: "Access number", status: "Status", more_follow: "More records follow in the next telegram",
     maker: "Manufacturer's data", makerBytes: "manufacturer's", records: "Records", name: "Name", value: "Value", unit: "Unit", storage: "Storage", tariff: "Tariff",
     subunit: "Subunit", function: "Function", body: "Body", bytes: "Bytes", fault: "Fault", place: "Place", byte: (n) => `byte ${n}`,
-    expected: "Expected", ack: "Acknowledgement", short: "Short frame", long: "Long frame", none: "No frame",
+    expected: "Expected", structure: "Structure", security: "Security mode", reason: "Reason",
+    ack: "Acknowledgement", short: "Short frame", long: "Long frame", none: "No frame",
     power: "power low", permanent: "permanent error", temporary: "temporary error", bits: (n) => `manufacturer bits ${n}`,
     noValue: "no value", notRead: "not decoded", joinHint: "Do the lines belong together? Then tick the box above.",
     chars: { return: "carriage returns", prefix: "0x", tab: "tabs", mark: "the characters" },
@@ -49,7 +50,8 @@ const WORDS = {
     meter: "Zähler", medium: "Medium", access: "Zugriffsnummer", status: "Status", more_follow: "Weitere Datensätze folgen im nächsten Telegramm",
     maker: "Herstellerdaten", makerBytes: "des Herstellers", records: "Datensätze", name: "Name", value: "Wert", unit: "Einheit", storage: "Speicher", tariff: "Tarif",
     subunit: "Untereinheit", function: "Funktion", body: "Nutzdaten", bytes: "Bytes", fault: "Fehler", place: "Stelle", byte: (n) => `Byte ${n}`,
-    expected: "Erwartet", ack: "Quittung", short: "Kurzrahmen", long: "Langrahmen", none: "Kein Rahmen",
+    expected: "Erwartet", structure: "Struktur", security: "Sicherheitsmodus", reason: "Grund",
+    ack: "Quittung", short: "Kurzrahmen", long: "Langrahmen", none: "Kein Rahmen",
     power: "Batterie schwach", permanent: "dauerhafter Fehler", temporary: "vorübergehender Fehler", bits: (n) => `Herstellerbits ${n}`,
     noValue: "kein Wert", notRead: "nicht dekodiert", joinHint: "Gehören die Zeilen zusammen? Dann oben ankreuzen.",
     chars: { return: "Wagenrückläufe", prefix: "0x", tab: "Tabulatoren", mark: "die Zeichen" },
@@ -297,12 +299,13 @@ function recordTable(records, parts) {
   return table;
 }
 
+// A telegram, or what another body says: fixed data have a number for an identity, and a header may lack a meter.
 function putTelegram(list, object) {
   const words = WORDS[language];
-  put(list, words.meter, object.meter.id);
-  put(list, words.medium, object.meter.medium);
-  put(list, words.access, object.access);
-  put(list, words.status, statusWords(object.status), object.status.code ? "bad" : "");
+  if (object.meter) put(list, words.meter, object.meter.id ?? object.meter.number);
+  if (object.meter) put(list, words.medium, object.meter.medium);
+  if (object.access !== null) put(list, words.access, object.access);
+  if (object.status) put(list, words.status, statusWords(object.status), object.status.code ? "bad" : "");
   if (object.more) put(list, words.status, words.more_follow);
   if (object.manufacturer_data !== null) put(list, words.maker, object.manufacturer_data || "-");
 }
@@ -312,6 +315,15 @@ function putFault(list, object, place) {
   put(list, words.fault, `${object.fault.number} ${object.fault.name}`, "bad");
   if (place !== null) put(list, words.place, words.byte(place));
   put(list, words.expected, words.want[object.fault.kind + object.fault.number] ?? "");
+}
+
+// What a body says that the register refuses.
+function putContent(list, content) {
+  const words = WORDS[language];
+  put(list, words.structure, content.structure);
+  if (content.security) put(list, words.security, `${content.security.mode} ${content.security.name}`);
+  putTelegram(list, content);
+  if (content.reason) put(list, words.reason, content.reason);
 }
 
 function frameShown({ object, text }) {
@@ -325,9 +337,11 @@ function frameShown({ object, text }) {
   if (object.ci_name) put(list, words.ci, `${hexOf([object.ci])} ${object.ci_name}`);
   if (object.meter) putTelegram(list, object);
   if (object.fault) putFault(list, object, place);
+  if (object.content) putContent(list, object.content);
+  const records = object.records ?? object.content?.records ?? [];
   const [bytes, parts] = bytesShown(text, (object.records && spansOf(object, text)) || [], place);
   article.append(list);
-  if (object.records?.length) article.append(recordTable(object.records, parts));
+  if (records.length) article.append(recordTable(records, parts));
   if (text.length) article.append(bytes);
   return article;
 }
@@ -362,10 +376,10 @@ const cell = (value) => (/[",\n]|^[=+@]/.test(value) ? `"${value.replaceAll('"',
 function csv() {
   const rows = [["line", "meter", "medium", "name", "value", "unit", "storage", "tariff", "subunit", "function", "vib", "data", "fault", ...READ]];
   for (const one of shown) {
-    const meter = one.meter ?? { id: "", medium: "" };
-    for (const r of one.records ?? []) {
+    const { id, number, medium } = one.meter ?? one.content?.meter ?? { id: "", medium: "" };
+    for (const r of one.records ?? one.content?.records ?? []) {
       const name = [r.quantity, ...r.qualifiers].join("; ");
-      rows.push([one.line, meter.id, meter.medium, name, r.value ?? "", r.unit ?? "", r.storage, r.tariff, r.subunit, r.function, r.vib, r.data, "",
+      rows.push([one.line, id ?? number, medium, name, r.value ?? "", r.unit ?? "", r.storage, r.tariff, r.subunit, r.function, r.vib, r.data, "",
         ...READ.map((field) => r[field] ?? "")]);
     }
     if (one.fault) rows.push([one.line, ...Array(11).fill(""), `${one.fault.kind} ${one.fault.number} ${one.fault.name}`, ...READ.map(() => "")]);

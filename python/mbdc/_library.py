@@ -15,6 +15,8 @@ from typing import Any, Union
 _NAME = "libmbdc.so.0"
 _FIRST_ROOM = 65_536  # bytes; a telegram's text has some hundred
 _MOST_ROOM_A_BYTE = 1024  # bytes of text for a byte of the input, far above JSON's of a fault (100): a guard, for no clause bounds it
+_VARIABLE_DATA = 0x72
+_MOST_BODY = 252  # bytes of a long frame's body
 _TOO_LONG = ctypes.c_size_t(-1).value
 
 
@@ -100,16 +102,26 @@ def decode_json(frames: Union[str, bytes]) -> str:
     return _written(_library.mbdc_decode_json, _digits(frames))
 
 
-def decode_body(body: bytes) -> dict[str, Any]:
+def decode_body(body: bytes, ci: int = 0x72) -> dict[str, Any]:
     """The telegram that a body without a frame holds, as an object with the fields of `mbdc decode --json`: `meter`,
-    `access`, `status`, `records`, `more`, `manufacturer_data`; of a body at fault `body` and `fault`.
+    `access`, `status`, `records`, `more`, `manufacturer_data`; of a body at fault, or after CI field 73h, 78h or 7Ah,
+    `body`, `fault` where there is one, and `content`.
 
-    Raises LibraryFault where memory is refused.
+    Raises LibraryFault where memory is refused, ValueError where no long frame has such a CI field or room for the body.
 
     >>> decode_body(bytes.fromhex("78563412244001075500000003131531 00"))["records"][0]["value"]
     '12.565'
     >>> decode_body(b"")["fault"]
     {'kind': 'body', 'number': 1, 'name': 'Short'}
+    >>> decode_body(bytes.fromhex("0504200504131000000004933C05000000"), 0x7A)["content"]["reason"]
+    'encrypted (mode 5, AES-128-CBC): only mode 0 is read'
     """
-    found: dict[str, Any] = json.loads(_written(_library.mbdc_decode_body, body))
-    return found
+    if ci == _VARIABLE_DATA:
+        found: dict[str, Any] = json.loads(_written(_library.mbdc_decode_body, body))
+        return found
+    if not 0 <= ci <= 0xFF or len(body) > _MOST_BODY:
+        raise ValueError(f"no long frame has CI {ci:X}h and a body of {len(body)} bytes")
+    sent = bytes([0x08, 0x00, ci]) + body
+    frame = bytes([0x68, len(sent), len(sent), 0x68]) + sent + bytes([sum(sent) % 256, 0x16])
+    framed = json.loads(decode_json(frame.hex()))
+    return {name: value for name, value in framed.items() if name in ("body", "content")}

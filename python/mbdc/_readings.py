@@ -49,12 +49,17 @@ class Reading:
     summer_time: Optional[bool]
 
 
-def readings(body: bytes) -> Iterator[Reading]:
-    """What is read of each record of a telegram's body, in order; nothing of a body at fault.
+def readings(body: bytes, ci: int = 0x72) -> Iterator[Reading]:
+    """What is read of each record of a body after this CI field (72h, 73h, 78h, 7Ah), in order, up to the first fault.
 
-    Raises mbdc.LibraryFault where memory is refused.
+    Raises mbdc.LibraryFault where memory is refused, ValueError where no long frame has such a CI field or room for the body.
+
+    >>> fixed_data = bytes.fromhex("785634120A00E97E" "0100000035010000")
+    >>> [(str(reading.value), reading.unit, reading.storage) for reading in readings(fixed_data, 0x73)]
+    [('0.001', 'm3', 0), ('0.135', 'm3', 1)]
     """
-    for record in decode_body(body).get("records", []):
+    found = decode_body(body, ci)
+    for record in found.get("records") or found.get("content", {}).get("records", []):
         yield _reading(record)
 
 

@@ -14,15 +14,10 @@ use Rattle.dc_record.specs.Telegram.{Parsed, telegram_at}
 use Rattle.dc_record.specs.Fields.{control_name, ci_name}
 use Rattle.dc_decode.specs.Frames.{read_as}
 use Rattle.dc_tokens.specs.Object.{Field, object_of, count}
+use Rattle.dc_reading.specs.Content.{content_of}
+use Rattle.dc_frame_json.specs.Content.{content_field}
+use Rattle.dc_frame_json.specs.Fault.{fault_field}
 use Rattle.dc_frame_json.specs.Telegram.{telegram_fields}
-
--- where a fault is found: in a line's digits, a frame or a body
-unfoldable pub fault_fields : List ℕ → ℕ → List ℕ → List Field
-fault_fields place number name = (codes "kind", string place) ∷ (codes "number", count number)
-    ∷ (codes "name", string name) ∷ []
-
-unfoldable pub fault_field : List ℕ → ℕ → List ℕ → Field
-fault_field place number name = (codes "fault", object_of (fault_fields place number name))
 
 -- the line, counted from 1, and the kind of frame
 unfoldable pub place_fields : ℕ → List ℕ → List Field
@@ -42,22 +37,22 @@ ci_fields ci = (codes "ci", count ci) ∷ (codes "ci_name", string (ci_name ci))
 unfoldable pub bytes_field : List ℕ → List ℕ → Field
 bytes_field name bytes = (name, string (upper_hex bytes))
 
--- a body that is a telegram, or its fault
+-- a body that is a telegram; or its fault, and what it says all the same
 abbrev pub body_fields : List ℕ → Result Parsed BodyFault → List Field
 body_fields body (Ok t) = telegram_fields t
 body_fields body (Err f) =
     bytes_field (codes "body") body ∷ fault_field (codes "body") (records.number_of f)
-    (records.name_of f) ∷ []
+    (records.name_of f) ∷ content_field (content_of variable_data body)
 
 -- a body without a frame around it
 unfoldable pub body_json : List ℕ → Json
 body_json body = object_of (body_fields body (telegram_at body))
 
--- a body is decoded for CI 72
+-- a body is a telegram for CI 72
 unfoldable pub content_fields : ℕ → List ℕ → List Field
 content_fields ci body =
     if ci == variable_data then body_fields body (telegram_at body)
-    else bytes_field (codes "body") body ∷ []
+    else bytes_field (codes "body") body ∷ content_field (content_of ci body)
 
 abbrev pub frame_fields : ℕ → FrameSeen → List Field
 frame_fields line ack = place_fields line (codes "ack")

@@ -16,23 +16,26 @@ use Rattle.dc_reading.specs.Parts.{maker_of, told_of}
 use Rattle.dc_reading.specs.Reading.{reading_of}
 use Rattle.dc_reading.specs.Sent.{Sent}
 use Rattle.dc_reading.specs.Text.{label_text, unit_text, value_text_of}
+use Rattle.dc_reading.specs.Counter.{Counter}
 use Rattle.dc_tokens.specs.Object.{Field, object_of, array_of, count}
 
--- the numbers and the function of a record, its value information block and its data as sent, and what it is of
-unfoldable pub about_fields : Entry → List Field
-about_fields e =
+-- the numbers and the function of a record, its value information block and its data as sent; and what it is of
+unfoldable pub sent_fields : Entry → List Field
+sent_fields e =
     (codes "storage", count e.storage)
     ∷ (codes "tariff", count e.tariff)
     ∷ (codes "subunit", count e.subunit)
     ∷ (codes "function", string (function_name e.function))
     ∷ (codes "vib", string (upper_hex e.vib))
     ∷ (codes "data", string (upper_hex e.content))
-    ∷ (codes "quantity", string (code_at (number_of e.vib)).name)
     ∷ []
 
+unfoldable pub name_field : List ℕ → Field
+name_field name = (codes "quantity", string name)
+
 -- the names of its VIFEs, up to a manufacturer's
-unfoldable pub qualifier_fields : Entry → List Field
-qualifier_fields e = (codes "qualifiers", array_of (map string (names_of false (told_of e.vib)))) ∷ []
+unfoldable pub qualifier_fields : List ℕ → List Field
+qualifier_fields vib = (codes "qualifiers", array_of (map string (names_of false (told_of vib)))) ∷ []
 
 -- A value is a text: an exact decimal, a date or a date and time of ISO 8601, flags in hex. It is
 -- null if the meter sent no value.
@@ -60,30 +63,36 @@ flag_or_null None = null
 flag_or_null (Some flag) = boolean flag
 
 -- by which table it is read, its value and unit, the type of the value, and why there is none
-unfoldable pub value_fields : Entry → Reading → List Field
-value_fields e r =
+unfoldable pub value_fields : Entry → List ℕ → Reading → List Field
+value_fields e unit r =
     (codes "reading", string (how_name r.how))
     ∷ (codes "value", text_or_null (value_text_of r e.content))
-    ∷ (codes "unit", unit_json (unit_text r e.vib))
+    ∷ (codes "unit", unit_json unit)
     ∷ (codes "type", text_or_null (type_found r.found))
     ∷ (codes "error", text_or_null (fault_found r.found))
     ∷ []
 
 -- what else its VIFEs and its data say
-unfoldable pub vife_fields : Entry → Reading → List Field
-vife_fields e r =
+unfoldable pub vife_fields : Entry → List ℕ → Reading → List Field
+vife_fields e vib r =
     (codes "phase", text_or_null (vife_text r.phase))
     ∷ (codes "direction", text_or_null (vife_text r.direction))
-    ∷ (codes "maker", hex_or_null (maker_of e.vib))
-    ∷ (codes "label", text_or_null (label_text e.vib))
+    ∷ (codes "maker", hex_or_null (maker_of vib))
+    ∷ (codes "label", text_or_null (label_text vib))
     ∷ (codes "summer_time", flag_or_null (summer_found r.found e.content))
     ∷ []
 
-abbrev pub told_fields : Entry → Reading → List Field
-told_fields e r = value_fields e r ++ vife_fields e r
+-- a record, what it is of, its value information block where it has one, its unit, and what is read of it
+unfoldable pub told_fields : Entry → List ℕ → List ℕ → List ℕ → Reading → List Field
+told_fields e name vib unit r =
+    sent_fields e ++ (name_field name ∷ (qualifier_fields vib ++ (value_fields e unit r ++ vife_fields e vib r)))
 
-unfoldable pub record_fields : Sent → List Field
-record_fields s = about_fields s.entry ++ (qualifier_fields s.entry ++ told_fields s.entry (reading_of s.entry s.len))
+unfoldable pub read_fields : Entry → Reading → List Field
+read_fields e r = told_fields e (code_at (number_of e.vib)).name e.vib (unit_text r e.vib) r
 
 unfoldable pub record_json : Sent → Json
-record_json s = object_of (record_fields s)
+record_json s = object_of (read_fields s.entry (reading_of s.entry s.len))
+
+-- a counter of fixed data: its value information block is a unit byte, without VIFEs
+unfoldable pub counter_json : Counter → Json
+counter_json c = object_of (told_fields c.entry c.name [] c.unit c.reading)

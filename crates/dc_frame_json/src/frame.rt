@@ -6,12 +6,16 @@ ghost use Rattle.dc_frame.specs.Frame.{seen, long};
 ghost use Rattle.dc_decode.specs.Frames.{is_bad_content, is_bad_frame, is_bad};
 ghost use Rattle.dc_tokens.specs.Object.{fields_tokens};
 ghost use Rattle.dc_tokens.specs.Writing.{Added};
-ghost use Rattle.dc_frame_json.specs.Frame.{fault_field, place_fields, link_fields};
+ghost use Rattle.dc_reading.specs.Content.{content_of};
+ghost use Rattle.dc_frame_json.specs.Content.{content_field};
+ghost use Rattle.dc_frame_json.specs.Fault.{fault_field};
+ghost use Rattle.dc_frame_json.specs.Frame.{place_fields, link_fields};
 ghost use Rattle.dc_frame_json.specs.Frame.{ci_fields, bytes_field, body_fields, content_fields};
 ghost use Rattle.dc_frame_json.specs.Frame.{frame_fields, read_fields, text_fields, text_json};
 ghost use Rattle.dc_frame_json.specs.Frame.{body_json, hex_fault_json};
 ghost use Rattle.dc_record.specs.Telegram.{telegram_at};
 
+use crate::content::put_content_field;
 use crate::row::{Cell, put_object};
 use crate::telegram::put_telegram;
 use dc_decode::read_frame;
@@ -30,8 +34,13 @@ struct Head {
     ci: u8,
 }
 
-// Writes the place of a fault, its number and its name.
-fn put_fault<'f, W: Sink>(out: &mut TokenWriter<'_, W>, place: &'f str, number: u8, name: &'f str)
+/// Writes the place of a fault, its number and its name.
+pub(crate) fn put_fault<'f, W: Sink>(
+    out: &mut TokenWriter<'_, W>,
+    place: &'f str,
+    number: u8,
+    name: &'f str,
+)
     ensures { Added W.Sink out.old out.new
         (fields_tokens (fault_field place.now number name.now ∷ [])) }
 {
@@ -78,12 +87,13 @@ fn put_bytes<W: Sink>(out: &mut TokenWriter<'_, W>, name: &str, bytes: &[u8])
     out.put_hex(name, bytes);
 }
 
-// Writes a body and its fault.
+// Writes a body, its fault, and what it says all the same.
 fn put_body_fault<W: Sink>(out: &mut TokenWriter<'_, W>, body: &[u8], fault: BodyFault)
     ensures { Added W.Sink out.old out.new (fields_tokens (body_fields body.now (Err fault))) }
 {
     put_bytes(out, "body", body);
     put_fault(out, "body", fault.number(), fault.name());
+    put_content_field(out, VARIABLE_DATA, body);
 }
 
 // Writes a text that is no frame, and its fault.
@@ -124,15 +134,24 @@ pub(crate) fn put_body_json<W: Sink>(out: &mut TokenWriter<'_, W>, body: &[u8]) 
     bad
 }
 
-// Writes a telegram if the CI field states one, otherwise the body's bytes, and returns whether the
-// body has a fault.
+// Writes a body that no telegram is: its bytes, and what it says.
+fn put_other<W: Sink>(out: &mut TokenWriter<'_, W>, ci: u8, body: &[u8])
+    ensures { Added W.Sink out.old out.new (fields_tokens
+        (bytes_field (codes "body") body.now ∷ content_field (content_of ci body.now))) }
+{
+    put_bytes(out, "body", body);
+    put_content_field(out, ci, body);
+}
+
+// Writes a telegram if the CI field states one, otherwise the body's bytes and what it says, and
+// returns whether the body has a fault.
 #[tactic(auto, unfolding(crate::specs::Frame::content_fields, dc_decode::specs::Frames::is_bad_content))]
 fn put_content<W: Sink>(out: &mut TokenWriter<'_, W>, ci: u8, body: &[u8]) -> bool
     ensures tokens { Added W.Sink out.old out.new (fields_tokens (content_fields ci body.now)) }
     ensures fault { result ≡ is_bad_content ci body.now }
 {
     if ci != VARIABLE_DATA {
-        put_bytes(out, "body", body);
+        put_other(out, ci, body);
         return false;
     }
     put_body(out, body)

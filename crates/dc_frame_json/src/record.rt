@@ -1,18 +1,22 @@
 //! A data record.
 
-ghost use Rattle.std.specs.Prelude.{map, option_map};
+ghost use Rattle.std.specs.Prelude.{◌∷◌, [], map, option_map};
 ghost use Rattle.json.specs.Json.{string};
 ghost use Rattle.json.specs.Tree.{json_tokens};
 ghost use Rattle.dc_record.specs.Record.{view};
-ghost use Rattle.dc_tokens.specs.Object.{fields_tokens, values_tokens};
+ghost use Rattle.dc_tokens.specs.Object.{fields_tokens, object_of, values_tokens};
 ghost use Rattle.dc_tokens.specs.Writing.{Added};
 ghost use Rattle.dc_reading.specs.Names.{names_of};
 ghost use Rattle.dc_reading.specs.Sent.{sent_view};
-ghost use Rattle.dc_frame_json.specs.Record.{about_fields, record_json, value_fields, vife_fields};
-ghost use Rattle.dc_frame_json.specs.Record.{flag_or_null, hex_or_null, qualifier_fields, text_or_null, unit_json, value_json};
+ghost use Rattle.dc_reading.specs.Counter.{counter_view};
+ghost use Rattle.dc_frame_json.specs.Record.{counter_json, name_field, record_json, sent_fields};
+ghost use Rattle.dc_frame_json.specs.Record.{told_fields};
+ghost use Rattle.dc_frame_json.specs.Record.{flag_or_null, hex_or_null, qualifier_fields, text_or_null};
+ghost use Rattle.dc_frame_json.specs.Record.{unit_json, value_fields, value_json, vife_fields};
 
 use crate::row::{Cell, put_row};
 use dc_io::Sink;
+use dc_reading::content::Counter;
 use dc_reading::{
     READING_ROOM, Reading, Sent, code_at, is_extension, label_text, maker_of, number_after,
     number_of, reading_of, told_of, unit_text, value_text, vife_at, vife_text,
@@ -91,17 +95,21 @@ fn put_maybe_flag<W: Sink>(out: &mut TokenWriter<'_, W>, flag: Option<bool>)
 }
 
 // Writes what is read of a record: by which table, its value and unit, the type of the value, and why there is none.
-fn put_value_fields<W: Sink>(out: &mut TokenWriter<'_, W>, found: &Record<'_>, reading: &Reading)
+fn put_value_fields<W: Sink>(
+    out: &mut TokenWriter<'_, W>,
+    found: &Record<'_>,
+    unit: &[u8],
+    reading: &Reading,
+)
     ensures { Added W.Sink out.old out.new
-        (fields_tokens (value_fields (view found.now) reading.now)) }
+        (fields_tokens (value_fields (view found.now) unit.now reading.now)) }
 {
     let mut room = [0u8; READING_ROOM];
     out.put_text("reading", reading.how.name());
     out.put_name("value");
     put_maybe(out, value_text(reading, found.content, &mut room));
-    let mut room = [0u8; READING_ROOM];
     out.put_name("unit");
-    put_unit(out, unit_text(reading, found.vib, &mut room));
+    put_unit(out, unit);
     out.put_name("type");
     put_word(out, reading.found.type_name());
     out.put_name("error");
@@ -109,9 +117,14 @@ fn put_value_fields<W: Sink>(out: &mut TokenWriter<'_, W>, found: &Record<'_>, r
 }
 
 // Writes what else the VIFEs and the data of a record say.
-fn put_vife_fields<W: Sink>(out: &mut TokenWriter<'_, W>, found: &Record<'_>, reading: &Reading)
+fn put_vife_fields<W: Sink>(
+    out: &mut TokenWriter<'_, W>,
+    found: &Record<'_>,
+    vib: &[u8],
+    reading: &Reading,
+)
     ensures { Added W.Sink out.old out.new
-        (fields_tokens (vife_fields (view found.now) reading.now)) }
+        (fields_tokens (vife_fields (view found.now) vib.now reading.now)) }
 {
     let mut room = [0u8; READING_ROOM];
     out.put_name("phase");
@@ -119,17 +132,17 @@ fn put_vife_fields<W: Sink>(out: &mut TokenWriter<'_, W>, found: &Record<'_>, re
     out.put_name("direction");
     put_word(out, vife_text(&reading.direction));
     out.put_name("maker");
-    put_maybe_hex(out, maker_of(found.vib));
+    put_maybe_hex(out, maker_of(vib));
     out.put_name("label");
-    put_maybe(out, label_text(found.vib, &mut room));
+    put_maybe(out, label_text(vib, &mut room));
     out.put_name("summer_time");
     put_maybe_flag(out, reading.found.summer_time(found.content));
 }
 
-// Writes what a record is of, and its data as sent.
-#[tactic(auto, unfolding(crate::specs::Record::about_fields))]
-fn put_about<W: Sink>(out: &mut TokenWriter<'_, W>, found: &Record<'_>)
-    ensures { Added W.Sink out.old out.new (fields_tokens (about_fields (view found.now))) }
+// Writes the numbers and the function of a record, and its bytes as sent.
+#[tactic(auto, unfolding(crate::specs::Record::sent_fields))]
+fn put_sent<W: Sink>(out: &mut TokenWriter<'_, W>, found: &Record<'_>)
+    ensures { Added W.Sink out.old out.new (fields_tokens (sent_fields (view found.now))) }
 {
     put_row(
         out,
@@ -140,32 +153,81 @@ fn put_about<W: Sink>(out: &mut TokenWriter<'_, W>, found: &Record<'_>)
             Cell::Text("function", function_name(found.function).as_bytes()),
             Cell::Hex("vib", found.vib),
             Cell::Hex("data", found.content),
-            Cell::Text("quantity", code_at(number_of(found.vib)).name.as_bytes()),
         ],
     );
 }
 
-/// Writes a record.
-#[tactic(auto, unfolding(crate::specs::Record::record_fields))]
-pub fn put_record<W: Sink>(out: &mut TokenWriter<'_, W>, sent: &Sent<'_>)
-    ensures { Added W.Sink out.old out.new (json_tokens (record_json (sent_view sent.now))) }
+// Writes the field of what a record is of.
+fn put_quantity<W: Sink>(out: &mut TokenWriter<'_, W>, name: &str)
+    ensures { Added W.Sink out.old out.new (fields_tokens (name_field name.now ∷ [])) }
+{
+    out.put_text("quantity", name);
+}
+
+// Writes a record: what it is of, its value information block where it has one, its unit, and what is read of it.
+fn put_told<W: Sink>(
+    out: &mut TokenWriter<'_, W>,
+    found: &Record<'_>,
+    name: &str,
+    vib: &[u8],
+    unit: &[u8],
+    reading: &Reading,
+)
+    ensures { Added W.Sink out.old out.new (json_tokens
+        (object_of (told_fields (view found.now) name.now vib.now unit.now reading.now))) }
 {
     out.begin_object();
-    put_about(out, &sent.record);
-    put_qualifiers(out, &sent.record);
-    let reading = reading_of(&sent.record, sent.len);
-    put_value_fields(out, &sent.record, &reading);
-    put_vife_fields(out, &sent.record, &reading);
+    put_sent(out, found);
+    put_quantity(out, name);
+    put_qualifiers(out, vib);
+    put_value_fields(out, found, unit, reading);
+    put_vife_fields(out, found, vib, reading);
     out.end_object();
 }
 
-// Writes the field of the names of a record's VIFEs.
-fn put_qualifiers<W: Sink>(out: &mut TokenWriter<'_, W>, found: &Record<'_>)
-    ensures { Added W.Sink out.old out.new (fields_tokens (qualifier_fields (view found.now))) }
+/// Writes a record.
+#[tactic(auto, unfolding(crate::specs::Record::record_json, crate::specs::Record::read_fields))]
+pub fn put_record<W: Sink>(out: &mut TokenWriter<'_, W>, sent: &Sent<'_>)
+    ensures { Added W.Sink out.old out.new (json_tokens (record_json (sent_view sent.now))) }
+{
+    let reading = reading_of(&sent.record, sent.len);
+    let vib = sent.record.vib;
+    let mut room = [0u8; READING_ROOM];
+    let unit = unit_text(&reading, vib, &mut room);
+    put_told(
+        out,
+        &sent.record,
+        code_at(number_of(vib)).name,
+        vib,
+        unit,
+        &reading,
+    );
+}
+
+/// Writes a counter of fixed data as a record.
+#[tactic(auto, unfolding(crate::specs::Record::counter_json))]
+pub fn put_counter<W: Sink>(out: &mut TokenWriter<'_, W>, counter: &Counter<'_>)
+    ensures { Added W.Sink out.old out.new
+        (json_tokens (counter_json (counter_view counter.now))) }
+{
+    let unit = counter.unit.as_bytes();
+    put_told(
+        out,
+        &counter.record,
+        counter.name,
+        &[],
+        unit,
+        &counter.reading,
+    );
+}
+
+// Writes the field of the names of a block's VIFEs.
+fn put_qualifiers<W: Sink>(out: &mut TokenWriter<'_, W>, vib: &[u8])
+    ensures { Added W.Sink out.old out.new (fields_tokens (qualifier_fields vib.now)) }
 {
     out.put_name("qualifiers");
     out.begin_array();
-    put_names(out, false, told_of(found.vib));
+    put_names(out, false, told_of(vib));
     out.end_array();
 }
 

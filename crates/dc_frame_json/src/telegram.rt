@@ -25,8 +25,8 @@ fn put_records<W: Sink>(out: &mut TokenWriter<'_, W>, records: SentRecords<'_>)
     }
 }
 
-// Writes the field of the records.
-fn put_records_field<W: Sink>(out: &mut TokenWriter<'_, W>, records: SentRecords<'_>)
+/// Writes the field of the records.
+pub(crate) fn put_records_field<W: Sink>(out: &mut TokenWriter<'_, W>, records: SentRecords<'_>)
     ensures { Added W.Sink out.old out.new (fields_tokens (records_field records.entry ∷ [])) }
 {
     out.put_name("records");
@@ -35,9 +35,9 @@ fn put_records_field<W: Sink>(out: &mut TokenWriter<'_, W>, records: SentRecords
     out.end_array();
 }
 
-// Writes the end of a body: whether more follows, and the manufacturer's data.
+/// Writes the end of a body: whether more follows, and the manufacturer's data.
 #[tactic(auto, unfolding(crate::specs::Telegram::end_fields, crate::specs::Telegram::ending_fields))]
-fn put_end<W: Sink>(out: &mut TokenWriter<'_, W>, end: End<'_>)
+pub(crate) fn put_end<W: Sink>(out: &mut TokenWriter<'_, W>, end: End<'_>)
     ensures { Added W.Sink out.old out.new (fields_tokens (end_fields (ending end.entry))) }
 {
     match end {

@@ -113,3 +113,17 @@ read_as c _ vifes = folded false (begun c) vifes
 -- what the code with this number says with these VIFEs
 abbrev pub meaning_of : ℕ → List ℕ → Option Meaning
 meaning_of number vifes = read_as (code_at number) (code_at number).kind vifes
+
+-- ---- what isn't certain
+
+abbrev pub is_block : Effect → Bool
+is_block Block = true
+is_block _ = false
+
+-- a VIFE before a manufacturer's has a meaning that isn't certain, or none follows FC
+unfoldable pub is_unknown : Bool → List ℕ → Bool
+is_unknown after_fc [] = after_fc
+is_unknown after_fc (vife ∷ others) =
+    if is_maker after_fc vife then false
+    else if is_extension after_fc vife then is_unknown true others
+    else is_block (vife_at (number_after after_fc vife)).effect || is_unknown false others

@@ -113,3 +113,8 @@ or_unread None = record {
 -- what is read of a record with this length byte
 unfoldable pub reading_of : Entry → ℕ → Reading
 reading_of e len = or_unread (read e len)
+
+-- there is no value, and a reason
+abbrev pub HasNone : Found → Type 0
+HasNone (found.Value t (datum.None fault)) = Unit {0}
+HasNone _ = ⊥

@@ -12,7 +12,10 @@
 #![tactic(auto)]
 
 mod codes;
+pub mod content;
 mod form;
+mod front;
+mod laws;
 mod meaning;
 mod names;
 mod parts;
@@ -25,11 +28,15 @@ mod vifes;
 
 pub use codes::{CODES, Code, Kind, code_at, number_of};
 pub use form::{DataType, Form};
+pub use laws::{
+    as_in_a_telegram, as_the_table_reads, corrections_add_up, each_vife_is_told,
+    no_error_changes_nothing, nothing_unknown_is_read,
+};
 pub use meaning::{Meaning, is_extension, number_after};
 pub use names::vife_text;
-pub use parts::{label_of, maker_of, told_of};
+pub use parts::{label_of, maker_of, told_of, vifes_of};
 pub use reading::{Found, How, Reading, reading_of};
-pub use sent::{Sent, SentRecords};
-pub use text::{READING_ROOM, label_text, unit_text, value_text};
-pub use value::{Datum, NoValue};
+pub use sent::{Sent, SentRecords, end_of};
+pub use text::{READING_ROOM, digits_text, label_text, unit_text, value_text};
+pub use value::{Datum, NoValue, value_of};
 pub use vifes::{Effect, VIFES, Vife, vife_at};

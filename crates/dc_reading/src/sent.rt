@@ -1,12 +1,14 @@
 //! The records of a body with the length bytes of their data.
 
-ghost use Rattle.std.specs.Prelude.{◌≡◌, [], drop, MatchResult};
+ghost use Rattle.std.specs.Prelude.{◌≡◌, [], drop, Err, MatchResult};
+ghost use Rattle.dc_record.specs.Reading.{Gives};
 ghost use Rattle.dc_record.specs.Record.{view};
-ghost use Rattle.dc_record.specs.Seen.{front};
-ghost use Rattle.dc_reading.specs.Sent.{SentBy, length_byte, sent_at};
+ghost use Rattle.dc_record.specs.Seen.{ending, front};
+ghost use Rattle.dc_reading.specs.Sent.{SentBy, end_at, length_byte, read_at, sent_at};
 
+use crate::front::wide_front;
 use crate::names::byte_at;
-use dc_record::{BodyFault, Front, Record, front_of};
+use dc_record::{BodyFault, End, Front, Record};
 use std::marker::Model;
 
 // How many bytes a header has (EN 13757-3, long data header).
@@ -36,13 +38,27 @@ fn length_byte(bytes: &[u8], record: &Record<'_>, rest: &[u8]) -> u8
 
 // What stands at the front, with what it says of all that is sent.
 fn sent_front(bytes: &[u8]) -> Result<Front<'_>, BodyFault>
-    ensures { MatchResult result (λ f. SentBy bytes.now (front f)) (λ _. sent_at bytes.now ≡ []) }
+    ensures { MatchResult result (λ f. SentBy bytes.now (front f))
+        (λ f. read_at bytes.now ≡ ([], Err f)) }
 {
-    front_of(bytes)
+    wide_front(bytes)
 }
 
-/// The records of bytes after a header up to their end or first fault, in the order in which they were sent. Contracts
-/// see the list of the records that are still to come.
+/// How the records of bytes after a header end, or their first fault.
+pub fn end_of(bytes: &[u8]) -> Result<End<'_>, BodyFault>
+    ensures { Gives ending result (end_at bytes.now) }
+{
+    let mut left = bytes;
+    'fronts: loop {
+        match sent_front(left)? {
+            Front::End(end) => return Ok(end),
+            Front::Filler(rest) | Front::Record(_, rest) => left = rest,
+        }
+    }
+}
+
+/// The records of bytes after a header up to their end or first fault, in the order in which they were sent, those
+/// whose VIF is FC too. Contracts see the list of the records that are still to come.
 #[derive(Drop)]
 pub struct SentRecords<'a> {
     left: &'a [u8],

@@ -211,6 +211,17 @@ pub fn value_text<'r>(reading: &Reading, content: &[u8], room: &'r mut [u8]) -> 
     }
 }
 
+/// Writes decimal digits of which the last two are sent first into a room, and returns them.
+pub fn digits_text<'r>(content: &[u8], room: &'r mut [u8]) -> &'r [u8]
+    requires { 2 * length content.now ≤ length room.old }
+    ensures { result.now ≡ hex_text content.now }
+{
+    let end = room.len();
+    let start = put_hex(content, room, end);
+    let (_, text) = room.split_at(start);
+    text
+}
+
 /// Writes the text of a unit in plain text into a room, and returns it; none of another unit.
 #[tactic(auto, unfolding(crate::specs::Text::label_text))]
 pub fn label_text<'r>(vib: &[u8], room: &'r mut [u8]) -> Option<&'r [u8]>

@@ -247,7 +247,7 @@ fn digits_in(content: &[u8]) -> Datum
 }
 
 /// The value of this type in data of this form, a number times a power of ten.
-pub(crate) fn value_of(data_type: DataType, form: Form, exponent: i8, content: &[u8]) -> Datum
+pub fn value_of(data_type: DataType, form: Form, exponent: i8, content: &[u8]) -> Datum
     requires { IsTrue (fits form (length content.now)) }
     ensures { result ≡ value_of data_type form exponent content.now }
 {

@@ -1,8 +1,10 @@
-use Rattle.std.proofs.Common.{[], ◌∷◌, append-nil, Err}
+use Rattle.std.proofs.Common.{List, [], ◌∷◌, append-nil, append_assoc, Err, codes}
 use Rattle.dc_record.specs.Fault as records
+use Rattle.dc_reading.specs.Content.{content_of}
 use Rattle.dc_tokens.specs.Object.{Field, fields_tokens}
-use Rattle.dc_frame_json.specs.Frame.{body_fields, bytes_field, fault_field}
-use Rattle.std.proofs.Common.{codes}
+use Rattle.dc_frame_json.specs.Content.{content_field}
+use Rattle.dc_frame_json.specs.Fault.{fault_field}
+use Rattle.dc_frame_json.specs.Frame.{body_fields, bytes_field}
 use Rattle.dc_tokens.proofs.Objects.{fields-cons}
 use Rattle.dc_tokens.proofs.Adding.{◌>>◌, unchanged, said}
 use Rattle.dc_frame_json.proofs.frame.put_body_fault.Goals as goal
@@ -10,7 +12,9 @@ use Rattle.dc_frame_json.proofs.frame.put_body_fault.Goals as goal
 pub returns : goal.returns
 returns g c =
     let f : Field = fault_field (codes "body") (records.number_of c.args.fault) (records.name_of c.args.fault) in
-    let e = fields-cons (bytes_field (codes "body") c.args.body.now) (f ∷ []) in
-    let n = append-nil (fields_tokens (f ∷ [])) in
+    let more : List Field = content_field (content_of 0x72 c.args.body.now) in
+    let e = fields-cons (bytes_field (codes "body") c.args.body.now) (f ∷ more) in
+    let d = fields-cons f more in
+    let n = append-nil (fields_tokens more) in
     said (fields_tokens (body_fields c.args.body.now (Err c.args.fault)))
-    (c.put_bytes.ensures >> c.put_fault.ensures >> unchanged) cc
+    (c.put_bytes.ensures >> c.put_fault.ensures >> c.put_content_field.ensures >> unchanged) cc

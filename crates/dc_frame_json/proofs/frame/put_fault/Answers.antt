@@ -1,6 +1,6 @@
 use Rattle.std.proofs.Common.{[], ◌∷◌}
 use Rattle.dc_tokens.specs.Object.{fields_tokens}
-use Rattle.dc_frame_json.specs.Frame.{fault_field, fault_fields}
+use Rattle.dc_frame_json.specs.Fault.{fault_field, fault_fields}
 use Rattle.dc_tokens.proofs.Adding.{◌>>◌, unchanged, said}
 use Rattle.dc_frame_json.proofs.frame.put_fault.Goals as goal
 

@@ -1,7 +1,8 @@
 use Rattle.std.proofs.Common.{[], ◌∷◌, append-nil, Err, codes}
 use Rattle.dc_frame.specs.Fault as link
 use Rattle.dc_tokens.specs.Object.{Field, fields_tokens}
-use Rattle.dc_frame_json.specs.Frame.{read_fields, place_fields, bytes_field, fault_field}
+use Rattle.dc_frame_json.specs.Fault.{fault_field}
+use Rattle.dc_frame_json.specs.Frame.{read_fields, place_fields, bytes_field}
 use Rattle.dc_tokens.proofs.Objects.{fields-around}
 use Rattle.dc_tokens.proofs.Adding.{◌>>◌, unchanged, said}
 use Rattle.dc_frame_json.proofs.frame.put_frame_fault.Goals as goal

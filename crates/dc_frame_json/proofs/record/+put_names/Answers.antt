@@ -1,4 +1,4 @@
-use Rattle.std.proofs.Common.{List, ℕ, ap, map}
+use Rattle.std.proofs.Common.{ap, map}
 use Rattle.json.specs.Json.{string}
 use Rattle.dc_reading.specs.Names.{names_of}
 use Rattle.dc_reading.specs.Vifes.{Vife}

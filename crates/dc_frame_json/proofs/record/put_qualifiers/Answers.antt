@@ -1,7 +1,6 @@
-use Rattle.std.proofs.Common.{List, ℕ, false, append-nil, map}
+use Rattle.std.proofs.Common.{List, false, append-nil, map}
 use Rattle.json.specs.Json.{Json, string}
 use Rattle.json.specs.Tree.{items_tokens}
-use Rattle.dc_record.specs.Record.{view}
 use Rattle.dc_reading.specs.Names.{names_of}
 use Rattle.dc_reading.specs.Parts.{told_of}
 use Rattle.dc_tokens.specs.Object.{fields_tokens, items_of}
@@ -13,8 +12,8 @@ use Rattle.dc_frame_json.proofs.record.put_qualifiers.Goals as goal
 pub returns : goal.returns
 unfolding fields_tokens qualifier_fields
 returns g c =
-    let names : List Json = map string (names_of false (told_of (view c.args.found.now).vib)) in
+    let names : List Json = map string (names_of false (told_of c.args.vib.now)) in
     let e = items_are names in
     let n = append-nil (items_tokens (items_of names)) in
-    said (fields_tokens (qualifier_fields (view c.args.found.now)))
+    said (fields_tokens (qualifier_fields c.args.vib.now))
     (c.put_name.ensures >> c.begin_array.ensures >> c.put_names.ensures >> c.end_array.ensures >> unchanged) cc

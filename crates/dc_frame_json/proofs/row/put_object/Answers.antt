@@ -1,6 +1,6 @@
-use Rattle.std.proofs.Common.{append_assoc, append-nil}
+use Rattle.std.proofs.Common.{append-nil}
 use Rattle.json.specs.Tree.{json_tokens}
-use Rattle.dc_tokens.specs.Object.{object_of, fields_tokens}
+use Rattle.dc_tokens.specs.Object.{object_of}
 use Rattle.dc_tokens.proofs.Objects.{members_are}
 use Rattle.dc_tokens.proofs.Adding.{◌>>◌, unchanged, said}
 use Rattle.dc_frame_json.specs.Row.{row_fields}

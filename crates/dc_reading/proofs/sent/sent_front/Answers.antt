@@ -2,4 +2,4 @@ use Rattle.dc_reading.proofs.Turns.{sent_given}
 use Rattle.dc_reading.proofs.sent.sent_front.Goals as goal
 
 pub returns : goal.returns
-returns c = sent_given _ _ c.front_of.ensures.exact
+returns c = sent_given _ _ c.wide_front.ensures
