@@ -10,11 +10,12 @@ ghost use Rattle.dc_decode.specs.Frames.{is_bad, is_bad_content, is_bad_frame};
 ghost use Rattle.dc_decode.specs.Text.{has_fault};
 
 use crate::place::{body_place, frame_place};
-use crate::table::put_telegram_table;
+use crate::table::{put_content_table, put_telegram_table};
 use dc_decode::{Input, LineForm, read_frame};
 use dc_frame::Frame;
 use dc_frame::control::VARIABLE_DATA;
 use dc_io::{Bytes, IoFault, Sink, Source, TextFault, put_byte, put_fault, put_number};
+use dc_reading::content::content_of;
 use dc_record::Telegram;
 use dc_record::names::{ci_name, control_name};
 use std::alloc::Allocator;
@@ -40,13 +41,14 @@ fn put_link<W: Sink>(out: &mut W, control: u8, address: u8) -> Result<(), IoFaul
     put_number(out, u64::from(address))
 }
 
-// Writes a body in words if the CI field states a telegram, or its fault, and returns whether it has
-// one. `start` is its place in the line.
+// Writes a body in words, and its fault if the CI field states a telegram; returns whether it has one.
+// `start` is its place in the line.
 #[tactic(auto, unfolding(dc_decode::specs::Frames::is_bad_content))]
 fn put_body<W: Sink>(out: &mut W, start: usize, ci: u8, body: &[u8]) -> Result<bool, IoFault>
     ensures { IfOk result (λ bad. bad ≡ is_bad_content ci body.now) }
 {
     if ci != VARIABLE_DATA {
+        put_content(out, ci, body)?;
         return Ok(false);
     }
     match Telegram::parse(body) {
@@ -59,8 +61,17 @@ fn put_body<W: Sink>(out: &mut W, start: usize, ci: u8, body: &[u8]) -> Result<b
             out.put(b"  body fault ")?;
             put_fault(out, fault.number(), fault.name())?;
             put_expected(out, start.saturating_add(place), expected)?;
+            put_content(out, ci, body)?;
             Ok(true)
         }
+    }
+}
+
+// Writes what a body says that is no telegram.
+fn put_content<W: Sink>(out: &mut W, ci: u8, body: &[u8]) -> Result<(), IoFault> {
+    match content_of(ci, body) {
+        Some(content) => put_content_table(out, &content),
+        None => Ok(()),
     }
 }
 

@@ -13,6 +13,7 @@
 mod also;
 mod explain;
 mod grown;
+mod headline;
 pub mod journal;
 pub mod latest;
 mod place;

@@ -1,12 +1,16 @@
-//! A telegram as an aligned table.
+//! A telegram, or what another body says, as an aligned table.
 
+use dc_address::Identity;
 use dc_io::{IoFault, Sink, put_byte, put_hex, put_number};
+use dc_reading::content::{
+    Content, Counter, FixedData, REASON_ROOM, Security, Variable, medium_of, security_name,
+};
 use dc_reading::{
-    How, READING_ROOM, Reading, Sent, SentRecords, code_at, is_extension, label_text, maker_of,
-    number_after, number_of, reading_of, told_of, unit_text, value_text, vife_at,
+    How, READING_ROOM, Reading, Sent, SentRecords, code_at, digits_text, is_extension, label_text,
+    maker_of, number_after, number_of, reading_of, told_of, unit_text, value_text, vife_at,
 };
 use dc_record::names::{application_name, function_name, medium_name};
-use dc_record::{Header, Record, Telegram};
+use dc_record::{Record, Telegram};
 use itoa::Buffer;
 
 // The widths of the columns, in characters.
@@ -32,21 +36,36 @@ fn put_cell<W: Sink>(out: &mut W, text: &[u8], width: usize) -> Result<(), IoFau
     put_spaces(out, width.saturating_sub(text.len()))
 }
 
-// Writes the meter of a telegram and its status.
-fn put_header<W: Sink>(out: &mut W, header: &Header) -> Result<(), IoFault> {
+// Writes the meter, where a header names it, and the access number and the status of a header.
+fn put_header<W: Sink>(
+    out: &mut W,
+    meter: Option<Identity>,
+    access: u8,
+    status: u8,
+) -> Result<(), IoFault> {
     out.put(b"  meter   ")?;
-    out.put(&header.identity.text())?;
-    out.put(b", ")?;
-    out.put(medium_name(header.identity.kind).as_bytes())?;
+    match meter {
+        Some(meter) => {
+            out.put(&meter.text())?;
+            out.put(b", ")?;
+            out.put(medium_name(meter.kind).as_bytes())?;
+        }
+        None => out.put(b"not named")?,
+    }
+    put_state(out, access, status)
+}
+
+// Writes an access number and a status byte.
+fn put_state<W: Sink>(out: &mut W, access: u8, status: u8) -> Result<(), IoFault> {
     out.put(b", access number ")?;
-    put_number(out, u64::from(header.access))?;
+    put_number(out, u64::from(access))?;
     out.put(b"\n  status  ")?;
-    put_byte(out, header.status)?;
+    put_byte(out, status)?;
     out.put(b": application: ")?;
-    out.put(application_name(header.status).as_bytes())?;
-    put_bit(out, header.status / 4, b", power low")?;
-    put_bit(out, header.status / 8, b", permanent error")?;
-    put_bit(out, header.status / 16, b", temporary error")?;
+    out.put(application_name(status).as_bytes())?;
+    put_bit(out, status / 4, b", power low")?;
+    put_bit(out, status / 8, b", permanent error")?;
+    put_bit(out, status / 16, b", temporary error")?;
     out.put(b"\n")
 }
 
@@ -94,30 +113,62 @@ fn put_value<W: Sink>(out: &mut W, found: &Record<'_>, reading: &Reading) -> Res
 }
 
 // Writes a record's unit.
-fn put_unit<W: Sink>(out: &mut W, found: &Record<'_>, reading: &Reading) -> Result<(), IoFault> {
+fn put_unit<W: Sink>(out: &mut W, unit: &[u8], reading: &Reading) -> Result<(), IoFault> {
     if matches!(reading.how, How::Other) {
         return put_cell(out, b"hex", UNIT);
     }
-    let mut room = [0u8; READING_ROOM];
-    let unit = unit_text(reading, found.vib, &mut room);
     put_shown(out, unit)?;
     put_spaces(out, UNIT.saturating_sub(unit.len()))
 }
 
-// Writes the row of a record.
-fn put_row<W: Sink>(out: &mut W, sent: &Sent<'_>) -> Result<(), IoFault> {
-    let (found, reading) = (&sent.record, reading_of(&sent.record, sent.len));
+// Writes the row of a record: what it is of, its value information block where it has one, its unit, and what is read.
+fn put_told<W: Sink>(
+    out: &mut W,
+    found: &Record<'_>,
+    name: &str,
+    vib: &[u8],
+    unit: &[u8],
+    reading: &Reading,
+) -> Result<(), IoFault> {
     out.put(b"  ")?;
-    put_cell(out, code_at(number_of(found.vib)).name.as_bytes(), QUANTITY)?;
-    put_value(out, found, &reading)?;
-    put_unit(out, found, &reading)?;
+    put_cell(out, name.as_bytes(), QUANTITY)?;
+    put_value(out, found, reading)?;
+    put_unit(out, unit, reading)?;
     let mut number = Buffer::new();
     put_cell(out, number.format(found.storage).as_bytes(), NUMBER)?;
     put_cell(out, number.format(found.tariff).as_bytes(), NUMBER)?;
     put_cell(out, number.format(found.subunit).as_bytes(), NUMBER)?;
     out.put(function_name(found.function).as_bytes())?;
-    put_qualifiers(out, found.vib)?;
+    put_qualifiers(out, vib)?;
     out.put(b"\n")
+}
+
+// Writes the row of a record.
+fn put_row<W: Sink>(out: &mut W, sent: &Sent<'_>) -> Result<(), IoFault> {
+    let (vib, reading) = (sent.record.vib, reading_of(&sent.record, sent.len));
+    let mut room = [0u8; READING_ROOM];
+    let unit = unit_text(&reading, vib, &mut room);
+    put_told(
+        out,
+        &sent.record,
+        code_at(number_of(vib)).name,
+        vib,
+        unit,
+        &reading,
+    )
+}
+
+// Writes the row of a counter of fixed data.
+fn put_counter<W: Sink>(out: &mut W, counter: &Counter<'_>) -> Result<(), IoFault> {
+    let unit = counter.unit.as_bytes();
+    put_told(
+        out,
+        &counter.record,
+        counter.name,
+        &[],
+        unit,
+        &counter.reading,
+    )
 }
 
 // Writes the names of a record's VIFEs, the manufacturer's bytes and the text of a unit in plain text.
@@ -140,12 +191,8 @@ fn put_qualifiers<W: Sink>(out: &mut W, vib: &[u8]) -> Result<(), IoFault> {
     Ok(())
 }
 
-/// Writes a telegram: its meter, its status, and a row for each record.
-pub(crate) fn put_telegram_table<W: Sink>(
-    out: &mut W,
-    telegram: &Telegram<'_>,
-) -> Result<(), IoFault> {
-    put_header(out, &telegram.header())?;
+// Writes the names of the columns.
+fn put_columns<W: Sink>(out: &mut W) -> Result<(), IoFault> {
     out.put(b"  ")?;
     put_cell(out, b"quantity", QUANTITY)?;
     put_cell(out, b"value", VALUE)?;
@@ -153,12 +200,88 @@ pub(crate) fn put_telegram_table<W: Sink>(
     put_cell(out, b"storage", NUMBER)?;
     put_cell(out, b"tariff", NUMBER)?;
     put_cell(out, b"subunit", NUMBER)?;
-    out.put(b"function\n")?;
-    'records: for found in SentRecords::of_body(telegram.body()) {
+    out.put(b"function\n")
+}
+
+// Writes the names of the columns and a row for each record.
+fn put_records<W: Sink>(out: &mut W, records: SentRecords<'_>) -> Result<(), IoFault> {
+    put_columns(out)?;
+    'records: for found in records {
         put_row(out, &found)?;
     }
+    Ok(())
+}
+
+/// Writes a telegram: its meter, its status, and a row for each record.
+pub(crate) fn put_telegram_table<W: Sink>(
+    out: &mut W,
+    telegram: &Telegram<'_>,
+) -> Result<(), IoFault> {
+    let header = telegram.header();
+    put_header(out, Some(header.identity), header.access, header.status)?;
+    put_records(out, SentRecords::of_body(telegram.body()))?;
     if telegram.more_follows() {
         out.put(b"  more records follow in the next telegram\n")?;
+    }
+    Ok(())
+}
+
+// Writes the structure and the header of variable data, and a row for each record before the first fault.
+fn put_variable<W: Sink>(out: &mut W, variable: &Variable<'_>) -> Result<(), IoFault> {
+    out.put(b"  body    ")?;
+    out.put(variable.structure.name().as_bytes())?;
+    if let Some(head) = variable.head {
+        let mode = Security::of(head.config).mode;
+        out.put(b", security mode ")?;
+        put_number(out, u64::from(mode))?;
+        out.put(b" (")?;
+        out.put(security_name(mode).as_bytes())?;
+        out.put(b")\n")?;
+        put_header(out, variable.meter, head.access, head.status)?;
+    } else {
+        out.put(b"\n")?;
+    }
+    if variable.refused.is_none() {
+        put_records(out, variable.records())?;
+    }
+    Ok(())
+}
+
+// Writes the meter of fixed data, and its counters.
+fn put_fixed<W: Sink>(out: &mut W, data: &FixedData<'_>) -> Result<(), IoFault> {
+    out.put(b"  body    fixed data\n  meter   ")?;
+    if data.has_number() {
+        let mut room = [0u8; 8];
+        out.put(digits_text(data.number, &mut room))?;
+        out.put(b", ")?;
+        out.put(medium_of(data.medium).as_bytes())?;
+    } else {
+        out.put(b"not named")?;
+    }
+    put_state(out, data.access, data.status)?;
+    if data.shows_counters() {
+        put_columns(out)?;
+        put_counter(out, &data.first)?;
+        put_counter(out, &data.second)?;
+    }
+    Ok(())
+}
+
+/// Writes what a body says that the register refuses: its header, a row for each record, and why it is refused.
+pub(crate) fn put_content_table<W: Sink>(
+    out: &mut W,
+    content: &Content<'_>,
+) -> Result<(), IoFault> {
+    match content {
+        Content::Variable(variable) => put_variable(out, variable)?,
+        Content::Fixed(Some(data)) => put_fixed(out, data)?,
+        Content::Fixed(None) => {}
+    }
+    if let Some(reason) = content.reason() {
+        let mut room = [0u8; REASON_ROOM];
+        out.put(b"  reason  ")?;
+        out.put(reason.text(&mut room))?;
+        out.put(b"\n")?;
     }
     Ok(())
 }
