@@ -10,9 +10,6 @@ use std::net::{Net, TcpStream};
 use std::rt::Clock;
 use std::time::Duration;
 
-// Minimum wait in milliseconds, unless a byte comes.
-const LEAST: u128 = 5;
-
 // Maximum wait in milliseconds, so that the progress shown is fresh.
 const LONGEST: u128 = 1_000;
 
@@ -66,14 +63,13 @@ impl Watch {
         }
     }
 
-    /// Waits until a byte may have come on one of the buses, or the time-out of one is over: at
-    /// least five milliseconds, unless a byte comes, and at most a second. Without a bus it doesn't
-    /// wait.
+    /// Waits until a byte may have come on one of the buses, or the time-out of one is over, to the
+    /// next millisecond, and at most a second. Without a bus it doesn't wait.
     pub fn wait(mut self) {
         if self.is_ready || self.count == 0 {
             return;
         }
-        let millis = self.left.as_millis().clamp(LEAST, LONGEST);
+        let millis = self.left.as_millis().saturating_add(1).min(LONGEST);
         poll(&mut self.asked, i32::try_from(millis).unwrap_or_default());
     }
 }
