@@ -1,6 +1,7 @@
 //! The file of an image's journal. What fails here costs a view, and nothing else.
 
 use crate::image::{file_limit, no_file};
+use crate::why::without_number;
 use std::alloc::{AllocError, Global};
 use std::fs::{File, OpenOptions};
 use std::io::{ErrorKind, Read, Seek, SeekFrom, Write};
@@ -19,9 +20,6 @@ const FULL: u64 = 8 * 1024 * 1024;
 
 // Readable and writable only by its owner: readings are personal data.
 const MODE: u32 = 0o600;
-
-// The text between the system's message and its error number.
-const NUMBERED: &str = " (os error ";
 
 /// The journal of an image, to which lines are appended. The first failure is named on standard error, and nothing more is
 /// written then.
@@ -103,10 +101,7 @@ impl<'h, R: Files<File = File> + Eprint + AllocGlobal> Journal<'h, R> {
     // Says why no more is written, without the number that the system's message has.
     fn name_failure(&self, error: &io::Error) {
         if let Ok(said) = format!(in self.rt.alloc(); "{error}") {
-            let words = match said.rsplit_once(NUMBERED) {
-                Some((words, _)) => words,
-                None => said.as_str(),
-            };
+            let words = without_number(said.as_str());
             let _ = eprint!(self.rt; "mbdc: journal: {}: {words}\n", self.name);
         }
     }

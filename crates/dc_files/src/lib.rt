@@ -41,4 +41,4 @@ pub use journal::{Journal, journal_lines};
 pub use looking::{LookDisk, LookedAt, ROUNDS};
 pub use patient::Patient;
 pub use streams::{NOWHERE, hold};
-pub use why::{DiskReason, Noted, Reason, Why};
+pub use why::{DiskReason, Noted, Reason, Why, without_number};

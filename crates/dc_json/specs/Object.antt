@@ -6,7 +6,7 @@ use Rattle.dc_change.specs.Size.{size_of}
 use Rattle.dc_change.specs.State.{State, Held}
 use Rattle.dc_register.specs.Places.{by_flat}
 use Rattle.dc_register.specs.declared.place.Place.{Place}
-use Rattle.dc_tokens.specs.Object.{Field, object_of, count}
+use Rattle.dc_tokens.specs.Object.{object_of, count}
 use Rattle.dc_frame_json.specs.Meter.{identity_fields, status_fields}
 use Rattle.dc_frame_json.specs.Record.{value_json}
 use Rattle.dc_frame_json.specs.Text.{value_line}
@@ -42,19 +42,9 @@ abbrev pub failure_json : Option ℕ → ℕ → Json
 failure_json None number = null
 failure_json (Some moment) number = string (failure_name number)
 
--- what the journal adds, where there is one
-abbrev pub told_fields : Option Told → Option ℕ → List Field
-told_fields None heard = []
-told_fields (Some told) heard =
-    (codes "from", source_json told.is_noted heard)
-    ∷ (codes "failed", maybe_json told.failed)
-    ∷ (codes "failed_utc", utc_json told.failed)
-    ∷ (codes "failure", failure_json told.failed told.number)
-    ∷ []
-
--- THE OBJECT OF A METER
-unfoldable pub row_object : Row → List ℕ
-row_object row = value_line (object_of (
+-- of a meter where there is no journal
+unfoldable pub plain_object : Row → List ℕ
+plain_object row = value_line (object_of (
     (codes "flat", string row.flat)
     ∷ (codes "meter", object_of (identity_fields row.meter))
     ∷ (codes "moment", maybe_json row.heard)
@@ -62,7 +52,31 @@ row_object row = value_line (object_of (
     ∷ (codes "age", maybe_json row.age)
     ∷ (codes "silent", boolean row.is_silent)
     ∷ (codes "status", state_json row.status)
-    ∷ told_fields row.told row.heard))
+    ∷ []))
+
+-- and where there is one, of which this is told
+unfoldable pub told_object : Told → Row → List ℕ
+told_object told row = value_line (object_of (
+    (codes "flat", string row.flat)
+    ∷ (codes "meter", object_of (identity_fields row.meter))
+    ∷ (codes "moment", maybe_json row.heard)
+    ∷ (codes "utc", utc_json row.heard)
+    ∷ (codes "age", maybe_json row.age)
+    ∷ (codes "silent", boolean row.is_silent)
+    ∷ (codes "status", state_json row.status)
+    ∷ (codes "from", source_json told.is_noted row.heard)
+    ∷ (codes "failed", maybe_json told.failed)
+    ∷ (codes "failed_utc", utc_json told.failed)
+    ∷ (codes "failure", failure_json told.failed told.number)
+    ∷ []))
+
+abbrev pub object_by : Option Told → Row → List ℕ
+object_by None row = plain_object row
+object_by (Some told) row = told_object told row
+
+-- THE OBJECT OF A METER
+unfoldable pub row_object : Row → List ℕ
+row_object row = object_by row.told row
 
 -- that of a meter at a clock, which is silent after so many seconds
 abbrev pub object_at : ℕ → ℕ → Notes → State → Place → List ℕ

@@ -1,5 +1,5 @@
 -- The lines of `status` (this product): of each registered meter when it was last heard, and how full the image is.
-use Rattle.std.specs.Prelude.{ℕ, ◌-◌, ◌/◌, max, ◌==◌, if◌then◌else◌, Bool, true, false, List, [], ◌∷◌, ◌++◌}
+use Rattle.std.specs.Prelude.{ℕ, ◌-◌, ◌/◌, max, ◌==◌, if◌then◌else◌, Bool, true, false, List, [], ◌++◌}
 use Rattle.std.specs.Prelude.{codes, length, slice_get, Option, None, Some}
 use Rattle.std.specs.List.{flat_map, list_any}
 use Rattle.dc_io.specs.Words.{number_word}

@@ -12,7 +12,7 @@ ghost use Rattle.dc_words.specs.Fault.{IfMistake};
 use clap::Error;
 use clap::error::ErrorKind;
 use dc_ending::{Ending, STREAM};
-use dc_files::{DiskReason, Reason, Why, holder_of};
+use dc_files::{DiskReason, Reason, Why, holder_of, without_number};
 use dc_io::{Buffered, IoFault, Sink, WriteSink, put_number};
 use dc_words::{WordsFault, nearest};
 use std::alloc::{AllocError, Global};
@@ -51,9 +51,6 @@ const ENDS: &str = ". Wait until it ends";
 
 // A line of up to this many bytes goes out as one write.
 const LINE: usize = 8_192;
-
-// The text between the system's message and its error number.
-const NUMBERED: &str = " (os error ";
 
 /// Prints the line of the ending, and returns its exit status.
 pub fn told(rt: &HostRuntime, ending: &Ending) -> ExitCode
@@ -157,10 +154,7 @@ fn put_error<W: Sink>(alloc: Global, error: &io::Error, out: &mut W) -> Result<(
     let Ok(said) = format!(in alloc; "{error}") else {
         return Err(IoFault);
     };
-    match said.rsplit_once(NUMBERED) {
-        Some((words, _)) => out.put(words.as_bytes()),
-        None => out.put(said.as_bytes()),
-    }
+    out.put(without_number(said.as_str()).as_bytes())
 }
 
 // What a person does next, after the reason; nothing in a pipe or a file.

@@ -5,14 +5,15 @@ ghost use Rattle.dc_io.specs.Written.{Wrote};
 ghost use Rattle.dc_change.specs.Fields.{last_moment};
 ghost use Rattle.dc_frame_json.specs.Record.{value_json};
 ghost use Rattle.dc_frame_json.specs.Row.{field_of};
-ghost use Rattle.dc_json.specs.Object.{failure_json, image_object, maybe_json, row_object, row_objects, source_json};
-ghost use Rattle.dc_json.specs.Object.{state_json, status_objects, utc_json};
+ghost use Rattle.dc_json.specs.Object.{failure_json, image_object, maybe_json, plain_object, row_object};
+ghost use Rattle.dc_json.specs.Object.{row_objects, source_json, state_json, status_objects};
+ghost use Rattle.dc_json.specs.Object.{told_object, utc_json};
 
 use crate::journal::Journal;
 use crate::latest::minute;
 use crate::status::full::{days_left, readings_left};
 use crate::status::lines::failure_name;
-use crate::status::row::{Row, row_at};
+use crate::status::row::{Row, Told, row_at};
 use crate::status::silence::Clock;
 use dc_frame_json::{Cell, put_line};
 use dc_io::{IoFault, Sink};
@@ -60,32 +61,55 @@ fn put_row<W: Sink>(out: &mut W, row: &Row) -> Result<(), IoFault>
         IfSome told.failed (λ moment. moment ≤ last_moment)) }
     ensures { Wrote W.Sink result out.old out.new (row_object row.now) }
 {
-    let flat = Cell::Text("flat", row.flat.as_slice());
-    let meter = Cell::Meter("meter", row.meter);
-    let moment = maybe("moment", row.heard);
-    let utc_of = Cell::Value("utc", utc(row.heard));
-    let age = maybe("age", row.age);
-    let silent = Cell::Flag("silent", row.is_silent);
-    let status = state(row.status);
     match row.told {
-        None => put_line(out, &[flat, meter, moment, utc_of, age, silent, status]),
-        Some(told) => put_line(
-            out,
-            &[
-                flat,
-                meter,
-                moment,
-                utc_of,
-                age,
-                silent,
-                status,
-                source(told.is_noted, row.heard),
-                maybe("failed", told.failed),
-                Cell::Value("failed_utc", utc(told.failed)),
-                failure(told.failed, told.number),
-            ],
-        ),
+        None => put_plain(out, row),
+        Some(told) => put_told(out, &told, row),
     }
+}
+
+// Writes the object of a meter where there is no journal.
+#[tactic(auto, unfolding(crate::specs::Object::plain_object))]
+fn put_plain<W: Sink>(out: &mut W, row: &Row) -> Result<(), IoFault>
+    requires { IfSome row.now.heard (λ moment. moment ≤ last_moment) }
+    ensures { Wrote W.Sink result out.old out.new (plain_object row.now) }
+{
+    put_line(
+        out,
+        &[
+            Cell::Text("flat", row.flat.as_slice()),
+            Cell::Meter("meter", row.meter),
+            maybe("moment", row.heard),
+            Cell::Value("utc", utc(row.heard)),
+            maybe("age", row.age),
+            Cell::Flag("silent", row.is_silent),
+            state(row.status),
+        ],
+    )
+}
+
+// Writes the object of a meter where there is a journal.
+#[tactic(auto, unfolding(crate::specs::Object::told_object))]
+fn put_told<W: Sink>(out: &mut W, told: &Told, row: &Row) -> Result<(), IoFault>
+    requires heard { IfSome row.now.heard (λ moment. moment ≤ last_moment) }
+    requires failed { IfSome told.now.failed (λ moment. moment ≤ last_moment) }
+    ensures { Wrote W.Sink result out.old out.new (told_object told.now row.now) }
+{
+    put_line(
+        out,
+        &[
+            Cell::Text("flat", row.flat.as_slice()),
+            Cell::Meter("meter", row.meter),
+            maybe("moment", row.heard),
+            Cell::Value("utc", utc(row.heard)),
+            maybe("age", row.age),
+            Cell::Flag("silent", row.is_silent),
+            state(row.status),
+            source(told.is_noted, row.heard),
+            maybe("failed", told.failed),
+            Cell::Value("failed_utc", utc(told.failed)),
+            failure(told.failed, told.number),
+        ],
+    )
 }
 
 // The cell of where the reading comes from.
