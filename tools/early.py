@@ -24,8 +24,8 @@ EXCLUSIVE = [{"--json", "--explain"}, {"--json", "--prometheus"}, {"--primary", 
              {"--dry-run", "--trace"}]
 WRITING = {"format", "run", "fit", "swap", "move", "out", "poll"}  # the commands that write to their image; `poll --dry-run` doesn't
 # As crates/dc_words/src/near.rt has them
-COMMANDS = ["consumption", "copy", "decode", "demo", "fit", "fold", "format", "inspect", "move", "out", "poll", "read", "report",
-            "rescue", "run", "scan", "status", "swap", "values"]
+COMMANDS = ["audit", "consumption", "copy", "decode", "demo", "fit", "fold", "format", "inspect", "move", "out", "poll", "read",
+            "report", "rescue", "run", "scan", "status", "swap", "values"]
 
 
 class Said(Exception):

@@ -26,6 +26,7 @@ Look:
 
 Bill:
   consumption  Prints what places consumed between moments, from readings
+  audit        Checks published numbers against the telegrams they come from
 
 Maintain:
   format   Makes an image that holds an empty register
@@ -95,6 +96,21 @@ Printed: place,from,to,amount,backwards,exchanges, a line a place and period.
 Faults: LINE n FAULT 1 Header, 2 Row, 3 Place (before the last line's), 4 Moment
   (before the last line's), 5 Facts (other ones than the last line's), with
   status 1 and no table; mbdc: file: FILE; mbdc: memory";
+
+/// Of `audit`.
+pub const AUDIT: &str = "Example:
+  mbdc audit example.audit
+
+Lines of the file: what is declared of a house and its spans; then each place
+  with its meters, the telegrams and other values that decide a span, its parts
+  and its numbers; then the sums, and what is computed from them. docs/COMMANDS
+  has the fields. FILE may be - for standard input.
+Printed: DIFFERS line n, with the published number and the computed one;
+  NO EVIDENCE line n, with why; and then a line that counts both, the readings,
+  values by hand, estimates and struck values.
+Faults: LINE n FAULT 1 Header, 2 Row, 3 Order, 4 Moment, 5 Part, 6 Unit, 7 Fact
+  (not declared, or twice), 8 TooMany, 9 TooLarge, 10 End, and nothing after it.
+Status: 0 where every number holds and every value has evidence, else 1";
 
 /// Of `format`.
 pub const FORMAT: &str = "Example:

@@ -1,7 +1,8 @@
 //! The command that a mistyped word is nearly.
 
 // The commands, the shortest words first among those that begin alike.
-const COMMANDS: [&str; 19] = [
+const COMMANDS: [&str; 20] = [
+    "audit",
     "consumption",
     "copy",
     "decode",

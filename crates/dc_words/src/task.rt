@@ -28,6 +28,8 @@ pub enum Engine {
     Loose(Form),
     /// Answer each telegram and command, and print the register after them.
     Fold,
+    /// Check published numbers.
+    Audit,
 }
 
 /// How the status of an image is printed.

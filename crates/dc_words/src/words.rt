@@ -184,6 +184,12 @@ fn fold_command<'a>(alloc: Global) -> Result<Command<'a>, AllocError> {
     command_of(alloc, "fold", about, help::FOLD, vec![in alloc; file]?)
 }
 
+fn audit_command<'a>(alloc: Global) -> Result<Command<'a>, AllocError> {
+    let file = required_arg(alloc, "FILE", "Lines of telegrams and published numbers");
+    let about = "Checks published numbers against the telegrams they come from";
+    command_of(alloc, "audit", about, help::AUDIT, vec![in alloc; file]?)
+}
+
 fn consumption_command<'a>(alloc: Global) -> Result<Command<'a>, AllocError> {
     let moments = "Moments in Unix seconds, separated by commas, each later than the one before it";
     let args = vec![in alloc;
@@ -433,6 +439,7 @@ fn program<'a>(alloc: Global) -> Result<Command<'a>, AllocError> {
     let program = with_command(bare_program(alloc), decode_command(alloc));
     let program = with_command(program, fold_command(alloc));
     let program = with_command(program, consumption_command(alloc));
+    let program = with_command(program, audit_command(alloc));
     let program = with_command(program, format_command(alloc));
     let program = with_command(program, poll_command(alloc));
     let program = with_command(program, run_command(alloc));
@@ -507,6 +514,10 @@ fn task_of<'a>(alloc: Global, matches: &ArgMatches<'a>) -> Result<Task<'a>, Word
         }),
         "fold" => Ok(Task::Lines {
             engine: Engine::Fold,
+            file: input_of(inner),
+        }),
+        "audit" => Ok(Task::Lines {
+            engine: Engine::Audit,
             file: input_of(inner),
         }),
         "consumption" => Ok(Task::Consumption {

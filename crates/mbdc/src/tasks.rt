@@ -10,6 +10,7 @@ use crate::order::order_on_image;
 use crate::poll::poll_on_image;
 use crate::rescue::rescue_image;
 use crate::script::run_on_image;
+use dc_audit::audit;
 use dc_bench::Work;
 use dc_consumption::table::{Boundaries, consumption_lines};
 use dc_decode::decode_lines;
@@ -162,6 +163,7 @@ fn work<R: Print + Eprint + AllocGlobal, S: Source>(
         Lines::Of(Engine::Decode(form)) => decoded(alloc, form, reader, &mut writer)?,
         Lines::Of(Engine::Loose(form)) => decode_pasted(host, form, reader, &mut writer)?,
         Lines::Of(Engine::Fold) => fold_lines(alloc, reader, &mut writer)?,
+        Lines::Of(Engine::Audit) => !audit(alloc, reader, &mut writer)?,
         Lines::Consumption(boundaries) => {
             consumption_lines(alloc, reader, boundaries, &mut writer)?
         }

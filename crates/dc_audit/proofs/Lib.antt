@@ -1,0 +1,4 @@
+-- powers of ten
+pub mod Powers
+-- the sums of holders
+pub mod Held

@@ -1,0 +1,150 @@
+//! Days, and the moments at their ends.
+
+ghost use Rattle.std.specs.Prelude.{◌≡◌, ◌≤◌, ◌<◌, IfSome};
+ghost use Rattle.dc_audit.specs.Moment.{before_month, day_number, end_of, ended_by, ended_day};
+ghost use Rattle.dc_audit.specs.Moment.{is_leap, leap_day, leaps, since_epoch, IsOffset};
+
+use dc_record::value::{Date, Value};
+
+// The number of 1 January 1970, counted from 1 January of the year 0.
+const EPOCH: u64 = 719_528;
+
+const SECONDS_OF_DAY: u64 = 86_400;
+
+const SECONDS_OF_MINUTE: u64 = 60;
+
+// Most minutes between a local time and UTC: a day.
+const MOST_OFFSET: u64 = 1_440;
+
+/// How far a local time is from UTC.
+#[derive(Clone, Copy, Debug, PartialEq, Eq)]
+pub enum Offset {
+    /// Minutes ahead of UTC.
+    Ahead(u64),
+    /// Minutes behind UTC.
+    Behind(u64),
+}
+
+// Whether a year has a 29 February.
+fn is_leap(year: u64) -> bool
+    ensures { result ≡ is_leap year }
+{
+    year % 4 == 0 && (year % 100 != 0 || year % 400 == 0)
+}
+
+// Days of a year of 365 days before the first one of this month.
+fn before_month(month: u8) -> u64
+    ensures days { result ≡ before_month month }
+    ensures few { result ≤ 334 }
+{
+    match month {
+        2 => 31,
+        3 => 59,
+        4 => 90,
+        5 => 120,
+        6 => 151,
+        7 => 181,
+        8 => 212,
+        9 => 243,
+        10 => 273,
+        11 => 304,
+        12 => 334,
+        _ => 0,
+    }
+}
+
+// Leap years before this one, from the year 0 on.
+fn leaps(year: u64) -> u64
+    requires { year ≤ 9999 }
+    ensures count { result ≡ leaps year }
+    ensures few { result ≤ 5000 }
+{
+    ((year + 3) / 4 + (year + 399) / 400).saturating_sub((year + 99) / 100)
+}
+
+// 1 after a 29 February.
+fn leap_day(year: u64, month: u8) -> u64
+    ensures count { result ≡ leap_day year month }
+    ensures few { result ≤ 1 }
+{
+    if month > 2 && is_leap(year) { 1 } else { 0 }
+}
+
+/// The number of a day, counted from 1 January of the year 0.
+#[tactic(auto, unfolding(crate::specs::Moment::day_number))]
+pub fn day_number(date: &Date) -> u64
+    ensures number { result ≡ day_number date.now }
+    ensures few { result ≤ 4000000 }
+{
+    let (year, month) = (u64::from(date.year()), date.month());
+    let days = 365 * year + leaps(year) + before_month(month) + leap_day(year, month);
+    (days + u64::from(date.day())).saturating_sub(1)
+}
+
+// The day at whose end a minute lies.
+fn ended_by(hour: u8, minute: u8, date: &Date) -> u64
+    ensures { result ≡ ended_by hour minute date.now }
+{
+    if hour == 0 && minute == 0 {
+        day_number(date).saturating_sub(1)
+    } else {
+        day_number(date)
+    }
+}
+
+/// The day at whose end a date lies: a moment at 00:00 ends the day before it.
+pub fn ended_day(value: &Value) -> Option<u64>
+    ensures { result ≡ ended_day value.now }
+{
+    match value {
+        Value::Day(date) => Some(day_number(date)),
+        Value::Minute(date, hour, minute) => Some(ended_by(*hour, *minute, date)),
+        _ => None,
+    }
+}
+
+// A number of seconds from 1970 on; none before it.
+fn since_epoch(seconds: u64) -> Option<u64>
+    ensures { result ≡ since_epoch seconds }
+{
+    seconds.checked_sub(EPOCH * SECONDS_OF_DAY)
+}
+
+/// The end of a day, in Unix seconds; none before 1970.
+pub fn end_of(day: u64, offset: Offset) -> Option<u64>
+    requires day { day ≤ 4000000 }
+    requires offset { IsOffset offset }
+    ensures { result ≡ end_of day offset }
+{
+    let local = (day + 1) * SECONDS_OF_DAY;
+    match offset {
+        Offset::Ahead(minutes) => since_epoch(local.saturating_sub(SECONDS_OF_MINUTE * minutes)),
+        Offset::Behind(minutes) => since_epoch(local + SECONDS_OF_MINUTE * minutes),
+    }
+}
+
+/// The offset that a field spells: minutes, with `-` before them where they are behind UTC.
+pub fn offset_in(field: &[u8]) -> Option<Offset>
+    ensures { IfSome result IsOffset }
+{
+    let offset = match field {
+        [b'-', minutes @ ..] => Offset::Behind(dc_change::parse_number(minutes)?),
+        _ => Offset::Ahead(dc_change::parse_number(field)?),
+    };
+    match offset {
+        Offset::Ahead(minutes) | Offset::Behind(minutes) => {
+            if minutes > MOST_OFFSET {
+                None
+            } else {
+                Some(offset)
+            }
+        }
+    }
+}
+
+/// The number of the day that a field spells, as `2026-10-31`.
+pub fn day_in(field: &[u8]) -> Option<u64>
+    ensures { IfSome result (λ day. day ≤ 4000000) }
+{
+    Some(day_number(&Date::parse_text(field)?))
+}
