@@ -4,8 +4,6 @@ mod Currents
 mod Telegrams
 -- the records that the due-date table doesn't have
 mod Alsos
--- the record that comes next among those of several telegrams
-mod Headlines
 -- of the module `latest`
 
 -- the days after 1 January 1970 are those of the calendar

@@ -15,7 +15,6 @@ use Rattle.dc_register.specs.Points.{points_in, shown}
 use Rattle.dc_tokens.specs.Object.{Field, fields_tokens, values_tokens}
 use Rattle.dc_tokens.proofs.Objects.{fields-append, fields-cons, no_values, values-append}
 use Rattle.dc_json.specs.Also.{also_field, also_in}
-use Rattle.dc_json.specs.Headline.{body_sent, headline_field}
 use Rattle.dc_json.specs.Reported.{reported_fields}
 use Rattle.dc_json.specs.Values.{current_of, received_fields, values_field}
 
@@ -33,23 +32,14 @@ point_told seen p is =
 pub none_told : (seen : Seen) → seen ≡ Other → [] ≡ values_tokens (flat_map current_of (shown seen))
 none_told seen is = sym no_values ∙ ap (λ (s : Seen). values_tokens (flat_map current_of (shown s))) (sym is)
 
-abbrev told : Header → List Entry → List ℕ → List Field
-told header records body = headline_field header.identity.kind (body_sent body) ∷ values_field (points_in records) ∷ also_field (also_in body) ∷ []
-
-three : (a b c : Field) → fields_tokens (a ∷ []) ++ (fields_tokens (b ∷ []) ++ (fields_tokens (c ∷ []) ++ [])) ≡ fields_tokens (a ∷ b ∷ c ∷ [])
-three a b c =
-    ap (λ (ts : List Token). fields_tokens (a ∷ []) ++ (fields_tokens (b ∷ []) ++ ts)) (append-nil (fields_tokens (c ∷ [])))
-    ∙ ap (λ (ts : List Token). fields_tokens (a ∷ []) ++ ts) (sym (fields-cons b (c ∷ [])))
-    ∙ sym (fields-cons a (b ∷ c ∷ []))
-
 pub reported_as : (moment : ℕ) (header : Header) (records : List Entry) (body : List ℕ) (t : Parsed) → header ≡ t.header → records ≡ t.records → body ≡ t.body
-    → fields_tokens (received_fields moment header.status) ++ (fields_tokens (headline_field header.identity.kind (body_sent body) ∷ []) ++ (fields_tokens (values_field (points_in records) ∷ []) ++ (fields_tokens (also_field (also_in body) ∷ []) ++ [])))
-    ≡ fields_tokens (reported_fields moment t)
+    → fields_tokens (received_fields moment header.status) ++ (fields_tokens (values_field (points_in records) ∷ []) ++ (fields_tokens (also_field (also_in body) ∷ []) ++ [])) ≡ fields_tokens (reported_fields moment t)
 unfolding reported_fields
 reported_as moment header records body t same listed sent =
-    ap (λ (ts : List Token). fields_tokens (received_fields moment header.status) ++ ts)
-    (three (headline_field header.identity.kind (body_sent body)) (values_field (points_in records)) (also_field (also_in body)))
-    ∙ sym (fields-append (received_fields moment header.status) (told header records body))
-    ∙ ap (λ (h : Header). fields_tokens (received_fields moment h.status ++ told h records body)) same
-    ∙ ap (λ (es : List Entry). fields_tokens (received_fields moment t.header.status ++ told t.header es body)) listed
-    ∙ ap (λ (b : List ℕ). fields_tokens (received_fields moment t.header.status ++ told t.header t.records b)) sent
+    let told : List Field = values_field (points_in records) ∷ also_field (also_in body) ∷ [] in
+    ap (λ (ts : List Token). fields_tokens (received_fields moment header.status) ++ (fields_tokens (values_field (points_in records) ∷ []) ++ ts)) (append-nil (fields_tokens (also_field (also_in body) ∷ [])))
+    ∙ ap (λ (ts : List Token). fields_tokens (received_fields moment header.status) ++ ts) (sym (fields-cons (values_field (points_in records)) (also_field (also_in body) ∷ [])))
+    ∙ sym (fields-append (received_fields moment header.status) told)
+    ∙ ap (λ (h : Header). fields_tokens (received_fields moment h.status ++ told)) same
+    ∙ ap (λ (es : List Entry). fields_tokens (received_fields moment t.header.status ++ (values_field (points_in es) ∷ also_field (also_in body) ∷ []))) listed
+    ∙ ap (λ (b : List ℕ). fields_tokens (received_fields moment t.header.status ++ (values_field (points_in t.records) ∷ also_field (also_in b) ∷ []))) sent

@@ -6,8 +6,6 @@ pub mod Also
 pub mod Report
 -- what the meters of a house stand at
 pub mod Values
--- what a meter stands at
-pub mod Headline
 -- what one telegram reports
 pub mod Reported
 -- of the module `latest`

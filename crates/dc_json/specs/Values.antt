@@ -16,7 +16,6 @@ use Rattle.dc_tokens.specs.Object.{Field, object_of, array_of, count}
 use Rattle.dc_frame_json.specs.Meter.{status_fields}
 use Rattle.dc_frame_json.specs.Record.{value_json, unit_json}
 use Rattle.dc_json.specs.Also.{also_field, parts_also}
-use Rattle.dc_json.specs.Headline.{headline_field, parts_sent}
 use Rattle.dc_json.specs.Report.{whose_fields}
 use Rattle.dc_frame_json.specs.Text.{value_line}
 
@@ -59,18 +58,16 @@ head_fields serial part =
     (codes "serial", count serial)
     ∷ received_fields part.moment (byte_in (telegram_at part.body))
 
--- a reading of a meter of this device type: its serial, its last part, what the meter stands at, its current values, and those
--- that the due-date table doesn't have
-unfoldable pub reading_fields : ℕ → ℕ → PartRow → List Point → List PartRow → List Field
-reading_fields serial kind part points parts =
-    head_fields serial part ++ (headline_field kind (parts_sent parts) ∷ values_field points ∷ also_field (parts_also parts) ∷ [])
+-- a reading: its serial, its last part, its current values, and those that the due-date table doesn't have
+unfoldable pub reading_fields : ℕ → PartRow → List Point → List PartRow → List Field
+reading_fields serial part points parts = head_fields serial part ++ (values_field points ∷ also_field (parts_also parts) ∷ [])
 
-unfoldable pub reading_json : ℕ → ℕ → PartRow → List Point → List PartRow → Json
-reading_json serial kind part points parts = object_of (reading_fields serial kind part points parts)
+unfoldable pub reading_json : ℕ → PartRow → List Point → List PartRow → Json
+reading_json serial part points parts = object_of (reading_fields serial part points parts)
 
 abbrev pub last_json : ReadingRow → Option PartRow → Json
 last_json r None = null
-last_json r (Some part) = reading_json r.serial r.meter.kind part (points_of r.parts) r.parts
+last_json r (Some part) = reading_json r.serial part (points_of r.parts) r.parts
 
 -- the last reading; null where none is held
 abbrev pub held_json : Option ReadingRow → Json

@@ -13,7 +13,6 @@
 mod also;
 mod explain;
 mod grown;
-mod headline;
 pub mod journal;
 pub mod latest;
 mod place;

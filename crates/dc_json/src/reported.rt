@@ -13,7 +13,6 @@ ghost use Rattle.dc_json.specs.Values.{current_of, received_fields, values_field
 ghost use Rattle.dc_json.specs.Reported.{reported_fields};
 
 use crate::also::put_also;
-use crate::headline::put_headline;
 use crate::latest::minute;
 use crate::values::put_if_current;
 use dc_frame_json::{Cell, put_row};
@@ -23,15 +22,13 @@ use dc_record::{Record, Records, Telegram};
 use dc_tokens::TokenWriter;
 
 /// Writes the fields of a reading that a telegram received at this moment has: `moment`, `utc`,
-/// `status`, `headline`, `values` and `also`, as [`values_json`](crate::values_json) writes them.
+/// `status`, `values` and `also`, as [`values_json`](crate::values_json) writes them.
 pub fn put_reported<W: Sink>(out: &mut TokenWriter<'_, W>, moment: u64, telegram: &Telegram<'_>)
     requires { moment ≤ last_moment }
     ensures { Added W.Sink out.old out.new
         (fields_tokens (reported_fields moment (parsed telegram.now))) }
 {
-    let header = telegram.header();
-    put_received(out, moment, header.status);
-    put_headline(out, header.identity.kind, telegram.body());
+    put_received(out, moment, telegram.header().status);
     put_values(out, telegram.records());
     put_also(out, telegram.body());
 }

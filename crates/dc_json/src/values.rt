@@ -14,7 +14,6 @@ ghost use Rattle.dc_json.specs.Values.{stands_json, stands_line, values_field, v
 
 use crate::also::put_also_of;
 use crate::grown::Grown;
-use crate::headline::put_headline_of;
 use crate::latest::{last_reading, minute};
 use crate::report::put_whose;
 use dc_frame_json::{Cell, put_object, put_row};
@@ -99,21 +98,19 @@ fn put_head<A: Allocator, W: Sink>(out: &mut TokenWriter<'_, W>, serial: u64, pa
     );
 }
 
-// Writes a reading of a meter of this device type: of this last part, these points and these parts.
+// Writes a reading of this last part, these points and these parts.
 fn put_part<A: Allocator, W: Sink>(
     out: &mut TokenWriter<'_, W>,
     serial: u64,
-    kind: u8,
     part: &Part<A>,
     points: Points<'_, A>,
     parts: &[Part<A>],
 )
     ensures { Added W.Sink out.old out.new
-        (json_tokens (reading_json serial kind part.now points.entry parts.now)) }
+        (json_tokens (reading_json serial part.now points.entry parts.now)) }
 {
     out.begin_object();
     put_head(out, serial, part);
-    put_headline_of(out, kind, parts);
     put_values(out, points);
     put_also_of(out, parts);
     out.end_object();
@@ -126,10 +123,7 @@ fn put_reading<A: Allocator, W: Sink>(out: &mut TokenWriter<'_, W>, reading: &Re
 {
     let parts = reading.parts();
     match parts.get(parts.len().saturating_sub(1)) {
-        Some(part) => {
-            let (serial, kind) = (reading.serial(), reading.meter().kind);
-            put_part(out, serial, kind, part, Points::of(parts), parts);
-        }
+        Some(part) => put_part(out, reading.serial(), part, Points::of(parts), parts),
         None => out.put_null(),
     }
 }

@@ -8,5 +8,5 @@ use Rattle.dc_json.proofs.reported.put_reported.Goals as goal
 pub returns : goal.returns
 returns g c =
     said (fields_tokens (reported_fields c.args.moment (parsed c.args.telegram.now)))
-    (c.put_received.ensures >> c.put_headline.ensures >> c.put_values.ensures >> c.put_also.ensures >> unchanged)
+    (c.put_received.ensures >> c.put_values.ensures >> c.put_also.ensures >> unchanged)
     (reported_as c.args.moment c.header.result c.records.result c.body.result.now (parsed c.args.telegram.now) c.header.ensures.value c.records.ensures.list c.body.ensures.value)
