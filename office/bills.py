@@ -4,16 +4,18 @@ import collections
 import datetime
 import decimal
 import zoneinfo
-from typing import Dict, Iterator, List, NamedTuple, Optional, Sequence, Tuple, Union
+from typing import Dict, Iterable, Iterator, List, NamedTuple, Optional, Tuple, Union
 
 from psycopg2.extras import DateRange
 
 from consumption import NotComputed
-from database import Cursor, Database, insert, one
+from database import Cursor, Database, one
+from exporting import (File, Part, Readings, Window, Writer, bodies_of, evidence_at, plain_number, span_line, struck_of,
+                       user_lines)
 from grading import PROVISIONAL, Graded, Period, around
 from months import Split, differences, graded_periods, kept_month, lock, splits_of
-from periods import later_month
-from supply import Entry
+from periods import begin_of, later_month
+from supply import Entry, seconds
 
 HEADER = ("house", "flat", "use", "place", "tenancy", "user", "from", "to", "amount", "smallest_unit", "consumption", "unit",
           "meter", "first_at", "first_value", "last_at", "last_value", "value_unit", "serials", "grade", "estimated", "weight", "HCA")
@@ -23,7 +25,9 @@ SHOWN = {"energy": ("mJ", "kWh", 3_600_000_000), "volume": ("ml", "m3", 1_000_00
          "allocation": ("0.001 units", "count", 1000)}
 DECIMALS = 3
 HELD = "held"
-PRINTED = "SELECT tenancy, key, text FROM published WHERE (house, days, version) = (%s, %s, %s) ORDER BY id"
+PRINTED = """
+SELECT p.tenancy, p.key, p.text FROM published p JOIN bills b ON (b.house, b.days, b.version) = (p.house, p.days, p.version)
+WHERE (p.house, p.days, p.version) = (%s, %s, %s) AND p.audit IS NOT DISTINCT FROM b.audit ORDER BY p.id"""
 IS_OUT = "SELECT EXISTS (SELECT FROM bills WHERE (house, days, version) = (%s, %s, %s) AND out_at IS NOT NULL)"
 VERSION = "SELECT version, out_at IS NOT NULL FROM bills_now WHERE (house, days) = (%s, %s)"
 # The months of a period with a number that a person has to see first
@@ -74,14 +78,19 @@ def rows_of(one: Split, found: List[Tuple[Period, Graded]], held: List[Held]) ->
         yield Row(period.tenancy, cells_of(one, period, graded))
 
 
+def ends_in(one: Split, period: Period) -> Tuple[List[Entry], List[Entry], List[Entry]]:
+    """The entries of the meter of a row, and those at or around its ends."""
+    entries = [entry for entry in one.entries if entry.fitting.begins <= period.begins
+               and (entry.fitting.ends is None or period.begins < entry.fitting.ends)]
+    return entries, around(entries, period.begins)[:1], around(entries, period.ends)[-1:]
+
+
 def cells_of(one: Split, period: Period, graded: Graded) -> Dict[str, str]:
     """The cells of a row that have a text."""
     smallest, unit, ratio = SHOWN[one.place.quantity]
     zone = zoneinfo.ZoneInfo(one.place.zone)
     amount = None if graded.grade in (PROVISIONAL, HELD) else graded.amount  # these are never in a bill
-    entries = [entry for entry in one.entries if entry.fitting.begins <= period.begins
-               and (entry.fitting.ends is None or period.begins < entry.fitting.ends)]
-    first, last = around(entries, period.begins)[:1], around(entries, period.ends)[-1:]
+    entries, first, last = ends_in(one, period)
     cells = {"house": one.place.house, "flat": one.place.flat, "use": one.place.use, "place": str(one.place.number),
              "from": f"{period.begins.astimezone(zone):%Y-%m-%dT%H:%M}", "to": f"{period.ends.astimezone(zone):%Y-%m-%dT%H:%M}",
              "amount": "" if amount is None else str(amount), "smallest_unit": smallest,
@@ -105,8 +114,15 @@ def days_of(period: Tuple[datetime.date, datetime.date]) -> DateRange:
     return DateRange(period[0], period[1] + datetime.timedelta(days=1))
 
 
-def computed(cursor: Cursor, house: str, days: DateRange) -> List[Row]:
-    """The rows of a bill by what is known now, by flat, use and place.
+class PlaceBill(NamedTuple):
+    """A place in a bill: its periods, and a row of each."""
+    split: Split
+    periods: List[Period]
+    rows: List[Row]
+
+
+def places_of_bill(cursor: Cursor, house: str, days: DateRange) -> List[PlaceBill]:
+    """The places of a bill by what is known now, by flat, use and place.
 
     Raises LookupError where values of its days were dropped, and NotComputed."""
     kept = kept_month(cursor)
@@ -119,7 +135,57 @@ def computed(cursor: Cursor, house: str, days: DateRange) -> List[Row]:
     for one_place, period, graded in graded_periods(splits):
         found[one_place.place.id].append((period, graded))
     ordered = sorted(splits, key=lambda it: (it.place.flat, it.place.use, it.place.number))
-    return [row for it in ordered for row in rows_of(it, found[it.place.id], [month for month in held if month.place == it.place.id])]
+    return [PlaceBill(it, [period for period, _ in found[it.place.id][1:] or found[it.place.id]],
+                      list(rows_of(it, found[it.place.id], [month for month in held if month.place == it.place.id]))) for it in ordered]
+
+
+def computed(cursor: Cursor, house: str, days: DateRange) -> List[Row]:
+    """The rows of a bill by what is known now."""
+    return [row for place in places_of_bill(cursor, house, days) for row in place.rows]
+
+
+def bill_file(cursor: Cursor, house: str, days: DateRange) -> File:
+    """The audit file of a bill. Raises NoEvidence, and as places_of_bill."""
+    places = places_of_bill(cursor, house, days)
+    cursor.execute("SELECT zone FROM houses WHERE house = %s", (house,))
+    zone = one(cursor)[0]
+    begins, ends = seconds(begin_of(days.lower, zone)), seconds(begin_of(days.upper, zone))
+    windows = [window_of(it, begins, ends) for it in places]
+    writer = Writer(bodies_of(cursor, windows), struck_of(cursor, house, begins, ends))
+    writer.lines += [f"audit,1,{days.lower:%Y-%m}", span_line(1, days.lower, days.upper, zone),
+                     *user_lines(cursor, house, windows, days.lower, days.upper)]
+    for place, window in zip(places, windows):
+        numbers = [line for period, row in zip(place.periods, place.rows) for line in number_lines(period, row)]
+        writer.window(1, window, numbers, readings_of_rows(place))
+    writer.lines += ["totals", "end"]
+    return File(writer.lines, [(row.tenancy, f"{row.name} {column}", text, row.cells["grade"])
+                               for place in places for row in place.rows for column, text in row.cells.items()])
+
+
+def window_of(bill: PlaceBill, begins: int, ends: int) -> Window:
+    place = bill.split.place
+    return Window(begins, ends, place.id, place.flat, place.use, place.number, plain_number(place.weight), place.zone,
+                  [run for fitting in place.fittings for run in fitting.runs()], [evidence_at(it) for it in bill.split.entries],
+                  [Part(seconds(it.begins), seconds(it.ends), it.tenancy) for it in bill.periods])
+
+
+def number_lines(period: Period, row: Row) -> Iterator[str]:
+    """The lines of a row's amounts; what is never in a bill has none."""
+    grade, cells = row.cells["grade"], row.cells
+    if grade in (PROVISIONAL, HELD):
+        return
+    for unit, column in (("smallest", "amount"), (cells["unit"], "consumption"), ("HCA", "HCA")):
+        if column != "HCA" or column in cells:
+            yield f"shown,1,{seconds(period.begins)},{seconds(period.ends)},{unit},{cells.get(column, '-')},{'measured' if grade == 'zero' else grade}"
+
+
+def readings_of_rows(bill: PlaceBill) -> Readings:
+    """The meters' values that a place's rows name."""
+    found: Readings = {}
+    for period in bill.periods:
+        _, first, last = ends_in(bill.split, period)
+        found.update({(it.line.meter, it.line.moment): (it.value.shown, it.value.unit) for it in first + last})
+    return found
 
 
 def printed(cursor: Cursor, house: str, days: DateRange, version: int) -> List[Row]:
@@ -130,8 +196,13 @@ def printed(cursor: Cursor, house: str, days: DateRange, version: int) -> List[R
     if not one(cursor)[0]:
         raise LookupError(f"version {version} of this bill isn't out")
     cursor.execute(PRINTED, (house, days, version))
+    return rows_in(cursor)
+
+
+def rows_in(cells: Iterable[Tuple[Optional[int], str, str]]) -> List[Row]:
+    """Rows from their cells, whose keys end with the column."""
     rows: Dict[str, Row] = {}
-    for tenancy, key, text in cursor:
+    for tenancy, key, text in cells:
         name, _, column = key.rpartition(" ")
         rows.setdefault(name, Row(tenancy, {})).cells[column] = text
     return list(rows.values())
@@ -152,13 +223,14 @@ def lock_bill(cursor: Cursor, house: str, days: DateRange) -> None:
         month = later_month(month, 1)
 
 
-def release(cursor: Cursor, house: str, days: DateRange, rows: Sequence[Row]) -> None:
-    """A bill that isn't out goes out with these rows, which are kept."""
-    cursor.execute("SELECT release_bill(%s, %s)", (house, days))
-    version = one(cursor)[0]
-    insert(cursor, "published (house, days, version, tenancy, key, text, mark)", [
-        (house, days, version, row.tenancy, f"{row.name} {column}", text, row.cells["grade"])
-        for row in rows for column, text in row.cells.items()])
+def accepted(cursor: Cursor, house: str, days: DateRange) -> Optional[List[Row]]:
+    """The rows of the present version as they were audited; None without an audit."""
+    cursor.execute("SELECT id FROM audits_now WHERE (house, days) = (%s, %s)", (house, days))
+    row = cursor.fetchone()
+    if row is None:
+        return None
+    cursor.execute("SELECT tenancy, key, text FROM published WHERE audit = %s ORDER BY id", row)
+    return rows_in(cursor)
 
 
 def check(database: Database, houses: List[str]) -> None:

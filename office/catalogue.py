@@ -2,6 +2,7 @@
 
 import datetime
 import decimal
+import re
 import zoneinfo
 from typing import Dict, NamedTuple, Tuple
 
@@ -11,6 +12,7 @@ MONTHS = {"de": ("Januar", "Februar", "März", "April", "Mai", "Juni", "Juli", "
                  "November", "December")}
 MARKS = {"de": (".", ","), "en": (",", ".")}  # between thousands, before decimals
 DECIMALS = {"kWh": 1, "m³": 2, "HCA": 1}  # of a consumption
+PUBLISHED = re.compile(r"-?[0-9]+(\.[0-9]+)?")
 NARROW = "\N{NO-BREAK SPACE}"
 
 WORDS: Dict[str, Tuple[str, str]] = {  # German, English
@@ -45,12 +47,13 @@ WORDS: Dict[str, Tuple[str, str]] = {  # German, English
     "average_explain": (
         "Durchschnitt: Verbrauch je m² aller vergleichbaren Wohnungen mit gemessenem Wert, mal Ihre Wohnfläche, ganzer Monat.",
         "Average: consumption per m² of all comparable flats with a measured value, times your floor area, whole month."),
-    "the_average": ("der Durchschnitt", "the average"), "that": ("das", "that"),
+    "audited": ("Aus den Telegrammen der Zähler nachgerechnet (Prüfung {id}).", "Computed again from the meters' telegrams (audit {id})."),
+    "draft": ("Entwurf: nicht geprüft", "Draft: not audited"),
     "less": ("{percent} % weniger als {then}", "{percent} % less than {then}"),
     "more": ("{percent} % mehr als {then}", "{percent} % more than {then}"),
     "as_much": ("so viel wie {then}", "as much as {then}"),
-    "weather": ("{then} hätte beim Wetter dieses Monats {amount} {unit} gebraucht: {change}",
-                "{then} would have needed {amount} {unit} in this month's weather: {change}"),
+    "weather": ("{then} hätte beim Wetter dieses Monats {amount} {unit} gebraucht",
+                "{then} would have needed {amount} {unit} in this month's weather"),
     "weather_title": ("Vom Wetter bereinigt", "Adjusted for the weather"), "weather_source": ("Gradtage: {source}", "Degree days: {source}"),
     "own_co2": ("{amount} kg CO2", "{amount} kg CO2"), "own_co2_title": ("Ihre Emissionen im Monat", "Your emissions in the month"),
     "cost": ("{amount} € ({price} Cent je {unit})", "€{amount} ({price} cents per {unit})"),
@@ -154,6 +157,10 @@ class Catalogue(NamedTuple):
         rounded = number.quantize(decimal.Decimal(1).scaleb(-decimals), rounding=decimal.ROUND_HALF_UP)
         return self.marked(f"{rounded:,f}")
 
+    def printed(self, text: str) -> str:
+        """A number that was published, as the reader writes it; other text as it is."""
+        return self.marked(f"{decimal.Decimal(text):,f}") if PUBLISHED.fullmatch(text) else text
+
     def exact(self, number: decimal.Decimal) -> str:
         """With the decimals that it has, and no zeros after them."""
         return self.marked(f"{number.normalize():,f}" if number else "0")
@@ -170,6 +177,10 @@ class Catalogue(NamedTuple):
     def amount(self, number: decimal.Decimal, unit: str) -> str:
         """A consumption in kWh, cubic metres or an allocator's units, without its unit."""
         return self.number(number, DECIMALS[unit])
+
+    def unit_of_reading(self, unit: str) -> str:
+        """The unit that a meter's value is printed in."""
+        return "kWh" if unit in ("Wh", "MWh") else self.word("HCA") if unit == "HCA" else "m³" if unit == "m3" else unit
 
     def reading(self, shown: str, unit: str) -> str:
         """What a meter stood at, exact; watt hours as kWh."""

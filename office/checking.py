@@ -5,24 +5,25 @@ from typing import List, Optional
 
 from catalogue import Catalogue
 from consumption import HEADER, Line
+from published import Printed
 from sheet_data import SMALLEST_OF_KWH, UNITS, PlaceUse, Use
 from supply import seconds
 
 SCALES = {"kWh": SMALLEST_OF_KWH, "m³": 1_000_000, "HCA": 1_000}  # of the smallest unit
 
 
-def check_link(page: str, words: Catalogue, use: Use, place: PlaceUse) -> Optional[str]:
+def check_link(page: str, words: Catalogue, use: Use, place: PlaceUse, printed: Optional[Printed]) -> Optional[str]:
     """A link with the place's readings, the period, and what the sheet says where no factor lies between; None where
     there is no number, or no page."""
     entries = [reading.entry for reading in place.readings if reading.entry is not None]
-    if not page or place.amount.value is None or not entries or len(entries) < len(place.readings):
+    if not page or printed is None or not printed.is_number or not entries or len(entries) < len(place.readings):
         return None
     unit = UNITS[use.quantity]
     link = {"entries": entries_text(f"{words.use(use.use)} {place.number}", entries),
             "boundaries": f"{seconds(place.amount.begins)},{seconds(place.amount.ends)}",
             "unit": words.word(unit), "scale": str(SCALES[unit])}
     if use.unit == unit and use.quantity != "allocation":  # (whose units have a factor too)
-        link["said"] = Catalogue("en", words.zone).amount(place.amount.value, unit).replace(",", "")
+        link["said"] = printed.text
     return f"{page}#{urllib.parse.urlencode(link)}"
 
 

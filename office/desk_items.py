@@ -169,7 +169,7 @@ def values_of(facts: Dict[str, Any], words: Words) -> Dict[str, str]:
         said["status"] = ", ".join(chosen(pair, words.language) for pair in bits) or f"{facts['status']:02X}h"
     said["text"] = noted(said.get("text", ""), words)
     said["change"] = changes(str(facts.get("text", "")), words)
-    return {**{key: "" for key in ("text", "use", "month", "day", "value", "times", "digits")}, **said}
+    return {**{key: "" for key in ("text", "use", "month", "period", "day", "value", "times", "digits")}, **said}
 
 
 def noted(text: str, words: Words) -> str:

@@ -60,6 +60,8 @@ ITEMS: Dict[str, Tuple[str, str, str, str]] = {  # German title, English title, 
                        "{use}, {month}: a day has ten times the others. If the number is right, say why."),
     "changed": ("Ein verschickter Monat wäre heute ein anderer", "A month that went out would be another now", "{change}", "{change}"),
     "changed.bill": ("Eine verschickte Abrechnung wäre heute eine andere", "A bill that went out would be another now", "{text}", "{text}"),
+    "audit": ("Die Nachrechnung stimmt nicht", "The audit refused the numbers",
+              "{period}: {text}. Bis das geklärt ist, gibt es keine Blätter.", "{period}: {text}. Until this is clear there are no sheets."),
     "not sent": ("Blätter wurden nicht zugestellt", "Sheets were not delivered", "{month}: {text}", "{month}: {text}"),
 }
 

@@ -43,8 +43,7 @@ def graded(place: Place, entries: List[Entry], period: Period, amount: Optional[
 
 
 def grade_of(place: Place, entries: List[Entry], period: Period, amount: Optional[Amount], basis: List[Entry]) -> str:
-    if amount is None:
-        return MISSING
+    amount = amount or Amount(None, False, 0, 0)
     if amount.marks > 0:
         return DISTURBED
     if amount.is_too_large or amount.exchanges != len(exchanges(place, period)) + restarts(place, period) or has_gap(place, period):

@@ -1,24 +1,24 @@
 """What a house page says: its meters with their last values, what stands out, and the month's consumption by flat."""
 
 import datetime
-import decimal
 import re
+from fractions import Fraction
 from typing import Any, Dict, List, NamedTuple, Optional, Tuple
 
+from consumption import Line
 from database import Cursor
-from sheet_data import Amount, Number, number_of, sum_of, unit_of, uses_in
+from sheet_data import Amount, Number, amount_of, number_of, sum_of, unit_of, uses_in
+from supply import RUNS
 
 DIGITS = re.compile("([0-9]+)")
 BOXES = "SELECT name, collected_at, fault FROM boxes WHERE house = %s AND active ORDER BY name"
 METERS = """
-SELECT p.flat, p.use, p.number, f.identity, d.at, d.value, d.unit, d.source, coalesce(w.says, ''), coalesce(o.why, ''),
+SELECT p.flat, p.use, p.number, f.identity, f.id, p.id, coalesce(w.says, ''), coalesce(o.why, ''),
        u.grade, coalesce(u.is_held, false), s.position
 FROM places p
 JOIN uses s ON s.use = p.use
 JOIN houses h ON h.house = p.house
 JOIN fittings f ON f.place = p.id AND f.during @> day_begins(%(after)s, h.zone) - interval '1 second'
-LEFT JOIN LATERAL (SELECT * FROM day_values k WHERE k.fitting = f.id AND k.struck_at IS NULL
-                   ORDER BY k.day DESC LIMIT 1) d ON true
 LEFT JOIN LATERAL (SELECT s.says FROM meter_states s JOIN boxes b ON b.name = s.box
                    WHERE b.house = f.house AND s.identity = f.identity ORDER BY s.stored_at DESC NULLS LAST LIMIT 1) w ON true
 LEFT JOIN LATERAL (SELECT min(o.why) AS why FROM boxes b JOIN meters m ON m.box = b.name AND m.identity = f.identity
@@ -28,8 +28,12 @@ LEFT JOIN month_kwh u ON u.place = p.id AND u.month = %(month)s AND u.part = 0
 WHERE p.house = %(house)s"""
 AMOUNTS = """
 SELECT NULL, month, use, number, begins, ends, grade, amount, has_kwh, kwh, units, NULL, quantity, position, is_charted, flat
-FROM month_kwh
-WHERE house = %s AND month = %s AND part = 0 ORDER BY use, number"""
+FROM month_parts
+WHERE house = %s AND month = %s ORDER BY use, number, begins"""
+# What the month was computed from, by place
+FROZEN = """
+SELECT v.place, v.entries, v.evidence FROM frozen_values v JOIN places p ON p.id = v.place
+WHERE p.house = %(house)s AND v.month = %(month)s AND v.version = version_of(%(house)s, %(month)s)"""
 ALARMS = "SELECT since, kind, subject, facts, known_by FROM alarms WHERE house = %s AND ended_at IS NULL ORDER BY id"
 USERS = """
 SELECT flat, person, token FROM tenancies WHERE house = %s AND days && daterange(%s, %s) ORDER BY flat, days"""
@@ -47,8 +51,8 @@ class Meter(NamedTuple):
     use: str
     number: int
     identity: str
-    at: Optional[datetime.datetime]
-    value: Optional[decimal.Decimal]
+    entry: Optional[Line]  # its last value of those that the month was computed from
+    value: Optional[str]
     unit: Optional[str]
     source: Optional[str]
     says: str  # of the status byte
@@ -56,6 +60,10 @@ class Meter(NamedTuple):
     grade: Optional[str]
     is_held: bool
     position: int  # of the use
+
+    @property
+    def at(self) -> Optional[datetime.datetime]:
+        return None if self.entry is None else datetime.datetime.fromtimestamp(self.entry.moment, datetime.timezone.utc)
 
 
 class Alarm(NamedTuple):
@@ -75,10 +83,17 @@ class House(NamedTuple):
     meters: List[Meter]
     uses: List[Tuple[str, str]]  # with its unit
     flats: Dict[str, Dict[str, Number]]  # by flat and use
-    # By use: the sum of the places that have a value (None: none has), and how many have none
-    sums: Dict[str, Tuple[Optional[decimal.Decimal], int]]
+    # By use: the sum of the places that have a value (None: none has), how many have none, and how many there are
+    sums: Dict[str, Tuple[Optional[Fraction], int, int]]
     alarms: List[Alarm]
     users: Dict[str, List[Tuple[str, str]]]  # by flat: name and token
+
+
+def last_of(fitting: int, entries: Optional[List[int]], evidence: Optional[List[List[Any]]]) -> Tuple[Optional[Line], Any, Any, Any]:
+    """The last of frozen values that is of a fitting: its entry, value, unit and source."""
+    lines = [Line(*entries[at:at + 5]) for at in range(0, len(entries or []), 5)] if entries else []
+    found = [(line, *of) for line, of in zip(lines, evidence or []) if line.meter // RUNS == fitting]
+    return (found[-1][0], found[-1][2], found[-1][3], found[-1][1]) if found else (None, None, None, None)
 
 
 def natural(flat: str) -> List[Tuple[int, str]]:
@@ -91,8 +106,11 @@ def house_of(cursor: Cursor, house: str, month: datetime.date, after: datetime.d
     address, zone = cursor.fetchall()[0]
     cursor.execute(BOXES, (house,))
     boxes = [Box(*row) for row in cursor]
-    cursor.execute(METERS, {"house": house, "month": month, "after": after})
-    meters = sorted((Meter(*row) for row in cursor), key=lambda it: (natural(it.flat), it.position, it.use, it.number))
+    of_month = {"house": house, "month": month, "after": after}
+    cursor.execute(FROZEN, of_month)
+    frozen = {place: (entries, evidence) for place, entries, evidence in cursor}
+    cursor.execute(METERS, of_month)
+    meters = sorted((Meter(*row[:4], *(*last_of(row[4], *frozen.get(row[5], (None, None))), *row[6:])) for row in cursor), key=lambda it: (natural(it.flat), it.position, it.use, it.number))
     cursor.execute(ALARMS, (house,))
     alarms = [Alarm(*row) for row in cursor]
     users: Dict[str, List[Tuple[str, str]]] = {}
@@ -100,7 +118,7 @@ def house_of(cursor: Cursor, house: str, month: datetime.date, after: datetime.d
     for flat, person, token in cursor:
         users.setdefault(flat, []).append((person, token))
     cursor.execute(AMOUNTS, (house, month))
-    rows = sorted(((row[-1], Amount(*row[:-1])) for row in cursor), key=lambda it: natural(it[0]))
+    rows = sorted(((row[-1], amount_of(row[:-1])) for row in cursor), key=lambda it: natural(it[0]))
     return House(house, address, zone, month, boxes, meters, *summed(rows), alarms, users)
 
 
@@ -115,6 +133,10 @@ def summed(rows: List[Tuple[str, Amount]]) -> Tuple[Any, Any, Any]:
         flats.setdefault(flat, {})[use] = number_of(of_flat, units[use])
     sums = {}
     for use, unit in uses:
-        of_use = [row for _, row in rows if row.use == use]
-        sums[use] = (sum_of(of_use, unit), sum(row.value(unit) is None for row in of_use))
+        places: Dict[Tuple[str, int], List[Amount]] = {}
+        for flat, row in rows:
+            if row.use == use:
+                places.setdefault((flat, row.number), []).append(row)
+        known = [of_place for of_place in places.values() if all(row.value(unit) is not None for row in of_place)]
+        sums[use] = sum_of([row for of_place in known for row in of_place], unit), len(places) - len(known), len(places)
     return uses, flats, sums

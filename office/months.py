@@ -17,7 +17,7 @@ from supply import Entry, Place, Tenancy, needed, places_of, seconds, tenancies_
 
 HOUSES_A_TURN = 25  # whose values are in memory at once
 MONTH_USE = "month_use (month, place, part, begins, ends, tenancy, amount, grade, is_held, basis, version)"
-FROZEN = "frozen_values (month, place, version, entries)"
+FROZEN = "frozen_values (month, place, version, entries, evidence, meters)"
 # Of these houses: the present version of a month, and whether it is out
 VERSIONS = """
 SELECT h.house, version_of(h.house, %(month)s), EXISTS (
@@ -37,6 +37,11 @@ WHERE c.says <> excluded.says"""
 BILLS = """
 UPDATE bills SET is_to_check = true WHERE out_at IS NOT NULL AND house = ANY (%s) AND NOT is_to_check
 AND days && daterange(%s, %s)"""
+# An audit of an open month that is computed anew says nothing of it any more
+VOID = "UPDATE audits SET void_at = now() WHERE month = %s AND house = ANY (%s) AND void_at IS NULL"
+VOID_BILLS = """
+UPDATE audits a SET void_at = now() WHERE house = ANY (%s) AND days && daterange(%s, %s) AND void_at IS NULL
+AND NOT EXISTS (SELECT FROM bills b WHERE b.audit = a.id)"""
 KEPT = "SELECT date_trunc('month', since)::date FROM kept"
 # Of a month of houses one is written or released at a time
 LOCKED = "SELECT pg_advisory_xact_lock(hashtext(h || %s)) FROM (SELECT h FROM unnest(%s::text[]) h ORDER BY h) k (h)"
@@ -146,11 +151,14 @@ def write_month(cursor: Cursor, month: datetime.date, houses: List[str]) -> "col
     for table in ("frozen_values", "month_use"):
         cursor.execute(OPEN_ROWS.format(table), (month, month, open_houses))
     insert(cursor, MONTH_USE, rows)
-    insert(cursor, FROZEN, [(month, one.place.id, versions[one.place.house][0], frozen(one)) for one in splits
-                            if not versions[one.place.house][1]])
+    insert(cursor, FROZEN, [(month, one.place.id, versions[one.place.house][0], frozen(one), psycopg2.extras.Json(evidence(one)),
+                             psycopg2.extras.Json([run for fitting in one.place.fittings for run in fitting.runs()]))
+                            for one in splits if not versions[one.place.house][1]])
+    cursor.execute(VOID, (month, open_houses))
     for house in versions.keys() - set(open_houses):
         note_change(cursor, month, house, now[house], {one.place.id: one.place.name for one in splits})
-    cursor.execute(BILLS, (houses, month, next_month(month)))
+    for query in (BILLS, VOID_BILLS):
+        cursor.execute(query, (houses, month, next_month(month)))
     return counts
 
 
@@ -162,6 +170,12 @@ def lock(cursor: Cursor, month: datetime.date, houses: List[str]) -> None:
 def frozen(one: Split) -> str:
     """The entries that a place's month is computed from, one after the other, as an array of the database."""
     return f"{{{','.join(str(number) for entry in one.entries for number in entry.line)}}}"
+
+
+def evidence(one: Split) -> List[List[Any]]:
+    """Where each of these entries comes from: source, value, unit, whether it is an estimate, and its telegram."""
+    values = [entry.value for entry in one.entries]
+    return [[it.source, it.shown, it.unit, it.is_estimated, it.box, *(it.telegram or [])] for it in values]
 
 
 def note_change(cursor: Cursor, month: datetime.date, house: str, rows: List[Tuple[Any, ...]], names: Dict[int, str]) -> None:

@@ -8,7 +8,7 @@ import itertools
 import operator
 import os
 import pathlib
-from typing import Any, Dict, List, NamedTuple, Optional, Tuple
+from typing import Any, Callable, Dict, List, NamedTuple, Optional, Tuple
 
 import jinja2
 import markupsafe
@@ -19,8 +19,10 @@ from checking import check_link
 from codes import Code, code_of
 from database import plain
 from periods import day_before, later_month, next_month
+from drafts import is_whole
+from published import Numbers, Printed, Published, chart_key, place_key, use_key
 from sheet_data import MARKED, MONTHS, Number, Sheet, Use
-from sheet_facts import carbon, comparisons, corrected, costs, days_in, estimates, factors, is_whole, weather
+from sheet_facts import carbon, comparisons, corrected, costs, days_in, estimates, factors, weather
 
 TEMPLATES = pathlib.Path(__file__).resolve().parent / "templates"
 LONGEST = 300  # characters of what people wrote
@@ -56,17 +58,32 @@ def html_of(name: str, words: Catalogue, **values: Any) -> str:
     return environment().get_template(name).render(words=words, style=style(), plain=shown, marked=MARKED, **values)
 
 
-def sheet_html(sheet: Sheet, options: Options, with_codes: bool = False) -> str:
+def printed_in(numbers: Numbers, words: Catalogue) -> Callable[[str], Optional[Printed]]:
+    """What a page's macro prints of a key: the number as the reader writes it, and its mark. It has no other source."""
+    def number(key: str) -> Optional[Printed]:
+        found = numbers.get(key)
+        return None if found is None else found._replace(text=words.printed(found.text))
+    return number
+
+
+def sheet_html(sheet: Sheet, published: Published, options: Options, with_codes: bool = False) -> str:
     """A sheet; with the codes of its telegrams for paper."""
-    user, words = sheet.user, Catalogue(sheet.user.language, sheet.user.zone)
-    numbers = [use.months[sheet.month] for use in sheet.uses]
-    return html_of("sheet.html", words, sheet=sheet, user=user, months=compared(sheet.month),
-                   begins=min(number.begins for number in numbers), ends=max(number.ends for number in numbers),
-                   charts=charts_of(sheet, words), last_of=lambda month: day_before(next_month(month)),
-                   is_estimated=any(number.grade == "estimated" for number in numbers), said=said_of(sheet, words), corrected=corrected(sheet, words),
-                   part=lambda number, month: part_of(number, month, words), decoder=options.decoder,
-                   check_link=lambda use, place: check_link(options.checker, words, use, place), checker=options.checker,
-                   codes=codes_of(sheet, options) if with_codes else [])
+    user, words, numbers = sheet.user, Catalogue(sheet.user.language, sheet.user.zone), published.of(sheet.user.id)
+    months = [use.months[sheet.month] for use in sheet.uses]
+    number, flat = printed_in(numbers, words), user.flat
+    return html_of("sheet.html", words, sheet=sheet, user=user, months=compared(sheet.month), audit=published.audit, number=number,
+                   of_use=lambda use, what: number(use_key(flat, use, what)), of_place=lambda use, place: number(place_key(flat, use, place)),
+                   begins=min(month.begins for month in months), ends=max(month.ends for month in months),
+                   charts=charts_of(sheet, numbers, words), last_of=lambda month: day_before(next_month(month)),
+                   is_estimated=any(is_estimated(numbers, use_key(flat, use, sheet.month)) for use in sheet.uses),
+                   said=said_of(sheet, words, numbers), corrected=corrected(sheet, words, numbers),
+                   part=lambda month, of: part_of(month, of, words), decoder=options.decoder,
+                   check_link=lambda use, place: check_link(options.checker, words, use, place, numbers.get(place_key(flat, use, place))),
+                   checker=options.checker, codes=codes_of(sheet, options) if with_codes else [])
+
+
+def is_estimated(numbers: Numbers, key: str) -> bool:
+    return key in numbers and numbers[key].mark == "estimated"
 
 
 def replaced_html(text: str, words: Catalogue, version: int) -> str:
@@ -88,19 +105,19 @@ def part_of(number: Number, month: datetime.date, words: Catalogue) -> str:
     return words.word("part_of", days=days, all=of_all, period=words.period(number.begins, number.ends))
 
 
-def said_of(sheet: Sheet, words: Catalogue) -> Dict[str, List[Tuple[Use, str]]]:
+def said_of(sheet: Sheet, words: Catalogue, numbers: Numbers) -> Dict[str, List[Tuple[Use, str]]]:
     """The sentences beside the numbers, by what they are about."""
     found: Dict[str, List[Tuple[Use, str]]] = {}
     for name, of in FACTS.items():
-        of_uses = [(use, [it[3] for it in group]) for use, group in itertools.groupby(of(sheet, words), operator.itemgetter(0))]
+        of_uses = [(use, [it[1] for it in group]) for use, group in itertools.groupby(of(sheet, words, numbers), operator.itemgetter(0))]
         found[name] = [(use, ", ".join(sentences)) for use, sentences in of_uses]
-    return {**found, "estimates": list(estimates(sheet, words)), "factors": list(factors(sheet, words))}
+    return {**found, "estimates": list(estimates(sheet, words)), "factors": list(factors(sheet, words, numbers))}
 
 
-def charts_of(sheet: Sheet, words: Catalogue) -> List[Tuple[Use, Chart]]:
+def charts_of(sheet: Sheet, numbers: Numbers, words: Catalogue) -> List[Tuple[Use, Chart]]:
     """The charts of the uses that have one."""
-    return [(use, chart_of([bar_of(use, month, words) for month in charted(use, sheet.month)])) for use in sheet.uses
-            if use.is_charted]
+    return [(use, chart_of([bar_of(numbers.get(chart_key(sheet.user.flat, use, month)), month, words) for month in charted(use, sheet.month)]))
+            for use in sheet.uses if use.is_charted]
 
 
 def charted(use: Use, last: datetime.date) -> List[datetime.date]:
@@ -109,12 +126,10 @@ def charted(use: Use, last: datetime.date) -> List[datetime.date]:
     return [month for month in months if month >= min(use.months)]
 
 
-def bar_of(use: Use, month: datetime.date, words: Catalogue) -> Bar:
-    number: Optional[Number] = use.months.get(month)
-    value: Optional[decimal.Decimal] = None if number is None else number.value
-    said = words.word("none") if value is None else words.number(value, 0 if value >= 100 else 1)
-    return Bar(words.short_month(month), str(month.year), value, said, number is not None and number.grade == "estimated",
-               month.month == 1)
+def bar_of(printed: Optional[Printed], month: datetime.date, words: Catalogue) -> Bar:
+    value = decimal.Decimal(printed.text) if printed is not None and printed.is_number else None
+    said = words.word("none") if printed is None or value is None else words.printed(printed.text)
+    return Bar(words.short_month(month), str(month.year), value, said, printed is not None and printed.mark == "estimated", month.month == 1)
 
 
 def codes_of(sheet: Sheet, options: Options) -> List[Code]:

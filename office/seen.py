@@ -130,7 +130,13 @@ SELECT 'not sent', t.house, t.house || ' ' || to_char(s.month, 'YYYY-MM'), jsonb
     'month', s.month, 'text', count(DISTINCT t.id) || ' × ' || min(s.failed_why), 'flat', min(t.flat))
 FROM sheets s JOIN tenancies t ON t.id = s.tenancy WHERE s.failed_at IS NOT NULL AND s.month >= %(at)s::date - 400
 GROUP BY t.house, s.month ORDER BY 3"""
-ALL = (COLLECTOR, BOXES, SILENT_BOXES, CLOCKS, LATE, SILENT, STATES, NO_USE, STEPS, STILL, NIGHT, CHANGES, NOT_SENT)
+# A month whose numbers `mbdc audit` refused: its sheets wait
+REFUSED = """
+SELECT 'audit', r.house, r.house || ' ' || r.period, jsonb_build_object('period', r.period, 'text', r.says),
+       CASE WHEN length(r.period) = 7 THEN (SELECT count(*)::integer FROM tenancies t WHERE t.house = r.house AND t.wants <> 'nothing'
+           AND t.days && daterange((r.period || '-01')::date, ((r.period || '-01')::date + interval '1 month')::date)) ELSE 0 END
+FROM refusals r ORDER BY 3"""
+ALL = (COLLECTOR, BOXES, SILENT_BOXES, CLOCKS, LATE, SILENT, STATES, NO_USE, STEPS, STILL, NIGHT, CHANGES, NOT_SENT, REFUSED)
 # What takes the number of its meter's month, by the grade that it leaves
 CAUSES = {"missing": ("silent", "error", "power", "no use", "too large", "no consumption"), "disturbed": ("disturbed", "turn", "error"),
           "unclear": ("no use",), "held": ()}

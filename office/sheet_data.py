@@ -1,9 +1,13 @@
-"""What a sheet says: a user's consumption of a month, beside other months and other users, with the readings behind it."""
+"""What a sheet says: a user's consumption of a month, beside other months and other users, with the readings behind it.
+
+The numbers here are drafts: `mbdc audit` judges them, and pages print what it accepted (office/publish).
+"""
 
 import dataclasses
 import datetime
 import decimal
-from typing import Any, Dict, Iterable, List, NamedTuple, Optional, Tuple
+from fractions import Fraction
+from typing import Any, Dict, Iterable, List, NamedTuple, Optional, Sequence, Tuple
 
 import psycopg2.extras
 
@@ -16,6 +20,7 @@ from supply import seconds
 
 MONTHS = 13  # of the chart
 FEWEST_COMPARED = 3  # flats of an average, so that it tells of nobody
+DECLARED = 6  # decimals of an average over several houses
 NO_FACTOR = "no factor"
 ENERGY, SMALLEST_OF_KWH = "energy", 3_600_000_000  # millijoules
 UNITS = {ENERGY: "kWh", "volume": "m³", "allocation": "HCA"}  # by quantity, where there is no factor to kWh
@@ -33,11 +38,12 @@ FROM (
     FROM month_kwh WHERE tenancy = ANY (%(tenancies)s) AND month BETWEEN %(first)s AND %(month)s) AS of_each
 ORDER BY tenancy, use, month, number, begins"""
 AVERAGES = """
-SELECT category, use, sum(kwh) / sum(area_m2) FILTER (WHERE kwh IS NOT NULL), count(kwh),
-       sum(units) / sum(area_m2) FILTER (WHERE units IS NOT NULL), count(units) FROM (
-    SELECT h.category, u.use, f.area_m2, sum(u.kwh) AS kwh, sum(u.units) AS units
-    FROM month_kwh u JOIN houses h ON h.house = u.house JOIN flats f ON f.house = u.house AND f.flat = u.flat
-    WHERE u.month = %s AND u.part = 0 AND f.area_m2 IS NOT NULL
+SELECT category, use, sum(energy), sum(kwh), sum(area_m2) FILTER (WHERE kwh IS NOT NULL), count(kwh),
+       sum(units), sum(area_m2) FILTER (WHERE units IS NOT NULL), count(units), array_agg(DISTINCT house ORDER BY house) FROM (
+    SELECT h.category, u.use, u.house, f.area_m2, sum(u.kwh) AS kwh, sum(u.units) AS units,
+           sum(u.amount) FILTER (WHERE u.quantity = 'energy') AS energy
+    FROM month_parts u JOIN houses h ON h.house = u.house JOIN flats f ON f.house = u.house AND f.flat = u.flat
+    WHERE u.month = %s AND f.area_m2 IS NOT NULL
     GROUP BY u.house, u.flat, u.use, h.category, f.area_m2
     HAVING bool_and(u.grade IN ('measured', 'zero', 'hand'))) AS of_each
 GROUP BY category, use"""
@@ -50,11 +56,14 @@ TelegramKey = Tuple[str, str, int, int]  # month, box, serial, part
 
 
 class Average(NamedTuple):
-    """Of the flats of a category, per square metre, and of how many."""
-    kwh: Optional[decimal.Decimal]
+    """Of the flats of a category: what they consumed, their area, and how many they are; and in which houses."""
+    kwh: Optional[Fraction]
+    kwh_area: Optional[Fraction]
     with_kwh: int
-    units: Optional[decimal.Decimal]
+    units: Optional[Fraction]
+    units_area: Optional[Fraction]
     with_units: int
+    houses: List[str]
 
 
 Averages = Dict[Tuple[str, str], Average]  # by category and use
@@ -62,7 +71,7 @@ Averages = Dict[Tuple[str, str], Average]  # by category and use
 
 class Number(NamedTuple):
     """A consumption of a user in a month, or why it is none."""
-    value: Optional[decimal.Decimal]
+    value: Optional[Fraction]
     grade: str  # of the worst place
     begins: datetime.datetime
     ends: datetime.datetime
@@ -95,7 +104,7 @@ class Use:
     unit: str  # kWh, m³, HCA
     months: Dict[datetime.date, Number]
     places: List[PlaceUse]
-    average: Optional[decimal.Decimal]
+    average: Optional[Fraction]
     quantity: str
     is_charted: bool
 
@@ -142,15 +151,27 @@ class Amount(NamedTuple):
     grade: str
     amount: Optional[int]  # in the smallest unit
     has_kwh: bool  # whether an amount of that use and month can be shown in kWh
-    kwh: Optional[decimal.Decimal]
-    units: Optional[decimal.Decimal]
+    kwh: Optional[Fraction]
+    units: Optional[Fraction]
     basis: Optional[List[Dict[str, Any]]]
     quantity: str
     position: int  # of the use on a sheet
     is_charted: bool
 
-    def value(self, unit: str) -> Optional[decimal.Decimal]:
+    def value(self, unit: str) -> Optional[Fraction]:
         return self.kwh if unit == "kWh" else self.units
+
+
+def amount_of(row: Sequence[Any]) -> Amount:
+    """A row with exact amounts: energies aren't divided by the database, whose quotients are rounded."""
+    found = Amount(*row)
+    if found.quantity == ENERGY and found.amount is not None:
+        return found._replace(kwh=Fraction(found.amount, SMALLEST_OF_KWH))
+    return found._replace(kwh=exact(found.kwh), units=exact(found.units))
+
+
+def exact(number: Any) -> Optional[Fraction]:
+    return None if number is None else Fraction(number)
 
 
 # The grades, from what may stand alone to what leaves no number
@@ -161,7 +182,9 @@ MARKED = NUMBERS[2:]  # beside the number
 
 def averages_of(cursor: Cursor, month: datetime.date) -> Averages:
     cursor.execute(AVERAGES, (month,))
-    return {(row[0], row[1]): Average(*row[2:]) for row in cursor}
+    return {(category, use): Average(exact(kwh) if energy is None else Fraction(energy) / SMALLEST_OF_KWH, exact(kwh_area), with_kwh,
+                                     exact(units), exact(units_area), with_units, houses)
+            for category, use, energy, kwh, kwh_area, with_kwh, units, units_area, with_units, houses in cursor}
 
 
 def sheets_of(cursor: Cursor, houses: List[str], month: datetime.date, averages: Averages) -> List[Sheet]:
@@ -172,7 +195,7 @@ def sheets_of(cursor: Cursor, houses: List[str], month: datetime.date, averages:
                              "first": later_month(month, 1 - MONTHS)})
     amounts: Dict[int, List[Amount]] = {}
     for row in cursor:
-        amounts.setdefault(row[0], []).append(Amount(*row))
+        amounts.setdefault(row[0], []).append(amount_of(row))
     frames = frames_of(cursor, (it for rows in amounts.values() for it in rows))
     facts = facts_of(cursor, houses, month, [it["id"] for rows in amounts.values() for row in rows for it in row.basis or [] if it.get("id") is not None])
     sheets = [Sheet(user, month, uses_of(user, month, amounts.get(user.id, []), averages, frames), facts[user.house]) for user in users]
@@ -220,21 +243,38 @@ def number_of(rows: List[Amount], unit: str) -> Number:
     return Number(total, max(grades, key=WORST.index), min(row.begins for row in rows), max(row.ends for row in rows))
 
 
-def sum_of(rows: List[Amount], unit: str) -> Optional[decimal.Decimal]:
-    """The sum of those of these rows of a use that have a value; None where none has. Exact: energies are divided after
-    they are added."""
+def sum_of(rows: List[Amount], unit: str) -> Optional[Fraction]:
+    """The sum of those of these rows of a use that have a value; None where none has."""
     known = [value for value in (row.value(unit) for row in rows) if value is not None]
-    if known and rows[0].quantity == ENERGY:
-        return decimal.Decimal(sum(row.amount or 0 for row in rows)) / SMALLEST_OF_KWH
-    return sum(known, decimal.Decimal()) if known else None
+    return sum(known, Fraction()) if known else None
 
 
-def average_of(user: User, unit: str, average: Optional[Average]) -> Optional[decimal.Decimal]:
-    """The average of the user's category for an area as large as the user's."""
+def average_of(user: User, unit: str, average: Optional[Average]) -> Optional[Fraction]:
+    """The average of the user's category for an area as large as the user's. One over several houses is declared, with six
+    decimals a square metre."""
     if average is None or user.area_m2 is None:
         return None
-    a_square_metre, flats = average[:2] if unit == "kWh" else average[2:]
-    return a_square_metre * user.area_m2 if a_square_metre is not None and flats >= FEWEST_COMPARED else None
+    total, area, flats = average[:3] if unit == "kWh" else average[3:6]
+    if not area or total is None or flats < FEWEST_COMPARED:
+        return None
+    declared = declared_average(user.house, unit, average)
+    return total * Fraction(user.area_m2) / area if declared is None else Fraction(declared) * Fraction(user.area_m2)
+
+
+def declared_average(house: str, unit: str, average: Average) -> Optional[str]:
+    """What a square metre consumed in several houses; None where it is of the house alone."""
+    total, area, flats = average[:3] if unit == "kWh" else average[3:6]
+    if average.houses == [house] or not area or total is None or flats < FEWEST_COMPARED:
+        return None
+    return rounded(total / area, DECLARED)
+
+
+def rounded(value: Fraction, decimals: int) -> str:
+    """Half away from zero."""
+    scaled = int(abs(value) * 10**decimals + Fraction(1, 2))
+    digits = f"{scaled:0{decimals + 1}}"
+    text = f"{digits[:-decimals]}.{digits[-decimals:]}" if decimals else digits
+    return f"-{text}" if value < 0 and scaled else text
 
 
 def key_of(basis: Dict[str, Any]) -> Optional[TelegramKey]:

@@ -2,11 +2,12 @@
 
 import datetime
 import decimal
-from typing import Any, Dict, Iterable, Iterator, List, NamedTuple, Optional, Tuple
+from typing import Any, Dict, Iterable, Iterator, List, NamedTuple, Optional, Set, Tuple
 
 from catalogue import Catalogue
 from database import Cursor
-from periods import begin_of, later_month, next_month
+from periods import later_month, next_month
+from published import Numbers, use_key
 
 LONGEST_GAP = datetime.timedelta(hours=48)  # between the readings around an end of what counts as measured
 PRICES = "SELECT house, use, unit, cents FROM prices WHERE house = ANY (%s) AND months @> %s"
@@ -20,11 +21,12 @@ SELECT v.house, v.version, v.why, coalesce(v.out_at, now()) FROM versions v
 WHERE v.house = ANY (%(houses)s) AND v.month = %(month)s AND v.version > 1 AND v.version = version_of(v.house, v.month)"""
 BEFORE = """
 SELECT p.tenancy, p.key, p.text FROM published p
-WHERE p.house = ANY (%(houses)s) AND p.month = %(month)s AND p.version = version_of(p.house, p.month) - 1 AND p.tenancy IS NOT NULL"""
+LEFT JOIN versions v ON (v.house, v.month, v.version) = (p.house, p.month, p.version)
+WHERE p.house = ANY (%(houses)s) AND p.month = %(month)s AND p.version = version_of(p.house, p.month) - 1 AND p.tenancy IS NOT NULL
+  AND p.audit IS NOT DISTINCT FROM v.audit"""
 HOWS = "SELECT id, how FROM day_values WHERE id = ANY (%s) AND how IS NOT NULL"
 KINDS = "SELECT use, has_carbon, is_heating FROM uses"
-HUNDRED, THOUSAND = decimal.Decimal(100), decimal.Decimal(1000)
-METRES = {"m³": "m³", "kWh": "kWh", "HCA": "HCA"}
+HELD = "SELECT DISTINCT house, use FROM month_kwh WHERE house = ANY (%s) AND month = %s AND grade = 'held'"
 
 
 class Correction(NamedTuple):
@@ -45,6 +47,7 @@ class Facts(NamedTuple):
     heating_uses: List[str]
     hows: Dict[int, str]  # by what an estimated value of a day was estimated
     correction: Optional[Correction]
+    held: Set[str]  # uses with a number that a person has to see first
 
 
 def facts_of(cursor: Cursor, houses: List[str], month: datetime.date, values: Iterable[int]) -> Dict[str, Facts]:
@@ -52,7 +55,7 @@ def facts_of(cursor: Cursor, houses: List[str], month: datetime.date, values: It
     kinds = cursor.fetchall()
     cursor.execute(HOWS, (list(values),))
     hows = dict(cursor.fetchall())
-    found = {house: Facts({}, {}, {}, "", [use for use, it, _ in kinds if it], [use for use, _, it in kinds if it], hows, None)
+    found = {house: Facts({}, {}, {}, "", [use for use, it, _ in kinds if it], [use for use, _, it in kinds if it], hows, None, set())
              for house in houses}
     of_month = {"houses": houses, "month": month}
     cursor.execute(BEFORE, of_month)
@@ -60,6 +63,9 @@ def facts_of(cursor: Cursor, houses: List[str], month: datetime.date, values: It
     cursor.execute(VERSIONS, of_month)
     for house, version, why, at in cursor:
         found[house] = found[house]._replace(correction=Correction(version, why, at, before))
+    cursor.execute(HELD, (houses, month))
+    for house, use in cursor:
+        found[house].held.add(use)
     cursor.execute(PRICES, (houses, month))
     for house, use, unit, cents in cursor:
         found[house].prices[use] = (unit, cents)
@@ -73,86 +79,61 @@ def facts_of(cursor: Cursor, houses: List[str], month: datetime.date, values: It
     return found
 
 
-def is_whole(number: Any, month: datetime.date, zone: str) -> bool:
-    return bool(number.begins == begin_of(month, zone) and number.ends == begin_of(next_month(month), zone))
-
-
 def days_in(number: Any, zone: str, month: datetime.date) -> Tuple[int, int]:
     """The days of a number, and those of its month."""
     length = (number.ends - number.begins + datetime.timedelta(hours=12)).days
     return max(length, 1), (next_month(month) - month).days
 
 
-def change(now: decimal.Decimal, then: decimal.Decimal) -> Optional[decimal.Decimal]:
-    """In per cent; none of nothing."""
-    return HUNDRED * (now - then) / then if then else None
-
-
-def comparisons(sheet: Any, words: Catalogue) -> Iterator[Tuple[Any, str, str, str]]:
-    """Of each use and compared number that both have a whole month: the use, the key, the number as printed, the sentence."""
-    zone = sheet.user.zone
+def comparisons(sheet: Any, words: Catalogue, numbers: Numbers) -> Iterator[Tuple[Any, str]]:
+    """Of each use and month that it is compared with: how much less or more it is, in per cent."""
     for use in sheet.uses:
-        number = use.months[sheet.month]
-        if number.value is None or not is_whole(number, sheet.month, zone):
-            continue
-        others = [(f"{month:%Y-%m}", use.months[month].value, words.month(month))
-                  for month in (later_month(sheet.month, -12), later_month(sheet.month, -1))
-                  if month in use.months and is_whole(use.months[month], month, zone)]
-        for key, then, name in [*others, ("average", use.average, words.word("the_average"))]:
-            found = None if then is None else change(number.value, then)
-            if found is not None:
-                shown = words.number(abs(found), 0)
-                word = "as_much" if shown == "0" else "less" if found < 0 else "more"
-                yield use, f"change {key}", shown, words.word(word, percent=shown, then=name)
+        for month in (later_month(sheet.month, -12), later_month(sheet.month, -1)):
+            printed = numbers.get(use_key(sheet.user.flat, use, f"change {month:%Y-%m}", ""))
+            if printed is not None and printed.is_number:
+                percent = printed.text.lstrip("-")
+                word = "as_much" if percent == "0" else "less" if printed.text != percent else "more"
+                yield use, words.word(word, percent=words.printed(percent), then=words.month(month))
 
 
-def weather(sheet: Any, words: Catalogue) -> Iterator[Tuple[Any, str, str, str]]:
+def weather(sheet: Any, words: Catalogue, numbers: Numbers) -> Iterator[Tuple[Any, str]]:
     """Of each use for heating: what the month of last year would have been in this month's weather."""
-    last, degrees = later_month(sheet.month, -12), sheet.facts.degrees
-    for use in sheet.uses:
-        number, then = use.months[sheet.month], use.months.get(last)
-        if (use.use not in sheet.facts.heating_uses or number.value is None or then is None or not then.value or not degrees.get(last)
-                or sheet.month not in degrees or not all(is_whole(it, month, sheet.user.zone) for it, month in ((number, sheet.month), (then, last)))):
-            continue
-        adjusted = then.value * degrees[sheet.month] / degrees[last]
-        found = change(number.value, adjusted)
-        if found is not None:
-            shown, percent = words.amount(adjusted, use.unit), words.number(abs(found), 0)
-            word = words.word("as_much" if percent == "0" else "less" if found < 0 else "more", percent=percent, then=words.word("that"))
-            yield use, "weather", shown, words.word("weather", then=words.month(last), amount=shown, unit=words.word(use.unit), change=word)
+    for use, shown in known(sheet, words, numbers, "weather"):
+        yield use, words.word("weather", then=words.month(later_month(sheet.month, -12)), amount=shown, unit=words.word(use.unit))
 
 
-def carbon(sheet: Any, words: Catalogue) -> Iterator[Tuple[Any, str, str, str]]:
+def carbon(sheet: Any, words: Catalogue, numbers: Numbers) -> Iterator[Tuple[Any, str]]:
     """The emissions of a user's own consumption, in kg."""
-    grams = sheet.user.co2_g_per_kwh
-    for use in sheet.uses if grams is not None else ():
-        number = use.months[sheet.month]
-        if use.use in sheet.facts.carbon_uses and use.unit == "kWh" and number.value is not None:
-            shown = words.number(number.value * grams / THOUSAND, 1)
-            yield use, "co2", shown, words.word("own_co2", amount=shown)
+    yield from ((use, words.word("own_co2", amount=shown)) for use, shown in known(sheet, words, numbers, "co2"))
 
 
-def costs(sheet: Any, words: Catalogue) -> Iterator[Tuple[Any, str, str, str]]:
+def costs(sheet: Any, words: Catalogue, numbers: Numbers) -> Iterator[Tuple[Any, str]]:
     """What the month's consumption costs, by the exact amount, without fixed costs."""
-    for use in sheet.uses if sheet.user.shows_costs else ():
-        number, price = use.months[sheet.month], sheet.facts.prices.get(use.use)
-        if price is not None and price[0] == use.unit and number.value is not None:
-            shown = words.number(number.value * price[1] / HUNDRED, 2)
-            yield use, "cost", shown, words.word("cost", amount=shown, price=words.exact(price[1]), unit=words.word(use.unit))
+    prices = {use.use: price for use, price in known(sheet, words, numbers, "price")}
+    for use, shown in known(sheet, words, numbers, "cost"):
+        yield use, words.word("cost", amount=shown, price=prices[use.use], unit=words.word(use.unit))
 
 
-def corrected(sheet: Any, words: Catalogue) -> str:
+def known(sheet: Any, words: Catalogue, numbers: Numbers, what: str) -> Iterator[Tuple[Any, str]]:
+    """The uses that have such a number, as it is printed."""
+    for use in sheet.uses:
+        printed = numbers.get(use_key(sheet.user.flat, use, what, ""))
+        if printed is not None and printed.is_number:
+            yield use, words.printed(printed.text)
+
+
+def corrected(sheet: Any, words: Catalogue, numbers: Numbers) -> str:
     """What a version that isn't the first one says at its beginning; nothing of a first one."""
     it = sheet.facts.correction
     if it is None:
         return ""
     parts = []
     for use in sheet.uses:
-        number = use.months[sheet.month]
-        now = "-" if number.value is None else words.amount(number.value, use.unit)
-        before = it.before.get((sheet.user.id, f"{sheet.user.flat} {use.use} {sheet.month:%Y-%m} {use.unit}"))
-        if before is not None and before != now:
-            parts.append(words.word("corrected_use", use=words.use(use.use), now=now, unit=words.word(use.unit), before=before))
+        key = use_key(sheet.user.flat, use, sheet.month)
+        now, before = numbers.get(key), it.before.get((sheet.user.id, key))
+        if now is not None and before is not None and words.printed(now.text) != words.printed(before):
+            parts.append(words.word("corrected_use", use=words.use(use.use), now=words.printed(now.text), unit=words.word(use.unit),
+                                    before=words.printed(before)))
     return words.word("corrected", day=words.long_day(it.at), version=it.version, changes=" ".join(parts), why=it.why)
 
 
@@ -170,10 +151,9 @@ def estimates(sheet: Any, words: Catalogue) -> Iterator[Tuple[Any, str]]:
             yield from ((use, words.word("estimated_between", since=words.moment(since), until=words.moment(until))) for since, until in gaps if not hows)
 
 
-def factors(sheet: Any, words: Catalogue) -> Iterator[Tuple[Any, str]]:
+def factors(sheet: Any, words: Catalogue, numbers: Numbers) -> Iterator[Tuple[Any, str]]:
     """By which factor an amount is in kWh."""
-    for use in sheet.uses:
-        if use.unit == "kWh" and use.use in sheet.facts.factors:
-            kwh, source = sheet.facts.factors[use.use]
-            unit = words.word("unit_of_allocators" if use.quantity == "allocation" else "m³")
-            yield use, words.word("factor", unit=unit, kwh=words.exact(kwh)) + (f" ({source})" if source else "")
+    for use, kwh in known(sheet, words, numbers, "factor"):
+        source = sheet.facts.factors[use.use][1]
+        unit = words.word("unit_of_allocators" if use.quantity == "allocation" else "m³")
+        yield use, words.word("factor", unit=unit, kwh=kwh) + (f" ({source})" if source else "")

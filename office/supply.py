@@ -44,6 +44,17 @@ class Restart(NamedTuple):
     first: Value
 
 
+class Run(NamedTuple):
+    """A meter's counter from one moment to another (None: still)."""
+    number: int
+    identity: str
+    begins: int
+    ends: Optional[int]
+    most: int
+    size: int
+    vib: Optional[str]
+
+
 class Fitting:
     """A meter at a place, and its values in order of moment."""
 
@@ -52,7 +63,8 @@ class Fitting:
         self.begins: datetime.datetime = row[2]
         self.ends: Optional[datetime.datetime] = row[3]
         unit, first, last, first_amount, last_amount, is_first_estimated, is_last_estimated = row[4:11]
-        self.most, self.size = (number or 0 for number in row[11:])
+        self.most, self.size = (number or 0 for number in row[11:13])
+        self.vib: Optional[str] = row[13]
         self.first = None if first is None else Value(self.begins, first_amount, plain_number(first), unit, FITTED,
                                                       is_first_estimated, None, None, None)
         self.last = None if last is None or self.ends is None else Value(
@@ -66,6 +78,13 @@ class Fitting:
         values = [*([self.first] if self.first else []), *values, *([self.last] if self.last else [])]
         known = [value.at for value in values if value.source != ESTIMATED]
         return [value for value in values if value.source != ESTIMATED or not known or value.at > known[-1]]
+
+    def runs(self) -> List[Run]:
+        """Its counter, and what it was after each restart."""
+        begins = [seconds(self.begins), *(seconds(it.first.at) for it in self.restarts)]
+        ends = [*begins[1:], None if self.ends is None else seconds(self.ends)]
+        return [Run(self.id * RUNS + number, self.identity, begin, end, self.most, self.size, self.vib)
+                for number, (begin, end) in enumerate(zip(begins, ends))]
 
     def entries(self) -> "List[Entry]":
         """Its values in its runs: a restart ends one, and begins another."""
@@ -129,7 +148,7 @@ def plain_number(number: Any) -> str:
 PLACES = """
 SELECT p.id, p.house, p.flat, p.use, p.number, h.zone, u.quantity, p.weight, f.id, f.identity, lower(f.during), upper(f.during), f.unit,
        f.first_value, f.last_value, f.first_amount, f.last_amount, f.first_is_estimated, f.last_is_estimated,
-       coalesce(f.most, l.most), f.size
+       coalesce(f.most, l.most), f.size, f.vib
 FROM places p JOIN houses h ON h.house = p.house JOIN uses u ON u.use = p.use JOIN fittings f ON f.place = p.id
 LEFT JOIN limits l ON l.use = p.use
 WHERE p.house = ANY (%(houses)s) AND EXISTS (

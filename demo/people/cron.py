@@ -55,6 +55,7 @@ class Cron:
         return printed
 
     def release(self, month: datetime.date, *words: str) -> None:
+        self.run("publish", "-", f"{month:%Y-%m}")
         self.run("sheets", f"{month:%Y-%m}", "--out", str(self.out), "--pdf", "none", "--release", *words)
 
     def correct(self, month: datetime.date) -> None:
@@ -62,6 +63,7 @@ class Cron:
         kept = shifted(month, -KEPT_MONTHS)
         for house, changed in self.office.sql(CHANGED, kept):
             self.run("correct", house, changed, "--why", WHY)
+            self.run("publish", house, changed)
             self.run("sheets", changed, "--out", str(self.out), "--pdf", "none", "--release", "--house", house)
             self.corrected += 1
         for house, period in self.office.sql(CHANGED_BILLS, kept):
@@ -70,6 +72,7 @@ class Cron:
             self.corrected += 1
 
     def bill(self, house: str, period: str) -> None:
+        self.run("publish", house, period, "--bill")
         self.bills[house, period] = self.run("bill", house, period, "--release", statuses=(0, 1))
 
     def after(self, month: datetime.date) -> None:

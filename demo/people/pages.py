@@ -111,7 +111,7 @@ class Checker:
             for shown in (month, shifted(month, -1), shifted(month, -12)):
                 number = self.truth.of_user(house, flat, use, user, shown) if shown >= self.first_month else None
                 self.cell(f"{where} {use} {shown}", page.cells.get((use, str(shown)), ""), number, unit, user, shown)
-            average = self.truth.average(use, unit, month)
+            average = self.truth.average(house, use, unit, month)
             self.same(f"{where} {use} average", page.cells.get((use, "average"), ""), "–" if average is None else written(
                 average * house.flats[flat], DECIMALS[unit], user.language))
         self.charts(page, where, house, flat, user, month)
@@ -156,16 +156,19 @@ class Checker:
 
     def house(self, path: pathlib.Path, house: House, month: datetime.date) -> None:
         """The flats of a house page, that they add up to the house, and what each meter stands at."""
-        page, begins, ends = Page(path), begin_of(month), begin_of(next_month(month))
+        page = Page(path)
         office = User("", "de", month, None)
         for use in sorted({place.use for place in house.places}):
             unit, where = self.truth.unit(house.name, use), f"{house.name} {use} {month}"
             for flat in house.flats:
                 if places := places_of(house, flat, use):
-                    number = self.truth.of_places(places, begins, ends)
+                    number = self.truth.of_flat(house, flat, places, month)
                     self.cell(f"{where} {flat}", page.cells.get((use, flat), ""), number, unit, office, month)
             places = [place for place in house.places if place.use == use]
-            self.total(where, page.cells.get((use, ""), ""), [self.truth.of_place(it, begins, ends) for it in places], unit)
+            if self.truth.is_held(house, use, month):
+                self.same(where, page.cells.get((use, ""), ""), "–")
+            else:
+                self.total(where, page.cells.get((use, ""), ""), [self.truth.of_flat(house, it.flat, [it], month) for it in places], unit)
         self.meters(page, house, month)
 
     def total(self, where: str, found: str, numbers: List[Number], unit: str) -> None:

@@ -34,7 +34,7 @@ class Truth:
         self.houses, self.factors = houses, factors
         self.now = begin_of(datetime.date(2000, 1, 1))
         self.estimated: Set[Tuple[Place_, datetime.date]] = set()  # places that office/estimate gave a value
-        self.averages: Dict[Tuple[str, str, datetime.date], Optional[Fraction]] = {}  # as long as nothing more is known
+        self.averages: Dict[Tuple[str, str, datetime.date], Tuple[Optional[Fraction], Set[str]]] = {}  # as long as nothing more is known
 
     def unit(self, house: str, use: str) -> str:
         if use == "heat" or (house, use) in self.factors:
@@ -83,24 +83,45 @@ class Truth:
         ends = ends if user.ends is None else min(ends, begin_of(user.ends))
         return self.of_places(places_of(house, flat, use), begins, ends) if begins < ends else None
 
-    def average(self, use: str, unit: str, month: datetime.date) -> Optional[Fraction]:
-        """What a square metre used on the average, of the flats with a measured number that can be told in that unit."""
+    def of_flat(self, house: House, flat: str, places: List[Place], month: datetime.date, unit: Optional[str] = None) -> Number:
+        """What places of a flat consumed in a month: the sum of its users' parts, with the worst of their marks."""
+        begins, ends = begin_of(month), begin_of(next_month(month))
+        days = {day for user in house.users[flat] for day in (user.begins, user.ends) if day is not None}
+        cuts = sorted({begins, ends, *(begin_of(day) for day in days if begins < begin_of(day) < ends)})
+        parts = [self.of_places(places, one, other, unit) for one, other in zip(cuts, cuts[1:])]
+        values = [part.value for part in parts if part.value is not None]
+        return Number(max((part.state for part in parts), key=WORST.index), sum(values, Fraction()) if len(values) == len(parts) else None,
+                      max((part.mark for part in parts), key=MARKS.index), begins, ends)
+
+    def is_held(self, house: House, use: str, month: datetime.date) -> bool:
+        """Whether a number of the use waits for a person in a month: then it has no sum and no average."""
+        begins, ends = begin_of(month), begin_of(next_month(month))
+        return any(HELD in (self.of_place(place, begins, ends).state, self.of_flat(house, place.flat, [place], month).state)
+                   for place in house.places if place.use == use)
+
+    def average(self, house: House, use: str, unit: str, month: datetime.date) -> Optional[Fraction]:
+        """What a square metre used on the average, of the flats with a measured number that can be told in that unit; one that isn't
+        of the house alone has six decimals."""
         key = use, unit, month
         if key not in self.averages:
             self.averages[key] = self.average_of(use, unit, month)
-        return self.averages[key]
+        found, houses = self.averages[key]
+        if found is None or self.is_held(house, use, month):
+            return None
+        return found if houses == {house.name} else Fraction(rounded(found, 6))
 
-    def average_of(self, use: str, unit: str, month: datetime.date) -> Optional[Fraction]:
-        total, area, count = Fraction(), 0, 0
+    def average_of(self, use: str, unit: str, month: datetime.date) -> Tuple[Optional[Fraction], Set[str]]:
+        total, area, count, houses = Fraction(), 0, 0, set()  # type: Fraction, int, int, Set[str]
         for house in self.houses:
             for flat, size in house.flats.items():
                 places = places_of(house, flat, use)
                 if not places or unit == "kWh" != self.unit(house.name, use):
                     continue
-                number = self.of_places(places, begin_of(month), begin_of(next_month(month)), unit)
+                number = self.of_flat(house, flat, places, month, unit)
                 if number.value is not None and number.mark in ("", HAND):
                     total, area, count = total + number.value, area + size, count + 1
-        return total / area if count >= FEWEST_COMPARED else None
+                    houses.add(house.name)
+        return total / area if count >= FEWEST_COMPARED else None, houses
 
 
 def mark_of(entries: List[Entry], begins: Moment, ends: Moment) -> str:

@@ -2,6 +2,7 @@
 
 import datetime
 import zoneinfo
+from fractions import Fraction
 from typing import Any, Dict, List, Optional, Tuple
 
 from conftest import Office
@@ -10,7 +11,26 @@ BERLIN = zoneinfo.ZoneInfo("Europe/Berlin")
 FITTED = datetime.datetime(2024, 1, 1, tzinfo=BERLIN)
 HEAT, WATER, COLD, ALLOCATOR = "04", "06", "07", "08"
 UNITS = {HEAT: "Wh", WATER: "m3", COLD: "m3", ALLOCATOR: "HCA"}
-VIBS = {"Wh": "06", "MWh": "FB00", "GJ": "FB08", "m3": "13", "HCA": "6E"}
+VIBS = {"Wh": "03", "MWh": "FB00", "GJ": "FB08", "J": "08", "m3": "13", "HCA": "6E"}
+DIGITS = {"MWh": 10, "GJ": 10, "m3": 1000}  # of a telegram's value; of others 1
+
+
+def header(identity: str, status: int = 0) -> bytes:
+    number, _, version, medium = identity.split(".")
+    return bytes.fromhex(number)[::-1] + bytes.fromhex(f"2440{version}{medium}01") + bytes([status, 0, 0])
+
+
+def record(unit: str, value: Any, storage: int = 0) -> bytes:
+    """A value as a whole number of 64 bits; one that is none of its digits can't be sent."""
+    digits = Fraction(str(value)) * DIGITS.get(unit, 1)
+    assert digits.denominator == 1, (value, unit)
+    return bytes([0x07 | storage << 6]) + bytes.fromhex(VIBS[unit]) + int(digits).to_bytes(8, "little")
+
+
+def dated(day: str) -> bytes:
+    """The date of storage 1, as data type G."""
+    it = datetime.date.fromisoformat(day)
+    return b"\x42\x6c" + bytes([it.day | (it.year % 100 & 7) << 5, it.month | (it.year % 100 >> 3) << 4])
 
 
 def at(text: str) -> datetime.datetime:
@@ -53,7 +73,7 @@ class Supplied:
         self.office.sql("SELECT make_months(%s, 1)", month)
         self.office.sql("INSERT INTO readings (month, box, serial, identity, flat, heard, at, bodies)"
                         " VALUES (%s, %s, %s, %s, 'x', %s, %s, %s)", month, box, self.serial, identity, [moment], moment,
-                        [bytes.fromhex("785634122440010701") + bytes([status, 0, 0])])
+                        [header(identity, status) + record(unit, value) + (dated(due[0]) + record(unit, due[1], 1) if due else b"")])
         points = [(1, 0, value, None), *([(2, 1, due[1], due[0])] if due else [])]
         for place, storage, number, day in points:
             self.office.sql("INSERT INTO points (month, box, serial, part, place, storage, function, tariff, subunit, vib,"
@@ -65,11 +85,19 @@ class Supplied:
                             " month = excluded.month", box, identity, due[0], self.serial, month)
 
     def values(self, fitting: int, values: Dict[str, Any], unit: str = "Wh") -> None:
-        """Values at the ends of days, as if the meter had stored them."""
+        """Values at the ends of days, as the meter stored them, with their telegrams."""
+        identity = self.office.sql("SELECT identity FROM fittings WHERE id = %s", fitting)[0][0]
+        self.office.sql("SELECT make_months('2025-01-01', 1)")
+        first, self.serial = self.serial + 1, self.serial + len(values)
+        serials = list(range(first, first + len(values)))
+        self.office.sql("INSERT INTO readings (month, box, serial, identity, flat, heard, at, bodies)"
+                        " SELECT '2025-01-01', %s, serial, %s, 'x', ARRAY[day_begins(day + 1, 'Europe/Berlin')], NULL, ARRAY[body]"
+                        " FROM unnest(%s::bigint[], %s::date[], %s::bytea[]) AS k (serial, day, body)", self.box, identity, serials, list(values),
+                        [header(identity) + dated(day) + record(unit, value, 1) for day, value in values.items()])
         self.office.sql("INSERT INTO day_values (fitting, day, at, value, unit, source, month, box, serial, part)"
-                        " SELECT %s, day, day_begins(day + 1, 'Europe/Berlin'), value, %s, 'stored', '2025-01-01', %s, 1, 1"
-                        " FROM unnest(%s::date[], %s::numeric[]) AS k (day, value)",
-                        fitting, unit, self.box, list(values), [str(value) for value in values.values()])
+                        " SELECT %s, day, day_begins(day + 1, 'Europe/Berlin'), value, %s, 'stored', '2025-01-01', %s, serial, 1"
+                        " FROM unnest(%s::bigint[], %s::date[], %s::numeric[]) AS k (serial, day, value)",
+                        fitting, unit, self.box, serials, list(values), [str(value) for value in values.values()])
 
     def days(self, fitting: int, first: str, count: int, begin: int, step: int, unit: str = "Wh") -> None:
         """A value a day that grows by as much each day."""

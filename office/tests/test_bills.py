@@ -11,6 +11,7 @@ import pytest
 from conftest import Office
 from supplied import COLD, HEAT, WATER, Supplied, at
 from test_schema import refused
+from test_sheets import published
 
 WH = 3_600_000
 
@@ -21,6 +22,8 @@ def elm(office: Office) -> Supplied:
 
 
 def billed(office: Office, *words: str, status: int = 0) -> List[Dict[str, str]]:
+    ended = office.run("publish", *words, "--bill")
+    assert ended.status == 0, ended.printed
     ended = office.run("bill", *words)
     assert ended.status == status, ended.printed
     return list(csv.DictReader(io.StringIO(ended.printed)))
@@ -28,7 +31,7 @@ def billed(office: Office, *words: str, status: int = 0) -> List[Dict[str, str]]
 
 def test_a_bill(office: Office, elm: Supplied) -> None:
     """A row a user and meter; the rows add up, and each names its readings."""
-    old = elm.meter(1, HEAT, "A1")
+    old = elm.meter(1, HEAT, "A1", since=at("2023-12-01T00:00"))
     elm.days(old, "2023-12-30", 100, 1000, 10)
     office.sql("UPDATE meters SET identity = '00000002.PAD.01.04' WHERE box = 'elm-1'")
     new = office.sql("SELECT max(id) FROM fittings")[0][0]
@@ -53,7 +56,7 @@ def test_a_bill(office: Office, elm: Supplied) -> None:
 
 
 def test_a_bill_with_a_hole(office: Office, elm: Supplied) -> None:
-    elm.days(elm.meter(1, HEAT, "A1"), "2023-12-30", 100, 1000, 10)
+    elm.days(elm.meter(1, HEAT, "A1", since=at("2023-12-01T00:00")), "2023-12-30", 100, 1000, 10)
     rows = billed(office, "elm-1", "2024", status=1)
     assert (rows[0]["amount"], rows[0]["consumption"], rows[0]["grade"]) == ("", "", "missing")
     for words in (["elm-1", "2124"], ["elm-1", "2024-02-01..2024-01-01"], ["oak-2", "2024"]):
@@ -164,6 +167,7 @@ def test_a_user_is_forgotten(office: Office, elm: Supplied, tmp_path: pathlib.Pa
     one, other = elm.tenancy("A1", "2024-01-01", "2025-02-10", "S. Secret"), elm.tenancy("A1", "2025-02-10", None)
     for month in ("2025-01", "2025-02"):
         elm.month(month)
+        published(office, month)
         assert office.run("sheets", month, "--out", str(tmp_path), "--pdf", "none").status == 0
     assert len(list(tmp_path.glob("sheets/*/*.html"))) == 3
     early = office.run("forget", str(one))
@@ -187,10 +191,10 @@ def test_what_is_kept(office: Office, elm: Supplied) -> None:
     elm.reads(meter, at("2021-01-05T06:00"), 5)
     dry = office.run("retain", "--dry-run")
     assert dry.status == 0 and "table readings_2021_01" in dry.printed and "--dry-run" in dry.printed
-    assert office.sql("SELECT count(*) FROM readings") == [(1,)]
+    assert office.sql("SELECT count(*) FROM readings") == [(41,)]
     ended = office.run("retain")
     assert ended.printed == dry.printed.replace("nothing was dropped: --dry-run\n", "")
-    assert office.sql("SELECT count(*) FROM readings") == [(0,)]
+    assert office.sql("SELECT count(*) FROM readings WHERE month < '2025-01-01'") == [(0,)]
     assert office.sql("SELECT day FROM day_values ORDER BY day") == [
         (datetime.date(2020, 12, 31),), (datetime.date(2021, 1, 31),)]
     assert office.sql("SELECT amount, basis FROM month_use") == [(310 * WH, [])]
@@ -207,6 +211,7 @@ def test_roles(office: Office, elm: Supplied, tmp_path: pathlib.Path) -> None:
     elm.tenancy("A1", "2024-01-01", None)
     runs = (("collector", (["close"], ["close", "--all", "--since", "2025-01-01"], ["month", "2025-01"], ["estimate", "2025-01"],
                            ["alarms"])),
+            ("publisher", (["publish", "elm-1", "2025-01"], ["publish", "elm-1", "2025-01", "--bill"])),
             ("clerk", (["sheets", "2025-01", "--out", str(tmp_path), "--pdf", "none"], ["bill", "elm-1", "2025-01", "--release"])),
             ("collector", (["month", "2025-01"], ["close"])))  # which looks at the bill that is out
     for role, commands in runs:
@@ -233,7 +238,10 @@ def test_roles(office: Office, elm: Supplied, tmp_path: pathlib.Path) -> None:
                 "UPDATE month_use SET amount = 1", "INSERT INTO month_use DEFAULT VALUES", "DELETE FROM tenancies",
                 "UPDATE tenancies SET token = 'x'", "UPDATE day_values SET struck_by = 'another'",
                 "INSERT INTO orders (box, line, confirms) VALUES ('elm-1', 'CONFIRM 1', 1)", "DELETE FROM sheets",
-                "SELECT end_fitting('elm-1', 'elm-1', 'x')", "UPDATE boxes SET house = NULL"))):
+                "SELECT end_fitting('elm-1', 'elm-1', 'x')", "UPDATE boxes SET house = NULL",
+                "INSERT INTO audits (house, version, sha256, says) VALUES ('elm-1', 1, 'x', 'x')",
+                "INSERT INTO published (house, key, text, mark) VALUES ('elm-1', 'x', '1', 'x')")),
+            *(("publisher", query) for query in ("UPDATE audits SET says = 'x'", "DELETE FROM audits", "UPDATE published SET text = '1'"))):
         assert "permission denied" in refused(office, query, role=role), (role, query)
     office.sql("SET ROLE clerk")
     value = office.sql("SELECT put_value(%s, '2025-01-31', 1299, 'Wh', 'read at the meter')", meter)[0][0]

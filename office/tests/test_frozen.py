@@ -10,7 +10,7 @@ import pytest
 from conftest import TESTS, Office
 from supplied import ALLOCATOR, HEAT, Supplied, at
 from test_schema import refused
-from test_sheets import checked, sheet_of
+from test_sheets import checked, published, sheet_of
 
 WH = 3_600_000
 ROWS = ("SELECT month::text, place, part, version, amount, grade, begins, ends FROM month_use WHERE out_at IS NOT NULL ORDER BY 1, 2, 3, 4")
@@ -23,6 +23,7 @@ def elm(office: Office) -> Supplied:
 
 
 def released(office: Office, out: pathlib.Path, month: str) -> None:
+    published(office, month)
     ended = office.run("sheets", month, "--out", str(out), "--pdf", "none", "--release")
     assert ended.status == 0, ended.printed
 
@@ -54,11 +55,11 @@ def test_what_is_out_is_frozen(office: Office, elm: Supplied, tmp_path: pathlib.
         assert "is out" in refused(office, query), query
     text = sheet_of(office, tmp_path, tenancy).read_text(encoding="utf-8")
     numbers = office.sql("SELECT text, mark, version FROM published WHERE tenancy = %s", tenancy)
-    assert ("310,0", "measured", 1) in numbers and all(row[0] in text for row in numbers)
+    assert ("310.0", "measured", 1) in numbers and all(row[0].replace(".", ",") in text for row in numbers)
     assert office.sql("SELECT house, version, why, made_by FROM versions WHERE out_at IS NOT NULL") == [("elm-1", 1, "first", "office")]
     released(office, tmp_path, "2025-01")
     assert rows(office) == before and office.sql("SELECT count(*) FROM versions") == [(1,)]
-    assert office.sql("SELECT count(*) FROM published WHERE key LIKE '%%2025-01%%'") == [(1,)]
+    assert office.sql("SELECT count(*) FROM published WHERE key LIKE '%% 2025-01 kWh'") == [(1,)]
 
 
 def test_another_number_is_another_version(office: Office, elm: Supplied, tmp_path: pathlib.Path) -> None:
@@ -86,7 +87,7 @@ def test_another_number_is_another_version(office: Office, elm: Supplied, tmp_pa
     cell = checked(sheet_of(office, tmp_path, tenancy).read_text(encoding="utf-8")).cells["heat", "2025-01-01"]
     assert cell.split()[0] == "315,0"
     assert office.sql("SELECT version, why FROM versions ORDER BY 1") == [(1, "first"), (2, "read at the meter")]
-    assert office.sql("SELECT version, text FROM published WHERE key LIKE '%%2025-01%%' ORDER BY 1") == [(1, "310,0"), (2, "315,0")]
+    assert office.sql("SELECT version, text FROM published WHERE key LIKE '%% 2025-01 kWh' ORDER BY 1") == [(1, "310.0"), (2, "315.0")]
     assert "END changed" in office.run("alarms").printed
     assert office.run("correct", "elm-1", "2025-02", "--why", "x").status == 4
 
@@ -174,6 +175,7 @@ def test_a_cron_changes_nothing_that_was_out(office: Office, elm: Supplied, tmp_
 
 
 def bill(office: Office, *words: str, status: int = 0) -> str:
+    assert office.run("publish", "elm-1", words[0], "--bill").status in (0, 2)
     ended = office.run("bill", "elm-1", *words)
     assert ended.status == status, ended.printed
     return ended.printed
@@ -244,7 +246,8 @@ def test_neither_retain_nor_forget_changes_a_bill(office: Office, elm: Supplied,
     assert office.run("retain").status == 0
     closed(office, "2021-01", "2021-02", "2021-03")
     assert bill(office, "2021-01-01..2021-03-31") == after and "changed" not in office.run("alarms").printed
-    assert "were dropped" in bill(office, "2021", status=2)
+    assert "were dropped" in office.run("publish", "elm-1", "2021", "--bill").printed
+    assert "no audit" in bill(office, "2021", status=5)
 
 
 def test_a_bill_has_no_number_that_is_held(office: Office, elm: Supplied) -> None:

@@ -15,9 +15,9 @@ INSERT INTO flats (house, flat, area_m2) SELECT 'elm-1', 'A' || n, 50 FROM gener
 INSERT INTO places (house, flat, use, number) SELECT house, flat, 'heat', 1 FROM flats;
 INSERT INTO fittings (place, house, identity, during)
 SELECT id, house, to_char(substr(flat, 2)::integer, 'FM00000000') || '.PAD.01.04', '[2024-01-01Z,)' FROM places;
-INSERT INTO day_values (fitting, day, at, value, unit, source, month, box, serial, part)
+INSERT INTO day_values (fitting, day, at, value, unit, source)
 SELECT f.id, k.day, day_begins(k.day + 1, 'Europe/Berlin'), k.value + CASE k.value WHEN 0 THEN 0 ELSE substr(p.flat, 2)::integer END,
-       'Wh', 'stored', '2025-01-01', 'elm-1', 1, 1
+       'Wh', 'by hand'
 FROM fittings f JOIN places p ON p.id = f.place, (VALUES (date '2024-12-31', 0), ('2025-01-31', 300000), ('2025-02-01', 300000)) AS k (day, value);
 INSERT INTO tenancies (house, flat, days, person) SELECT house, flat, '[2024-01-01,)', 'A. Person' FROM flats"""
 
@@ -40,7 +40,7 @@ def test_a_house_of_2000_flats(office: Office, elm: Supplied, tmp_path: pathlib.
     """Each flat has its row and sheet, and the house is their sum."""
     office.sql(HOUSE.format(flats=FLATS))
     rows = elm.month("2025-01")
-    assert len(rows) == FLATS and {row[3] for row in rows} == {"measured"}
+    assert len(rows) == FLATS and {row[3] for row in rows} == {"hand"}
     written(office, tmp_path, "--pdf", "none")
     text = page_of(tmp_path)
     checked(text)

@@ -6,7 +6,7 @@ from typing import List
 
 import pytest
 from conftest import Office
-from supplied import HEAT, WATER, Supplied
+from supplied import HEAT, WATER, Supplied, at
 from test_sheets import HOSTILE, checked, sheet_of, written
 
 
@@ -15,7 +15,7 @@ def elm(office: Office) -> Supplied:
     """Three flats with two Januaries: 10 kWh a day in 2025 times the number of the flat, a fifth more the year before."""
     made = Supplied(office)
     for number in (1, 2, 3):
-        heat = made.meter(number, HEAT, f"A{number}")
+        heat = made.meter(number, HEAT, f"A{number}", since=at("2023-12-01T00:00"))
         made.days(heat, "2023-12-29", 40, 1_000_000, 12_000 * number)
         made.days(heat, "2024-11-25", 75, 5_000_000, 10_000 * number)
     water = made.meter(11, WATER, "A1")
@@ -44,7 +44,7 @@ def test_what_stands_beside_the_numbers(office: Office, elm: Supplied, tmp_path:
         elm.month(month)
     text = sheet(office, tmp_path, tenancy)
     said = sentences(text)
-    assert said[0] == "Heizung: 17 % weniger als Januar 2024, so viel wie Dezember 2024, 50 % weniger als der Durchschnitt"
+    assert said[0] == "Heizung: 17 % weniger als Januar 2024, so viel wie Dezember 2024"
     assert "Heizung: 62,5 kg CO2" in said and "Warmwasser: 88,2 kg CO2" in said
     assert "85 %" in text and "Rest" in text and "201,5 g/kWh" in text and "1 m³ = 125 kWh (HeizkostenV 9)" in text
     assert "Büro Ulme" in text and "Schlichtungsstelle" in text and "&lt;script&gt;" in text and "Kosten" not in text and "Vom Wetter" not in text
@@ -55,11 +55,12 @@ def test_what_stands_beside_the_numbers(office: Office, elm: Supplied, tmp_path:
     office.sql("UPDATE houses SET shows_costs = true")
     said = sentences(sheet(office, tmp_path, tenancy))
     assert "Heizung: 35,50 € (11,45 Cent je kWh)" in said and sum("€" in it for it in said) == 1  # the price of water is of another unit
-    assert "Heizung: Januar 2024 hätte beim Wetter dieses Monats 297,6 kWh gebraucht: 4 % mehr als das" in said
+    assert "Heizung: Januar 2024 hätte beim Wetter dieses Monats 297,6 kWh gebraucht" in said
     assert office.run("sheets", "2025-01", "--out", str(tmp_path), "--pdf", "none", "--release").status == 0
-    assert office.sql("SELECT key, text, mark FROM published WHERE mark IN ('costs', 'carbon', 'weather') ORDER BY key") == [
-        ("A1 heat co2", "62,5", "carbon"), ("A1 heat cost", "35,50", "costs"), ("A1 heat weather", "297,6", "weather"),
-        ("A1 warm water co2", "88,2", "carbon")]
+    assert office.sql("SELECT key, text, mark FROM published WHERE mark IN ('cost', 'carbon', 'weather')"
+                      " AND audit = (SELECT audit FROM versions) ORDER BY key") == [
+        ("A1 heat co2", "62.5", "carbon"), ("A1 heat cost", "35.50", "cost"), ("A1 heat weather", "297.6", "weather"),
+        ("A1 warm water co2", "88.2", "carbon")]
 
 
 def test_a_part_of_a_month_has_no_percentage(office: Office, elm: Supplied, tmp_path: pathlib.Path) -> None:

@@ -92,7 +92,7 @@ def elm(office: Office) -> Supplied:
     made = Supplied(office)
     for number in range(1, 5):
         flat = f"A{number}"
-        made.days(made.meter(number, HEAT, flat, area=40 + 10 * number), "2023-12-29", 403, 1_000_000, 10_000 * number)
+        made.days(made.meter(number, HEAT, flat, area=40 + 10 * number, since=at("2023-12-01T00:00")), "2023-12-29", 403, 1_000_000, 10_000 * number)
         water = made.meter(10 + number, WATER, flat, area=40 + 10 * number)
         made.values(water, {"2023-12-31": 1, "2024-01-31": 3, "2024-11-30": 20, "2024-12-31": "22.5", "2025-01-31": 26, "2025-02-01": 26},
                     "m3")
@@ -109,7 +109,14 @@ def sheet_of(office: Office, out: pathlib.Path, tenancy: int, month: str = "2025
     return out / f"sheets/{token}/{month}.{form}"
 
 
+def published(office: Office, month: str = "2025-01", *words: str) -> None:
+    """The numbers of all houses are audited."""
+    ended = office.run("publish", "-", month, *words)
+    assert ended.status == 0, ended.printed
+
+
 def written(office: Office, out: pathlib.Path, *words: str) -> None:
+    published(office)
     ended = office.run("sheets", "2025-01", "--out", str(out), *words)
     assert ended.status == 0, ended.printed
 
@@ -165,8 +172,9 @@ def test_what_is_no_number_and_what_is_estimated(office: Office, elm: Supplied, 
     tenancies = [elm.tenancy(f"A{number}", "2023-01-01", None) for number in (1, 2, 3)]
     office.sql("DELETE FROM day_values d USING fittings f, places p WHERE f.id = d.fitting AND p.id = f.place AND"
                " p.flat = 'A1' AND p.use = 'heat' AND day > '2025-01-20'")
-    office.sql("UPDATE day_values SET value = 5 WHERE day = '2025-01-20' AND fitting IN (SELECT f.id FROM fittings f JOIN"
-               " places p ON p.id = f.place WHERE p.flat = 'A2' AND p.use = 'heat')")
+    meter = office.sql("SELECT f.id FROM fittings f JOIN places p ON p.id = f.place WHERE p.flat = 'A2' AND p.use = 'heat'")[0][0]
+    office.sql("DELETE FROM day_values WHERE day = '2025-01-20' AND fitting = %s", meter)
+    elm.values(meter, {"2025-01-20": 5})
     elm.month("2025-01")
     written(office, tmp_path, "--pdf", "none")
     cells = [checked(sheet_of(office, tmp_path, it).read_text(encoding="utf-8")).cells for it in tenancies]
@@ -287,5 +295,6 @@ def test_allocators_and_missing_factors(office: Office, tmp_path: pathlib.Path) 
 
 def test_a_folder_that_cannot_be_written(office: Office, elm: Supplied, tmp_path: pathlib.Path) -> None:
     (tmp_path / "houses").write_text("a file")
+    published(office)
     ended = office.run("sheets", "2025-01", "--out", str(tmp_path))
     assert ended.status == 3 and "houses" in ended.printed

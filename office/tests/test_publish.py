@@ -1,0 +1,231 @@
+"""office/publish: no number reaches a person but those that were computed again from the meters' telegrams."""
+
+import datetime
+import hashlib
+import html.parser
+import pathlib
+import re
+from typing import List, Optional, Set, Tuple
+
+import pytest
+from conftest import Office
+from supplied import ALLOCATOR, COLD, HEAT, WATER, Supplied, at
+from test_schema import refused
+from test_sheets import published, sheet_of
+
+from catalogue import Catalogue
+
+GAS = "03"
+SINCE = at("2023-12-01T00:00")
+DATES = (r"\d{2}\.\d{2}\.\d{4}(, \d{2}:\d{2})?", r"\d{1,2} [A-Z][a-z]{2} \d{4}(, \d{2}:\d{2})?", r"\b20\d{2}\b", r"\d+ (von|of) \d+ (Tagen|days)")
+NAMES = (r"\d{8}\.PAD\.01\.\d{2}", r"Elm Street 1", r"\bA\d\b", r"(Messstelle|Place) \d", r"CO2", r"elm-\d", r"kg CO2")
+NUMBER = re.compile(r"\d[\d.,]*")
+
+
+class Text(html.parser.HTMLParser):
+    """What a reader sees of a page."""
+
+    def __init__(self, text: str) -> None:
+        super().__init__(convert_charrefs=True)
+        self.seen: List[str] = []
+        self.is_style = False
+        self.feed(text)
+        self.close()
+
+    def handle_starttag(self, tag: str, attrs: List[Tuple[str, Optional[str]]]) -> None:
+        self.is_style = tag == "style"
+
+    def handle_data(self, data: str) -> None:
+        if not self.is_style:
+            self.seen.append(data.strip())
+
+
+def digits_of(page: str, audit: int) -> Set[str]:
+    """The numbers of a page that are in no date, address or identity."""
+    found: Set[str] = set()
+    for text in Text(page).seen:
+        for pattern in (*DATES, *NAMES, rf"(Prüfung|audit) {audit}"):
+            text = re.sub(pattern, " ", text)
+        found |= {number.rstrip(".,") for number in NUMBER.findall(text)}
+    return found
+
+
+@pytest.fixture
+def elm(office: Office) -> Supplied:
+    """Three flats with heat, allocators, and water of one; a move in mid-month."""
+    made = Supplied(office)
+    for number in (1, 2, 3):
+        for first, days in (("2023-12-29", 40), ("2024-11-25", 75)):
+            if first == "2023-12-29":
+                heat = made.meter(number, HEAT, f"A{number}", since=SINCE)
+            made.days(heat, first, days, 1_000_000 if days == 40 else 5_000_000, 11_234 * number)
+        made.days(made.meter(10 + number, ALLOCATOR, f"A{number}", since=SINCE), "2024-11-25", 75, 0, 3, "HCA")
+    made.values(made.meter(20, WATER, "A1", since=SINCE), {"2024-12-31": "22.5", "2025-01-31": 26, "2025-02-01": 26}, "m3")
+    office.sql("UPDATE places SET weight = 1.7 WHERE use = 'allocator'")
+    office.sql("INSERT INTO factors (house, use, months, kwh_per_unit) VALUES ('elm-1', 'warm water', '[2023-01-01,)', 52.25)")
+    office.sql("UPDATE houses SET co2_g_per_kwh = 201.5, shows_costs = true, postcode = '10115'")
+    office.sql("INSERT INTO prices (house, use, months, unit, cents) VALUES ('elm-1', 'heat', '[2025-01-01,)', 'kWh', 11.45)")
+    office.sql("INSERT INTO degree_days VALUES ('10115', '2024-01-01', 500, 'DWD'), ('10115', '2025-01-01', 400, 'DWD')")
+    return made
+
+
+def computed(elm: Supplied) -> None:
+    for month in ("2024-01", "2024-12", "2025-01"):
+        elm.month(month)
+
+
+def test_each_digit_was_accepted(office: Office, elm: Supplied, tmp_path: pathlib.Path) -> None:
+    """Of all sheets and the house's page, in both languages: a number is published, or a date, an address or an identity."""
+    tenancies = [elm.tenancy("A1", "2023-01-01", None), elm.tenancy("A2", "2023-01-01", "2025-01-11", language="en"),
+                 elm.tenancy("A2", "2025-01-11", None), elm.tenancy("A3", "2023-01-01", None, language="en")]
+    computed(elm)
+    published(office, "2024-12")
+    published(office)
+    assert office.run("sheets", "2025-01", "--out", str(tmp_path), "--pdf", "none", "--language", "en").status == 0
+    audit = office.sql("SELECT max(id) FROM audits")[0][0]
+    pages = [(sheet_of(office, tmp_path, it), office.sql("SELECT language FROM tenancies WHERE id = %s", it)[0][0], it) for it in tenancies]
+    for path, language, tenancy in (*pages, (tmp_path / "houses/elm-1.html", "en", None)):
+        words = Catalogue(language, "Europe/Berlin")
+        known = {words.printed(row[0].lstrip("-")) for row in office.sql(
+            "SELECT text FROM published WHERE tenancy IS NULL OR tenancy = %s UNION SELECT unnest(string_to_array(mark, ' ')) FROM published"
+            " WHERE key LIKE 'house %%'", tenancy)}
+        declared = {words.exact(row[0]) for row in office.sql("SELECT co2_g_per_kwh FROM houses")}
+        digits = digits_of(path.read_text(encoding="utf-8").replace("10115", ""), audit)
+        assert len(digits) > 10 and digits <= known | declared | {"1"}, (path, digits - known)  # "1 m³ = .."
+    text = pages[0][0].read_text(encoding="utf-8")
+    assert f"Aus den Telegrammen der Zähler nachgerechnet (Prüfung {audit})." in text and "€" in text and "kg CO2" in text
+    assert f"Computed again from the meters&#39; telegrams (audit {audit})." in pages[1][0].read_text(encoding="utf-8")
+
+
+def test_what_is_stored(office: Office, elm: Supplied, tmp_path: pathlib.Path) -> None:
+    """The file, its hash, the program and its hash; the file lies beside the sheets; the same numbers are one audit."""
+    elm.tenancy("A1", "2023-01-01", None)
+    computed(elm)
+    published(office)
+    published(office)
+    file, sha256, program, program_sha256, says = office.sql("SELECT file, sha256, program, program_sha256, says FROM audits")[0]
+    assert hashlib.sha256(bytes(file)).hexdigest() == sha256 and program == "fake_mbdc 0" and len(program_sha256) == 64
+    assert says.startswith("numbers ") and "differ 0" in says and "refused 0" in says
+    assert office.run("sheets", "2025-01", "--out", str(tmp_path), "--pdf", "none").status == 0
+    assert (tmp_path / "audits/elm-1/2025-01.audit").read_bytes() == bytes(file)
+    assert office.sql("SELECT DISTINCT s.audit = a.id FROM sheets s, audits a") == [(True,)]
+    lines = bytes(file).decode().splitlines()
+    assert lines[0] == "audit,1,2025-01" and lines[-1] == "end" and sum(line.startswith("span,") for line in lines) == 3
+    elm.month("2025-01")  # computed anew: what was accepted says nothing of it
+    assert office.run("sheets", "2025-01", "--out", str(tmp_path), "--pdf", "none").status == 5
+    assert office.sql("SELECT count(*) FROM audits_now") == [(0,)]
+
+
+def test_a_house_that_is_refused(office: Office, elm: Supplied, tmp_path: pathlib.Path) -> None:
+    """A telegram that doesn't show what the database has: no sheets of that house, an item, and the others go on."""
+    oak = Supplied(office, "oak-2")
+    oak.days(oak.meter(40, HEAT, "B1"), "2024-12-25", 60, 1000, 10)
+    elm.tenancy("A1", "2023-01-01", None)
+    oak.tenancy("B1", "2024-01-01", None)
+    computed(elm)
+    assert office.run("month", "2025-01", "--house", "oak-2").status == 0
+    assert office.run("sheets", "2025-01", "--out", str(tmp_path), "--pdf", "none").status == 5 and not list(tmp_path.glob("sheets/*/*"))
+    body = office.sql("SELECT r.bodies[1] FROM readings r JOIN day_values d ON (d.month, d.box, d.serial) = (r.month, r.box, r.serial)"
+                      " WHERE d.day = '2025-01-31' AND r.identity = '00000001.PAD.01.04'")[0][0]
+    wrong = bytes(body)[:-8] + (int.from_bytes(bytes(body)[-8:], "little") + 1000).to_bytes(8, "little")
+    office.sql("UPDATE readings SET bodies = ARRAY[%s::bytea] WHERE bodies[1] = %s AND identity = '00000001.PAD.01.04'", wrong, bytes(body))
+    ended = office.run("publish", "-", "2025-01")
+    assert ended.status == 5 and "2025-01 elm-1: refused: DIFFERS line" in ended.printed and "1 published, 1 refused" in ended.printed
+    assert office.sql("SELECT DISTINCT house FROM audits") == office.sql("SELECT DISTINCT house FROM published") == [("oak-2",)]
+    ended = office.run("sheets", "2025-01", "--out", str(tmp_path), "--pdf", "none", "--release")
+    assert ended.status == 5 and "no audit of 2025-01 (office/publish): elm-1" in ended.printed
+    assert [path.name for path in tmp_path.glob("houses/*")] == ["oak-2.html"] and len(list(tmp_path.glob("sheets/*/*"))) == 1
+    assert office.sql("SELECT house FROM versions WHERE out_at IS NOT NULL") == [("oak-2",)]
+    moment = datetime.datetime(2025, 2, 3, tzinfo=datetime.timezone.utc).isoformat()
+    assert "NEW audit elm-1 2025-01: The audit refused the numbers: 2025-01: DIFFERS" in office.run("alarms", "--at", moment).printed
+    assert office.sql("SELECT waits FROM morning WHERE kind = 'audit'") == [(1,)]
+    office.sql("UPDATE readings SET bodies = ARRAY[%s::bytea] WHERE bodies[1] = %s", bytes(body), wrong)
+    published(office)
+    assert "END audit elm-1 2025-01" in office.run("alarms", "--at", moment).printed
+
+
+def test_nothing_goes_out_without_an_audit(office: Office, elm: Supplied) -> None:
+    tenancy = elm.tenancy("A1", "2023-01-01", None)
+    computed(elm)
+    for query in ("SELECT release_month('elm-1', '2025-01-01')", "SELECT release_bill('elm-1', '[2025-01-01,2025-02-01)')",
+                  f"INSERT INTO sheets (tenancy, month, form, path, sha256) VALUES ({tenancy}, '2025-01-01', 'html', 'x', 'x')"):
+        assert "has no audit" in refused(office, query), query
+    assert office.run("bill", "elm-1", "2025-01").status == 5
+    published(office)
+    for query in ("UPDATE audits SET says = 'numbers 1, differ 0, refused 0,'", "DELETE FROM audits", "UPDATE audits SET file = 'x'"):
+        assert "is made" in refused(office, query), query
+
+
+def test_a_draft_says_so(office: Office, elm: Supplied, tmp_path: pathlib.Path) -> None:
+    """What isn't audited has a word at each number, in a folder of its own, and is noted nowhere."""
+    elm.tenancy("A1", "2023-01-01", None, language="en")
+    computed(elm)
+    assert office.run("sheets", "2025-01", "--out", str(tmp_path), "--pdf", "none", "--draft").status == 0
+    (page,) = tmp_path.glob("drafts/sheets/*/2025-01.html")
+    text = page.read_text(encoding="utf-8")
+    assert "Draft: not audited" in text and text.count("DRAFT") >= 3 and "348.3" in text and "(audit" not in text
+    assert not (tmp_path / "sheets").exists() and office.sql("SELECT count(*) FROM sheets") == [(0,)]
+    ended = office.run("bill", "elm-1", "2025-01", "--draft")
+    assert ended.printed.count("DRAFT measured") == 7 == len(ended.printed.splitlines()) - 1
+
+
+def exchanged(office: Office, elm: Supplied, number: int, moment: datetime.datetime, last: int) -> int:
+    """A meter of heat is exchanged; returns the new one's fitting."""
+    office.sql("UPDATE meters SET identity = %s WHERE identity = %s", f"0000009{number}.PAD.01.04", f"0000000{number}.PAD.01.04")
+    old, new = (office.sql("SELECT id FROM fittings WHERE identity = %s", f"000000{it}{number}.PAD.01.04")[0][0] for it in "09")
+    office.sql("UPDATE fittings SET during = tstzrange(lower(during), %s), unit = 'Wh', last_value = %s WHERE id = %s", moment, last, old)
+    office.sql("UPDATE fittings SET during = tstzrange(%s, NULL), unit = 'Wh', first_value = 3 WHERE id = %s", moment, new)
+    office.sql("DELETE FROM day_values WHERE fitting = %s AND at > %s", old, moment)
+    return int(new)
+
+
+def test_the_audit_accepts(office: Office, elm: Supplied) -> None:
+    """A house with everything that decides a number: an exchange, a turn, a restart, a move, what people read, an estimate, gaps,
+    a fall, an error, factors, weights, joules, a place without a value. Nothing but the audit looks at the numbers here."""
+    for flat, since, until in (("A1", "2023-01-01", None), ("A2", "2023-01-01", "2025-01-11"), ("A2", "2025-01-11", None), ("A3", "2023-01-01", None)):
+        elm.tenancy(flat, since, until)
+    office.sql("UPDATE prices SET cents = 991.37")
+    new = exchanged(office, elm, 1, at("2025-01-15T11:00"), 5_580_000)
+    elm.days(new, "2025-01-15", 25, 40, 9_876)
+    turning = elm.meter(50, HEAT, "A4", area=77, since=SINCE)
+    elm.values(turning, {"2024-12-30": 9_999_000, "2024-12-31": 9_999_900, "2025-01-20": 800, "2025-01-31": 1700, "2025-02-01": 1800})
+    office.sql("UPDATE fittings SET size = 36000000000000 WHERE id = %s", turning)
+    allocator = elm.meter(51, ALLOCATOR, "A1", since=SINCE)
+    elm.values(allocator, {"2024-12-01": 850, "2024-12-30": 900, "2024-12-31": 903, "2025-01-02": 4, "2025-01-31": 85, "2025-02-01": 86}, "HCA")
+    office.sql("INSERT INTO restarts (fitting, at, last, first, unit, why) VALUES (%s, %s, 903, 0, 'HCA', 'due date')", allocator, at("2025-01-01T00:00"))
+    office.sql("UPDATE places SET weight = 0.55 WHERE id = (SELECT place FROM fittings WHERE id = %s)", allocator)
+    office.sql("INSERT INTO factors (house, use, months, kwh_per_unit) VALUES ('elm-1', 'allocator', '[2024-12-01,)', 1.234567)")
+    for number, joules in ((52, 48_000), (60, 48_000), (61, 84_000)):  # 0.05 kWh together
+        elm.values(elm.meter(number, HEAT, "A5", area=33, since=SINCE), {"2024-12-31": 0, "2025-01-31": joules, "2025-02-01": joules}, "J")
+    falling = elm.meter(53, COLD, "A1", since=SINCE)
+    elm.values(falling, {"2024-12-31": 90, "2025-01-15": 9, "2025-01-31": 99, "2025-02-01": 100}, "m3")
+    for flat, number, read in (("A2", 54, "2025-01-31"), ("A3", 55, "2025-02-03")):
+        cold = elm.meter(number, COLD, flat, since=SINCE)
+        elm.values(cold, {"2024-12-30": 11, "2024-12-31": "12.345", "2025-02-04": 20}, "m3")
+        office.sql("SELECT put_value(%s, %s, 17.5, 'm3', 'read by the caretaker')", cold, read)
+    beside = elm.meter(59, COLD, "A2", since=SINCE)  # two meters of one use, of which a person read one
+    elm.values(beside, {"2024-12-31": 1, "2025-01-10": "2.345", "2025-01-31": "3.456", "2025-02-01": 4}, "m3")
+    elm.meter(56, GAS, "A3", since=SINCE)  # nothing was ever read
+    missing = elm.meter(57, WATER, "A2", since=SINCE)
+    elm.values(missing, {"2024-12-31": 5, "2025-01-29": 7, "2025-01-30": "7.1"}, "m3")
+    unclear = exchanged(office, elm, 3, at("2025-01-20T12:00"), 6_880_000)
+    office.sql("UPDATE fittings SET first_value = NULL WHERE id = %s", unclear)
+    elm.days(unclear, "2025-01-20", 20, 10, 30_000)
+    reads = elm.meter(58, COLD, "A4", area=77, since=SINCE)
+    for day, litres in (("2024-12-30", 1.5), ("2024-12-31", 2.5), ("2025-01-30", 7.125), ("2025-01-31", 7.25), ("2025-02-01", 8)):
+        elm.reads(reads, at(f"{day}T20:00"), litres)
+    elm.reads(reads, at("2025-01-31T22:00"), 99, status=8)  # an error: it doesn't count
+    assert office.run("close").status == 0
+    computed(elm)
+    for month in ("2024-01", "2024-12"):
+        published(office, month)
+    assert office.run("estimate", "2025-01").status == 0
+    published(office)
+    published(office, "2025-01", "--bill")
+    published(office, "2024-12-01..2025-01-31", "--bill")
+    marks = {row[0] for row in office.sql("SELECT DISTINCT mark FROM published")}
+    wanted = {"measured", "hand", "estimated", "disturbed", "missing", "unclear", "average", "change", "cost", "carbon", "weather"}
+    assert not wanted - marks, wanted - marks
+    lines = b"".join(bytes(row[0]) for row in office.sql("SELECT file FROM audits")).decode()
+    for kind in ("read", "stored", "hand", "estimated", "first", "last", "struck", "ended", "zero", "value", "of_flat", "of_house", "mean"):
+        assert f"\n{kind}," in lines or kind == "struck", kind
