@@ -6,7 +6,7 @@ use dc_change::{Command, parse_number};
 use dc_files::{Host, Journal};
 use dc_io::{Bytes, CHUNK, MOST, ReadSource, first_line, read_input, room};
 use dc_poll::Event;
-use dc_poll::events::{Notes, put_command_note, put_note};
+use dc_poll::events::{Notes, put_command_note, put_note, put_object};
 use dc_register::House;
 use std::alloc::Global;
 use std::fs::File;
@@ -89,8 +89,11 @@ impl<R: Files<File = File> + Clock + Eprint + AllocGlobal> Notes for PollNotes<'
             Some(flat) => flat.as_slice(),
             None => b"".as_slice(),
         };
+        let mut object = Bytes::new(alloc);
         let mut line = Bytes::new(alloc);
-        if put_note(alloc, &mut line, at.seconds, flat, event).is_ok() {
+        if put_object(&mut object, event).is_ok()
+            && put_note(&mut line, at.seconds, flat, object.as_slice()).is_ok()
+        {
             self.lines.append(line.as_slice());
         }
     }

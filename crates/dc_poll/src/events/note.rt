@@ -3,12 +3,10 @@
 ghost use Rattle.std.specs.Prelude.{drop};
 ghost use Rattle.dc_io.specs.Written.{Wrote};
 ghost use Rattle.dc_poll.specs.Note.{command_note, flat_field, note_of};
-ghost use Rattle.dc_poll.specs.Object.{object_of};
 
 use crate::Event;
-use crate::events::objects::{put_field, put_object, put_text_field};
-use dc_io::{Bytes, IoFault, Sink};
-use std::alloc::Allocator;
+use crate::events::objects::{put_field, put_text_field};
+use dc_io::{IoFault, Sink};
 
 /// Takes the events of a poll beside its output. What becomes of them changes nothing of the poll.
 pub trait Notes {
@@ -16,21 +14,16 @@ pub trait Notes {
     fn note(&mut self, event: &Event<'_>);
 }
 
-/// Writes the journal's line of an event at this second since 1970, of a meter in this flat; an empty flat is left out.
+/// Writes the journal's line of an event with this object ([`put_object`](crate::events::put_object)), at this second since
+/// 1970, of a meter in this flat; an empty flat is left out.
 #[tactic(auto, using(dc_io::proofs::Pieces::written), unfolding(crate::specs::Note::note_of))]
-pub fn put_note<A: Allocator + Copy, W: Sink>(
-    alloc: A,
-    out: &mut W,
-    at: u64,
-    flat: &[u8],
-    event: &Event<'_>,
-) -> Result<(), IoFault>
-    ensures { Wrote W.Sink result out.old out.new (note_of at flat.now event.now) }
+pub fn put_note<W: Sink>(out: &mut W, at: u64, flat: &[u8], object: &[u8]) -> Result<(), IoFault>
+    ensures { Wrote W.Sink result out.old out.new (note_of at flat.now object.now) }
 {
     put_field(out, b"{\"at\":", at)?;
     put_flat(out, flat)?;
     out.put(b",")?;
-    put_members(alloc, out, event)
+    out.put(after_bracket(object))
 }
 
 #[tactic(auto, unfolding(crate::specs::Note::flat_field))]
@@ -44,22 +37,13 @@ fn put_flat<W: Sink>(out: &mut W, flat: &[u8]) -> Result<(), IoFault>
     }
 }
 
-// Writes the object of an event without the bracket that begins it.
-fn put_members<A: Allocator + Copy, W: Sink>(
-    alloc: A,
-    out: &mut W,
-    event: &Event<'_>,
-) -> Result<(), IoFault>
-    ensures { Wrote W.Sink result out.old out.new (drop 1 (object_of event.now)) }
+// An object without the bracket that begins it.
+fn after_bracket(object: &[u8]) -> &[u8]
+    ensures { result.now ≡ drop 1 object.now }
 {
-    let mut object = Bytes::new(alloc);
-    match put_object(&mut object, event) {
-        Ok(()) => {}
-        Err(IoFault) => return Err(IoFault),
-    }
-    match object.as_slice() {
-        [] => Ok(()),
-        [_, members @ ..] => out.put(members),
+    match object {
+        [] => object,
+        [_, members @ ..] => members,
     }
 }
 
