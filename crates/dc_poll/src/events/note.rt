@@ -1,6 +1,6 @@
 //! The lines of an image's journal: the events of a poll, and the commands that were done.
 
-ghost use Rattle.std.specs.Prelude.{drop};
+ghost use Rattle.std.specs.Prelude.{◌≡◌, drop};
 ghost use Rattle.dc_io.specs.Written.{Wrote};
 ghost use Rattle.dc_poll.specs.Note.{command_note, flat_field, note_of};
 
