@@ -100,7 +100,7 @@ def test_heat_and_cooling(office: Office, elm: Supplied) -> None:
     assert office.sql("SELECT value::float FROM day_values") == [(1000.0,)]
     assert told(office, "no use") == ["NEW no use elm-1 00000001.PAD.01.0D: Which register counts? (flat A1): The meter sends two energies, heat and"
                                        " cold."]
-    office.sql("SELECT decide_use('elm-1', '00000001.PAD.01.0D', 'heat', '06')")
+    office.sql("SELECT decide_use('elm-1', '00000001.PAD.01.0D', 'heat', '03')")
     office.sql("SELECT decide_use('elm-1', '00000001.PAD.01.0D', 'cooling', '863C')")
     office.sql("UPDATE fittings SET during = '[2024-01-01Z,)'")
     assert office.run("close").status == 0
