@@ -25,6 +25,9 @@ pub fn in_order<R: Eprint + AllocGlobal>(
     house: Option<&House<Global>>,
 ) -> Result<Vec<u8>, AllocError> {
     let alloc = rt.alloc();
+    if list.is_empty() {
+        return Ok(list);
+    }
     let (header, rows) = first_line(list.as_slice());
     let Some(columns) = columns_of(alloc, header)? else {
         return Ok(list);
@@ -33,7 +36,10 @@ pub fn in_order<R: Eprint + AllocGlobal>(
     let mut lines = Vec::new(alloc);
     lines.extend_from_slice(b"meter,line,address,flat\n")?;
     let mut rest = rows;
-    while !rest.is_empty() {
+    for _ in 0..rows.len() {
+        if rest.is_empty() {
+            break;
+        }
         let (line, after) = first_line(rest);
         if columns.is_same && !needs_change(&columns, line) {
             lines.extend_from_slice(line)?;

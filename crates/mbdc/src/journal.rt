@@ -184,7 +184,10 @@ where
 {
     let mut journal = Lines::new(host.rt, image);
     let mut rest = printed.lines.as_slice();
-    while !rest.is_empty() {
+    for _ in 0..rest.len() {
+        if rest.is_empty() {
+            break;
+        }
         let (line, after) = first_line(rest);
         note_command(&mut journal, after_row(line));
         rest = after;
@@ -229,7 +232,10 @@ where
     let mut journal = Lines::new(host.rt, image);
     let mut rest = lines.as_slice();
     let mut answers = printed.lines.as_slice();
-    while !rest.is_empty() {
+    for _ in 0..rest.len() {
+        if rest.is_empty() {
+            break;
+        }
         let (line, after) = first_line(rest);
         rest = after;
         if let Some(line) = line.strip_prefix(OFFICE)
@@ -245,7 +251,10 @@ where
 // What was printed after the `OK` of that command, if it was.
 fn after_answer(printed: &[u8], number: u64) -> Option<&[u8]> {
     let mut rest = printed;
-    while !rest.is_empty() {
+    for _ in 0..printed.len() {
+        if rest.is_empty() {
+            break;
+        }
         let (line, after) = first_line(rest);
         if let Some(word) = line.strip_prefix(OK)
             && parse_number(word) == Some(number)
