@@ -7,6 +7,7 @@ from typing import List
 
 import pytest
 from conftest import OFFICE, Office, Server
+from test_schema import refused
 
 from box_commands import BOX_COMMANDS
 
@@ -93,6 +94,26 @@ def test_a_second_call_does_nothing(office: Office) -> None:
 def test_step_by_step(older: Office) -> None:
     for version, told in TOLD.items():
         assert migrate(older, "--to", str(version)).stdout == told
+
+
+def test_what_went_out_before_there_were_audits(older: Office) -> None:
+    """It stays, and is still sent; what goes out since has its audit."""
+    assert migrate(older, "--to", "23").returncode == 0
+    older.sql("INSERT INTO houses (house, address) VALUES ('elm', 'Elm Street 1')")
+    older.sql("INSERT INTO flats (house, flat) VALUES ('elm', 'A1')")
+    older.sql("INSERT INTO tenancies (house, flat, days, person) VALUES ('elm', 'A1', '[2025-01-01,)', 'A. Person')")
+    older.sql("INSERT INTO sheets (tenancy, month, form, path, sha256) SELECT id, '2025-01-01', 'html', 'x', repeat('0', 64) FROM tenancies")
+    older.sql("INSERT INTO versions (house, month, version, why, out_at) VALUES ('elm', '2025-01-01', 1, 'first', now())")
+    older.sql("INSERT INTO versions (house, month, version, why) VALUES ('elm', '2025-01-01', 2, 'late')")
+    older.sql("INSERT INTO bills (house, days, version, why, out_at) VALUES ('elm', '[2025-01-01,2025-02-01)', 1, 'first', now())")
+    assert migrate(older).returncode == 0
+    assert older.sql("UPDATE sheets SET sent_at = now() RETURNING is_before_audits") == [(True,)]
+    assert older.sql("SELECT version, is_before_audits FROM versions ORDER BY 1") == [(1, True), (2, False)]
+    for query in ("UPDATE versions SET out_at = now() WHERE version = 2", "UPDATE sheets SET is_before_audits = false",
+                  "INSERT INTO sheets (tenancy, month, form, path, sha256) SELECT id, '2025-01-01', 'pdf', 'x', repeat('0', 64) FROM tenancies",
+                  "INSERT INTO bills (house, days, version, why, out_at) VALUES ('elm', '[2025-01-01,2025-02-01)', 2, 'late', now())"):
+        assert '"has_an_audit"' in refused(older, query), query
+    assert "permission denied" in refused(older, "UPDATE sheets SET is_before_audits = true", role="clerk")
 
 
 def test_a_migration_that_fails_leaves_the_version_before_it(older: Office) -> None:

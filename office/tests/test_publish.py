@@ -149,7 +149,7 @@ def test_nothing_goes_out_without_an_audit(office: Office, elm: Supplied) -> Non
     computed(elm)
     for query in ("SELECT release_month('elm-1', '2025-01-01')", "SELECT release_bill('elm-1', '[2025-01-01,2025-02-01)')",
                   f"INSERT INTO sheets (tenancy, month, form, path, sha256) VALUES ({tenancy}, '2025-01-01', 'html', 'x', 'x')"):
-        assert "has no audit" in refused(office, query), query
+        assert '"has_an_audit"' in refused(office, query), query
     assert office.run("bill", "elm-1", "2025-01").status == 5
     published(office)
     for query in ("UPDATE audits SET says = 'numbers 1, differ 0, refused 0,'", "DELETE FROM audits", "UPDATE audits SET file = 'x'"):
