@@ -11,7 +11,7 @@ from psycopg2.extras import DateRange
 from consumption import NotComputed
 from database import Cursor, Database, one
 from exporting import (File, Part, Readings, Window, Writer, bodies_of, evidence_at, plain_number, span_line, struck_of,
-                       user_lines)
+                       use_lines, user_lines)
 from grading import PROVISIONAL, Graded, Period, around
 from months import Split, differences, graded_periods, kept_month, lock, splits_of
 from periods import begin_of, later_month
@@ -152,7 +152,7 @@ def bill_file(cursor: Cursor, house: str, days: DateRange) -> File:
     begins, ends = seconds(begin_of(days.lower, zone)), seconds(begin_of(days.upper, zone))
     windows = [window_of(it, begins, ends) for it in places]
     writer = Writer(bodies_of(cursor, windows), struck_of(cursor, house, begins, ends))
-    writer.lines += [f"audit,1,{days.lower:%Y-%m}", span_line(1, days.lower, days.upper, zone),
+    writer.lines += [f"audit,1,{days.lower:%Y-%m}", span_line(1, days.lower, days.upper, zone), *use_lines(cursor, {it.use for it in windows}),
                      *user_lines(cursor, house, windows, days.lower, days.upper)]
     for place, window in zip(places, windows):
         numbers = [line for period, row in zip(place.periods, place.rows) for line in number_lines(period, row)]

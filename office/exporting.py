@@ -7,7 +7,7 @@ A file lists a place once for each month (span): the meters and what is known of
 import datetime
 import decimal
 import zoneinfo
-from typing import Any, Dict, Iterable, List, NamedTuple, Optional, Sequence, Tuple
+from typing import Any, Dict, Iterable, List, NamedTuple, Optional, Sequence, Set, Tuple
 
 from consumption import Line
 from database import Cursor, plain
@@ -15,7 +15,7 @@ from drafts import AUDIT_UNITS, Draft, Spans, of_house, of_sheet, printed_readin
 from house_data import House, house_of
 from periods import begin_of, later_month, next_month
 from published import reading_key, use_key
-from sheet_data import Averages, Sheet, declared_average, sheets_of
+from sheet_data import ENERGY, Averages, Sheet, declared_average, sheets_of
 from sheet_facts import facts_of
 from supply import BY_HAND, DUE_DATE, ENDED, ESTIMATED, FITTED, REMOVED, RESTARTED, RUNS, Entry, Run, seconds
 
@@ -40,6 +40,7 @@ WHERE f.house = %s AND d.struck_at IS NOT NULL AND d.at BETWEEN %s AND %s ORDER 
 BODIES = """
 SELECT month::text, box, serial, bodies FROM readings WHERE (month, box, serial) IN (SELECT k.month::date, k.box, k.serial
 FROM unnest(%s::text[], %s::text[], %s::bigint[]) AS k (month, box, serial))"""
+USES = "SELECT use, CASE quantity WHEN 'allocation' THEN 'units' ELSE quantity END FROM uses WHERE use = ANY (%s) ORDER BY position, use"
 FACTORS = "SELECT use, kwh_per_unit FROM factors WHERE house = %s AND months @> %s ORDER BY use"
 DEGREES = "SELECT d.days FROM degree_days d JOIN houses h ON h.postcode = d.postcode WHERE (h.house, d.month) = (%s, %s)"
 
@@ -256,7 +257,8 @@ def month_file(cursor: Cursor, house: str, month: datetime.date, averages: Avera
     spans = {one: number for number, one in enumerate(sorted(months, reverse=True), 1)}
     drafts, readings, declared, published = numbers_of(cursor, page, sheets_of(cursor, [house], month, averages), spans, averages)
     writer = Writer(bodies, struck_of(cursor, house, min(it[0].begins for it in windows.values()), max(it[0].ends for it in windows.values())))
-    writer.lines += [f"audit,1,{month:%Y-%m}", *(span_line(number, one, next_month(one), page.zone) for one, number in spans.items())]
+    writer.lines += [f"audit,1,{month:%Y-%m}", *(span_line(number, one, next_month(one), page.zone) for one, number in spans.items()),
+                     *use_lines(cursor, {it.use for one in spans for it in windows[one]} | {key[1] for key in declared})]
     writer.lines += [f"{','.join(key)},{text}" for key, text in declared.items()]
     writer.lines += user_lines(cursor, house, [it for one in spans for it in windows[one]], min(spans), next_month(month))
     of_places: Dict[str, List[str]] = {}
@@ -281,7 +283,8 @@ class Numbers(NamedTuple):
 def numbers_of(cursor: Cursor, page: House, sheets: List[Sheet], spans: Spans, averages: Averages) -> Numbers:
     """The numbers as the office has them, before they are judged."""
     declared = declared_of(cursor, page, spans, sheets, averages)
-    drafts = [it for sheet in sheets for it in of_sheet(sheet, spans) if is_defined(it, declared)]
+    energies = {use.use for sheet in sheets for use in sheet.uses if use.quantity == ENERGY}
+    drafts = [it for sheet in sheets for it in of_sheet(sheet, spans) if is_defined(it, declared, energies)]
     drafts += of_house(page, facts_of(cursor, [page.house], page.month, [])[page.house].held, spans[page.month])
     readings = readings_of(sheets, page)
     published = [(it.tenancy, it.key, it.text, it.mark) for it in drafts]
@@ -315,11 +318,16 @@ def declared_of(cursor: Cursor, page: House, spans: Spans, sheets: List[Sheet], 
     return found
 
 
-def is_defined(draft: Draft, declared: Declared) -> bool:
+def is_defined(draft: Draft, declared: Declared, energies: Set[str]) -> bool:
     """Whether the factor of a number in kWh is known in its month."""
     kind, span, *rest = draft.line.split(",")
-    is_energy = kind != "of_user" or rest[2] != "kWh" or rest[1] in ("heat", "cooling", "electricity")
-    return is_energy or ("factor", rest[1], span) in declared
+    return kind != "of_user" or rest[2] != "kWh" or rest[1] in energies or ("factor", rest[1], span) in declared
+
+
+def use_lines(cursor: Cursor, uses: Set[str]) -> List[str]:
+    """What each of these uses counts."""
+    cursor.execute(USES, (list(uses),))
+    return [f"use,{use},{quantity}" for use, quantity in cursor]
 
 
 def user_lines(cursor: Cursor, house: str, windows: List[Window], first: datetime.date, after: datetime.date) -> List[str]:

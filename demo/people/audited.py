@@ -14,28 +14,17 @@ from world.frames import bcd, type_g
 DAY = datetime.timedelta(days=1)
 OFFSETS = ("60", "120", "0", "-300")
 USES = {"heat": ("energy", (0x03, 0x06, 0x0E)), "cooling": ("energy", (0x05,)), "warm water": ("volume", (0x13, 0x14)),
-        "cold water": ("volume", (0x13, 0x16)), "gas": ("volume", (0x14,)), "allocator": ("allocation", (0x6E,)), "electricity": ("energy", (0x03, 0x04))}
+        "cold water": ("volume", (0x13, 0x16)), "gas": ("volume", (0x14,)), "allocator": ("units", (0x6E,)), "electricity": ("energy", (0x03, 0x04))}
 DIGIT = {0x03: 3_600_000, 0x04: 36_000_000, 0x05: 360_000_000, 0x06: 3_600_000_000, 0x0E: 10**9, 0x13: 1000, 0x14: 10_000, 0x16: 10**6, 0x6E: 1000}
-HAND_UNITS = {"energy": ("Wh", 3_600_000), "volume": ("m3", 10**6), "allocation": ("HCA", 1000)}
-UNITS = {"energy": ("kWh",), "volume": ("m3",), "allocation": ("HCA", "count")}
+HAND_UNITS = {"energy": ("Wh", 3_600_000), "volume": ("m3", 10**6), "units": ("HCA", 1000)}
+UNITS = {"energy": ("kWh",), "volume": ("m3",), "units": ("HCA", "count")}
 SIZE = 10**8  # digits that a counter shows
 
 
-class Number(NamedTuple):
-    """A number of a file that is yet to be computed: its line before and after it."""
+class Reading(NamedTuple):
+    """A reading that is printed as it is: its line before the text, and the unit."""
     head: str
-    decimals: int
-    has_mark: bool
-
-
-class Filled(Audit):
-    """Fills numbers in."""
-
-    computed = ""
-
-    def compare(self, name: str, published: str, computed: str, is_same: Optional[bool] = None) -> None:
-        super().compare(name, published, computed, is_same)
-        self.computed = computed
+    unit: str
 
 
 class Files:
@@ -58,6 +47,9 @@ class Files:
                 offsets = [rng.choice(OFFSETS)] * 2
             self.spans[number] = tuple(moment(day, offset) for day, offset in zip((month, after), offsets))
             self.add("span", number, month - DAY, offsets[0], after - DAY, offsets[1])
+        self.add("use", "hot air", "energy")
+        for use, (quantity, _) in USES.items():
+            self.add("use", use, quantity)
         self.facts()
         self.users: Dict[str, List[int]] = {f"{'AB'[n // 3]}{n % 3 + 1}": [] for n in range(rng.choice((1, 3, 5, 6)))}
         number = 0
@@ -99,7 +91,7 @@ class Files:
         rng, (quantity, vifs) = self.rng, USES[use]
         self.quantity, self.vif = quantity, rng.choice(vifs)
         self.step, self.unit = DIGIT[self.vif], ("J", 1000) if self.vif == 0x0E else HAND_UNITS[quantity]
-        self.add("place", number, flat, use, "1" if quantity != "allocation" else self.ratio(3))
+        self.add("place", number, flat, use, "1" if quantity != "units" else self.ratio(3))
         begins, ends = min(it[0] for it in self.spans.values()), max(it[1] for it in self.spans.values())
         self.runs: List[Dict[str, Any]] = []
         starts = [begins - 86_400 * rng.choice((20, 400)) if rng.random() < 0.95 else begins + 86_400 * rng.randint(1, 40)]
@@ -239,8 +231,8 @@ class Files:
 
     # ---- what is published
 
-    def number(self, *head: object, has_mark: bool = True) -> None:
-        self.lines.append(Number(",".join(map(str, head)), self.rng.choice((0, 1, 1, 2, 3)), has_mark))
+    def number(self, *head: object, tail: str = ",?") -> None:
+        self.lines.append(f"{','.join(map(str, head))},{self.rng.choice(('?', '?.0', '?.0', '?.00', '?.000'))}{tail}")
 
     def parts(self, span: int, flat: str) -> None:
         rng, (begins, ends) = self.rng, self.spans[span]
@@ -257,7 +249,7 @@ class Files:
         for _ in range(rng.randint(1, 3)):
             self.number("shown", span, *rng.choice(periods), rng.choice(units))
         for run, at in rng.sample(self.values, min(len(self.values), 2)):
-            self.lines.append((f"value,{run},{at}", self.unit[0]))
+            self.lines.append(Reading(f"value,{run},{at}", self.unit[0]))
 
     def totals(self, places: List[Tuple[str, str]]) -> None:
         rng = self.rng
@@ -273,17 +265,17 @@ class Files:
             elif kind == "of_flat":
                 self.number(kind, span, flat, use, unit)
             elif kind == "of_house":
-                self.number(kind, span, use, unit)
+                self.number(kind, span, use, unit, tail=",?,?")
             elif kind == "mean":
-                self.number(kind, span, user, use, unit, has_mark=False)
+                self.number(kind, span, user, use, unit, tail="")
             elif kind == "change":
-                self.number(kind, span, other, user, use, unit, has_mark=False)
+                self.number(kind, span, other, user, use, unit, tail="")
             elif kind == "cost" and self.has_price:
-                self.number(kind, span, user, use, UNITS[quantity][0], has_mark=False)
+                self.number(kind, span, user, use, UNITS[quantity][0], tail="")
             elif kind == "carbon" and is_kwh and self.has_price:
-                self.number(kind, span, user, use, has_mark=False)
+                self.number(kind, span, user, use, tail="")
             elif kind == "weather" and is_kwh:
-                self.number(kind, span, other, user, use, has_mark=False)
+                self.number(kind, span, other, user, use, tail="")
         self.add("end")
 
 
@@ -305,16 +297,10 @@ def rounded_exact(amount: int, smallest: int) -> str:
 
 def filled(lines: List[Any]) -> List[str]:
     """The lines with the numbers that the reference computes."""
-    audit, made = Filled(), []
+    audit, made = Audit(fills=True), []
     for line in lines:
-        if isinstance(line, tuple) and not isinstance(line, Number):
-            line = f"{line[0]},{rounded_value(audit, line[0], line[1])},{line[1]}"
-        if isinstance(line, Number):
-            guess = "0" if line.decimals == 0 else f"0.{'0' * line.decimals}"
-            line = number_line(audit, line, guess)
-        else:
-            audit.take(line)
-        made.append(line)
+        audit.take(f"{line.head},{rounded_value(audit, *line)},{line.unit}" if isinstance(line, Reading) else line)
+        made.append(audit.filled)
     return made
 
 
@@ -322,13 +308,6 @@ def rounded_value(audit: Audit, head: str, unit: str) -> str:
     _, run, at = head.split(",")
     found = [it.entry.value for it in audit.entries if (it.entry.meter, it.entry.moment) == (int(run), int(at))]
     return rounded_exact(found[0], SMALLEST[unit][1]) if found else "0"
-
-
-def number_line(audit: Filled, wanted: Number, guess: str) -> str:
-    kind = wanted.head.split(",")[0]
-    tail = {"of_house": ",0,0"}.get(kind, ",measured" if wanted.has_mark else "")
-    audit.take(f"{wanted.head},{guess}{tail}")
-    return f"{wanted.head},{audit.computed.replace(' ', ',')}"
 
 
 # ---- wrong files
@@ -452,7 +431,9 @@ EDITS: Dict[str, Edit] = {
     "another unit by hand": with_field(4, lambda text: "MWh" if text == "Wh" else "Wh", "hand", "estimated"),
     "another reading as printed": with_field(3, last_digit, "value"), "a reading of another moment": with_field(2, more(60), "value"),
     "a reading in another unit": with_field(4, lambda text: "kWh" if text == "Wh" else "HCA", "value"),
-    "another weight": with_field(4, lambda _: "1.7", "place"), "another use": with_field(3, lambda text: "gas" if text != "gas" else "heat", "place"),
+    "another weight": with_field(4, lambda _: "1.7", "place"), "another use": with_field(3, lambda text: "gas" if text != "gas" else "heat", "place"), "a use that isn't declared": with_field(3, lambda _: "tea", "place"),
+    "of another quantity": with_field(2, lambda text: "volume" if text != "volume" else "units", "use"), "no quantity": with_field(2, lambda _: "allocation", "use"),
+    "a use in capitals": with_field(1, str.upper, "use"), "a use twice": twice("use"), "without a use": without("use"),
     "another flat": with_field(2, lambda _: "A2", "place"), "another factor": with_field(-1, lambda _: "3.25", "factor"),
     "another price": with_field(-1, lambda _: "9.5", "price"), "another co2": with_field(-1, lambda _: "77", "co2"),
     "other degree days": with_field(-1, lambda _: "312.5", "degrees"), "another average": with_field(-1, lambda _: "4.25", "average"),

@@ -16,14 +16,12 @@ from fake_consumption import Entry, curve, steps_of
 
 FAULTS = ("Header", "Row", "Order", "Moment", "Part", "Unit", "Fact", "TooMany", "TooLarge", "End")
 HEADER, ROW, ORDER, MOMENT, PART, UNIT, FACT, TOO_MANY, TOO_LARGE, END = range(1, 11)
-SPANS, USERS, METERS, ENTRIES, PARTS, TOTALS = 4, 4096, 16, 2048, 64, 16384  # at most
+SPANS, USES, USERS, METERS, ENTRIES, PARTS, TOTALS = 4, 64, 4096, 16, 2048, 64, 16384  # at most
 LONGEST, DAY, NEAR = 4096, 86_400, 48 * 3600
 LARGEST = 10**18 - 1
-QUANTITIES = {"heat": "energy", "cooling": "energy", "electricity": "energy", "warm water": "volume", "cold water": "volume",
-              "gas": "volume", "allocator": "allocation"}
 SMALLEST = {"Wh": ("energy", 3_600_000), "kWh": ("energy", 3_600_000_000), "MWh": ("energy", 3_600_000_000_000),
-            "J": ("energy", 1000), "GJ": ("energy", 10**12), "m3": ("volume", 10**6), "HCA": ("allocation", 1000)}
-RATIOS = {"energy": 3_600_000_000, "volume": 10**6, "allocation": 1000}  # smallest units of kWh, m3 and an allocator's unit
+            "J": ("energy", 1000), "GJ": ("energy", 10**12), "m3": ("volume", 10**6), "HCA": ("units", 1000)}
+RATIOS = {"energy": 3_600_000_000, "volume": 10**6, "units": 1000}  # smallest units of kWh, m3 and an allocator's unit
 MARKS = ("measured", "hand", "provisional", "estimated", "unclear", "disturbed", "missing")
 NO_NUMBER = MARKS[4:]
 EMPTY, NOTHING = "missing", "-"
@@ -32,11 +30,13 @@ NUMBER, RATIO, WORD = "(?:0|[1-9][0-9]{0,17})", r"[0-9]{1,9}(?:\.[0-9]{1,6})?", 
 VALUE = r"(?=[0-9.]{1,19}$)[0-9]{1,18}(?:\.[0-9]{1,9})?"
 DATE, OFFSET = r"[0-9]{4}-[0-9]{2}-[0-9]{2}", "-?[0-9]{1,4}"
 MAYBE, HEX, HOW = f"{NUMBER}|-", "(?:[0-9A-Fa-f]{2})+", "hand|estimated"
-USE, TEXT, MARK = "|".join(QUANTITIES), r"-|-?(?:0|[1-9][0-9]{0,20})(?:\.[0-9]{1,3})?", "|".join(MARKS)
+USE, COUNT, QUANTITY = "[a-z0-9 -]{1,32}", f"(?:{NUMBER})", "|".join(RATIOS)
+TEXT, MARK = r"-|-?(?:0|[1-9][0-9]{0,20})(?:\.[0-9]{1,3})?", "|".join(MARKS)
+ASKED = {TEXT: rf"{TEXT}|\?(?:\.0{{1,3}})?", MARK: rf"{MARK}|\?", COUNT: rf"{COUNT}|\?"}  # where a number may be asked for
 AMOUNT_UNIT, VALUE_UNIT = "kWh|m3|HCA|count|smallest", "|".join(SMALLEST)
 IDENTITY = r"[0-9]{8}\.[A-Z]{3}\.[0-9A-F]{2}\.[0-9A-F]{2}"
 FORMS: Dict[str, Tuple[str, ...]] = {
-    "audit": ("1", WORD), "span": (NUMBER, DATE, OFFSET, DATE, OFFSET), "factor": (USE, NUMBER, RATIO), "co2": (USE, NUMBER, RATIO),
+    "audit": ("1", WORD), "span": (NUMBER, DATE, OFFSET, DATE, OFFSET), "use": (USE, QUANTITY), "factor": (USE, NUMBER, RATIO), "co2": (USE, NUMBER, RATIO),
     "degrees": ("-", NUMBER, RATIO), "price": (USE, AMOUNT_UNIT, NUMBER, RATIO), "average": (USE, AMOUNT_UNIT, NUMBER, RATIO),
     "user": (NUMBER, WORD, f"{RATIO}|-"), "place": (NUMBER, WORD, USE, RATIO),
     "meter": (NUMBER, IDENTITY, MAYBE, MAYBE, MAYBE, MAYBE, f"{HEX}|-"), "window": (NUMBER,),
@@ -45,12 +45,12 @@ FORMS: Dict[str, Tuple[str, ...]] = {
     "struck": (NUMBER, NUMBER, WORD), "ended": (NUMBER, DATE, OFFSET, HEX), "zero": (NUMBER,),
     "part": (NUMBER, NUMBER, NUMBER, MAYBE), "shown": (NUMBER, NUMBER, NUMBER, AMOUNT_UNIT, TEXT, MARK),
     "value": (NUMBER, NUMBER, VALUE, VALUE_UNIT), "totals": (), "of_user": (NUMBER, NUMBER, USE, AMOUNT_UNIT, TEXT, MARK),
-    "of_flat": (NUMBER, WORD, USE, AMOUNT_UNIT, TEXT, MARK), "of_house": (NUMBER, USE, AMOUNT_UNIT, TEXT, NUMBER, NUMBER),
+    "of_flat": (NUMBER, WORD, USE, AMOUNT_UNIT, TEXT, MARK), "of_house": (NUMBER, USE, AMOUNT_UNIT, TEXT, COUNT, COUNT),
     "mean": (NUMBER, NUMBER, USE, AMOUNT_UNIT, TEXT), "change": (NUMBER, NUMBER, NUMBER, USE, AMOUNT_UNIT, TEXT),
     "carbon": (NUMBER, NUMBER, USE, TEXT), "cost": (NUMBER, NUMBER, USE, AMOUNT_UNIT, TEXT), "weather": (NUMBER, NUMBER, NUMBER, USE, TEXT),
     "end": ()}
 MANY = ("read", "stored", "ended")  # with one body and more
-FACTS = ("span", "factor", "co2", "degrees", "price", "average", "user")
+FACTS = ("span", "use", "factor", "co2", "degrees", "price", "average", "user")
 VALUES = ("read", "stored", "hand", "estimated", "first", "last", "struck", "ended", "zero")
 NUMBERS = ("of_user", "of_flat", "of_house", "mean", "change", "carbon", "cost", "weather")
 CLOSED = ("window", "place", "totals")
@@ -179,7 +179,7 @@ def scaled(vib: bytes) -> Optional[Tuple[str, Fraction]]:
     if len(vib) == 1 and code <= 0x17 or len(vib) == 2 and code in (0x10, 0x11):
         return "volume", 10**6 * Fraction(10) ** (code - 0x16 if len(vib) == 1 else code - 0x10 + 2)
     if len(vib) == 1 and code == 0x6E:
-        return "allocation", Fraction(1000)
+        return "units", Fraction(1000)
     if len(vib) == 2 and code in (0x00, 0x01):
         return "energy", 3_600_000_000_000 * Fraction(10) ** (code - 1)
     return ("energy", 10**12 * Fraction(10) ** (code - 9)) if len(vib) == 2 and code in (0x08, 0x09) else None
@@ -284,9 +284,11 @@ def worst(marks: List[str]) -> str:
 
 
 class Audit:
-    """What is read of a file so far."""
+    """What is read of a file so far. Where it fills, a `?` is a number that is asked for."""
 
-    def __init__(self) -> None:
+    def __init__(self, fills: bool = False) -> None:
+        self.fills, self.filled = fills, ""  # the line with what was asked
+        self.uses: Dict[str, str] = {}
         self.line, self.kind, self.printed = 0, "", []  # type: int, str, List[str]
         self.counts = dict.fromkeys(("numbers", "differ", "readings", "refused", "by hand", "estimated", "struck", "places"), 0)
         self.spans: Dict[int, Tuple[int, int]] = {}
@@ -307,18 +309,20 @@ class Audit:
         if self.line == 1:
             if kind != "audit" or len(fields) != 2 or fields[0] != "1" or not fields[1]:
                 raise AtFault(HEADER)
-            self.kind = kind
+            self.kind, self.filled = kind, line
             return
         if self.kind == "end":
             raise AtFault(END)
         forms = FORMS.get(kind)
         if forms is None or kind == "audit" or len(line.encode()) > LONGEST:
             raise AtFault(ROW)
-        forms = forms + (HEX,) * (len(fields) - len(forms) if kind in MANY else 0)
-        if len(fields) != len(forms) or not all(re.fullmatch(form, field) for form, field in zip(forms, fields)):
+        forms, self.filled = forms + (HEX,) * (len(fields) - len(forms) if kind in MANY else 0), line
+        if len(fields) != len(forms) or not all(re.fullmatch(ASKED.get(form, form) if self.fills else form, field) for form, field in zip(forms, fields)):
             raise AtFault(ROW)
         if kind not in AFTER[self.kind]:
             raise AtFault(ORDER)
+        if kind != "use" and any(form == USE and field not in self.uses for form, field in zip(forms, fields)):
+            raise AtFault(FACT)
         if self.kind in ("window", *VALUES, "part", "shown", "value") and kind in CLOSED and self.until != self.limits()[1] and not self.is_empty():
             raise AtFault(PART)
         self.kind = kind
@@ -342,6 +346,13 @@ class Audit:
         if begins >= ends:
             raise AtFault(MOMENT)
         self.spans[int(number)] = begins, ends
+
+    def take_use(self, use: str, quantity: str) -> None:
+        if use in self.uses:
+            raise AtFault(FACT)
+        if len(self.uses) == USES:
+            raise AtFault(TOO_MANY)
+        self.uses[use] = quantity
 
     def take_fact(self, kind: str, fields: List[str]) -> None:
         key = (kind, *fields[:-1])
@@ -415,7 +426,7 @@ class Audit:
             day = None if kind == "read" else datetime.date.fromisoformat(fields[1])
             try:
                 bodies = [bytes.fromhex(body) for body in fields[2 if kind == "read" else 3:]]
-                amount = value_in(run, QUANTITIES[self.use], bodies, day)
+                amount = value_in(run, self.uses[self.use], bodies, day)
             except NoEvidence as why:
                 self.counts["refused"] += 1
                 self.printed.append(f"NO EVIDENCE line {self.line}: {why}")
@@ -442,7 +453,7 @@ class Audit:
     def amount_put(self, value: str, unit: str) -> int:
         quantity, smallest = SMALLEST[unit]
         amount = Fraction(value) * smallest
-        if quantity != QUANTITIES[self.use] or amount.denominator != 1 or amount > LARGEST:
+        if quantity != self.uses[self.use] or amount.denominator != 1 or amount > LARGEST:
             raise AtFault(UNIT)
         return int(amount)
 
@@ -520,13 +531,13 @@ class Audit:
 
     def ratio(self, use: str, unit: str, span: Optional[int], weight: Fraction = Fraction(1)) -> Fraction:
         """What an amount of the smallest unit is in a unit; without a span it is looked whether the unit is of the use."""
-        quantity = QUANTITIES[use]
-        units = {"energy": ("kWh",), "volume": ("m3", "kWh"), "allocation": ("HCA", "count", "kWh")}[quantity]
+        quantity = self.uses[use]
+        units = {"energy": ("kWh",), "volume": ("m3", "kWh"), "units": ("HCA", "count", "kWh")}[quantity]
         if unit not in (*units, "smallest"):
             raise AtFault(UNIT)
         if unit == "smallest":
             return Fraction(1)
-        of_unit = Fraction(1, RATIOS[quantity]) * (weight if quantity == "allocation" and unit != "count" else 1)
+        of_unit = Fraction(1, RATIOS[quantity]) * (weight if quantity == "units" and unit != "count" else 1)
         return of_unit * self.fact("factor", use, str(span)) if unit == "kWh" and quantity != "energy" and span else of_unit
 
     def fact(self, *key: str) -> Fraction:
@@ -551,7 +562,12 @@ class Audit:
 
     def compare(self, name: str, published: str, computed: str, is_same: Optional[bool] = None) -> None:
         self.counts["numbers"] += 1
-        if not (published == computed if is_same is None else is_same):
+        wanted, found = published.split(" "), computed.split(" ")
+        if is_same is None:
+            is_same = all(one[0] == "?" or one == other for one, other in zip(wanted, found))
+            fields = [other if one[0] == "?" else one for one, other in zip(wanted, found)]
+            self.filled = ",".join([*self.filled.split(",")[:-len(fields)], *fields])
+        if not is_same:
             self.counts["differ"] += 1
             self.printed.append(f"DIFFERS line {self.line}: {name}: published {published}, computed {computed}")
 
@@ -568,7 +584,7 @@ class Audit:
 
     def take_value(self, run: str, moment: str, text: str, unit: str) -> None:
         quantity, smallest = SMALLEST[unit]
-        if quantity != QUANTITIES[self.use]:
+        if quantity != self.uses[self.use]:
             raise AtFault(UNIT)
         if not 1 <= int(run) <= len(self.runs):
             raise AtFault(FACT)
@@ -645,16 +661,38 @@ def judged(content: bytes) -> Tuple[List[str], int]:
     return [*audit.printed, closing], int(audit.counts["differ"] + audit.counts["refused"] > 0)
 
 
+def filled(content: bytes) -> Tuple[List[str], List[str], int]:
+    """The lines of a file with what was asked, what is said beside, and the status."""
+    audit, made = Audit(fills=True), []  # type: Audit, List[str]
+    try:
+        for line in lines_of(content):
+            audit.take(line)
+            made.append(audit.filled)
+        if audit.kind != "end":
+            audit.line += 1
+            raise AtFault(HEADER if audit.line == 1 else END)
+    except AtFault as fault:
+        number = fault.args[0]
+        return made, [*audit.printed, f"LINE {audit.line} FAULT {number} {FAULTS[number - 1]}"], 1
+    return made, audit.printed, int(bool(audit.printed))
+
+
 def lines_of(content: bytes) -> Iterator[str]:
     lines = content.decode("utf-8", "surrogateescape").split("\n")
     yield from lines[:-1] if lines[-1] == "" else lines
 
 
-def main(file: str) -> int:
-    printed, status = judged(pathlib.Path(file).read_bytes())
-    print("\n".join(printed))
+def main(*words: str) -> int:
+    content = pathlib.Path(words[-1]).read_bytes()
+    if words[0] != "--fill":
+        printed, status = judged(content)
+        print("\n".join(printed))
+        return status
+    made, said, status = filled(content)
+    sys.stdout.buffer.write("".join(f"{line}\n" for line in made).encode("utf-8", "surrogateescape"))
+    print("".join(f"{line}\n" for line in said), end="", file=sys.stderr)
     return status
 
 
 if __name__ == "__main__":
-    sys.exit(main(sys.argv[1]))
+    sys.exit(main(*sys.argv[1:]))

@@ -8,6 +8,7 @@ from conftest import Box, Office
 from supplied import ALLOCATOR, COLD, HEAT, WATER, Supplied, at
 from test_fittings import housed
 from test_schema import refused
+from test_sheets import published, sheet_of
 
 WH = 3_600_000
 NOON = ("alarms", "--at", "2025-02-01T12:00+00:00")
@@ -37,7 +38,7 @@ def test_the_units_of_the_programs_are_those_of_the_database(office: Office) -> 
 
 
 def test_a_use_is_a_row(office: Office, elm: Supplied, tmp_path: pathlib.Path) -> None:
-    """Months are computed with one that nobody heard of. `mbdc audit` doesn't know it, so nothing of the house is printed."""
+    """Months are computed, audited and printed with one that nobody heard of."""
     office.sql("INSERT INTO uses (use, quantity) VALUES ('rain water', 'volume')")
     office.sql("INSERT INTO device_types VALUES ('E7', 'rain water')")
     meter = elm.meter(1, "E7", "A1")
@@ -49,9 +50,15 @@ def test_a_use_is_a_row(office: Office, elm: Supplied, tmp_path: pathlib.Path) -
     elm.days(meter, "2025-01-24", 15, 31, 1, "m3")
     assert elm.month("2025-01")[1] == ("A1", 0, 31_000_000, "measured")
     assert office.run(*NOON).status in (0, 1)
-    refusal = office.run("publish", "-", "2025-01")
-    assert refusal.status == 5 and "elm-1: refused: LINE " in refusal.printed, refusal.printed
-    assert office.run("sheets", "2025-01", "--out", str(tmp_path), "--pdf", "none").status == 5
+    published(office)
+    assert office.run("sheets", "2025-01", "--out", str(tmp_path), "--pdf", "none").status == 0
+    text = sheet_of(office, tmp_path, office.sql("SELECT id FROM tenancies")[0][0]).read_text(encoding="utf-8")
+    assert "rain water" in text and "31,00" in text
+    published(office, "2025-01", "--bill")
+    assert ",rain water,1," in office.run("bill", "elm-1", "2025-01").printed
+    lines = b"".join(bytes(row[0]) for row in office.sql("SELECT file FROM audits")).decode().splitlines()
+    assert [line for line in lines if line.startswith("use,")] == ["use,heat,energy", "use,rain water,volume"] * 2
+    assert "check constraint" in refused(office, "INSERT INTO uses (use, quantity) VALUES ('Rain, water', 'volume')")
     assert "cold water has no factor" in refused(office, "INSERT INTO factors (house, use, months, kwh_per_unit)"
                                          " VALUES ('elm-1', 'cold water', '[2025-01-01,)', 2)")
 
