@@ -310,6 +310,20 @@ def rounded_value(audit: Audit, head: str, unit: str) -> str:
     return rounded_exact(found[0], SMALLEST[unit][1]) if found else "0"
 
 
+def asked(rng: random.Random, lines: List[str]) -> List[str]:
+    """A file in which some numbers are asked for."""
+    made = []
+    for line in lines:
+        kind, *fields = line.split(",")
+        texts = {"of_house": 3, "shown": 2, "of_user": 2, "of_flat": 2}.get(kind, 1 if kind in PLAIN else 0)  # from behind
+        for at in range(texts):
+            if rng.random() < 0.7:
+                decimals = len(fields[-texts].partition(".")[2])
+                fields[at - texts] = f"?.{'0' * decimals}".rstrip(".") if at == 0 else "?"
+        made.append(",".join([kind, *fields]))
+    return made
+
+
 # ---- wrong files
 
 HARMLESS = ("a reading twice",)  # the last one of a moment counts

@@ -357,8 +357,6 @@ class Audit:
     def take_fact(self, kind: str, fields: List[str]) -> None:
         key = (kind, *fields[:-1])
         self.known(int(fields[-2]))
-        if kind in ("price", "average"):
-            self.ratio(fields[0], fields[1], None)
         if key in self.facts:
             raise AtFault(FACT)
         self.facts[key] = Fraction(fields[-1])
@@ -529,8 +527,8 @@ class Audit:
 
     # ---- numbers
 
-    def ratio(self, use: str, unit: str, span: Optional[int], weight: Fraction = Fraction(1)) -> Fraction:
-        """What an amount of the smallest unit is in a unit; without a span it is looked whether the unit is of the use."""
+    def ratio(self, use: str, unit: str, span: int, weight: Fraction) -> Fraction:
+        """What an amount of the smallest unit is in a unit."""
         quantity = self.uses[use]
         units = {"energy": ("kWh",), "volume": ("m3", "kWh"), "units": ("HCA", "count", "kWh")}[quantity]
         if unit not in (*units, "smallest"):
@@ -538,7 +536,7 @@ class Audit:
         if unit == "smallest":
             return Fraction(1)
         of_unit = Fraction(1, RATIOS[quantity]) * (weight if quantity == "units" and unit != "count" else 1)
-        return of_unit * self.fact("factor", use, str(span)) if unit == "kWh" and quantity != "energy" and span else of_unit
+        return of_unit * self.fact("factor", use, str(span)) if unit == "kWh" and quantity != "energy" else of_unit
 
     def fact(self, *key: str) -> Fraction:
         if key not in self.facts:

@@ -20,6 +20,7 @@ sys.path.insert(0, str(OFFICE))
 PROGRAMS = sorted(pathlib.Path("/usr/lib/postgresql").glob("*/bin/pg_ctl"), key=lambda path: int(path.parts[4]))
 OWNER, TEMPLATE = "office", "migrated"
 MOMENT = 1_735_689_600  # 2025-01-01, UTC
+SECONDS = 900  # at most, of a command, also on a machine with much to do
 Meter = Tuple[str, int, str, str]
 
 
@@ -96,7 +97,7 @@ class Office:
 
     def run(self, program: str, *words: str, **environment: str) -> Ended:
         done = subprocess.run([self.programs / program, "--database", self.name, *words], capture_output=True, text=True,
-                              check=False, env={**self.environment, **environment}, timeout=120)
+                              check=False, env={**self.environment, **environment}, timeout=SECONDS)
         assert "Traceback" not in done.stderr, done.stderr
         return Ended(done.returncode, done.stdout + done.stderr)
 

@@ -105,6 +105,15 @@ class Supplied:
         self.values(fitting, {str(day + datetime.timedelta(days=number)): begin + step * number
                               for number in range(count)}, unit)
 
+    def tells(self, fitting: int, values: Dict[str, Any], unit: str = "Wh") -> None:
+        """Other values at the ends of days in the place of those that are there, in their telegrams, too."""
+        identity = self.office.sql("SELECT identity FROM fittings WHERE id = %s", fitting)[0][0]
+        for day, value in values.items():
+            body = header(identity) + record(unit, value) + dated(day) + record(unit, value, 1)
+            self.office.sql("WITH d AS (UPDATE day_values SET value = %s WHERE (fitting, day) = (%s, %s) RETURNING month, box, serial)"
+                            " UPDATE readings r SET bodies = ARRAY[%s::bytea] FROM d WHERE (r.month, r.box, r.serial) = (d.month, d.box, d.serial)",
+                            value, fitting, day, body)
+
     def month(self, month: str, *words: str) -> List[Tuple[Any, ...]]:
         """Computes a month; its rows: flat, part, amount, grade, in order."""
         ended = self.office.run("month", month, *words)
