@@ -168,7 +168,7 @@ def values_of(facts: Dict[str, Any], words: Words) -> Dict[str, str]:
         bits += [APPLICATION[facts["status"] & 3]] if facts["status"] & 3 else []
         said["status"] = ", ".join(chosen(pair, words.language) for pair in bits) or f"{facts['status']:02X}h"
     said["text"] = noted(said.get("text", ""), words)
-    said["change"] = changes(str(facts.get("text", "")), words)
+    said["change"] = changes(str(facts.get("text", "")), facts.get("quantities", {}), words)
     return {**{key: "" for key in ("text", "use", "month", "period", "day", "value", "times", "digits")}, **said}
 
 
@@ -179,24 +179,23 @@ def noted(text: str, words: Words) -> str:
     return text
 
 
-def changes(text: str, words: Words) -> str:
-    """The numbers of a month that would be another."""
+def changes(text: str, quantities: Dict[str, str], words: Words) -> str:
+    """The numbers of a month that would be another, with the quantity of each use."""
     parts = []
     for found in CHANGE.finditer(text):
-        use = found["place"].strip().split("/")[-2:-1] or [""]
-        parts.append(words.page("change_of", place=plain(found["place"].strip(), LONGEST), out=amount_of(found["out"], use[0], words),
-                                now=amount_of(found["now"], use[0], words)))
+        quantity = next((quantities[use] for use in found["place"].split("/")[-2:-1] if use in quantities), "energy")
+        parts.append(words.page("change_of", place=plain(found["place"].strip(), LONGEST), out=amount_of(found["out"], quantity, words),
+                                now=amount_of(found["now"], quantity, words)))
         if found["more"]:
             parts.append(words.page("more_changes", count=found["more"]))
     return " ".join(parts) or plain(text, LONGEST)
 
 
-def amount_of(text: str, use: str, words: Words) -> str:
+def amount_of(text: str, quantity: str, words: Words) -> str:
     """A number of smallest units with its grade, or the grade alone."""
     number, _, grade = text.partition(" ")
     if not number.isdecimal():
         return words.page("not")
-    quantity = "allocation" if use == "allocator" else "volume" if use in ("warm water", "cold water", "gas") else "energy"
     smallest, unit = SMALLEST[quantity]
     return f"{words.amount(decimal.Decimal(number) / smallest, unit)} {words.word(unit)} ({words.use(grade)})"
 

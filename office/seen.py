@@ -120,7 +120,8 @@ WHERE u.part = 0 AND u.grade IN ('missing', 'disturbed', 'unclear', 'held') AND 
   AND u.month + interval '1 month' <= %(at)s
 ORDER BY u.house, u.place, u.month"""
 CHANGES = """
-SELECT 'changed', house, house || ' ' || to_char(month, 'YYYY-MM') AS subject, jsonb_build_object('month', month, 'text', says)
+SELECT 'changed', house, house || ' ' || to_char(month, 'YYYY-MM') AS subject, jsonb_build_object('month', month, 'text', says,
+    'quantities', (SELECT jsonb_object_agg(use, quantity) FROM uses))
 FROM changes WHERE left_why IS NULL
 UNION ALL
 SELECT 'changed', house, house || ' bill ' || lower(days) || '..' || upper(days) - 1, jsonb_build_object('why', 'bill', 'text', changed)
