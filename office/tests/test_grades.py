@@ -35,7 +35,7 @@ def test_a_false_value_marks_both_its_steps(office: Office, elm: Supplied, day: 
     """Too high or too low, the months that it decides have no number, until it is struck; then they are right."""
     meter = elm.meter(1, HEAT, "A1")
     elm.days(meter, "2024-12-20", 110, 1000, 10)
-    office.sql("UPDATE day_values SET value = %s WHERE day = %s", value, day)
+    elm.tells(meter, {day: value})
     assert grades(elm, *FEBRUARY) == wanted
     office.sql("SELECT strike(id, 'read wrong') FROM day_values WHERE value = %s", value)
     assert [elm.month(month)[0][2:] for month in FEBRUARY] == [
@@ -103,9 +103,9 @@ def test_a_turn(office: Office, elm: Supplied) -> None:
     assert office.sql("SELECT grade, amount BETWEEN 5000000 AND 5200000 FROM month_use WHERE month = '2025-01-01'") == [
         ("estimated", True)]
     assert "END turn" in office.run("alarms", "--at", "2025-02-02T23:30+00:00").printed
-    office.sql("UPDATE day_values SET value = 500 WHERE day = '2025-01-30'")  # 500 m3 in a day is no turn
+    elm.tells(meter, {"2025-01-30": 500}, "m3")  # 500 m3 in a day is no turn
     assert grades(elm, "2025-01") == ["disturbed"]
-    office.sql("UPDATE day_values SET value = 99999.9 WHERE day = '2025-01-30'")
+    elm.tells(meter, {"2025-01-30": "99999.9"}, "m3")
     assert "has digits" in refused(office, "SELECT declare_counter('elm-1', '00000001.PAD.01.07', 7)")
 
 
@@ -178,7 +178,7 @@ def test_a_number_is_held_until_a_person_says_why(office: Office, elm: Supplied,
     assert office.sql("SELECT why, made_by FROM seen") == [("a burst pipe", "office")]
     written(office, tmp_path, "--pdf", "none")
     assert checked(sheet_of(office, tmp_path, tenancy).read_text(encoding="utf-8")).cells["cold water", "2025-01-01"].split() == ["51,00"]
-    office.sql("UPDATE day_values SET value = value + 1 WHERE day >= '2025-01-19'")
+    elm.tells(meter, {str(day): value + 1 for day, value in office.sql("SELECT day, value FROM day_values WHERE day >= '2025-01-19'")}, "m3")
     elm.month("2025-01")
     assert office.sql("SELECT grade FROM month_kwh") == [("held",)]
 

@@ -103,7 +103,7 @@ def test_a_house_that_is_not_ready_waits(office: Office, elm: Supplied, tmp_path
     """Of two houses the one with a false reading keeps its month open."""
     oak = Supplied(office, "oak-2")
     oak.days(oak.meter(9, HEAT, "B1"), "2024-12-25", 75, 1_000_000, 10_000)
-    office.sql("UPDATE day_values SET value = 5 WHERE day = '2025-01-31' AND fitting IN (SELECT id FROM fittings WHERE house = 'elm-1')")
+    elm.tells(office.sql("SELECT id FROM fittings WHERE house = 'elm-1'")[0][0], {"2025-01-31": 5})
     for house in (elm, oak):
         house.tenancy("A1" if house is elm else "B1", "2024-01-01", None)
     office.run("month", "2025-01")
