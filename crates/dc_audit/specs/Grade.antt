@@ -1,5 +1,5 @@
 -- How reliable a number is (this product), from the best grade to the worst.
-use Rattle.std.specs.Prelude.{ℕ, Bool, nat_lt, if◌then◌else◌, List, [], ◌∷◌, codes, find, Option}
+use Rattle.std.specs.Prelude.{ℕ, Bool, true, false, nat_lt, if◌then◌else◌, List, [], ◌∷◌, codes, find, Option}
 use Rattle.std.specs.Str.{bytes_eq}
 use Rattle.dc_audit.specs.declared.grade.Grade.{Grade}
 use Rattle.dc_audit.specs.declared.grade.Grade.TheVariants.{Measured, Hand, Provisional, Estimated}
@@ -34,3 +34,9 @@ worst a b = if nat_lt (rank a) (rank b) then b else a
 -- the last three have no number
 abbrev pub has_number : Grade → Bool
 has_number g = nat_lt (rank g) (rank Unclear)
+
+-- what may be compared with others
+abbrev pub is_reliable : Grade → Bool
+is_reliable Measured = true
+is_reliable Hand = true
+is_reliable _ = false

@@ -2,8 +2,10 @@
 
 -- the faults of a file
 pub mod Fault
--- what places are supplied with, and the units of amounts
+-- what meters count, and the units of amounts
 pub mod Uses
+-- the fields of a line
+pub mod Field
 -- exact numbers, and what is printed of them
 pub mod Exact
 -- decimals, and whole numbers of the smallest unit
@@ -26,5 +28,7 @@ pub mod Printed
 pub mod Order
 -- sums of parts by their holders
 pub mod Sums
--- what a place consumed in a period, and how reliable that is
+-- a place, and what it consumed in a period
 pub mod Place
+-- what is counted
+pub mod Counts

@@ -1,11 +1,12 @@
 -- Days, and the moments at their ends (this product).
-use Rattle.std.specs.Prelude.{ℕ, ◌≤◌, ◌+◌, ◌-◌, ◌*◌, ◌/◌, ◌%◌, ◌==◌, ◌&&◌, ◌||◌, Bool, not, nat_lt, nat_le}
-use Rattle.std.specs.Prelude.{if◌then◌else◌, ◌∷◌, [], slice_index, Option, Some, None}
-use Rattle.dc_record.specs.Date.{Day}
+use Rattle.std.specs.Prelude.{ℕ, ◌≤◌, ◌+◌, ◌-◌, ◌*◌, ◌/◌, ◌%◌, ◌==◌, ◌&&◌, ◌||◌, Bool, true, false, not, nat_lt, nat_le}
+use Rattle.std.specs.Prelude.{if◌then◌else◌, List, ◌∷◌, [], length, take, drop, slice_range, slice_index, option_map, Option, Some, None}
+use Rattle.dc_record.specs.Date.{Day, date_of}
 use Rattle.dc_record.specs.declared.value.value.Value.{Value}
 use Rattle.dc_record.specs.declared.value.value.Value.TheVariants as value
 use Rattle.dc_audit.specs.declared.moment.Offset.{Offset}
 use Rattle.dc_audit.specs.declared.moment.Offset.TheVariants.{Ahead, Behind}
+use Rattle.dc_audit.specs.Smallest.{digits_on, whole_in}
 
 -- a year has a 29 February
 abbrev pub is_leap : ℕ → Bool
@@ -54,6 +55,29 @@ since_epoch seconds = if nat_le epoch seconds then Some (seconds - epoch) else N
 abbrev pub end_of : ℕ → Offset → Option ℕ
 end_of day (Ahead minutes) = since_epoch ((day + 1) * seconds_of_day - 60 * minutes)
 end_of day (Behind minutes) = since_epoch ((day + 1) * seconds_of_day + 60 * minutes)
+
+-- a number of minutes ahead of UTC, or behind it: at most a day
+abbrev pub offset_of : Bool → Option ℕ → Option Offset
+offset_of behind None = None
+offset_of behind (Some minutes) = if nat_lt 1440 minutes then None
+    else if behind then Some (Behind minutes) else Some (Ahead minutes)
+
+-- the offset that a field spells: minutes, with a hyphen before them where they are behind UTC
+abbrev pub offset_in : List ℕ → Option Offset
+offset_in [] = None
+offset_in (byte ∷ rest) =
+    if byte == 45 then offset_of true (whole_in rest) else offset_of false (whole_in (byte ∷ rest))
+
+abbrev pub day_at : Option ℕ → Option ℕ → Option ℕ → Option ℕ
+day_at (Some year) (Some month) (Some day) = option_map day_number (date_of year month day)
+day_at _ _ _ = None
+
+-- the number of the day that a field spells, as 2026-10-31
+abbrev pub day_in : List ℕ → Option ℕ
+day_in field =
+    if (length field == 10) && ((slice_index field 4 == 45) && (slice_index field 7 == 45))
+    then day_at (digits_on 0 (take 4 field)) (digits_on 0 (slice_range field 5 7))
+    (digits_on 0 (drop 8 field)) else None
 
 -- at most a day
 abbrev pub IsOffset : Offset → Type 0

@@ -1,9 +1,58 @@
 -- Which line may follow which (this product).
-use Rattle.std.specs.Prelude.{Bool, true, false, ◌||◌, if◌then◌else◌, Option, None, Some}
+use Rattle.std.specs.Prelude.{ℕ, Bool, true, false, ◌||◌, if◌then◌else◌, Option, None, Some, List, [], ◌∷◌, codes, find}
+use Rattle.std.specs.Str.{bytes_eq}
 use Rattle.dc_audit.specs.declared.word.Stage.{Stage}
 use Rattle.dc_audit.specs.declared.word.Stage.TheVariants as stage
 use Rattle.dc_audit.specs.declared.word.Word.{Word}
 use Rattle.dc_audit.specs.declared.word.Word.TheVariants as word
+
+-- the words of lines after the first
+abbrev pub word_name : Word → List ℕ
+word_name word.Span = codes "span"
+word_name word.Use = codes "use"
+word_name word.Factor = codes "factor"
+word_name word.Carbon = codes "co2"
+word_name word.Degrees = codes "degrees"
+word_name word.Price = codes "price"
+word_name word.Average = codes "average"
+word_name word.User = codes "user"
+word_name word.Place = codes "place"
+word_name word.Meter = codes "meter"
+word_name word.Window = codes "window"
+word_name word.Read = codes "read"
+word_name word.Stored = codes "stored"
+word_name word.Ended = codes "ended"
+word_name word.Hand = codes "hand"
+word_name word.Estimated = codes "estimated"
+word_name word.First = codes "first"
+word_name word.Last = codes "last"
+word_name word.Zero = codes "zero"
+word_name word.Struck = codes "struck"
+word_name word.Part = codes "part"
+word_name word.Shown = codes "shown"
+word_name word.Value = codes "value"
+word_name word.Totals = codes "totals"
+word_name word.OfUser = codes "of_user"
+word_name word.OfFlat = codes "of_flat"
+word_name word.OfHouse = codes "of_house"
+word_name word.Mean = codes "mean"
+word_name word.Change = codes "change"
+word_name word.CarbonOf = codes "carbon"
+word_name word.Cost = codes "cost"
+word_name word.Weather = codes "weather"
+word_name word.«End» = codes "end"
+
+abbrev pub words : List Word
+words = word.Span ∷ word.Use ∷ word.Factor ∷ word.Carbon ∷ word.Degrees ∷ word.Price ∷
+    word.Average ∷ word.User ∷ word.Place ∷ word.Meter ∷ word.Window ∷ word.Read ∷ word.Stored
+    ∷ word.Ended ∷ word.Hand ∷ word.Estimated ∷ word.First ∷ word.Last ∷ word.Zero ∷
+    word.Struck ∷ word.Part ∷ word.Shown ∷ word.Value ∷ word.Totals ∷ word.OfUser ∷
+    word.OfFlat ∷ word.OfHouse ∷ word.Mean ∷ word.Change ∷ word.CarbonOf ∷ word.Cost ∷
+    word.Weather ∷ word.«End» ∷ []
+
+-- the word that a field is
+abbrev pub word_in : List ℕ → Option Word
+word_in field = find (λ w. bytes_eq field (word_name w)) words
 
 abbrev pub is_declared : Stage → Bool
 is_declared stage.Declared = true
@@ -43,6 +92,7 @@ may_go_on s = is_in_window s || is_metered s
 -- the kinds of lines
 abbrev pub is_fact : Word → Bool
 is_fact word.Span = true
+is_fact word.Use = true
 is_fact word.Factor = true
 is_fact word.Carbon = true
 is_fact word.Degrees = true

@@ -42,6 +42,10 @@ is_whole_part [] = false
 is_whole_part (digit ∷ []) = true
 is_whole_part (digit ∷ next ∷ rest) = not (digit == 48)
 
+-- the whole number that a text spells
+abbrev pub whole_in : List ℕ → Option ℕ
+whole_in text = if is_whole_part text then digits_on 0 text else None
+
 abbrev pub with_decimals : ℕ → Option ℕ → Option Spelled
 with_decimals decimals None = None
 with_decimals decimals (Some digits) = Some (record { digits = digits; decimals = decimals })

@@ -1,39 +1,19 @@
--- What places are supplied with (this product), the quantities that their meters count, and the units of amounts. Amounts are whole
--- numbers of the smallest unit: millijoules, millilitres, and thousandths of a heat cost allocator's unit.
-use Rattle.std.specs.Prelude.{ℕ, Bool, true, false, List, [], ◌∷◌, codes, find, Option, Some, None}
+-- What meters count (this product), and the units of amounts. Amounts are whole numbers of the smallest unit: millijoules, millilitres,
+-- and thousandths of a heat cost allocator's unit.
+use Rattle.std.specs.Prelude.{ℕ, Bool, true, false, List, [], ◌∷◌, codes, find, Option, Some, None, if◌then◌else◌}
 use Rattle.std.specs.Str.{bytes_eq}
 use Rattle.dc_record.specs.declared.value.quantity.Quantity as listed_type
 use Rattle.dc_record.specs.declared.value.quantity.Quantity.TheVariants as listed
-use Rattle.dc_audit.specs.declared.uses.Use.{Use}
-use Rattle.dc_audit.specs.declared.uses.Use.TheVariants.{Heat, Cooling, Electricity, WarmWater, ColdWater, Gas, Allocator}
 use Rattle.dc_audit.specs.declared.uses.Counted.{Counted}
 use Rattle.dc_audit.specs.declared.uses.Counted.TheVariants.{Energy, Volume, Allocation}
 use Rattle.dc_audit.specs.declared.uses.Unit.{Unit}
 use Rattle.dc_audit.specs.declared.uses.Unit.TheVariants.{Kwh, CubicMetre, Allocated, Count, Smallest}
 
-abbrev pub use_name : Use → List ℕ
-use_name Heat = codes "heat"
-use_name Cooling = codes "cooling"
-use_name Electricity = codes "electricity"
-use_name WarmWater = codes "warm water"
-use_name ColdWater = codes "cold water"
-use_name Gas = codes "gas"
-use_name Allocator = codes "allocator"
-
--- the use that a word names
-abbrev pub use_named : List ℕ → Option Use
-use_named word = find (λ u. bytes_eq word (use_name u))
-    (Heat ∷ Cooling ∷ Electricity ∷ WarmWater ∷ ColdWater ∷ Gas ∷ Allocator ∷ [])
-
--- what the meters of a use count
-abbrev pub counted_by : Use → Counted
-counted_by Heat = Energy
-counted_by Cooling = Energy
-counted_by Electricity = Energy
-counted_by WarmWater = Volume
-counted_by ColdWater = Volume
-counted_by Gas = Volume
-counted_by Allocator = Allocation
+-- the quantity that a word names
+abbrev pub counted_named : List ℕ → Option Counted
+counted_named word = if bytes_eq word (codes "energy") then Some Energy
+    else if bytes_eq word (codes "volume") then Some Volume
+    else if bytes_eq word (codes "units") then Some Allocation else None
 
 abbrev pub is_counted : Counted → Counted → Bool
 is_counted Energy Energy = true
@@ -72,3 +52,14 @@ size_of listed.EnergyGigajoule = Some (Energy, 1000000000000)
 size_of listed.Volume = Some (Volume, 1000000)
 size_of listed.HeatCostAllocator = Some (Allocation, 1000)
 size_of _ = None
+
+-- the same of the unit of a reading, by its word
+abbrev pub size_named : List ℕ → Option (Counted × ℕ)
+size_named word = if bytes_eq word (codes "Wh") then size_of listed.EnergyWattHour
+    else if bytes_eq word (codes "kWh") then Some (Energy, of_kwh)
+    else if bytes_eq word (codes "MWh") then size_of listed.EnergyMegawattHour
+    else if bytes_eq word (codes "J") then size_of listed.EnergyJoule
+    else if bytes_eq word (codes "GJ") then size_of listed.EnergyGigajoule
+    else if bytes_eq word (codes "m3") then size_of listed.Volume
+    else if bytes_eq word (codes "HCA") then size_of listed.HeatCostAllocator
+    else None

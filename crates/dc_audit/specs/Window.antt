@@ -1,7 +1,7 @@
 -- How reliable a period of a window is (this product): the first of these that applies.
 use Rattle.std.specs.Prelude.{ℕ, ◌+◌, ◌-◌, ◌^◌, ◌==◌, ◌&&◌, ◌||◌, Bool, true, false, not, nat_lt, nat_le}
 use Rattle.std.specs.Prelude.{if◌then◌else◌, List, [], ◌∷◌, length, filter, Option, None, Some, Result, Ok, Err}
-use Rattle.std.specs.Prelude.{slice_get}
+use Rattle.std.specs.Prelude.{slice_get, take, min}
 use Rattle.dc_consumption.specs.declared.entry.Entry.{Entry}
 use Rattle.dc_consumption.specs.declared.period.Period.{Period}
 use Rattle.dc_consumption.specs.declared.fault.AmountFault.{AmountFault}
@@ -11,7 +11,12 @@ use Rattle.dc_audit.specs.declared.window.How.{How}
 use Rattle.dc_audit.specs.declared.window.How.TheVariants.{Hand, Estimated}
 use Rattle.dc_audit.specs.declared.window.Run.{Run}
 use Rattle.dc_audit.specs.declared.window.Source.{Source}
+use Rattle.dc_audit.specs.declared.window.Vib.{Vib}
 use Rattle.dc_audit.specs.declared.window.Source.TheVariants.{Put, First, Last, Ended, Zero}
+
+-- the block of the record that counts
+abbrev pub vib_bytes : Vib → List ℕ
+vib_bytes v = take (min v.len 11) v.bytes
 
 -- how a person or an estimate put a value
 abbrev pub put_how : Source → Option How

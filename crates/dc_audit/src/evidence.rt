@@ -82,8 +82,8 @@ fn has_error(status: u8) -> bool
     status / PERMANENT % 2 == 1 || status % APPLICATION == APPLICATION_ERROR
 }
 
-// Whether two identities are one.
-fn is_same(one: &Identity, other: &Identity) -> bool
+/// Whether two identities are one.
+pub(crate) fn is_same(one: &Identity, other: &Identity) -> bool
     ensures { result ≡ is_same one.now other.now }
 {
     one.number == other.number

@@ -1,8 +1,9 @@
 //! What a file declares before its places.
 
 use crate::fault::{AuditFault, Stop};
-use crate::uses::{Unit, Use};
+use crate::uses::{Counted, Unit};
 use std::alloc::Allocator;
+use std::collections::BTreeMap;
 
 /// From the end of a day to the end of a day.
 #[derive(Clone, Copy)]
@@ -12,19 +13,19 @@ pub struct Span {
     pub end: u64,
 }
 
-/// What is declared of a span.
+/// What is declared of a span, with the number of the use.
 #[derive(Clone, Copy, Debug, PartialEq, Eq)]
 pub enum Key {
     /// Kilowatt hours of a cubic metre or of an allocator's unit.
-    Factor(Use),
+    Factor(u64),
     /// Grams of a kilowatt hour.
-    Carbon(Use),
+    Carbon(u64),
     /// Degree days.
     Degrees,
     /// Cents of a unit.
-    Price(Use, Unit),
+    Price(u64, Unit),
     /// Units of a square metre.
-    Average(Use, Unit),
+    Average(u64, Unit),
 }
 
 /// A ratio that is declared of a span, times 10^6.
@@ -43,8 +44,17 @@ pub struct User {
     pub area: Option<u64>,
 }
 
+/// What places are supplied with: its word, and what its meters count.
+#[derive(Drop)]
+struct Use<A: Allocator> {
+    word: Vec<u8, A>,
+    counted: Counted,
+}
+
 // Limits of a file.
 const MOST_SPANS: usize = 4;
+
+const MOST_USES: usize = 64;
 
 const MOST_USERS: usize = 4_096;
 
@@ -52,22 +62,37 @@ const MOST_FACTS: usize = 1_024;
 
 const MOST_FLATS: usize = 16_384;
 
+// Most bytes of a use's word.
+const LONGEST_USE: usize = 32;
+
 /// What a file declares.
 #[derive(Drop)]
-pub(crate) struct Facts<A: Allocator> {
+pub(crate) struct Facts<A: Allocator + Copy> {
     spans: Vec<Span, A>,
+    uses: Vec<Use<A>, A>,
     facts: Vec<Fact, A>,
-    users: Vec<User, A>,
-    flats: Vec<Vec<u8, A>, A>,
+    users: BTreeMap<u64, User, A>,
+    // The numbers of the flats by name, which count from 0, and their areas by number.
+    flats: BTreeMap<Vec<u8, A>, u64, A>,
+    areas: Vec<Option<u64>, A>,
+}
+
+// Whether a word may be a use's.
+fn is_use_word(word: &[u8]) -> bool {
+    !word.is_empty()
+        && word.len() <= LONGEST_USE
+        && word.iter().all(|byte| matches!(*byte, b'a'..=b'z' | b'0'..=b'9' | b' ' | b'-'))
 }
 
 impl<A: Allocator + Copy> Facts<A> {
     pub fn new(alloc: A) -> Self {
         Facts {
             spans: Vec::new(alloc),
+            uses: Vec::new(alloc),
             facts: Vec::new(alloc),
-            users: Vec::new(alloc),
-            flats: Vec::new(alloc),
+            users: BTreeMap::new(alloc),
+            flats: BTreeMap::new(alloc),
+            areas: Vec::new(alloc),
         }
     }
 
@@ -87,22 +112,69 @@ impl<A: Allocator + Copy> Facts<A> {
         Ok(())
     }
 
+    /// All spans.
+    pub fn spans(&self) -> &[Span] {
+        self.spans.as_slice()
+    }
+
     /// The span with this number.
     pub fn span(&self, number: u64) -> Result<Span, AuditFault> {
         self.spans
             .iter()
-            .find(|span| span.number == number)
             .copied()
+            .find(|span| span.number == number)
             .ok_or(AuditFault::Fact)
+    }
+
+    /// Adds a use.
+    pub fn add_use(&mut self, alloc: A, word: &[u8], counted: Counted) -> Result<(), Stop> {
+        if !is_use_word(word) {
+            return Err(Stop::Fault(AuditFault::Row));
+        }
+        if self.use_at(word).is_some() {
+            return Err(Stop::Fault(AuditFault::Fact));
+        }
+        if self.uses.len() >= MOST_USES {
+            return Err(Stop::Fault(AuditFault::TooMany));
+        }
+        let word = Vec::from_slice(alloc, word)?;
+        self.uses.push(Use { word, counted })?;
+        Ok(())
+    }
+
+    /// Number of uses.
+    pub fn uses(&self) -> u64 {
+        self.uses.len() as u64
+    }
+
+    /// The number of a use by its word, from 0, and what its meters count.
+    pub fn used(&self, word: &[u8]) -> Result<(u64, Counted), AuditFault> {
+        let place = self.use_at(word).ok_or(AuditFault::Fact)?;
+        match self.uses.get(place) {
+            Some(one) => Ok((place as u64, one.counted)),
+            None => Err(AuditFault::Fact),
+        }
+    }
+
+    fn use_at(&self, word: &[u8]) -> Option<usize> {
+        self.uses.iter().position(|one| one.word.as_slice() == word)
+    }
+
+    /// The word of a use by its number.
+    pub fn word(&self, used: u64) -> &[u8] {
+        match self.uses.get(used as usize) {
+            Some(one) => one.word.as_slice(),
+            None => &[],
+        }
     }
 
     /// The ratio that is declared, if it is.
     pub fn declared(&self, key: Key, span: u64) -> Option<u64> {
-        let fact = self
-            .facts
+        self.facts
             .iter()
-            .find(|fact| fact.key == key && fact.span == span)?;
-        Some(fact.ratio)
+            .copied()
+            .find(|fact| fact.key == key && fact.span == span)
+            .map(|fact| fact.ratio)
     }
 
     /// The ratio that has to be declared.
@@ -128,59 +200,63 @@ impl<A: Allocator + Copy> Facts<A> {
         if name.is_empty() {
             return Err(Stop::Fault(AuditFault::Row));
         }
-        if let Some(place) = self.flats.iter().position(|flat| flat.as_slice() == name) {
-            return Ok(place as u64);
+        if let Ok(number) = self.known_flat(name) {
+            return Ok(number);
         }
-        if self.flats.len() >= MOST_FLATS {
+        if self.areas.len() >= MOST_FLATS {
             return Err(Stop::Fault(AuditFault::TooMany));
         }
-        let number = self.flats.len() as u64;
-        self.flats.push(Vec::from_slice(alloc, name)?)?;
+        let number = self.areas.len() as u64;
+        let _ = self.flats.insert(Vec::from_slice(alloc, name)?, number)?;
+        self.areas.push(None)?;
         Ok(number)
     }
 
     /// The number of a flat that was named before.
     pub fn known_flat(&self, name: &[u8]) -> Result<u64, AuditFault> {
-        match self.flats.iter().position(|flat| flat.as_slice() == name) {
-            Some(place) => Ok(place as u64),
-            None => Err(AuditFault::Fact),
-        }
+        self.flats.get(name).copied().ok_or(AuditFault::Fact)
     }
 
-    /// The area of a flat: that of the first of its users that has one.
-    pub fn area(&self, flat: u64) -> Option<u64> {
-        let user = self
-            .users
-            .iter()
-            .find(|user| user.flat == flat && user.area.is_some())?;
-        user.area
+    /// The areas of the flats by number: of each that of the first of its users that has one.
+    pub fn areas(&self) -> &[Option<u64>] {
+        self.areas.as_slice()
     }
 
     /// The user with this number.
     pub fn user(&self, number: u64) -> Result<User, AuditFault> {
-        self.users
-            .iter()
-            .find(|user| user.number == number)
-            .copied()
-            .ok_or(AuditFault::Fact)
+        self.users.get(&number).copied().ok_or(AuditFault::Fact)
+    }
+
+    // Whether a number is greater than the last user's.
+    fn is_after_last(&self, number: u64) -> bool {
+        match self.users.last_key_value() {
+            Some((last, _)) => *last < number,
+            None => true,
+        }
     }
 
     /// Adds a user; their numbers rise, and the users of a flat have one area.
     pub fn add_user(&mut self, user: User) -> Result<(), Stop> {
-        let is_next = match self.users.last() {
-            Some(last) => last.number < user.number,
-            None => true,
-        };
-        let is_other = user.area.is_some()
-            && self.area(user.flat).is_some()
-            && self.area(user.flat) != user.area;
-        if !is_next || is_other {
+        if !self.is_after_last(user.number) {
             return Err(Stop::Fault(AuditFault::Fact));
         }
         if self.users.len() >= MOST_USERS {
             return Err(Stop::Fault(AuditFault::TooMany));
         }
-        self.users.push(user)?;
+        let place = user.flat as usize;
+        let known = *self.areas.get(place).ok_or(AuditFault::Fact)?;
+        self.areas[place] = area_with(known, user.area)?;
+        let _ = self.users.insert(user.number, user)?;
         Ok(())
+    }
+}
+
+// The area of a flat, of which the users that have one agree.
+fn area_with(known: Option<u64>, area: Option<u64>) -> Result<Option<u64>, AuditFault> {
+    match (known, area) {
+        (_, None) => Ok(known),
+        (None, Some(_)) => Ok(area),
+        (Some(one), Some(other)) if one == other => Ok(known),
+        _ => Err(AuditFault::Fact),
     }
 }

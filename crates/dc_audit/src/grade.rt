@@ -2,9 +2,10 @@
 
 ghost use Rattle.std.specs.Prelude.{◌≡◌, find};
 ghost use Rattle.std.specs.Str.{bytes_eq};
-ghost use Rattle.dc_audit.specs.Grade.{grade_name, grade_named, has_number, rank, worst};
+ghost use Rattle.dc_audit.specs.Grade.{grade_name, grade_named, has_number, is_reliable};
+ghost use Rattle.dc_audit.specs.Grade.{rank, worst};
 
-use crate::uses::is_word;
+use crate::field::is_word;
 
 /// How reliable a number is, from the best to the worst.
 #[derive(Clone, Copy, Debug, PartialEq, Eq)]
@@ -50,8 +51,8 @@ impl Grade {
         }
     }
 
-    // Its place in the order.
-    fn rank(self) -> u8
+    /// Its place in the order.
+    pub fn rank(self) -> u8
         ensures { result ≡ rank self }
     {
         match self {
@@ -81,6 +82,13 @@ impl Grade {
         ensures { result ≡ has_number self }
     {
         self.rank() < Grade::Unclear.rank()
+    }
+
+    /// Whether it is reliable enough to be compared with others.
+    pub fn is_reliable(self) -> bool
+        ensures { result ≡ is_reliable self }
+    {
+        matches!(self, Grade::Measured | Grade::Hand)
     }
 
     /// The grade that a word names.

@@ -31,6 +31,6 @@ mod uses;
 mod window;
 mod word;
 
-pub use engine::audit;
+pub use engine::{audit, fill};
 pub use fault::AuditFault;
 pub use laws::the_parts_of_a_house_add_up;

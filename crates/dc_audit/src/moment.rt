@@ -1,9 +1,11 @@
 //! Days, and the moments at their ends.
 
-ghost use Rattle.std.specs.Prelude.{◌≡◌, ◌≤◌, ◌<◌, IfSome};
+ghost use Rattle.std.specs.Prelude.{◌≡◌, ◌≤◌, ◌<◌, IfSome, Some};
 ghost use Rattle.dc_audit.specs.Moment.{before_month, day_number, end_of, ended_by, ended_day};
-ghost use Rattle.dc_audit.specs.Moment.{is_leap, leap_day, leaps, since_epoch, IsOffset};
+ghost use Rattle.dc_audit.specs.Moment.{day_in, is_leap, leap_day, leaps, since_epoch, IsOffset};
+ghost use Rattle.dc_audit.specs.Moment.{offset_in, offset_of};
 
+use crate::smallest::{digits_on, whole_in};
 use dc_record::value::{Date, Value};
 
 // The number of 1 January 1970, counted from 1 January of the year 0.
@@ -123,28 +125,45 @@ pub fn end_of(day: u64, offset: Offset) -> Option<u64>
     }
 }
 
+// A number of minutes as an offset.
+fn offset_of(is_behind: bool, minutes: Option<u64>) -> Option<Offset>
+    ensures value { result ≡ offset_of is_behind minutes }
+    ensures day { IfSome result IsOffset }
+{
+    let minutes = minutes?;
+    if minutes > MOST_OFFSET {
+        None
+    } else if is_behind {
+        Some(Offset::Behind(minutes))
+    } else {
+        Some(Offset::Ahead(minutes))
+    }
+}
+
 /// The offset that a field spells: minutes, with `-` before them where they are behind UTC.
 pub fn offset_in(field: &[u8]) -> Option<Offset>
-    ensures { IfSome result IsOffset }
+    ensures value { result ≡ offset_in field.now }
+    ensures day { IfSome result IsOffset }
 {
-    let offset = match field {
-        [b'-', minutes @ ..] => Offset::Behind(dc_change::parse_number(minutes)?),
-        _ => Offset::Ahead(dc_change::parse_number(field)?),
-    };
-    match offset {
-        Offset::Ahead(minutes) | Offset::Behind(minutes) => {
-            if minutes > MOST_OFFSET {
-                None
-            } else {
-                Some(offset)
-            }
-        }
+    match field {
+        [b'-', minutes @ ..] => offset_of(true, whole_in(minutes)),
+        _ => offset_of(false, whole_in(field)),
     }
 }
 
 /// The number of the day that a field spells, as `2026-10-31`.
 pub fn day_in(field: &[u8]) -> Option<u64>
-    ensures { IfSome result (λ day. day ≤ 4000000) }
+    ensures value { IfSome result (λ day. day_in field.now ≡ Some day) }
+    ensures few { IfSome result (λ day. day ≤ 4000000) }
 {
-    Some(day_number(&Date::parse_text(field)?))
+    if field.len() != 10 || field[4] != b'-' || field[7] != b'-' {
+        return None;
+    }
+    let year = digits_on(0, &field[..4])?;
+    let month = digits_on(0, &field[5..7])?;
+    let day = digits_on(0, &field[8..])?;
+    if year > 9999 || month > 12 || day > 31 {
+        return None;
+    }
+    Some(day_number(&Date::new(year as u16, month as u8, day as u8)?))
 }

@@ -1,35 +1,39 @@
 //! The place whose lines are being read.
 
-ghost use Rattle.std.specs.Prelude.{◌≡◌, IfOk, IfSome};
+ghost use Rattle.std.specs.Prelude.{◌≡◌, [], Some, None, true, IfOk, IfSome, OnOk, map};
 ghost use Rattle.dc_consumption.specs.Period.{period_of};
-ghost use Rattle.dc_audit.specs.Place.{graded_of};
-ghost use Rattle.dc_audit.specs.Total.{share_of};
+ghost use Rattle.dc_audit.specs.Evidence.{value_of};
+ghost use Rattle.dc_audit.specs.Place.{begins, begun, closed, ends, graded_of, is_entry_after};
+ghost use Rattle.dc_audit.specs.Place.{last_entry, no_place, opened, run_at, share_in, value_on};
+ghost use Rattle.dc_audit.specs.Place.{with_part, with_run, with_value};
+ghost use Rattle.dc_audit.specs.Window.{vib_bytes};
 
 use crate::evidence::{Counter, Refusal, Storage, value_of};
 use crate::facts::Span;
 use crate::fault::{AuditFault, Stop};
 use crate::grade::Grade;
 use crate::total::Share;
-use crate::uses::Use;
-use crate::window::{Run, Source, Window};
+use crate::uses::Counted;
+use crate::window::{Run, Source, Window, is_over};
 use dc_consumption::{Entry, Period, backwards, consumption, counted, exchanges, is_in_order};
 use std::alloc::Allocator;
+use std::marker::Model;
 
-/// A supply point: its number, its flat's, its use, and its weight times 10^6.
+/// A supply point: its number, its flat's, its use's, what its meters count, and its weight times 10^6.
 #[derive(Clone, Copy)]
 pub struct Place {
     pub number: u64,
     pub flat: u64,
-    pub used: Use,
+    pub used: u64,
+    pub counted: Counted,
     pub weight: u64,
 }
 
-/// A part of a span, and who used the place.
+/// A part of a span.
 #[derive(Clone, Copy)]
 pub struct Part {
     pub from: u64,
     pub to: u64,
-    pub user: Option<u64>,
 }
 
 // Limits of a file.
@@ -39,13 +43,18 @@ const MOST_ENTRIES: usize = 2_048;
 
 const MOST_PARTS: usize = 64;
 
+const NO_SPAN: Span = Span {
+    number: 0,
+    begin: 0,
+    end: 0,
+};
+
 /// The place whose lines are being read, its runs, and the values of its open window.
 #[derive(Drop)]
-pub(crate) struct Open<A: Allocator> {
+pub(crate) struct Open<A: Allocator + Copy> {
     alloc: A,
     pub place: Place,
     runs: Vec<Run, A>,
-    vibs: Vec<Vec<u8, A>, A>,
     pub span: Span,
     entries: Vec<Entry, A>,
     sources: Vec<Source, A>,
@@ -77,23 +86,51 @@ fn period_of(entries: &[Entry], from: u64, to: u64) -> Option<Period>
     })
 }
 
+// The value of a run at a moment: the last of several.
+fn value_on(entries: &[Entry], number: u64, moment: u64) -> Option<u64>
+    ensures { result ≡ value_on number moment None entries.now }
+{
+    let mut value = None;
+    'entries: for entry in entries {
+        if entry.meter == number && entry.moment == moment {
+            value = Some(entry.value);
+        }
+    }
+    value
+}
+
+impl<A: Allocator + Copy> Model for Open<A> {
+    ghost use Rattle.dc_audit.specs.Place.{Opened};
+
+    ghost Value = { Opened };
+
+    ghost view = { λ o. record {
+      place = o.place;
+      runs = o.runs.items;
+      span = o.span;
+      entries = o.entries.items;
+      sources = o.sources.items;
+      reached = o.reached;
+      parts = o.parts;
+      sum = o.sum;
+    } };
+}
+
 impl<A: Allocator + Copy> Open<A> {
-    pub fn new(alloc: A) -> Self {
+    pub fn new(alloc: A) -> Self
+        ensures { result ≡ no_place }
+    {
         Open {
             alloc,
             place: Place {
                 number: 0,
                 flat: 0,
-                used: Use::Heat,
+                used: 0,
+                counted: Counted::Energy,
                 weight: 0,
             },
             runs: Vec::new(alloc),
-            vibs: Vec::new(alloc),
-            span: Span {
-                number: 0,
-                begin: 0,
-                end: 0,
-            },
+            span: NO_SPAN,
             entries: Vec::new(alloc),
             sources: Vec::new(alloc),
             reached: None,
@@ -103,19 +140,31 @@ impl<A: Allocator + Copy> Open<A> {
     }
 
     /// Begins another place; their numbers count from 1.
-    pub fn begin(&mut self, place: Place) -> Result<(), AuditFault> {
-        if self.place.number.checked_add(1) != Some(place.number) {
-            return Err(AuditFault::Order);
+    pub fn begin(&mut self, place: Place) -> Result<(), AuditFault>
+        ensures { OnOk result (begun place self.old ≡ Some self.new) }
+    {
+        match self.place.number.checked_add(1) {
+            Some(next) if next == place.number => {}
+            _ => return Err(AuditFault::Order),
         }
         self.place = place;
         self.runs.clear();
-        self.vibs.clear();
-        self.span.number = 0;
-        self.empty();
+        self.empty(NO_SPAN);
         Ok(())
     }
 
-    fn empty(&mut self) {
+    // Opens an empty window of a span.
+    fn empty(&mut self, span: Span)
+        ensures { self.new ≡ record self.old {
+          span = span;
+          entries = [];
+          sources = [];
+          reached = None;
+          parts = 0;
+          sum = None;
+        } }
+    {
+        self.span = span;
         self.entries.clear();
         self.sources.clear();
         self.reached = None;
@@ -124,9 +173,11 @@ impl<A: Allocator + Copy> Open<A> {
     }
 
     /// Adds a run; their numbers count from 1, and only the last one may have no end.
-    pub fn add_run(&mut self, number: u64, run: Run, vib: &[u8]) -> Result<(), Stop> {
+    pub fn add_run(&mut self, number: u64, run: Run) -> Result<(), Stop>
+        ensures { OnOk result (with_run number run self.old ≡ Some self.new) }
+    {
         let is_after = match self.runs.last() {
-            Some(last) => last.end.is_some_and(|end| end <= run.begin),
+            Some(last) => is_over(last, run.begin),
             None => true,
         };
         let is_whole = match run.end {
@@ -143,22 +194,24 @@ impl<A: Allocator + Copy> Open<A> {
             return Err(Stop::Fault(AuditFault::TooMany));
         }
         self.runs.push(run)?;
-        self.vibs.push(Vec::from_slice(self.alloc, vib)?)?;
         Ok(())
     }
 
     /// Opens the window of a span; their numbers rise.
-    pub fn open(&mut self, span: Span) -> Result<(), AuditFault> {
+    pub fn open(&mut self, span: Span) -> Result<(), AuditFault>
+        ensures { OnOk result (opened span self.old ≡ Some self.new) }
+    {
         if span.number <= self.span.number {
             return Err(AuditFault::Order);
         }
-        self.span = span;
-        self.empty();
+        self.empty(span);
         Ok(())
     }
 
     /// The run with this number.
-    pub fn run(&self, number: u64) -> Result<Run, AuditFault> {
+    pub fn run(&self, number: u64) -> Result<Run, AuditFault>
+        ensures { IfOk result (λ r. run_at number self.now ≡ Some r) }
+    {
         let place = number.checked_sub(1).ok_or(AuditFault::Fact)?;
         if place >= MOST_RUNS as u64 {
             return Err(AuditFault::Fact);
@@ -169,36 +222,29 @@ impl<A: Allocator + Copy> Open<A> {
         }
     }
 
-    // The block of the record that counts of a run, or nothing.
-    fn vib(&self, number: u64) -> &[u8] {
-        match number.checked_sub(1) {
-            Some(place) if place < MOST_RUNS as u64 => match self.vibs.get(place as usize) {
-                Some(vib) => vib.as_slice(),
-                None => &[],
-            },
-            _ => &[],
-        }
-    }
-
-    /// Whether a value of a run may have this moment: not before the value before it. One of a run outside of its time
-    /// makes other exchanges than those that are declared, which the grade says.
-    pub fn check_moment(&self, number: u64, moment: u64) -> Result<(), AuditFault> {
-        self.run(number)?;
+    /// Whether a value may have this moment: not before the value before it. One of a run outside of its time makes
+    /// other exchanges than those that are declared, which the grade says.
+    pub fn check_moment(&self, moment: u64) -> Result<(), AuditFault>
+        ensures { OnOk result (is_entry_after (last_entry self.now.entries) moment ≡ true) }
+    {
         match self.entries.last() {
             Some(last) if moment < last.moment => Err(AuditFault::Moment),
             _ => Ok(()),
         }
     }
 
-    /// Adds a value whose moment was checked.
+    /// Adds a value of a run.
     pub fn add_value(
         &mut self,
         number: u64,
         moment: u64,
         value: u64,
         source: Source,
-    ) -> Result<(), Stop> {
+    ) -> Result<(), Stop>
+        ensures { OnOk result (with_value number moment value source self.old ≡ Some self.new) }
+    {
         let run = self.run(number)?;
+        self.check_moment(moment)?;
         if self.entries.len() >= MOST_ENTRIES {
             return Err(Stop::Fault(AuditFault::TooMany));
         }
@@ -214,36 +260,29 @@ impl<A: Allocator + Copy> Open<A> {
     }
 
     /// The value that the bodies of a readout give of a run.
-    pub fn value_of(
-        &self,
-        number: u64,
-        bodies: &[Vec<u8, A>],
-        meant: Storage,
-    ) -> Result<Result<u64, Refusal>, AuditFault> {
-        let run = self.run(number)?;
+    pub fn value_of(&self, run: &Run, bodies: &[Vec<u8, A>], meant: Storage) -> Result<u64, Refusal>
+        ensures { result ≡ value_of run.now.identity self.now.place.counted
+            (vib_bytes run.now.vib) meant (map (λ b. b.items) bodies.now) }
+    {
         let counter = Counter {
             identity: run.identity,
-            counted: self.place.used.counted(),
-            vib: self.vib(number),
+            counted: self.place.counted,
+            vib: run.vib.as_slice(),
         };
-        Ok(value_of(bodies, &counter, meant))
+        value_of(bodies, &counter, meant)
     }
 
     /// The value of a run at a moment: the last of several.
-    pub fn value_at(&self, number: u64, moment: u64) -> Option<u64> {
-        let mut value = None;
-        for entry in &self.entries {
-            if entry.meter == number && entry.moment == moment {
-                value = Some(entry.value);
-            }
-        }
-        value
+    pub fn value_at(&self, number: u64, moment: u64) -> Option<u64>
+        ensures { result ≡ value_on number moment None self.now.entries }
+    {
+        value_on(self.entries.as_slice(), number, moment)
     }
 
     /// A period of the open window.
     pub fn graded(&self, from: u64, to: u64) -> Result<Graded, Stop>
-        ensures { IfOk result (λ g. g ≡ graded_of self.now.entries.items self.now.sources.items
-            self.now.runs.items from to) }
+        ensures { IfOk result (λ g. g ≡ graded_of self.now.entries self.now.sources self.now.runs
+            from to) }
     {
         if !is_in_order(self.entries.as_slice()) {
             return Err(Stop::Fault(AuditFault::Moment));
@@ -265,7 +304,9 @@ impl<A: Allocator + Copy> Open<A> {
     }
 
     // The later one of the span's beginning and the first run's.
-    fn begins(&self) -> u64 {
+    fn begins(&self) -> u64
+        ensures { result ≡ begins self.now }
+    {
         match self.runs.first() {
             Some(run) => run.begin.max(self.span.begin),
             None => self.span.begin,
@@ -273,7 +314,9 @@ impl<A: Allocator + Copy> Open<A> {
     }
 
     // The earlier one of the span's end and the last run's.
-    fn ends(&self) -> u64 {
+    fn ends(&self) -> u64
+        ensures { result ≡ ends self.now }
+    {
         match self.runs.last() {
             Some(run) => match run.end {
                 Some(end) => end.min(self.span.end),
@@ -285,10 +328,9 @@ impl<A: Allocator + Copy> Open<A> {
 
     /// The share of the next part.
     pub fn add_part(&mut self, part: &Part) -> Result<Share, Stop>
-        ensures { IfOk result (λ s. s ≡ share_of (graded_of self.old.entries.items
-            self.old.sources.items self.old.runs.items part.now.from part.now.to).amount
-            self.old.place.weight (graded_of self.old.entries.items self.old.sources.items
-            self.old.runs.items part.now.from part.now.to).grade) }
+        ensures share { IfOk result (λ s. s ≡ share_in part.now.from part.now.to self.old) }
+        ensures part { OnOk result (with_part part.now.from part.now.to self.old
+            ≡ Some self.new) }
     {
         let from = match self.reached {
             Some(reached) => reached,
@@ -313,7 +355,9 @@ impl<A: Allocator + Copy> Open<A> {
     }
 
     /// Whether the parts of the open window reach its end, and their sum if there is one.
-    pub fn close(&self) -> Result<Option<Share>, AuditFault> {
+    pub fn close(&self) -> Result<Option<Share>, AuditFault>
+        ensures { IfOk result (λ sum. closed self.now ≡ Some sum) }
+    {
         let is_whole = match self.reached {
             Some(reached) => reached == self.ends(),
             None => self.ends() <= self.begins(),

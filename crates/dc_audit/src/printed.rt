@@ -1,16 +1,19 @@
 //! What is printed of numbers.
 
-ghost use Rattle.std.specs.Prelude.{◌≡◌, ◌≤◌, ◌<◌, IfSome};
+ghost use Rattle.std.specs.Prelude.{◌≡◌, ◌≤◌, ◌<◌, ◌||◌, ◌&&◌, Some, IfOk, IfSome};
 ghost use Rattle.dc_audit.specs.Printed.{IsPrintedAs, decimals_after, decimals_in, decimals_of};
-ghost use Rattle.dc_audit.specs.Printed.{most_decimals};
+ghost use Rattle.dc_audit.specs.Printed.{asked_decimals, given_of, is_beside, is_count};
+ghost use Rattle.dc_audit.specs.Printed.{is_printed, most_decimals, printed_of, published_in};
+ghost use Rattle.dc_audit.specs.Printed.{read_alone, read_counted, read_marked};
+ghost use Rattle.dc_audit.specs.Field.{read_as};
 ghost use Rattle.dc_audit.specs.Smallest.{decimal_in};
 
 use crate::fault::AuditFault;
+use crate::field::{Fields, is_word};
 use crate::grade::Grade;
 use crate::number::Signed;
 use crate::smallest::decimal_in;
-use crate::uses::is_word;
-use dc_io::{IoFault, Sink, put_number};
+use dc_io::{IoFault, Sink};
 use dc_record::value::{Decimal, TEXT_ROOM, Value};
 
 /// Most decimals of a published number.
@@ -22,7 +25,8 @@ pub type Printed = Option<Decimal>;
 /// A number rounded half away from zero to this many decimals.
 pub fn printed(number: Option<Signed>, decimals: u32) -> Result<Printed, AuditFault>
     requires { decimals ≤ 9 }
-    ensures { IsPrintedAs number decimals result }
+    ensures exact { IsPrintedAs number decimals result }
+    ensures value { IfOk result (λ p. p ≡ printed_of number decimals) }
 {
     let Some(signed) = number else {
         return Ok(None);
@@ -80,7 +84,9 @@ pub fn decimals_of(text: &[u8]) -> Option<u32>
 }
 
 /// Whether a published text is that of the number.
-pub fn is_printed(text: &[u8], number: Printed) -> bool {
+pub fn is_printed(text: &[u8], number: Printed) -> bool
+    ensures { result ≡ is_printed text.now number }
+{
     let Some(decimal) = number else {
         return is_word(text, "-");
     };
@@ -97,60 +103,176 @@ pub fn put_printed<W: Sink>(out: &mut W, number: Printed) -> Result<(), IoFault>
     out.put(Value::Number(decimal).write_into(&mut room))
 }
 
-/// What a published number has beside its text.
+/// What is beside a text.
 #[derive(Clone, Copy)]
-pub enum Beside<'a> {
+pub enum Beside {
     Nothing,
     Mark(Grade),
     /// Of the house: how many places have no number, and how many there are.
     Counts(u64, u64),
-    /// Of a reading: its unit.
-    Unit(&'a [u8]),
 }
 
-/// Writes what is beside a text.
-pub fn put_beside<W: Sink>(out: &mut W, beside: &Beside<'_>) -> Result<(), IoFault> {
-    match beside {
-        Beside::Nothing => Ok(()),
-        Beside::Mark(grade) => {
-            out.put(b" ")?;
-            out.put(grade.name().as_bytes())
-        }
-        Beside::Counts(without, count) => {
-            out.put(b" ")?;
-            put_number(out, *without)?;
-            out.put(b" ")?;
-            put_number(out, *count)
-        }
-        Beside::Unit(unit) => {
-            out.put(b" ")?;
-            out.put(unit)
+/// What holds of a number.
+#[derive(Clone, Copy)]
+pub struct Holds {
+    pub number: Option<Signed>,
+    pub beside: Beside,
+}
+
+impl Holds {
+    /// A number without a mark.
+    pub fn alone(number: Option<Signed>) -> Holds
+        ensures { result ≡ record { number = number; beside = Beside.Nothing } }
+    {
+        Holds {
+            number,
+            beside: Beside::Nothing,
         }
     }
 }
 
-/// What the file said beside a text, and what holds.
-fn is_same(published: &Beside<'_>, computed: &Beside<'_>) -> bool {
-    match (published, computed) {
-        (Beside::Mark(one), Beside::Mark(other)) => one == other,
-        (Beside::Counts(without, count), Beside::Counts(other_without, other_count)) => {
-            without == other_without && count == other_count
+/// What is published beside a text; none where it is asked for.
+#[derive(Clone, Copy)]
+pub enum GivenBeside {
+    Nothing,
+    Mark(Option<Grade>),
+    Counts(Option<u64>, Option<u64>),
+}
+
+/// A published number.
+#[derive(Clone, Copy)]
+pub struct Given<'a> {
+    /// The line's text from the number on.
+    pub tail: &'a [u8],
+    pub text: &'a [u8],
+    pub is_asked: bool,
+    pub decimals: u32,
+    pub beside: GivenBeside,
+}
+
+impl<'a> Given<'a> {
+    /// The last field of a line.
+    #[tactic(auto, unfolding(crate::specs::Printed::read_alone))]
+    pub fn alone(fields: &mut Fields<'a>, may_ask: bool) -> Result<Given<'a>, AuditFault>
+        ensures few { IfOk result (λ g. g.decimals ≤ 3) }
+        ensures read { IfOk result (λ g. read_alone may_ask fields.old ≡ Some (given_of
+            g.text.now g.is_asked g.decimals g.beside)) }
+    {
+        let given = Given::text(fields, may_ask)?;
+        fields.end()?;
+        Ok(given)
+    }
+
+    /// The last two fields: the text, and the mark.
+    #[tactic(auto, unfolding(crate::specs::Printed::read_marked))]
+    pub fn with_mark(fields: &mut Fields<'a>, may_ask: bool) -> Result<Given<'a>, AuditFault>
+        ensures few { IfOk result (λ g. g.decimals ≤ 3) }
+        ensures read { IfOk result (λ g. read_marked may_ask fields.old ≡ Some (given_of
+            g.text.now g.is_asked g.decimals g.beside)) }
+    {
+        let given = Given::text(fields, may_ask)?;
+        let mark = fields.mark(may_ask)?;
+        fields.end()?;
+        let beside = GivenBeside::Mark(mark);
+        Ok(Given { beside, ..given })
+    }
+
+    /// The last three fields: the text, how many places have no number, and how many there are.
+    #[tactic(auto, unfolding(crate::specs::Printed::read_counted))]
+    pub fn with_counts(fields: &mut Fields<'a>, may_ask: bool) -> Result<Given<'a>, AuditFault>
+        ensures few { IfOk result (λ g. g.decimals ≤ 3) }
+        ensures read { IfOk result (λ g. read_counted may_ask fields.old ≡ Some (given_of
+            g.text.now g.is_asked g.decimals g.beside)) }
+    {
+        let given = Given::text(fields, may_ask)?;
+        let without = fields.count(may_ask)?;
+        let count = fields.count(may_ask)?;
+        fields.end()?;
+        let beside = GivenBeside::Counts(without, count);
+        Ok(Given { beside, ..given })
+    }
+
+    // The text; one that is asked for where it may be.
+    fn text(fields: &mut Fields<'a>, may_ask: bool) -> Result<Given<'a>, AuditFault>
+        ensures few { IfOk result (λ g. g.decimals ≤ 3) }
+        ensures read { IfOk result (λ g. read_as (published_in may_ask) fields.old
+            ≡ Some (given_of g.text.now g.is_asked g.decimals g.beside, fields.new)) }
+    {
+        let tail = fields.rest();
+        let text = fields.field()?;
+        let (decimals, is_asked) = published_decimals(may_ask, text).ok_or(AuditFault::Row)?;
+        let beside = GivenBeside::Nothing;
+        Ok(Given {
+            tail,
+            text,
+            is_asked,
+            decimals,
+            beside,
+        })
+    }
+
+    /// Whether it is what holds, as far as it isn't asked for.
+    pub fn is(&self, number: Printed, beside: &Beside) -> bool
+        ensures { result ≡ ((self.now.is_asked || is_printed self.now.text.now number)
+            && is_beside self.now.beside beside.now) }
+    {
+        (self.is_asked || is_printed(self.text, number)) && is_same(&self.beside, beside)
+    }
+}
+
+// How many decimals are asked for: `?`, `?.0`, `?.00`, `?.000`.
+fn asked_decimals(text: &[u8]) -> Option<u32>
+    ensures value { result ≡ asked_decimals text.now }
+    ensures few { IfSome result (λ n. n ≤ 3) }
+{
+    if is_word(text, "?") {
+        Some(0)
+    } else if is_word(text, "?.0") {
+        Some(1)
+    } else if is_word(text, "?.00") {
+        Some(2)
+    } else if is_word(text, "?.000") {
+        Some(3)
+    } else {
+        None
+    }
+}
+
+// How many decimals a text has, or how many are asked for.
+fn published_decimals(may_ask: bool, text: &[u8]) -> Option<(u32, bool)>
+    ensures value { IfSome result (λ d. published_in may_ask text.now
+        ≡ Some (given_of text.now d.1 d.0 GivenBeside.Nothing)) }
+    ensures few { IfSome result (λ d. d.0 ≤ 3) }
+{
+    if may_ask && let Some(decimals) = asked_decimals(text) {
+        return Some((decimals, true));
+    }
+    match decimals_of(text) {
+        Some(decimals) => Some((decimals, false)),
+        None => None,
+    }
+}
+
+// Whether what is published beside a text is what holds, as far as it isn't asked for.
+fn is_same(published: &GivenBeside, computed: &Beside) -> bool
+    ensures { result ≡ is_beside published.now computed.now }
+{
+    match (*published, *computed) {
+        (GivenBeside::Mark(None), Beside::Mark(_)) => true,
+        (GivenBeside::Mark(Some(mark)), Beside::Mark(grade)) => mark.rank() == grade.rank(),
+        (GivenBeside::Counts(without, count), Beside::Counts(others_without, others)) => {
+            is_count(without, others_without) && is_count(count, others)
         }
-        (Beside::Nothing, Beside::Nothing) | (Beside::Unit(_), Beside::Unit(_)) => true,
+        (GivenBeside::Nothing, Beside::Nothing) => true,
         _ => false,
     }
 }
 
-/// A published number: its text and what is beside it.
-#[derive(Clone, Copy)]
-pub struct Published<'a> {
-    pub text: &'a [u8],
-    pub beside: Beside<'a>,
-}
-
-impl Published<'_> {
-    /// Whether it is what holds.
-    pub fn is(&self, number: Printed, beside: &Beside<'_>) -> bool {
-        is_printed(self.text, number) && is_same(&self.beside, beside)
+fn is_count(given: Option<u64>, count: u64) -> bool
+    ensures { result ≡ is_count given count }
+{
+    match given {
+        Some(given) => given == count,
+        None => true,
     }
 }

@@ -7,7 +7,7 @@ ghost use Rattle.dc_audit.specs.Smallest.{decimal_in, digits_on, end_of_values, 
 ghost use Rattle.dc_audit.specs.Smallest.{is_whole_part};
 ghost use Rattle.dc_audit.specs.Smallest.{is_point, of_decimal, of_magnitude, of_spelled, parts_of};
 ghost use Rattle.dc_audit.specs.Smallest.{ratio_in, ratio_of, scaled_down, scaled_up};
-ghost use Rattle.dc_audit.specs.Smallest.{spelled_after};
+ghost use Rattle.dc_audit.specs.Smallest.{spelled_after, whole_in};
 
 use dc_record::value::Decimal;
 
@@ -36,8 +36,8 @@ pub struct Spelled {
     pub decimals: u32,
 }
 
-// The number that digits go on from n; none where one isn't a digit, and from 10^18 on.
-fn digits_on(n: u64, text: &[u8]) -> Option<u64>
+/// The number that digits go on from n; none where one isn't a digit, and from 10^18 on.
+pub fn digits_on(n: u64, text: &[u8]) -> Option<u64>
     requires { n < end_of_values }
     ensures value { result ≡ digits_on n text.now }
     ensures small { IfSome result (λ m. m < end_of_values) }
@@ -53,6 +53,18 @@ fn digits_on(n: u64, text: &[u8]) -> Option<u64>
         return None;
     }
     digits_on(next, rest)
+}
+
+/// The whole number that a text spells: at most 18 digits, without a 0 before others.
+pub fn whole_in(text: &[u8]) -> Option<u64>
+    ensures value { result ≡ whole_in text.now }
+    ensures small { IfSome result (λ n. n < end_of_values) }
+{
+    if is_whole_part(text) {
+        digits_on(0, text)
+    } else {
+        None
+    }
 }
 
 fn first_point(text: &[u8]) -> Option<usize>

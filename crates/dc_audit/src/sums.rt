@@ -1,37 +1,32 @@
-//! The numbers after the places: sums, and what is computed from them.
+//! The numbers of a file: of places, sums, and what is computed from them.
 
-use crate::checking::{Audit, number_in, unit_in, use_in};
+ghost use Rattle.std.specs.Prelude.{◌≡◌, ◌≤◌, OnOk};
+ghost use Rattle.dc_audit.specs.Counts.{count_number};
+ghost use Rattle.dc_audit.specs.Printed.{given_of, is_right};
+
+use crate::checking::Audit;
 use crate::exact::Exact;
 use crate::facts::Key as FactKey;
 use crate::fault::{AuditFault, Stop};
-use crate::field::{fields_4, fields_5, fields_6};
+use crate::field::Fields;
 use crate::grade::Grade;
 use crate::number::{Signed, carbon, change, cost, declared_mean, exact_in, mean, weather};
-use crate::printed::{Beside, Published};
-use crate::teller::{Subject, Whose};
-use crate::total::{Holder, Key, Share, Total};
-use crate::uses::{Unit, Use};
-use crate::word::Word;
+use crate::printed::{Beside, Given, Holds, printed};
+use crate::smallest::{MOST_VALUE_DECIMALS, decimal_in, of_spelled};
+use crate::teller::{Answer, Subject, Whose, put_differs};
+use crate::total::{Key, Share, Total};
+use crate::uses::{Counted, Unit, size_named};
 use dc_io::Sink;
 use std::alloc::Allocator;
 
 // Fewest flats of a mean, so that it identifies nobody.
 const FEWEST_COMPARED: u64 = 3;
 
-// Nothing, of which units are exact.
-const NO_SHARE: Share = Share {
-    plain: 0,
-    weighted: 0,
-    grade: Grade::Measured,
-};
+// Decimals of the value of a reading that isn't the published one.
+const SHOWN_VALUE_DECIMALS: u32 = 6;
 
-// A number that is published without a mark.
-fn plainly(text: &[u8]) -> Published<'_> {
-    Published {
-        text,
-        beside: Beside::Nothing,
-    }
-}
+/// A use: its number, and what its meters count.
+type Used = (u64, Counted);
 
 // A number of at least 0, where there is one.
 fn signed(number: Option<Exact>) -> Option<Signed> {
@@ -41,93 +36,191 @@ fn signed(number: Option<Exact>) -> Option<Signed> {
     }
 }
 
+// Whether a published value is that of the window.
+fn is_value(value: Option<u64>, published: Option<u64>) -> bool {
+    match (value, published) {
+        (Some(value), Some(published)) => published == value,
+        _ => false,
+    }
+}
+
 impl<A: Allocator + Copy> Audit<A> {
-    /// Checks the line of a sum, or of what is computed from sums.
-    pub fn check_sum<W: Sink>(&mut self, word: Word, rest: &[u8], out: &mut W) -> Result<(), Stop> {
-        match word {
-            Word::OfUser | Word::OfFlat => self.check_total(word, rest, out),
-            Word::OfHouse => self.check_house(rest, out),
-            Word::Mean => self.check_mean(rest, out),
-            Word::Change => self.check_change(rest, out),
-            Word::CarbonOf => self.check_carbon(rest, out),
-            Word::Cost => self.check_cost(rest, out),
-            _ => self.check_weather(rest, out),
+    /// Checks a number of the open place.
+    pub fn check_shown<W: Sink>(
+        &mut self,
+        fields: &mut Fields<'_>,
+        out: &mut W,
+    ) -> Result<(), Stop> {
+        let (span, from) = (fields.number()?, fields.number()?);
+        let (to, unit) = (fields.number()?, fields.unit()?);
+        let given = Given::with_mark(fields, self.may_ask)?;
+        let (place, open) = (self.here.place, self.here.span);
+        if span != open.number {
+            return Err(Stop::Fault(AuditFault::Order));
         }
+        if from < open.begin || to <= from || open.end < to {
+            return Err(Stop::Fault(AuditFault::Part));
+        }
+        let graded = self.here.graded(from, to)?;
+        let share = Share::new(graded.amount, place.weight, graded.grade);
+        let exact = self.exact(&share, span, (place.used, place.counted), unit)?;
+        let number = if graded.grade.has_number() {
+            Some(Signed::of(exact))
+        } else {
+            None
+        };
+        let beside = Beside::Mark(graded.grade);
+        self.tell(
+            &Holds { number, beside },
+            &Subject::amount(Whose::Place(place.number)),
+            place.used,
+            &given,
+            out,
+        )
+    }
+
+    /// Checks a value of the open window.
+    pub fn check_value<W: Sink>(
+        &mut self,
+        fields: &mut Fields<'_>,
+        out: &mut W,
+    ) -> Result<(), Stop> {
+        let (run, moment) = (fields.number()?, fields.number()?);
+        let tail = fields.rest();
+        let (text, unit) = (fields.field()?, fields.field()?);
+        fields.end()?;
+        let (counted, size) = size_named(unit).ok_or(AuditFault::Row)?;
+        let spelled = decimal_in(text, MOST_VALUE_DECIMALS).ok_or(AuditFault::Row)?;
+        let place = self.here.place;
+        if !counted.is(place.counted) {
+            return Err(Stop::Fault(AuditFault::Unit));
+        }
+        self.here.run(run)?;
+        let value = self.here.value_at(run, moment);
+        let is_right = is_value(value, of_spelled(spelled, size));
+        self.counts.add_number(is_right);
+        if is_right {
+            return Ok(());
+        }
+        let number = match value {
+            Some(value) => Some(Signed::of(Exact {
+                num: u128::from(value),
+                den: u128::from(size),
+            })),
+            None => None,
+        };
+        let answer = Answer {
+            tail: tail.len(),
+            number: printed(number, SHOWN_VALUE_DECIMALS)?,
+            beside: Beside::Nothing,
+        };
+        let subject = Subject::amount(Whose::Place(place.number));
+        let word = self.facts.word(place.used);
+        put_differs(out, self.line, &subject, word, tail, &answer, unit)?;
+        Ok(())
     }
 
     // A share in a unit of a use.
-    fn exact(&self, share: &Share, span: u64, used: Use, unit: Unit) -> Result<Exact, AuditFault> {
-        let factor = self.facts.declared(FactKey::Factor(used), span);
-        exact_in(share, used.counted(), unit, factor)
+    fn exact(&self, share: &Share, span: u64, used: Used, unit: Unit) -> Result<Exact, AuditFault> {
+        let factor = self.facts.declared(FactKey::Factor(used.0), span);
+        exact_in(share, used.1, unit, factor)
     }
 
-    // The sum of a holder, where each of its parts has a number.
-    fn amount(&self, key: Key, unit: Unit) -> Result<Option<Exact>, AuditFault> {
-        let found = match self.totals.get(key) {
-            Some(total) if total.without == 0 => Some(total.sum),
-            _ => None,
-        };
-        let exact = self.exact(&found.unwrap_or(NO_SHARE), key.span, key.used, unit)?;
-        Ok(if found.is_some() { Some(exact) } else { None })
-    }
-
-    // The same of a user.
-    fn of_user(
+    // The sum, where each of its parts has a number, and its mark.
+    fn amount(
         &self,
+        total: Option<Total>,
         span: u64,
-        user: u64,
-        used: Use,
+        used: Used,
         unit: Unit,
-    ) -> Result<Option<Exact>, AuditFault> {
+    ) -> Result<Holds, AuditFault> {
+        let (sum, grade, is_whole) = match total {
+            Some(total) if total.without == 0 => (total.sum, total.sum.grade, true),
+            Some(total) => (Share::nothing(), total.sum.grade, false),
+            None => (Share::nothing(), Grade::Missing, false),
+        };
+        let exact = self.exact(&sum, span, used, unit)?;
+        let number = if is_whole {
+            Some(Signed::of(exact))
+        } else {
+            None
+        };
+        let beside = Beside::Mark(grade);
+        Ok(Holds { number, beside })
+    }
+
+    // The sum of a user, where each of its parts has a number.
+    fn of_user(&self, span: u64, user: u64, used: Used, unit: Unit) -> Result<Holds, AuditFault> {
         self.facts.span(span)?;
         self.facts.user(user)?;
-        let holder = Holder::User(user);
-        self.amount(Key { span, holder, used }, unit)
+        let key = Key {
+            span,
+            used: used.0,
+            holder: user,
+        };
+        self.amount(self.of_users.get(&key), span, used, unit)
     }
 
-    fn check_total<W: Sink>(&mut self, word: Word, rest: &[u8], out: &mut W) -> Result<(), Stop> {
-        let ((span, name), ((used, unit), (text, mark))) = fields_6(rest).ok_or(AuditFault::Row)?;
-        let (span, used, unit) = (number_in(span)?, use_in(used)?, unit_in(unit)?);
-        let mark = Grade::named(mark).ok_or(AuditFault::Row)?;
-        let (holder, whose) = if word == Word::OfUser {
-            let number = number_in(name)?;
-            self.facts.user(number)?;
-            (Holder::User(number), Whose::User(number))
-        } else {
-            (
-                Holder::Flat(self.facts.known_flat(name)?),
-                Whose::Flat(name),
-            )
-        };
-        self.facts.span(span)?;
-        let key = Key { span, holder, used };
-        let number = signed(self.amount(key, unit)?);
-        let grade = match self.totals.get(key) {
-            Some(total) => total.sum.grade,
-            None => Grade::Missing,
-        };
-        let subject = Subject {
-            what: "",
-            whose,
-            used,
-        };
-        let beside = Beside::Mark(mark);
-        let published = Published { text, beside };
-        self.tell(&subject, number, &published, &Beside::Mark(grade), out)
+    /// Checks the sum of a user.
+    pub fn check_user<W: Sink>(
+        &mut self,
+        fields: &mut Fields<'_>,
+        out: &mut W,
+    ) -> Result<(), Stop> {
+        let (span, user) = (fields.number()?, fields.number()?);
+        let (name, unit) = (fields.field()?, fields.unit()?);
+        let given = Given::with_mark(fields, self.may_ask)?;
+        let used = self.facts.used(name)?;
+        let holds = self.of_user(span, user, used, unit)?;
+        self.tell(&holds, &Subject::of_user("", user), used.0, &given, out)
     }
 
-    fn check_house<W: Sink>(&mut self, rest: &[u8], out: &mut W) -> Result<(), Stop> {
-        let ((span, used), ((unit, text), (without, count))) = fields_6(rest).ok_or(
-            AuditFault::Row,
-        )?;
-        let (span, used, unit) = (number_in(span)?, use_in(used)?, unit_in(unit)?);
-        let beside = Beside::Counts(number_in(without)?, number_in(count)?);
+    /// Checks that of a flat.
+    pub fn check_flat<W: Sink>(
+        &mut self,
+        fields: &mut Fields<'_>,
+        out: &mut W,
+    ) -> Result<(), Stop> {
+        let (span, flat) = (fields.number()?, fields.field()?);
+        let (name, unit) = (fields.field()?, fields.unit()?);
+        let given = Given::with_mark(fields, self.may_ask)?;
+        let used = self.facts.used(name)?;
+        let holder = self.facts.known_flat(flat)?;
         self.facts.span(span)?;
-        let holder = Holder::House;
-        let total = self.totals.get(Key { span, holder, used });
-        let (sum, without, count) = match total {
+        let key = Key {
+            span,
+            used: used.0,
+            holder,
+        };
+        let holds = self.amount(self.of_flats.get(&key), span, used, unit)?;
+        self.tell(
+            &holds,
+            &Subject::amount(Whose::Flat(flat)),
+            used.0,
+            &given,
+            out,
+        )
+    }
+
+    /// Checks that of the house.
+    pub fn check_house<W: Sink>(
+        &mut self,
+        fields: &mut Fields<'_>,
+        out: &mut W,
+    ) -> Result<(), Stop> {
+        let (span, name) = (fields.number()?, fields.field()?);
+        let unit = fields.unit()?;
+        let given = Given::with_counts(fields, self.may_ask)?;
+        let used = self.facts.used(name)?;
+        self.facts.span(span)?;
+        let key = Key {
+            span,
+            used: used.0,
+            holder: 0,
+        };
+        let (sum, without, count) = match self.of_house.get(&key) {
             Some(total) => (total.sum, total.without, total.count),
-            None => (NO_SHARE, 0, 0),
+            None => (Share::nothing(), 0, 0),
         };
         let exact = self.exact(&sum, span, used, unit)?;
         let number = if without < count {
@@ -135,142 +228,194 @@ impl<A: Allocator + Copy> Audit<A> {
         } else {
             None
         };
-        let subject = Subject {
-            what: "",
-            whose: Whose::House,
-            used,
-        };
-        let published = Published { text, beside };
+        let beside = Beside::Counts(without, count);
         self.tell(
-            &subject,
-            number,
-            &published,
-            &Beside::Counts(without, count),
+            &Holds { number, beside },
+            &Subject::amount(Whose::House),
+            used.0,
+            &given,
             out,
         )
     }
 
-    // Counts a number of a user, and says where it isn't what was published.
-    fn tell_of_user<W: Sink>(
+    /// Checks the mean for a user.
+    pub fn check_mean<W: Sink>(
         &mut self,
-        what: &'static str,
-        user: u64,
-        used: Use,
-        number: Option<Signed>,
-        text: &[u8],
+        fields: &mut Fields<'_>,
         out: &mut W,
     ) -> Result<(), Stop> {
-        let whose = Whose::User(user);
-        let subject = Subject { what, whose, used };
-        self.tell(&subject, number, &plainly(text), &Beside::Nothing, out)
-    }
-
-    fn check_mean<W: Sink>(&mut self, rest: &[u8], out: &mut W) -> Result<(), Stop> {
-        let ((span, user), (used, unit, text)) = fields_5(rest).ok_or(AuditFault::Row)?;
-        let (span, user) = (number_in(span)?, number_in(user)?);
-        let (used, unit) = (use_in(used)?, unit_in(unit)?);
+        let (span, user) = (fields.number()?, fields.number()?);
+        let (name, unit) = (fields.field()?, fields.unit()?);
+        let given = Given::alone(fields, self.may_ask)?;
+        let used = self.facts.used(name)?;
         self.facts.span(span)?;
         let area = self.facts.user(user)?.area;
-        self.exact(&NO_SHARE, span, used, unit)?;
+        self.exact(&Share::nothing(), span, used, unit)?;
         let number = match (
             area,
-            self.facts.declared(FactKey::Average(used, unit), span),
+            self.facts.declared(FactKey::Average(used.0, unit), span),
         ) {
             (None, _) => None,
             (Some(area), Some(average)) => Some(declared_mean(average, area)),
             (Some(area), None) => self.mean_of_house(span, used, unit, area)?,
         };
-        self.tell_of_user("mean", user, used, signed(number), text, out)
-    }
-
-    // The area of a flat whose sum is one of a span and a use, and is reliable enough for a mean.
-    fn compared(&self, total: &Total, span: u64, used: Use) -> Option<u64> {
-        let Holder::Flat(flat) = total.key.holder else {
-            return None;
-        };
-        let is_right = total.key.span == span
-            && total.key.used == used
-            && matches!(total.sum.grade, Grade::Measured | Grade::Hand);
-        if is_right {
-            self.facts.area(flat)
-        } else {
-            None
-        }
+        let holds = Holds::alone(signed(number));
+        self.tell(&holds, &Subject::of_user("mean", user), used.0, &given, out)
     }
 
     // The mean of the flats with reliable sums, for an area.
     fn mean_of_house(
         &self,
         span: u64,
-        used: Use,
+        used: Used,
         unit: Unit,
         area: u64,
     ) -> Result<Option<Exact>, AuditFault> {
-        let mut sum = NO_SHARE;
-        let mut areas: u64 = 0;
-        let mut count: u64 = 0;
-        for total in self.totals.all() {
-            if let Some(of_flat) = self.compared(total, span, used) {
-                sum = sum.and(&total.sum).ok_or(AuditFault::TooLarge)?;
-                areas = areas.checked_add(of_flat).ok_or(AuditFault::TooLarge)?;
-                count = count.saturating_add(1);
+        let found = self
+            .bases
+            .iter()
+            .copied()
+            .find(|basis| basis.span == span && basis.used == used.0);
+        match found {
+            Some(basis) if basis.count >= FEWEST_COMPARED => {
+                mean(self.exact(&basis.sum, span, used, unit)?, basis.areas, area)
             }
+            _ => Ok(None),
         }
-        if count < FEWEST_COMPARED {
-            return Ok(None);
-        }
-        mean(self.exact(&sum, span, used, unit)?, areas, area)
     }
 
-    fn check_change<W: Sink>(&mut self, rest: &[u8], out: &mut W) -> Result<(), Stop> {
-        let ((span, other), ((user, used), (unit, text))) = fields_6(rest).ok_or(AuditFault::Row)?;
-        let (span, other, user) = (number_in(span)?, number_in(other)?, number_in(user)?);
-        let (used, unit) = (use_in(used)?, unit_in(unit)?);
+    /// Checks what a user's sum changed by.
+    pub fn check_change<W: Sink>(
+        &mut self,
+        fields: &mut Fields<'_>,
+        out: &mut W,
+    ) -> Result<(), Stop> {
+        let (span, other, user) = (fields.number()?, fields.number()?, fields.number()?);
+        let (name, unit) = (fields.field()?, fields.unit()?);
+        let given = Given::alone(fields, self.may_ask)?;
+        let used = self.facts.used(name)?;
         let here = self.of_user(span, user, used, unit)?;
         let there = self.of_user(other, user, used, unit)?;
-        let number = match (here, there) {
-            (Some(here), Some(there)) => change(here, there)?,
+        let number = match (here.number, there.number) {
+            (Some(here), Some(there)) => change(here.exact, there.exact)?,
             _ => None,
         };
-        self.tell_of_user("change", user, used, number, text, out)
+        let holds = Holds::alone(number);
+        self.tell(
+            &holds,
+            &Subject::of_user("change", user),
+            used.0,
+            &given,
+            out,
+        )
     }
 
-    fn check_carbon<W: Sink>(&mut self, rest: &[u8], out: &mut W) -> Result<(), Stop> {
-        let ((span, user), (used, text)) = fields_4(rest).ok_or(AuditFault::Row)?;
-        let (span, user, used) = (number_in(span)?, number_in(user)?, use_in(used)?);
+    /// Checks what a user emitted.
+    pub fn check_carbon<W: Sink>(
+        &mut self,
+        fields: &mut Fields<'_>,
+        out: &mut W,
+    ) -> Result<(), Stop> {
+        let (span, user, name) = (fields.number()?, fields.number()?, fields.field()?);
+        let given = Given::alone(fields, self.may_ask)?;
+        let used = self.facts.used(name)?;
         let kwh = self.of_user(span, user, used, Unit::Kwh)?;
-        let grams = self.facts.ratio(FactKey::Carbon(used), span)?;
-        let number = match kwh {
-            Some(kwh) => Some(carbon(kwh, grams)?),
+        let grams = self.facts.ratio(FactKey::Carbon(used.0), span)?;
+        let number = match kwh.number {
+            Some(kwh) => Some(carbon(kwh.exact, grams)?),
             None => None,
         };
-        self.tell_of_user("carbon", user, used, signed(number), text, out)
+        let holds = Holds::alone(signed(number));
+        self.tell(
+            &holds,
+            &Subject::of_user("carbon", user),
+            used.0,
+            &given,
+            out,
+        )
     }
 
-    fn check_cost<W: Sink>(&mut self, rest: &[u8], out: &mut W) -> Result<(), Stop> {
-        let ((span, user), (used, unit, text)) = fields_5(rest).ok_or(AuditFault::Row)?;
-        let (span, user) = (number_in(span)?, number_in(user)?);
-        let (used, unit) = (use_in(used)?, unit_in(unit)?);
+    /// Checks what a user's sum cost.
+    pub fn check_cost<W: Sink>(
+        &mut self,
+        fields: &mut Fields<'_>,
+        out: &mut W,
+    ) -> Result<(), Stop> {
+        let (span, user) = (fields.number()?, fields.number()?);
+        let (name, unit) = (fields.field()?, fields.unit()?);
+        let given = Given::alone(fields, self.may_ask)?;
+        let used = self.facts.used(name)?;
         let amount = self.of_user(span, user, used, unit)?;
-        let cents = self.facts.ratio(FactKey::Price(used, unit), span)?;
-        let number = match amount {
-            Some(amount) => Some(cost(amount, cents)?),
+        let cents = self.facts.ratio(FactKey::Price(used.0, unit), span)?;
+        let number = match amount.number {
+            Some(amount) => Some(cost(amount.exact, cents)?),
             None => None,
         };
-        self.tell_of_user("cost", user, used, signed(number), text, out)
+        let holds = Holds::alone(signed(number));
+        self.tell(&holds, &Subject::of_user("cost", user), used.0, &given, out)
     }
 
-    fn check_weather<W: Sink>(&mut self, rest: &[u8], out: &mut W) -> Result<(), Stop> {
-        let ((span, other), (user, used, text)) = fields_5(rest).ok_or(AuditFault::Row)?;
-        let (span, other, user) = (number_in(span)?, number_in(other)?, number_in(user)?);
-        let used = use_in(used)?;
+    /// Checks a user's sum by the weather.
+    pub fn check_weather<W: Sink>(
+        &mut self,
+        fields: &mut Fields<'_>,
+        out: &mut W,
+    ) -> Result<(), Stop> {
+        let (span, other) = (fields.number()?, fields.number()?);
+        let (user, name) = (fields.number()?, fields.field()?);
+        let given = Given::alone(fields, self.may_ask)?;
+        let used = self.facts.used(name)?;
         let kwh = self.of_user(other, user, used, Unit::Kwh)?;
         let here = self.facts.ratio(FactKey::Degrees, span)?;
         let there = self.facts.ratio(FactKey::Degrees, other)?;
-        let number = match kwh {
-            Some(kwh) => weather(kwh, here, there)?,
+        let number = match kwh.number {
+            Some(kwh) => weather(kwh.exact, here, there)?,
             None => None,
         };
-        self.tell_of_user("weather", user, used, signed(number), text, out)
+        let holds = Holds::alone(signed(number));
+        self.tell(
+            &holds,
+            &Subject::of_user("weather", user),
+            used.0,
+            &given,
+            out,
+        )
+    }
+
+    // Counts a number, and says where it isn't what was published.
+    fn tell<W: Sink>(
+        &mut self,
+        holds: &Holds,
+        subject: &Subject<'_>,
+        used: u64,
+        given: &Given<'_>,
+        out: &mut W,
+    ) -> Result<(), Stop>
+        requires { given.now.decimals ≤ 9 }
+        ensures { OnOk result (self.new.counts ≡ count_number (is_right (given_of
+            given.now.text.now given.now.is_asked given.now.decimals given.now.beside)
+            holds.now.number holds.now.beside) self.old.counts) }
+    {
+        let computed = printed(holds.number, given.decimals)?;
+        let is_right = given.is(computed, &holds.beside);
+        self.counts.add_number(is_right);
+        let answer = Answer {
+            tail: given.tail.len(),
+            number: computed,
+            beside: holds.beside,
+        };
+        self.answer = Some(answer);
+        if !is_right {
+            put_differs(
+                out,
+                self.line,
+                subject,
+                self.facts.word(used),
+                given.tail,
+                &answer,
+                &[],
+            )?;
+        }
+        Ok(())
     }
 }

@@ -1,11 +1,14 @@
 //! What is printed: numbers that differ, values without evidence, the closing line, a line at fault.
 
+ghost use Rattle.std.specs.Prelude.{◌≡◌, IsTrue};
+ghost use Rattle.dc_audit.specs.Counts.{count_number, no_counts, put_counted};
+
 use crate::evidence::Refusal;
 use crate::fault::AuditFault;
-use crate::printed::{Beside, Printed, Published, put_beside, put_printed};
-use crate::uses::Use;
+use crate::field::Fields;
+use crate::printed::{Beside, Printed, put_printed};
 use crate::window::How;
-use dc_io::{IoFault, Sink, put_fault_line, put_number};
+use dc_io::{IoFault, Sink, put_fault_line, put_number, put_number_word};
 
 /// Whose a number is.
 #[derive(Clone, Copy)]
@@ -21,7 +24,27 @@ pub enum Whose<'a> {
 pub struct Subject<'a> {
     pub what: &'static str,
     pub whose: Whose<'a>,
-    pub used: Use,
+}
+
+impl<'a> Subject<'a> {
+    /// An amount.
+    pub fn amount(whose: Whose<'a>) -> Subject<'a> {
+        Subject { what: "", whose }
+    }
+
+    /// What is computed of a user.
+    pub fn of_user(what: &'static str, user: u64) -> Subject<'a> {
+        let whose = Whose::User(user);
+        Subject { what, whose }
+    }
+}
+
+/// What holds of the last fields of a line: of as many bytes at its end.
+#[derive(Clone, Copy)]
+pub(crate) struct Answer {
+    pub tail: usize,
+    pub number: Printed,
+    pub beside: Beside,
 }
 
 /// What was counted.
@@ -37,7 +60,9 @@ pub(crate) struct Counts {
 }
 
 impl Counts {
-    pub fn new() -> Self {
+    pub fn new() -> Self
+        ensures { result ≡ no_counts }
+    {
         Counts {
             numbers: 0,
             differ: 0,
@@ -50,57 +75,56 @@ impl Counts {
     }
 
     /// Counts a value that a person or an estimate put.
-    pub fn add_put(&mut self, how: How) {
+    pub fn add_put(&mut self, how: How)
+        ensures { self.new ≡ put_counted how self.old }
+    {
         match how {
             How::Hand => self.by_hand = self.by_hand.saturating_add(1),
             How::Estimated => self.estimated = self.estimated.saturating_add(1),
         }
     }
 
-    /// Counts a published number.
-    pub fn add_number(&mut self) {
+    /// Counts a published number, which is right or differs.
+    pub fn add_number(&mut self, is_right: bool)
+        ensures { self.new ≡ count_number is_right self.old }
+    {
         self.numbers = self.numbers.saturating_add(1);
-    }
-
-    /// Counts a number that isn't what was published.
-    pub fn add_different(&mut self) {
-        self.differ = self.differ.saturating_add(1);
+        if !is_right {
+            self.differ = self.differ.saturating_add(1);
+        }
     }
 
     /// Whether each number is what was published, and each value has evidence.
-    pub fn are_right(&self) -> bool {
+    pub fn are_right(&self) -> bool
+        ensures { IsTrue result → (self.now.differ ≡ 0) × (self.now.refused ≡ 0) }
+    {
         self.differ == 0 && self.refused == 0
     }
 }
 
-// Writes whose a number is.
-fn put_whose<W: Sink>(out: &mut W, whose: &Whose<'_>) -> Result<(), IoFault> {
-    match whose {
-        Whose::Place(number) => {
-            out.put(b"place ")?;
-            put_number(out, *number)
-        }
-        Whose::User(number) => {
-            out.put(b"user ")?;
-            put_number(out, *number)
-        }
-        Whose::Flat(name) => {
-            out.put(b"flat ")?;
-            out.put(name)
-        }
-        Whose::House => out.put(b"house"),
-    }
-}
-
 // Writes what a number is of.
-fn put_subject<W: Sink>(out: &mut W, subject: &Subject<'_>) -> Result<(), IoFault> {
+fn put_subject<W: Sink>(out: &mut W, subject: &Subject<'_>, word: &[u8]) -> Result<(), IoFault> {
     if !subject.what.is_empty() {
         out.put(subject.what.as_bytes())?;
         out.put(b" of ")?;
     }
-    put_whose(out, &subject.whose)?;
+    match &subject.whose {
+        Whose::Place(number) => {
+            out.put(b"place ")?;
+            put_number(out, *number)?;
+        }
+        Whose::User(number) => {
+            out.put(b"user ")?;
+            put_number(out, *number)?;
+        }
+        Whose::Flat(name) => {
+            out.put(b"flat ")?;
+            out.put(name)?;
+        }
+        Whose::House => out.put(b"house")?,
+    }
     out.put(b" ")?;
-    out.put(subject.used.name().as_bytes())
+    out.put(word)
 }
 
 // Writes the number of a line after a word.
@@ -111,23 +135,83 @@ fn put_at<W: Sink>(out: &mut W, word: &[u8], line: u64) -> Result<(), IoFault> {
     out.put(b": ")
 }
 
-/// Writes that a number isn't what was published.
+/// Writes that a number isn't what was published; of the value of a reading with its unit.
 pub(crate) fn put_differs<W: Sink>(
     out: &mut W,
     line: u64,
     subject: &Subject<'_>,
-    published: &Published<'_>,
-    computed: Printed,
-    beside: &Beside<'_>,
+    word: &[u8],
+    tail: &[u8],
+    answer: &Answer,
+    unit: &[u8],
 ) -> Result<(), IoFault> {
     put_at(out, b"DIFFERS", line)?;
-    put_subject(out, subject)?;
-    out.put(b": published ")?;
-    out.put(published.text)?;
-    put_beside(out, &published.beside)?;
+    put_subject(out, subject, word)?;
+    out.put(b": published")?;
+    // With spaces in the place of commas.
+    let mut fields = Fields::of(tail);
+    'fields: while let Some(field) = fields.next_if_any() {
+        out.put(b" ")?;
+        out.put(field)?;
+    }
     out.put(b", computed ")?;
-    put_printed(out, computed)?;
-    put_beside(out, beside)?;
+    put_printed(out, answer.number)?;
+    match answer.beside {
+        Beside::Nothing => {
+            if !unit.is_empty() {
+                out.put(b" ")?;
+                out.put(unit)?;
+            }
+        }
+        Beside::Mark(grade) => {
+            out.put(b" ")?;
+            out.put(grade.name().as_bytes())?;
+        }
+        Beside::Counts(without, count) => {
+            put_number_word(out, without)?;
+            put_number_word(out, count)?;
+        }
+    }
+    out.put(b"\n")
+}
+
+// Writes the field at a place from the number on, as it holds.
+fn put_held<W: Sink>(out: &mut W, answer: &Answer, place: usize) -> Result<(), IoFault> {
+    if place == 0 {
+        return put_printed(out, answer.number);
+    }
+    match answer.beside {
+        Beside::Nothing => Ok(()),
+        Beside::Mark(grade) => out.put(grade.name().as_bytes()),
+        Beside::Counts(without, count) => put_number(out, if place == 1 { without } else { count }),
+    }
+}
+
+/// Writes a line, with what holds in the place of what is asked for.
+pub(crate) fn put_filled<W: Sink>(
+    out: &mut W,
+    line: &[u8],
+    answer: &Option<Answer>,
+) -> Result<(), IoFault> {
+    let Some(answer) = answer else {
+        out.put(line)?;
+        return out.put(b"\n");
+    };
+    let (front, tail) = line.split_at(line.len().saturating_sub(answer.tail));
+    out.put(front)?;
+    let mut fields = Fields::of(tail);
+    'fields: for place in 0..3 {
+        let Some(given) = fields.next_if_any() else {
+            break;
+        };
+        if place > 0 {
+            out.put(b",")?;
+        }
+        match given {
+            [b'?', ..] => put_held(out, answer, place)?,
+            _ => out.put(given)?,
+        }
+    }
     out.put(b"\n")
 }
 

@@ -1,30 +1,23 @@
 //! Sums over the parts of users, of flats and of the house.
 
-ghost use Rattle.std.specs.Prelude.{◌≡◌};
+ghost use Rattle.std.specs.Prelude.{◌≡◌, [], IfOk, OnOk, slice_get};
 ghost use Rattle.std.specs.Option.{SomeIff};
-ghost use Rattle.dc_audit.specs.Total.{FitsSum, FitsTotal, share_of, sum_of, total_of};
-ghost use Rattle.dc_audit.specs.Total.{total_with, without};
+ghost use Rattle.dc_audit.specs.Total.{FitsSum, FitsTotal, area_of, basis_after, basis_of, no_basis};
+ghost use Rattle.dc_audit.specs.Total.{nothing, share_of, sum_of, sums_with};
+ghost use Rattle.dc_audit.specs.Total.{total_at, total_of, total_with, without};
 
 use crate::fault::{AuditFault, Stop};
 use crate::grade::Grade;
-use crate::uses::Use;
 use std::alloc::Allocator;
+use std::collections::BTreeMap;
+use std::marker::Model;
 
-/// Whose numbers are summed.
-#[derive(Clone, Copy, Debug, PartialEq, Eq)]
-pub enum Holder {
-    User(u64),
-    /// A flat, by its number.
-    Flat(u64),
-    House,
-}
-
-/// What is summed: the amounts of a use in a span.
-#[derive(Clone, Copy, Debug, PartialEq, Eq)]
+/// What is summed: the amounts of a use in a span, of a user, of a flat, or of the house (0).
+#[derive(Clone, Copy, Debug, PartialEq, Eq, PartialOrd, Ord)]
 pub struct Key {
     pub span: u64,
-    pub holder: Holder,
-    pub used: Use,
+    pub used: u64,
+    pub holder: u64,
 }
 
 /// An amount in the smallest unit, the same times its place's weight times 10^6, and how reliable it is; both are 0 where
@@ -39,14 +32,13 @@ pub struct Share {
 /// A sum: of the shares that have a number, the worst grade of all, how many have none, and how many there are.
 #[derive(Clone, Copy, Debug)]
 pub struct Total {
-    pub key: Key,
     pub sum: Share,
     pub without: u64,
     pub count: u64,
 }
 
-// Most sums of a file.
-const MOST_TOTALS: usize = 16_384;
+// Most sums of users, and of flats.
+const MOST_TOTALS: usize = 131_072;
 
 impl Share {
     /// An amount of a place with this weight, if its grade has a number.
@@ -64,6 +56,17 @@ impl Share {
             plain: u128::from(amount),
             weighted: u128::from(amount) * u128::from(weight),
             grade,
+        }
+    }
+
+    /// Nothing, of which units are exact.
+    pub fn nothing() -> Share
+        ensures { result ≡ nothing }
+    {
+        Share {
+            plain: 0,
+            weighted: 0,
+            grade: Grade::Measured,
         }
     }
 
@@ -88,11 +91,10 @@ fn without(share: &Share) -> u64
 
 impl Total {
     // The sum of one share.
-    fn new(key: Key, share: &Share) -> Total
-        ensures { result ≡ total_of key share.now }
+    fn new(share: &Share) -> Total
+        ensures { result ≡ total_of share.now }
     {
         Total {
-            key,
             sum: *share,
             without: without(share),
             count: 1,
@@ -104,7 +106,6 @@ impl Total {
         ensures { SomeIff result (FitsTotal self.now share.now) (total_with self.now share.now) }
     {
         Some(Total {
-            key: self.key,
             sum: self.sum.and(share)?,
             without: self.without.checked_add(without(share))?,
             count: self.count.checked_add(1)?,
@@ -112,45 +113,111 @@ impl Total {
     }
 }
 
-/// All sums.
+/// The sums of the users, of the flats, or of the house.
 #[derive(Drop)]
-pub(crate) struct Totals<A: Allocator> {
-    totals: Vec<Total, A>,
+pub(crate) struct Sums<A: Allocator + Copy> {
+    totals: BTreeMap<Key, Total, A>,
 }
 
-impl<A: Allocator> Totals<A> {
-    pub fn new(alloc: A) -> Self {
-        Totals {
-            totals: Vec::new(alloc),
-        }
-    }
+impl<A: Allocator + Copy> Model for Sums<A> {
+    ghost use Rattle.std.specs.Prelude.{List};
+    ghost use Rattle.dc_audit.specs.declared.total.Key.{Key};
+    ghost use Rattle.dc_audit.specs.declared.total.Total.{Total};
 
-    /// All of them.
-    pub fn all(&self) -> &[Total] {
-        self.totals.as_slice()
+    ghost Value = { List (Key × Total) };
+
+    ghost view = { λ s. s.totals.entries };
+}
+
+impl<A: Allocator + Copy> Sums<A> {
+    pub fn new(alloc: A) -> Self
+        ensures { result ≡ [] }
+    {
+        Sums {
+            totals: BTreeMap::new(alloc),
+        }
     }
 
     /// The sum that is asked for, if it has a share.
-    pub fn get(&self, key: Key) -> Option<Total> {
-        self.totals.iter().find(|total| total.key == key).copied()
+    pub fn get(&self, key: &Key) -> Option<Total>
+        ensures { result ≡ total_at key.now self.now }
+    {
+        self.totals.get(key).copied()
     }
 
     /// Adds a share to a sum.
-    pub fn add(&mut self, key: Key, share: &Share) -> Result<(), Stop> {
-        let Some(place) = self.totals.iter().position(|total| total.key == key) else {
-            if self.totals.len() >= MOST_TOTALS {
-                return Err(Stop::Fault(AuditFault::TooMany));
-            }
-            self.totals.push(Total::new(key, share))?;
+    pub fn add(&mut self, key: Key, share: &Share) -> Result<(), Stop>
+        ensures { OnOk result (self.new ≡ sums_with key share.now self.old) }
+    {
+        let total = match self.get(&key) {
+            Some(total) => total.with(share).ok_or(AuditFault::TooLarge)?,
+            None => Total::new(share),
+        };
+        if self.totals.len() >= MOST_TOTALS {
+            return Err(Stop::Fault(AuditFault::TooMany));
+        }
+        let _ = self.totals.insert(key, total)?;
+        Ok(())
+    }
+
+    /// What the flats that may be compared consumed of a use in a span, by their areas.
+    pub fn basis(&self, span: u64, used: u64, areas: &[Option<u64>]) -> Result<Basis, AuditFault>
+        ensures { IfOk result (λ b. b ≡ basis_of span used areas.now self.now) }
+    {
+        let mut basis = Basis::new(span, used);
+        'totals: for (key, total) in self.totals.iter() {
+            basis.add(key, total, areas)?;
+        }
+        Ok(basis)
+    }
+}
+
+/// What a mean is made of: the sum of the flats that may be compared, of their areas, and how many they are.
+#[derive(Clone, Copy)]
+pub(crate) struct Basis {
+    pub span: u64,
+    pub used: u64,
+    pub sum: Share,
+    pub areas: u64,
+    pub count: u64,
+}
+
+impl Basis {
+    fn new(span: u64, used: u64) -> Basis
+        ensures { result ≡ no_basis span used }
+    {
+        Basis {
+            span,
+            used,
+            sum: Share::nothing(),
+            areas: 0,
+            count: 0,
+        }
+    }
+
+    // Adds the sum of a flat of the span and the use that is reliable, and has an area.
+    fn add(&mut self, key: &Key, total: &Total, areas: &[Option<u64>]) -> Result<(), AuditFault>
+        ensures { OnOk result (self.new ≡ basis_after areas.now self.old key.now total.now) }
+    {
+        if key.span != self.span || key.used != self.used || !total.sum.grade.is_reliable() {
+            return Ok(());
+        }
+        let Some(area) = area_of(areas, key.holder) else {
             return Ok(());
         };
-        let total = &mut self.totals[place];
-        match total.with(share) {
-            Some(sum) => {
-                *total = sum;
-                Ok(())
-            }
-            None => Err(Stop::Fault(AuditFault::TooLarge)),
-        }
+        self.sum = self.sum.and(&total.sum).ok_or(AuditFault::TooLarge)?;
+        self.areas = self.areas.checked_add(area).ok_or(AuditFault::TooLarge)?;
+        self.count = self.count.checked_add(1).ok_or(AuditFault::TooLarge)?;
+        Ok(())
+    }
+}
+
+// The area of a flat by its number.
+fn area_of(areas: &[Option<u64>], flat: u64) -> Option<u64>
+    ensures { result ≡ area_of (slice_get areas.now flat) }
+{
+    match areas.get(flat as usize) {
+        Some(area) => *area,
+        None => None,
     }
 }

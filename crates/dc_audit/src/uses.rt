@@ -1,23 +1,12 @@
-//! What places are supplied with, and the units of amounts.
+//! What meters count, and the units of amounts.
 
 ghost use Rattle.std.specs.Prelude.{◌≡◌, ◌<◌, ◌≤◌, IfSome, find};
 ghost use Rattle.std.specs.Str.{bytes_eq};
-ghost use Rattle.dc_audit.specs.Uses.{counted_by, is_counted, size_of, unit_name, unit_named};
-ghost use Rattle.dc_audit.specs.Uses.{use_name, use_named};
+ghost use Rattle.dc_audit.specs.Uses.{counted_named, is_counted, size_named, size_of};
+ghost use Rattle.dc_audit.specs.Uses.{unit_name, unit_named};
 
+use crate::field::is_word;
 use dc_record::value::Quantity;
-
-/// What a place is supplied with.
-#[derive(Clone, Copy, Debug, PartialEq, Eq)]
-pub enum Use {
-    Heat,
-    Cooling,
-    Electricity,
-    WarmWater,
-    ColdWater,
-    Gas,
-    Allocator,
-}
 
 /// What a meter counts.
 #[derive(Clone, Copy, Debug, PartialEq, Eq)]
@@ -50,16 +39,6 @@ pub const OF_CUBIC_METRE: u64 = 1_000_000;
 /// Smallest units of an allocator's unit.
 pub const OF_ALLOCATED: u64 = 1_000;
 
-const USES: [Use; 7] = [
-    Use::Heat,
-    Use::Cooling,
-    Use::Electricity,
-    Use::WarmWater,
-    Use::ColdWater,
-    Use::Gas,
-    Use::Allocator,
-];
-
 const UNITS: [Unit; 5] = [
     Unit::Kwh,
     Unit::CubicMetre,
@@ -68,14 +47,22 @@ const UNITS: [Unit; 5] = [
     Unit::Smallest,
 ];
 
-/// Whether a field is this word.
-pub(crate) fn is_word(field: &[u8], word: &str) -> bool
-    ensures { result ≡ bytes_eq field.now word.now }
-{
-    field == word.as_bytes()
-}
-
 impl Counted {
+    /// The quantity that a word names.
+    pub fn named(word: &[u8]) -> Option<Counted>
+        ensures { result ≡ counted_named word.now }
+    {
+        if is_word(word, "energy") {
+            Some(Counted::Energy)
+        } else if is_word(word, "volume") {
+            Some(Counted::Volume)
+        } else if is_word(word, "units") {
+            Some(Counted::Allocation)
+        } else {
+            None
+        }
+    }
+
     /// Whether the two are the same.
     pub fn is(self, other: Counted) -> bool
         ensures { result ≡ is_counted self other }
@@ -87,48 +74,6 @@ impl Counted {
                 | (Counted::Allocation, Counted::Allocation)
         )
     }
-}
-
-impl Use {
-    /// The word for it.
-    pub fn name(self) -> &'static str
-        ensures { result.now ≡ use_name self }
-    {
-        match self {
-            Use::Heat => "heat",
-            Use::Cooling => "cooling",
-            Use::Electricity => "electricity",
-            Use::WarmWater => "warm water",
-            Use::ColdWater => "cold water",
-            Use::Gas => "gas",
-            Use::Allocator => "allocator",
-        }
-    }
-
-    /// What its meters count.
-    pub fn counted(self) -> Counted
-        ensures { result ≡ counted_by self }
-    {
-        match self {
-            Use::Heat | Use::Cooling | Use::Electricity => Counted::Energy,
-            Use::WarmWater | Use::ColdWater | Use::Gas => Counted::Volume,
-            Use::Allocator => Counted::Allocation,
-        }
-    }
-
-    /// The use that a word names.
-    pub fn named(word: &[u8]) -> Option<Use>
-        ensures { result ≡ use_named word.now }
-    {
-        use_in(word, &USES)
-    }
-}
-
-// The first of these uses that a word names.
-fn use_in(word: &[u8], uses: &[Use]) -> Option<Use>
-    ensures { result ≡ find (λ u. bytes_eq word.now (use_name u)) uses.now }
-{
-    uses.iter().copied().find(|used| is_word(word, used.name()))
 }
 
 impl Unit {
@@ -180,15 +125,25 @@ pub fn size_of(quantity: Quantity) -> Option<(Counted, u64)>
 }
 
 /// What the unit of a reading counts, and the smallest units of one of them.
-pub fn size_named(word: &[u8]) -> Option<(Counted, u64)> {
-    match word {
-        b"Wh" => size_of(Quantity::EnergyWattHour),
-        b"kWh" => Some((Counted::Energy, OF_KWH)),
-        b"MWh" => size_of(Quantity::EnergyMegawattHour),
-        b"J" => size_of(Quantity::EnergyJoule),
-        b"GJ" => size_of(Quantity::EnergyGigajoule),
-        b"m3" => size_of(Quantity::Volume),
-        b"HCA" => size_of(Quantity::HeatCostAllocator),
-        _ => None,
+pub fn size_named(word: &[u8]) -> Option<(Counted, u64)>
+    ensures size { result ≡ size_named word.now }
+    ensures small { IfSome result (λ s. (0 < s.1) × (s.1 ≤ 3600000000000)) }
+{
+    if is_word(word, "Wh") {
+        size_of(Quantity::EnergyWattHour)
+    } else if is_word(word, "kWh") {
+        Some((Counted::Energy, OF_KWH))
+    } else if is_word(word, "MWh") {
+        size_of(Quantity::EnergyMegawattHour)
+    } else if is_word(word, "J") {
+        size_of(Quantity::EnergyJoule)
+    } else if is_word(word, "GJ") {
+        size_of(Quantity::EnergyGigajoule)
+    } else if is_word(word, "m3") {
+        size_of(Quantity::Volume)
+    } else if is_word(word, "HCA") {
+        size_of(Quantity::HeatCostAllocator)
+    } else {
+        None
     }
 }

@@ -2,6 +2,8 @@
 
 ghost use Rattle.std.specs.Prelude.{◌≡◌, ◌≤◌, ◌<◌, ◌+◌, ◌-◌, ◌^◌, length, IfSome, slice_get};
 ghost use Rattle.std.specs.Option.{option_copied};
+ghost use Rattle.std.specs.Prelude.{Some};
+ghost use Rattle.dc_io.specs.Hex.{bytes_of};
 ghost use Rattle.dc_audit.specs.Window.{declared_exchanges, declared_from, grade_of};
 ghost use Rattle.dc_audit.specs.Window.{grade_of_number};
 ghost use Rattle.dc_audit.specs.Window.{has_first, has_last, has_two_after, is_adjacent, is_at};
@@ -11,10 +13,12 @@ ghost use Rattle.dc_audit.specs.Window.{is_how, is_known, is_last, is_near, is_o
 ghost use Rattle.dc_audit.specs.Window.{is_provisional};
 ghost use Rattle.dc_audit.specs.Window.{is_put, is_put_around, is_put_as, is_small, is_whole};
 ghost use Rattle.dc_audit.specs.Window.{last_passed, passed, put_how, put_within, rests_on};
+ghost use Rattle.dc_audit.specs.Window.{vib_bytes};
 
 use crate::grade::Grade;
 use dc_address::Identity;
 use dc_consumption::{AmountFault, Entry, Period};
+use dc_io::decode_hex;
 
 /// A meter at a place from its beginning to its end; a counter that began anew is another run.
 #[derive(Clone, Copy)]
@@ -27,6 +31,45 @@ pub struct Run {
     pub most: u64,
     /// The value from which it goes on at 0; 0 where it has no turn.
     pub size: u64,
+    /// The block of the record that counts.
+    pub vib: Vib,
+}
+
+// The longest block: a VIF and ten VIFEs (EN 13757-3).
+const MOST_VIB: usize = 11;
+
+/// The value information block of the record that counts, or nothing.
+#[derive(Clone, Copy)]
+pub struct Vib {
+    bytes: [u8; MOST_VIB],
+    len: usize,
+}
+
+impl Vib {
+    /// Nothing.
+    pub const NONE: Vib = Vib {
+        bytes: [0; MOST_VIB],
+        len: 0,
+    };
+
+    /// The block that hex digits spell.
+    pub fn parse_hex(digits: &[u8]) -> Option<Vib>
+        ensures { IfSome result (λ v. bytes_of digits.now ≡ Some (vib_bytes v)) }
+    {
+        let mut vib = Vib::NONE;
+        if digits.is_empty() || digits.len() > 2 * MOST_VIB {
+            return None;
+        }
+        vib.len = decode_hex(digits, &mut vib.bytes)?;
+        Some(vib)
+    }
+
+    /// Its bytes.
+    pub fn as_slice(&self) -> &[u8]
+        ensures { result.now ≡ vib_bytes self.now }
+    {
+        &self.bytes[..self.len.min(MOST_VIB)]
+    }
 }
 
 /// By whom a value was put.
@@ -235,8 +278,8 @@ fn has_two_after(entries: &[Entry], moment: u64, found: Option<u64>) -> bool
     }
 }
 
-// Whether a run ends at a moment or before it.
-fn is_over(run: &Run, moment: u64) -> bool
+/// Whether a run ends at a moment or before it.
+pub(crate) fn is_over(run: &Run, moment: u64) -> bool
     ensures { result ≡ is_over moment run.now }
 {
     match run.end {

@@ -1,17 +1,19 @@
 //! The words that begin lines, and the order of lines.
 
-ghost use Rattle.std.specs.Prelude.{◌≡◌};
+ghost use Rattle.std.specs.Prelude.{◌≡◌, find};
+ghost use Rattle.std.specs.Str.{bytes_eq};
 ghost use Rattle.dc_audit.specs.Order.{after, after_other, is_declared, is_fact, is_in_window};
 ghost use Rattle.dc_audit.specs.Order.{is_metered};
 ghost use Rattle.dc_audit.specs.Order.{is_parted, is_placed, is_summed, is_valued, is_value};
-ghost use Rattle.dc_audit.specs.Order.{leads, may_go_on};
+ghost use Rattle.dc_audit.specs.Order.{leads, may_go_on, word_in, word_name};
 
-use crate::uses::is_word;
+use crate::field::is_word;
 
 /// The word that begins a line.
 #[derive(Clone, Copy, Debug, PartialEq, Eq)]
 pub enum Word {
     Span,
+    Use,
     Factor,
     Carbon,
     Degrees,
@@ -45,50 +47,89 @@ pub enum Word {
     End,
 }
 
-/// The words of lines after the first, as they are spelled.
-const WORDS: [(Word, &str); 31] = [
-    (Word::Span, "span"),
-    (Word::Factor, "factor"),
-    (Word::Carbon, "co2"),
-    (Word::Degrees, "degrees"),
-    (Word::Price, "price"),
-    (Word::Average, "average"),
-    (Word::User, "user"),
-    (Word::Place, "place"),
-    (Word::Meter, "meter"),
-    (Word::Window, "window"),
-    (Word::Read, "read"),
-    (Word::Stored, "stored"),
-    (Word::Ended, "ended"),
-    (Word::Hand, "hand"),
-    (Word::Estimated, "estimated"),
-    (Word::First, "first"),
-    (Word::Last, "last"),
-    (Word::Zero, "zero"),
-    (Word::Struck, "struck"),
-    (Word::Part, "part"),
-    (Word::Shown, "shown"),
-    (Word::Value, "value"),
-    (Word::OfUser, "of_user"),
-    (Word::OfFlat, "of_flat"),
-    (Word::OfHouse, "of_house"),
-    (Word::Mean, "mean"),
-    (Word::Change, "change"),
-    (Word::CarbonOf, "carbon"),
-    (Word::Cost, "cost"),
-    (Word::Weather, "weather"),
-    (Word::Totals, "totals"),
+const WORDS: [Word; 33] = [
+    Word::Span,
+    Word::Use,
+    Word::Factor,
+    Word::Carbon,
+    Word::Degrees,
+    Word::Price,
+    Word::Average,
+    Word::User,
+    Word::Place,
+    Word::Meter,
+    Word::Window,
+    Word::Read,
+    Word::Stored,
+    Word::Ended,
+    Word::Hand,
+    Word::Estimated,
+    Word::First,
+    Word::Last,
+    Word::Zero,
+    Word::Struck,
+    Word::Part,
+    Word::Shown,
+    Word::Value,
+    Word::Totals,
+    Word::OfUser,
+    Word::OfFlat,
+    Word::OfHouse,
+    Word::Mean,
+    Word::Change,
+    Word::CarbonOf,
+    Word::Cost,
+    Word::Weather,
+    Word::End,
 ];
 
 impl Word {
-    /// The word that a field is, of a line that has more fields.
-    pub fn named(field: &[u8]) -> Option<Word> {
-        for (word, name) in &WORDS {
-            if is_word(field, name) {
-                return Some(*word);
-            }
+    // As it is spelled.
+    fn name(self) -> &'static str
+        ensures { result.now ≡ word_name self }
+    {
+        match self {
+            Word::Span => "span",
+            Word::Use => "use",
+            Word::Factor => "factor",
+            Word::Carbon => "co2",
+            Word::Degrees => "degrees",
+            Word::Price => "price",
+            Word::Average => "average",
+            Word::User => "user",
+            Word::Place => "place",
+            Word::Meter => "meter",
+            Word::Window => "window",
+            Word::Read => "read",
+            Word::Stored => "stored",
+            Word::Ended => "ended",
+            Word::Hand => "hand",
+            Word::Estimated => "estimated",
+            Word::First => "first",
+            Word::Last => "last",
+            Word::Zero => "zero",
+            Word::Struck => "struck",
+            Word::Part => "part",
+            Word::Shown => "shown",
+            Word::Value => "value",
+            Word::Totals => "totals",
+            Word::OfUser => "of_user",
+            Word::OfFlat => "of_flat",
+            Word::OfHouse => "of_house",
+            Word::Mean => "mean",
+            Word::Change => "change",
+            Word::CarbonOf => "carbon",
+            Word::Cost => "cost",
+            Word::Weather => "weather",
+            Word::End => "end",
         }
-        None
+    }
+
+    /// The word that a field is.
+    pub fn named(field: &[u8]) -> Option<Word>
+        ensures { result ≡ word_in field.now }
+    {
+        word_among(field, &WORDS)
     }
 
     // Whether the line declares a fact.
@@ -98,6 +139,7 @@ impl Word {
         matches!(
             self,
             Word::Span
+                | Word::Use
                 | Word::Factor
                 | Word::Carbon
                 | Word::Degrees
@@ -124,6 +166,16 @@ impl Word {
                 | Word::Struck
         )
     }
+}
+
+// The first of these words that a field is.
+fn word_among(field: &[u8], words: &[Word]) -> Option<Word>
+    ensures { result ≡ find (λ w. bytes_eq field.now (word_name w)) words.now }
+{
+    words
+        .iter()
+        .copied()
+        .find(|word| is_word(field, word.name()))
 }
 
 /// How far a file has come: what its last line was.

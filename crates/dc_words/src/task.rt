@@ -30,6 +30,8 @@ pub enum Engine {
     Fold,
     /// Check published numbers.
     Audit,
+    /// The same, and print the file with the numbers that it asks for.
+    Fill,
 }
 
 /// How the status of an image is printed.

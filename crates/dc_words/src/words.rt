@@ -186,8 +186,20 @@ fn fold_command<'a>(alloc: Global) -> Result<Command<'a>, AllocError> {
 
 fn audit_command<'a>(alloc: Global) -> Result<Command<'a>, AllocError> {
     let file = required_arg(alloc, "FILE", "Lines of telegrams and published numbers");
+    let fill = flag_arg(
+        alloc,
+        "FILL",
+        "fill",
+        "Prints the file with what holds in the place of each ?",
+    );
     let about = "Checks published numbers against the telegrams they come from";
-    command_of(alloc, "audit", about, help::AUDIT, vec![in alloc; file]?)
+    command_of(
+        alloc,
+        "audit",
+        about,
+        help::AUDIT,
+        vec![in alloc; fill, file]?,
+    )
 }
 
 fn consumption_command<'a>(alloc: Global) -> Result<Command<'a>, AllocError> {
@@ -517,7 +529,11 @@ fn task_of<'a>(alloc: Global, matches: &ArgMatches<'a>) -> Result<Task<'a>, Word
             file: input_of(inner),
         }),
         "audit" => Ok(Task::Lines {
-            engine: Engine::Audit,
+            engine: if inner.get_flag("FILL") {
+                Engine::Fill
+            } else {
+                Engine::Audit
+            },
             file: input_of(inner),
         }),
         "consumption" => Ok(Task::Consumption {

@@ -10,7 +10,7 @@ use crate::order::order_on_image;
 use crate::poll::poll_on_image;
 use crate::rescue::rescue_image;
 use crate::script::run_on_image;
-use dc_audit::audit;
+use dc_audit::{audit, fill};
 use dc_bench::Work;
 use dc_consumption::table::{Boundaries, consumption_lines};
 use dc_decode::decode_lines;
@@ -18,7 +18,7 @@ use dc_ending::{Ending, ProgramFault, STREAM};
 use dc_files::{Host, Noted, back_up, format_image};
 use dc_frame_json::json_lines;
 use dc_inspect::Asked;
-use dc_io::{Buffered, ReadSource, Sink, Source, WriteSink};
+use dc_io::{Buffered, Bytes, ReadSource, Sink, Source, WriteSink};
 use dc_json::explain_lines;
 use dc_paste::Pointed;
 use dc_script::fold_lines;
@@ -28,7 +28,7 @@ use std::fs::File;
 use std::io::{Read, Write};
 use std::net::{Net, TcpListener, TcpStream};
 use std::rt::{Clock, Files};
-use std::{fs, io};
+use std::{fs, io, str};
 
 /// Number of bytes that go to standard output at once.
 pub const ROOM: usize = 65_536;
@@ -164,12 +164,36 @@ fn work<R: Print + Eprint + AllocGlobal, S: Source>(
         Lines::Of(Engine::Loose(form)) => decode_pasted(host, form, reader, &mut writer)?,
         Lines::Of(Engine::Fold) => fold_lines(alloc, reader, &mut writer)?,
         Lines::Of(Engine::Audit) => !audit(alloc, reader, &mut writer)?,
+        Lines::Of(Engine::Fill) => filled(host, reader, &mut writer)?,
         Lines::Consumption(boundaries) => {
             consumption_lines(alloc, reader, boundaries, &mut writer)?
         }
     };
     flushed(writer)?;
     Ok(found)
+}
+
+// Fills a file of published numbers in, and says on standard error what differs.
+fn filled<R: Eprint + AllocGlobal, S: Source, W: Sink>(
+    host: &Host<'_, R>,
+    reader: &mut S,
+    writer: &mut W,
+) -> Result<bool, ProgramFault> {
+    let alloc = host.rt.alloc();
+    let mut says = Bytes::new(alloc);
+    let is_right = fill(alloc, reader, writer, &mut says)?;
+    let Ok(mut text) = Vec::from_slice(alloc, says.as_slice()) else {
+        return Err(ProgramFault::NoMemory);
+    };
+    if str::from_utf8(text.as_slice()).is_err() {
+        for byte in &mut text {
+            *byte = if byte.is_ascii() { *byte } else { b'?' };
+        }
+    }
+    if let Ok(text) = str::from_utf8(text.as_slice()) {
+        let _ = host.rt.eprint(text);
+    }
+    Ok(!is_right)
 }
 
 /// Prints the frames of lines of hex digits.
