@@ -1,11 +1,11 @@
 -- How a run of the program ends: the exit status, and the line on standard error (this product).
-use Rattle.std.specs.Prelude.{ℕ, List, [], ◌++◌, codes, Option, None, Some}
+use Rattle.std.specs.Prelude.{ℕ, List, [], ◌++◌, codes, decimal, Option, None, Some}
 use Rattle.dc_concentrator.specs.Fault.{commit_number, commit_name}
 use Rattle.dc_log.specs.Fault.{open_number, open_name, format_number, format_name}
 use Rattle.dc_log.specs.declared.fault.OpenFault.{OpenFault}
 use Rattle.dc_log.specs.declared.fault.OpenFault.TheVariants.{NotImage, Damaged, Version, Worn}
 use Rattle.dc_log.specs.declared.fault.OpenFault.TheVariants.{Device, NoMemory}
-use Rattle.dc_io.specs.Words.{fault_text, number_word}
+use Rattle.dc_io.specs.Words.{number_word}
 use Rattle.dc_ending.specs.Escape.{escaped}
 use Rattle.dc_ending.specs.declared.ending.Ending.{Ending}
 use Rattle.dc_ending.specs.declared.ending.Ending.TheVariants.{Clean, Faulty, Words, Format, Open}
@@ -45,11 +45,7 @@ sector_word (Some sector) = number_word sector
 -- a fault's number and name after what it is a fault of, and the damaged sector
 unfoldable pub fault_line : List ℕ → ℕ → List ℕ → Option ℕ → List ℕ
 fault_line what number name sector =
-    what ++ fault_text number name ++ sector_word sector ++ codes "\n"
-
--- a number between two texts
-unfoldable pub numbered_line : List ℕ → ℕ → List ℕ → List ℕ
-numbered_line what number rest = what ++ number_word number ++ rest
+    what ++ (decimal number ++ (codes " " ++ (name ++ (sector_word sector ++ codes "\n"))))
 
 -- the line, with its line feed
 abbrev pub line_of : Ending → List ℕ
@@ -60,8 +56,8 @@ line_of (Format fault) = fault_line (codes "mbdc: format: ") (format_number faul
     (format_name fault) None
 line_of (Open fault) = fault_line (codes "mbdc: open: ") (open_number fault) (open_name fault)
     (damaged_at fault)
-line_of (Behind sector) = numbered_line (codes "mbdc: behind: sector") sector
-    (codes " is ahead of what the image reads as; see mbdc rescue --help\n")
+line_of (Behind sector) = codes "mbdc: behind: sector" ++ (number_word sector
+    ++ codes " is ahead of what the image reads as; see mbdc rescue --help\n")
 line_of (Disk fault) = fault_line (codes "mbdc: disk: ") (commit_number fault) (commit_name fault)
     None
 line_of (File name) = named_line (codes "mbdc: file: ") name.now

@@ -2,15 +2,15 @@
 
 ghost use Rattle.std.specs.Prelude.{◌≡◌};
 ghost use Rattle.dc_io.specs.Written.{Wrote};
-ghost use Rattle.dc_ending.specs.Ending.{damaged_at, fault_line, line_of, named_line, sector_word};
-ghost use Rattle.dc_ending.specs.Ending.{numbered_line, status_of};
+ghost use Rattle.dc_ending.specs.Ending.{damaged_at, fault_line, line_of, named_line, status_of};
 ghost use Rattle.dc_ending.specs.Outcome.{EndsAs};
 
 use crate::ProgramFault;
 use crate::escape::put_escaped;
 use dc_concentrator::CommitFault;
-use dc_io::{IoFault, Sink, put_fault, put_number_word};
+use dc_io::{IoFault, Sink};
 use dc_log::{FormatFault, OpenFault};
+use dc_tokens::{Piece, put_pieces};
 
 /// The name of standard input or output in `mbdc: file: NAME`.
 pub const STREAM: &str = "-";
@@ -78,11 +78,13 @@ impl Ending<'_> {
                 fault.name(),
                 sector_of(fault),
             ),
-            Ending::Behind(sector) => put_numbered(
+            Ending::Behind(sector) => put_pieces(
                 out,
-                b"mbdc: behind: sector",
-                sector,
-                b" is ahead of what the image reads as; see mbdc rescue --help\n",
+                &[
+                    Piece::Text(b"mbdc: behind: sector"),
+                    Piece::Word(u64::from(sector)),
+                    Piece::Text(b" is ahead of what the image reads as; see mbdc rescue --help\n"),
+                ],
             ),
             Ending::Disk(fault) => {
                 put_store(out, b"mbdc: disk: ", fault.number(), fault.name(), None)
@@ -105,7 +107,7 @@ fn put_named<W: Sink>(out: &mut W, what: &[u8], name: &str) -> Result<(), IoFaul
 }
 
 // Writes a fault's number and name, and the damaged sector.
-#[tactic(auto, using(dc_io::proofs::Pieces::written), unfolding(crate::specs::Ending::fault_line))]
+#[tactic(auto, unfolding(crate::specs::Ending::fault_line))]
 fn put_store<W: Sink>(
     out: &mut W,
     what: &[u8],
@@ -116,28 +118,30 @@ fn put_store<W: Sink>(
     ensures { Wrote W.Sink result out.old out.new
         (fault_line what.now number name.now sector) }
 {
-    out.put(what)?;
-    put_fault(out, number, name)?;
-    put_sector(out, sector)?;
-    out.put(b"\n")
-}
-
-// Writes a number between two texts.
-#[tactic(auto, using(dc_io::proofs::Pieces::written), unfolding(crate::specs::Ending::numbered_line))]
-fn put_numbered<W: Sink>(out: &mut W, what: &[u8], number: u32, rest: &[u8]) -> Result<(), IoFault>
-    ensures { Wrote W.Sink result out.old out.new (numbered_line what.now number rest.now) }
-{
-    out.put(what)?;
-    put_number_word(out, u64::from(number))?;
-    out.put(rest)
-}
-
-fn put_sector<W: Sink>(out: &mut W, sector: Option<u32>) -> Result<(), IoFault>
-    ensures { Wrote W.Sink result out.old out.new (sector_word sector) }
-{
+    let number = Piece::Number(u64::from(number));
+    let name = Piece::Text(name.as_bytes());
     match sector {
-        Some(sector) => put_number_word(out, u64::from(sector)),
-        None => Ok(()),
+        Some(sector) => put_pieces(
+            out,
+            &[
+                Piece::Text(what),
+                number,
+                Piece::Text(b" "),
+                name,
+                Piece::Word(u64::from(sector)),
+                Piece::Text(b"\n"),
+            ],
+        ),
+        None => put_pieces(
+            out,
+            &[
+                Piece::Text(what),
+                number,
+                Piece::Text(b" "),
+                name,
+                Piece::Text(b"\n"),
+            ],
+        ),
     }
 }
 

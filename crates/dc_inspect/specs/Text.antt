@@ -1,7 +1,7 @@
 -- The lines of `inspect`: one fact per line, its name and its numbers (this product).
 use Rattle.std.specs.Prelude.{ℕ, ◌-◌, List, [], ◌++◌, length, codes, slice_get, Option, Some, None}
 use Rattle.std.specs.Prelude.{option_map, ◌+◌, nat_lt, if◌then◌else◌}
-use Rattle.dc_io.specs.Words.{number_word, fault_text}
+use Rattle.dc_io.specs.Words.{number_word}
 use Rattle.dc_change.specs.State.{State, ReadingRow}
 use Rattle.dc_change.specs.Size.{size_of}
 use Rattle.dc_log.specs.declared.roots.root.Root.{Root}
@@ -19,58 +19,46 @@ use Rattle.dc_inspect.specs.declared.look.Outlook.{Outlook}
 use Rattle.dc_inspect.specs.declared.summary.Summary.{Summary}
 use Rattle.dc_inspect.specs.Told.{Seen}
 
--- a line of a name and a number, and of a name and two
+-- a line of a name and a number
 unfoldable pub number_line : List ℕ → ℕ → List ℕ
-number_line name n = name ++ number_word n ++ codes "\n"
+number_line name n = name ++ (number_word n ++ codes "\n")
 
-unfoldable pub pair_line : List ℕ → ℕ → ℕ → List ℕ
-pair_line name a b = name ++ number_word a ++ number_word b ++ codes "\n"
-
--- the fields of a root: its version, generation and session, and the half that it names
-unfoldable pub root_words : Root → List ℕ
-root_words root = number_word root.version ++ number_word root.generation
-    ++ number_word root.session ++ number_word root.half ++ codes "\n"
-
--- the contents of a root slot: the slot is the sector, 1 or 2
+-- the contents of a root slot: the root's version, generation and session, and the half that it names
 abbrev pub held_words : Held → List ℕ
-held_words (Valid root) = root_words root
+held_words (Valid root) = number_word root.version ++ (number_word root.generation
+    ++ (number_word root.session ++ (number_word root.half ++ codes "\n")))
 held_words Other = codes " NONE\n"
 held_words Lost = codes " UNREADABLE\n"
 
+-- the slot is the sector, 1 or 2
 unfoldable pub slot_line : ℕ → Held → List ℕ
-slot_line slot held = codes "ROOT" ++ number_word slot ++ held_words held
+slot_line slot held = codes "ROOT" ++ (number_word slot ++ held_words held)
 
 -- the version of the root in force, its half, the number of groups of changes after the base group,
 -- and the numbers of used and free sectors of the half
 unfoldable pub place_text : ℕ → Root → ℕ → ℕ → List ℕ
 place_text half_len root last place =
-    number_line (codes "VERSION") root.version
-    ++ (number_line (codes "HALF") root.half
-    ++ (number_line (codes "GROUPS") (last - root.base_sequence)
-    ++ pair_line (codes "SECTORS") (place - half_start half_len root.half)
-    (half_end half_len root.half - place)))
+    codes "VERSION" ++ (number_word root.version
+    ++ (codes "\nHALF" ++ (number_word root.half
+    ++ (codes "\nGROUPS" ++ (number_word (last - root.base_sequence)
+    ++ (codes "\nSECTORS" ++ (number_word (place - half_start half_len root.half)
+    ++ (number_word (half_end half_len root.half - place) ++ codes "\n"))))))))
 
 -- the word of a serial
-unfoldable pub serial_word : Option ℕ → List ℕ
+abbrev pub serial_word : Option ℕ → List ℕ
 serial_word None = []
 serial_word (Some serial) = number_word serial
 
--- the number of readings that the office hasn't confirmed, and their first and last serial
-unfoldable pub readings_words : List ℕ → Summary → List ℕ
-readings_words name sum = name ++ (number_word sum.readings
-    ++ (serial_word sum.first ++ (serial_word sum.last ++ codes "\n")))
-
-abbrev pub readings_line : Summary → List ℕ
-readings_line sum = readings_words (codes "READINGS") sum
-
--- the state's size and its maximum, in bytes; its meters and readings; the last serial that the
--- office has confirmed; the number of the last command
+-- the state's size and its maximum, in bytes; its meters; the number of readings that the office hasn't confirmed, and
+-- their first and last serial; the last serial that it has confirmed; the number of the last command
 unfoldable pub summary_text : Summary → List ℕ
 summary_text sum =
-    pair_line (codes "SIZE") sum.size sum.budget
-    ++ (number_line (codes "METERS") sum.meters
-    ++ (readings_line sum
-    ++ (number_line (codes "MARK") sum.confirmed ++ number_line (codes "COMMAND") sum.command)))
+    codes "SIZE" ++ (number_word sum.size ++ (number_word sum.budget
+    ++ (codes "\nMETERS" ++ (number_word sum.meters
+    ++ (codes "\nREADINGS" ++ (number_word sum.readings
+    ++ (serial_word sum.first ++ (serial_word sum.last
+    ++ (codes "\nMARK" ++ (number_word sum.confirmed
+    ++ (codes "\nCOMMAND" ++ (number_word sum.command ++ codes "\n"))))))))))))
 
 -- the serial of the reading at an index, if there is one
 abbrev pub serial_at : ℕ → List ReadingRow → Option ℕ
@@ -94,21 +82,19 @@ abbrev pub ahead_text : Option ℕ → List ℕ
 ahead_text None = []
 ahead_text (Some sector) = number_line (codes "AHEAD") sector
 
--- the sector at which an image is damaged
-unfoldable pub sector_word : OpenFault → List ℕ
-sector_word NotImage = []
-sector_word (Damaged sector) = number_word sector
-sector_word Version = []
-sector_word Worn = []
-sector_word Device = []
-sector_word NoMemory = []
+-- the sector at which an image is damaged, and the end of the line
+abbrev pub sector_end : OpenFault → List ℕ
+sector_end NotImage = codes "\n"
+sector_end (Damaged sector) = number_word sector ++ codes "\n"
+sector_end Version = codes "\n"
+sector_end Worn = codes "\n"
+sector_end Device = codes "\n"
+sector_end NoMemory = codes "\n"
 
 -- why an image doesn't open: the fault's number and name, and the sector
-unfoldable pub fault_words : ℕ → List ℕ → OpenFault → List ℕ
-fault_words number name fault = fault_text number name ++ (sector_word fault ++ codes "\n")
-
-abbrev pub refused_line : OpenFault → List ℕ
-refused_line fault = codes "REFUSED " ++ fault_words (open_number fault) (open_name fault) fault
+unfoldable pub refused_line : OpenFault → List ℕ
+refused_line fault = codes "REFUSED" ++ (number_word (open_number fault)
+    ++ (codes " " ++ (open_name fault ++ sector_end fault)))
 
 abbrev pub refusal_text : Option OpenFault → List ℕ
 refusal_text None = []

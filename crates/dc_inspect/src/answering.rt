@@ -11,10 +11,10 @@ ghost use Rattle.dc_log.specs.declared.fault.OpenFault.TheVariants.{Device};
 ghost use Rattle.dc_inspect.specs.Answer.{IsAnswer, IsSeen, contents_text, house_text, seen_house};
 ghost use Rattle.dc_inspect.specs.Answer.{is_silent, small_text, status_in, table_text};
 ghost use Rattle.dc_inspect.specs.Look.{EndsLook, IsPlaced, seen_of};
-ghost use Rattle.dc_inspect.specs.Told.{IsOfLook, no_image};
+ghost use Rattle.dc_inspect.specs.Told.{IsOfLook};
 
 use crate::asking::{Asked, Form, Report, StatusForm};
-use crate::look::{Look, Outlook, Slots, look_at, no_image, read_slots};
+use crate::look::{Look, Outlook, Slots, look_at, read_slots};
 use crate::text::{put_image, put_number_line, put_small};
 use dc_disk::{Disk, Failed};
 use dc_ending::ProgramFault;
@@ -268,7 +268,10 @@ pub fn answer<A: Allocator + Copy, D: Disk>(
     match answer_small(alloc, sectors, asked) {
         Ok(text) => Ok(Shown {
             text,
-            outlook: no_image(),
+            outlook: Outlook {
+                refusal: Some(OpenFault::NotImage),
+                ahead: None,
+            },
             is_silent: false,
         }),
         Err(NoMemory) => Err(ProgramFault::NoMemory),

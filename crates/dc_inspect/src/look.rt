@@ -5,7 +5,7 @@ ghost use Rattle.dc_disk.specs.Runs.{OnlyLooked, Counts};
 ghost use Rattle.dc_log.specs.Halves.{longest_half};
 ghost use Rattle.dc_log.specs.Refusal.{TellsOfImage};
 ghost use Rattle.dc_inspect.specs.Look.{AreHeld, EndsLook, IsPlaced, IsSeenAs, IsStop};
-ghost use Rattle.dc_inspect.specs.Told.{IsWearOf, no_image};
+ghost use Rattle.dc_inspect.specs.Told.{IsWearOf};
 
 use dc_disk::{Disk, Failed};
 use dc_ending::ProgramFault;
@@ -24,7 +24,7 @@ pub(crate) struct Slots {
 }
 
 /// What opening would make of an image that was looked at.
-#[derive(Clone, Copy, Debug, PartialEq, Eq)]
+#[derive(Clone, Copy)]
 pub struct Outlook {
     /// Why it doesn't open, if it doesn't.
     pub refusal: Option<OpenFault>,
@@ -113,15 +113,5 @@ pub(crate) fn look_at<A: Allocator + Copy, D: Disk>(
                 },
             })
         }
-    }
-}
-
-/// What opening would make of a disk that is too small for an image.
-pub(crate) fn no_image() -> Outlook
-    ensures { result ≡ no_image }
-{
-    Outlook {
-        refusal: Some(OpenFault::NotImage),
-        ahead: None,
     }
 }

@@ -2,79 +2,73 @@
 
 ghost use Rattle.std.specs.Prelude.{◌≡◌, ◌≤◌, ◌++◌, codes, option_map, Some};
 ghost use Rattle.dc_io.specs.Written.{Wrote};
-ghost use Rattle.dc_log.specs.Halves.{budget_of, half_start, half_end, longest_half};
+ghost use Rattle.dc_log.specs.Halves.{half_start, half_end, longest_half};
 ghost use Rattle.dc_log.specs.declared.fault.OpenFault.TheVariants.{NotImage};
+ghost use Rattle.dc_tokens.specs.Pieces.{piece_text};
 ghost use Rattle.dc_inspect.specs.Look.{IsPlaced, seen_of};
-ghost use Rattle.dc_inspect.specs.Text.{ahead_text, held_words, number_line, pair_line, place_text};
-ghost use Rattle.dc_inspect.specs.Text.{readings_words, fault_words, refused_line, refusal_text};
-ghost use Rattle.dc_inspect.specs.Text.{root_words, sector_word, serial_word, slot_line};
-ghost use Rattle.dc_inspect.specs.Text.{image_text, seen_text, summary_text};
+ghost use Rattle.dc_inspect.specs.Text.{ahead_text, image_text, number_line, place_text, refusal_text};
+ghost use Rattle.dc_inspect.specs.Text.{refused_line, seen_text, serial_word, slot_line, summary_text};
 
 use crate::look::{Look, Slots};
 use crate::summary::{Summary, summary_of};
-use dc_io::{IoFault, Sink, put_fault, put_number_word};
-use dc_log::roots::{Held, Root};
+use dc_io::{IoFault, Sink};
+use dc_log::roots::Held;
 use dc_log::{Found, OpenFault, half_end, half_start};
 use dc_register::House;
+use dc_tokens::{Piece, put_pieces};
 use std::alloc::Allocator;
 
 /// Writes a line of a name and a number.
-#[tactic(auto, using(dc_io::proofs::Pieces::written), unfolding(crate::specs::Text::number_line))]
+#[tactic(auto, unfolding(crate::specs::Text::number_line))]
 pub(crate) fn put_number_line<W: Sink>(out: &mut W, name: &[u8], number: u64) -> Result<(), IoFault>
     ensures { Wrote W.Sink result out.old out.new (number_line name.now number) }
 {
-    out.put(name)?;
-    put_number_word(out, number)?;
-    out.put(b"\n")
-}
-
-// Writes a line of a name and two numbers.
-#[tactic(auto, using(dc_io::proofs::Pieces::written), unfolding(crate::specs::Text::pair_line))]
-fn put_pair_line<W: Sink>(out: &mut W, name: &[u8], first: u64, second: u64) -> Result<(), IoFault>
-    ensures { Wrote W.Sink result out.old out.new
-        (pair_line name.now first second) }
-{
-    out.put(name)?;
-    put_number_word(out, first)?;
-    put_number_word(out, second)?;
-    out.put(b"\n")
-}
-
-// Writes the fields of a root.
-#[tactic(auto, using(dc_io::proofs::Pieces::written), unfolding(crate::specs::Text::root_words))]
-fn put_root<W: Sink>(out: &mut W, root: &Root) -> Result<(), IoFault>
-    ensures { Wrote W.Sink result out.old out.new (root_words root.now) }
-{
-    put_number_word(out, u64::from(root.version))?;
-    put_number_word(out, root.generation)?;
-    put_number_word(out, root.session)?;
-    put_number_word(out, u64::from(root.half))?;
-    out.put(b"\n")
-}
-
-// Writes the contents of a slot.
-fn put_held<W: Sink>(out: &mut W, held: &Held) -> Result<(), IoFault>
-    ensures { Wrote W.Sink result out.old out.new (held_words held.now) }
-{
-    match held {
-        Held::Valid(root) => put_root(out, root),
-        Held::Other => out.put(b" NONE\n"),
-        Held::Lost => out.put(b" UNREADABLE\n"),
-    }
+    put_pieces(
+        out,
+        &[Piece::Text(name), Piece::Word(number), Piece::Text(b"\n")],
+    )
 }
 
 // Writes the line of a root slot.
-#[tactic(auto, using(dc_io::proofs::Pieces::written), unfolding(crate::specs::Text::slot_line))]
+#[tactic(auto, unfolding(crate::specs::Text::slot_line))]
 fn put_slot<W: Sink>(out: &mut W, slot: u8, held: &Held) -> Result<(), IoFault>
     ensures { Wrote W.Sink result out.old out.new (slot_line slot held.now) }
 {
-    out.put(b"ROOT")?;
-    put_number_word(out, u64::from(slot))?;
-    put_held(out, held)
+    let slot = u64::from(slot);
+    match held {
+        Held::Valid(root) => put_pieces(
+            out,
+            &[
+                Piece::Text(b"ROOT"),
+                Piece::Word(slot),
+                Piece::Word(u64::from(root.version)),
+                Piece::Word(root.generation),
+                Piece::Word(root.session),
+                Piece::Word(u64::from(root.half)),
+                Piece::Text(b"\n"),
+            ],
+        ),
+        Held::Other => put_pieces(
+            out,
+            &[
+                Piece::Text(b"ROOT"),
+                Piece::Word(slot),
+                Piece::Text(b" NONE\n"),
+            ],
+        ),
+        Held::Lost => put_pieces(
+            out,
+            &[
+                Piece::Text(b"ROOT"),
+                Piece::Word(slot),
+                Piece::Text(b" UNREADABLE\n"),
+            ],
+        ),
+    }
 }
 
 // Writes the place of the groups that lead to the state.
-#[tactic(auto, using(dc_io::proofs::Pieces::written), unfolding(crate::specs::Text::place_text))]
+#[tactic(auto, unfolding(crate::specs::Text::place_text))]
 fn put_place<A: Allocator + Copy, W: Sink>(
     out: &mut W,
     half_len: u32,
@@ -95,46 +89,57 @@ fn put_place<A: Allocator + Copy, W: Sink>(
     } = found;
     let used = *place - half_start(half_len, root.half);
     let free = half_end(half_len, root.half) - *place;
-    put_number_line(out, b"VERSION", u64::from(root.version))?;
-    put_number_line(out, b"HALF", u64::from(root.half))?;
-    put_number_line(out, b"GROUPS", last.saturating_sub(root.base_sequence))?;
-    put_pair_line(out, b"SECTORS", u64::from(used), u64::from(free))
+    put_pieces(
+        out,
+        &[
+            Piece::Text(b"VERSION"),
+            Piece::Word(u64::from(root.version)),
+            Piece::Text(b"\nHALF"),
+            Piece::Word(u64::from(root.half)),
+            Piece::Text(b"\nGROUPS"),
+            Piece::Word(last.saturating_sub(root.base_sequence)),
+            Piece::Text(b"\nSECTORS"),
+            Piece::Word(u64::from(used)),
+            Piece::Word(u64::from(free)),
+            Piece::Text(b"\n"),
+        ],
+    )
 }
 
-// Writes a serial, if there is one.
-#[tactic(auto, unfolding(crate::specs::Text::serial_word))]
-fn put_serial<W: Sink>(out: &mut W, serial: Option<u64>) -> Result<(), IoFault>
-    ensures { Wrote W.Sink result out.old out.new (serial_word serial) }
+// The word of a serial, if there is one.
+fn serial_piece(serial: Option<u64>) -> Piece<'static>
+    ensures { piece_text result ≡ serial_word serial }
 {
     match serial {
-        Some(serial) => put_number_word(out, serial),
-        None => Ok(()),
+        Some(serial) => Piece::Word(serial),
+        None => Piece::Text(b""),
     }
 }
 
-// Writes the number of readings, and their first and last serial, after a name.
-#[tactic(auto, using(dc_io::proofs::Pieces::written), unfolding(crate::specs::Text::readings_words))]
-fn put_readings<W: Sink>(out: &mut W, name: &[u8], sum: &Summary) -> Result<(), IoFault>
-    ensures { Wrote W.Sink result out.old out.new
-        (readings_words name.now sum.now) }
-{
-    out.put(name)?;
-    put_number_word(out, sum.readings as u64)?;
-    put_serial(out, sum.first)?;
-    put_serial(out, sum.last)?;
-    out.put(b"\n")
-}
-
 // Writes the summary of a state.
-#[tactic(auto, using(dc_io::proofs::Pieces::written), unfolding(crate::specs::Text::summary_text))]
+#[tactic(auto, unfolding(crate::specs::Text::summary_text))]
 fn put_summary<W: Sink>(out: &mut W, sum: &Summary) -> Result<(), IoFault>
     ensures { Wrote W.Sink result out.old out.new (summary_text sum.now) }
 {
-    put_pair_line(out, b"SIZE", u64::from(sum.size), u64::from(sum.budget))?;
-    put_number_line(out, b"METERS", sum.meters as u64)?;
-    put_readings(out, b"READINGS", sum)?;
-    put_number_line(out, b"MARK", sum.confirmed)?;
-    put_number_line(out, b"COMMAND", sum.command)
+    put_pieces(
+        out,
+        &[
+            Piece::Text(b"SIZE"),
+            Piece::Word(u64::from(sum.size)),
+            Piece::Word(u64::from(sum.budget)),
+            Piece::Text(b"\nMETERS"),
+            Piece::Word(sum.meters as u64),
+            Piece::Text(b"\nREADINGS"),
+            Piece::Word(sum.readings as u64),
+            serial_piece(sum.first),
+            serial_piece(sum.last),
+            Piece::Text(b"\nMARK"),
+            Piece::Word(sum.confirmed),
+            Piece::Text(b"\nCOMMAND"),
+            Piece::Word(sum.command),
+            Piece::Text(b"\n"),
+        ],
+    )
 }
 
 // Writes a sector that is ahead of the state, if one is.
@@ -147,54 +152,35 @@ fn put_ahead<W: Sink>(out: &mut W, ahead: Option<u32>) -> Result<(), IoFault>
     }
 }
 
-// Writes the sector of a damaged image.
-#[tactic(auto, unfolding(crate::specs::Text::sector_word))]
-fn put_sector<W: Sink>(out: &mut W, fault: OpenFault) -> Result<(), IoFault>
-    ensures { Wrote W.Sink result out.old out.new (sector_word fault) }
-{
-    match fault {
-        OpenFault::Damaged(sector) => put_number_word(out, u64::from(sector)),
-        _ => Ok(()),
-    }
-}
-
-// Writes a fault and its sector.
-#[tactic(auto, using(dc_io::proofs::Pieces::written), unfolding(crate::specs::Text::fault_words))]
-fn put_fault_words<W: Sink>(
-    out: &mut W,
-    number: u8,
-    name: &str,
-    fault: OpenFault,
-) -> Result<(), IoFault>
-    ensures { Wrote W.Sink result out.old out.new
-        (fault_words number name.now fault) }
-{
-    put_fault(out, number, name)?;
-    put_sector(out, fault)?;
-    out.put(b"\n")
-}
-
-// Writes a fault and its sector after a word.
-#[tactic(auto, using(dc_io::proofs::Pieces::written))]
-fn put_refused<W: Sink>(
-    out: &mut W,
-    what: &[u8],
-    number: u8,
-    name: &str,
-    fault: OpenFault,
-) -> Result<(), IoFault>
-    ensures { Wrote W.Sink result out.old out.new
-        (what.now ++ fault_words number name.now fault) }
-{
-    out.put(what)?;
-    put_fault_words(out, number, name, fault)
-}
-
 // Writes why an image doesn't open.
+#[tactic(auto, unfolding(crate::specs::Text::refused_line))]
 fn put_refused_line<W: Sink>(out: &mut W, fault: OpenFault) -> Result<(), IoFault>
     ensures { Wrote W.Sink result out.old out.new (refused_line fault) }
 {
-    put_refused(out, b"REFUSED ", fault.number(), fault.name(), fault)
+    let number = u64::from(fault.number());
+    match fault {
+        OpenFault::Damaged(sector) => put_pieces(
+            out,
+            &[
+                Piece::Text(b"REFUSED"),
+                Piece::Word(number),
+                Piece::Text(b" "),
+                Piece::Text(fault.name().as_bytes()),
+                Piece::Word(u64::from(sector)),
+                Piece::Text(b"\n"),
+            ],
+        ),
+        _ => put_pieces(
+            out,
+            &[
+                Piece::Text(b"REFUSED"),
+                Piece::Word(number),
+                Piece::Text(b" "),
+                Piece::Text(fault.name().as_bytes()),
+                Piece::Text(b"\n"),
+            ],
+        ),
+    }
 }
 
 // Writes why an image doesn't open, if it doesn't.

@@ -48,13 +48,11 @@ most_line line tries meters = codes "MOST" ++ (number_word line ++ (number_word 
 
 -- ---- lines
 
-unfoldable pub linked_text : List Identity → ℕ → State → ℕ → List ℕ
-linked_text only tries state line =
-    queue_text only state line ++ most_line line tries (count_on only state line)
-
 unfoldable pub line_text : List Bool → List Identity → ℕ → State → ℕ → List ℕ
 line_text links only tries state line =
-    if is_linked links line then linked_text only tries state line else []
+    if is_linked links line
+    then queue_text only state line ++ most_line line tries (count_on only state line)
+    else []
 
 -- the numbers of the lines
 abbrev pub numbers : List ℕ

@@ -36,9 +36,11 @@ pub mod Committed
 pub mod PendingRoom
 -- of the module `events`
 
+-- the fault of a call that refused
+pub mod Refusal
 -- the events of a poll as text
 pub mod Text
--- the object of a meter that was read
+-- what the last part of a reading reports
 pub mod Read
 -- the events of a poll as JSON objects
 pub mod Object

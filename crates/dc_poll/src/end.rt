@@ -1,5 +1,8 @@
 //! The end of a meter's readout.
 
+ghost use Rattle.std.specs.Prelude.{◌≡◌};
+ghost use Rattle.dc_poll.specs.Refusal.{refusal_number, refusal_name};
+
 use dc_address::Identity;
 use dc_concentrator::{CommitFault, HearFault, StartFault};
 use dc_readout::Why;
@@ -13,6 +16,20 @@ pub enum Refusal {
     Hear(HearFault),
     /// The commit of its telegram.
     Commit(CommitFault),
+}
+
+impl Refusal {
+    /// The number and the name of the fault.
+    pub(crate) fn code(&self) -> (u8, &'static str)
+        ensures number { result.0 ≡ refusal_number self.now }
+        ensures name { result.1.now ≡ refusal_name self.now }
+    {
+        match self {
+            Refusal::Start(fault) => (fault.number(), fault.name()),
+            Refusal::Hear(fault) => (fault.number(), fault.name()),
+            Refusal::Commit(fault) => (fault.number(), fault.name()),
+        }
+    }
 }
 
 /// The end of a meter's readout.

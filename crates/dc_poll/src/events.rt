@@ -10,7 +10,6 @@ mod laws;
 mod note;
 mod objects;
 mod progress;
-mod read;
 mod reason;
 mod tally;
 mod text;

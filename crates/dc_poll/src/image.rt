@@ -234,8 +234,8 @@ fn wanted_on<A: Allocator + Copy>(
     Ok(queue)
 }
 
-// Where none is named, all are wanted.
-fn is_wanted(meter: &Identity, only: &[Identity]) -> bool
+/// Whether a meter is to be read: where none is named, all are.
+pub(crate) fn is_wanted(meter: &Identity, only: &[Identity]) -> bool
     ensures { result ≡ is_wanted only.now meter.now }
 {
     only.is_empty() || only.contains(meter)

@@ -9,7 +9,6 @@ ghost use Rattle.dc_poll.specs.Missed.{is_miss, misses_heard};
 ghost use Rattle.dc_poll.specs.Queue.{most_asks};
 ghost use Rattle.dc_poll.specs.Station.{IsAfter, Listens, after_answer, ended, is_answered};
 ghost use Rattle.dc_poll.specs.Station.{lost_by, next_pass, put_off, stored_by, taken_of};
-ghost use Rattle.dc_poll.specs.Waiting.{is_sent};
 ghost use Rattle.dc_poll.specs.declared.end.End.TheVariants.{Read, Refused};
 ghost use Rattle.dc_poll.specs.declared.end.Refusal.TheVariants.{Start};
 ghost use Rattle.dc_poll.specs.declared.phase.Phase.TheVariants.{Free, Busy};
@@ -70,13 +69,6 @@ impl<'a, B: HalfBus + Drop> Station<'a, B> {
             said: false,
             misses: Misses::none(),
         }
-    }
-
-    /// Whether a request is out without an answer yet.
-    pub fn is_waiting(&self) -> bool
-        ensures { result ≡ is_sent self.now.request }
-    {
-        matches!(self.request, Request::Sent)
     }
 
     // The meter whose turn it is.
@@ -164,13 +156,6 @@ impl<'a, B: HalfBus + Drop> Station<'a, B> {
         ensures { result ≡ is_answered self.now.request }
     {
         matches!(self.request, Request::Answered(_))
-    }
-
-    // What was heard; nothing is silence.
-    pub(crate) fn taken(&self) -> &[u8]
-        ensures { result.now ≡ taken_of self.now.request }
-    {
-        taken_of(&self.request)
     }
 
     // What becomes of the readout by what was heard. Whether a telegram was accepted.
@@ -270,8 +255,8 @@ impl<'a, B: HalfBus + Drop> Station<'a, B> {
     }
 }
 
-// What was heard; nothing is silence.
-fn taken_of(request: &Request) -> &[u8]
+/// What was heard; nothing is silence.
+pub(crate) fn taken_of(request: &Request) -> &[u8]
     ensures { result.now ≡ taken_of request.now }
 {
     match request {

@@ -11,7 +11,7 @@ ghost use Rattle.dc_poll.specs.declared.phase.Request.TheVariants.{Quiet};
 use crate::calls;
 use crate::end::End;
 use crate::phase::{Phase, Request};
-use crate::station::{MOST_ASKS, Station};
+use crate::station::{MOST_ASKS, Station, taken_of};
 use dc_address::Identity;
 use dc_bus::HalfBus;
 use dc_change::Moment;
@@ -203,7 +203,7 @@ fn judge<D: Disk + Drop, A: Allocator + Copy, B: HalfBus + Drop>(
     let Some(meter) = station.present() else {
         return false;
     };
-    let answer = calls::hear(concentrator, line, moment, station.taken());
+    let answer = calls::hear(concentrator, line, moment, taken_of(&station.request));
     station.judged(meter, asks, tries, answer);
     is_accepted(&answer)
 }

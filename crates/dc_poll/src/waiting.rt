@@ -2,9 +2,9 @@
 
 ghost use Rattle.std.specs.Prelude.{◌≡◌};
 ghost use Rattle.std.specs.List.{list_all};
-ghost use Rattle.dc_poll.specs.Waiting.{is_awaited, is_done, is_free, is_resting, may_sleep};
+ghost use Rattle.dc_poll.specs.Waiting.{is_awaited, is_done, may_sleep};
 
-use crate::phase::Phase;
+use crate::phase::{Phase, Request};
 use crate::station::Station;
 use dc_bus::HalfBus;
 
@@ -13,38 +13,21 @@ use dc_bus::HalfBus;
 pub fn is_awaited<B: HalfBus + Drop>(station: &Station<'_, B>) -> bool
     ensures { result ≡ is_awaited station.now }
 {
-    station.is_waiting()
-}
-
-// Whether no readout is running, and no end is to be written.
-fn is_free(phase: &Phase) -> bool
-    ensures { result ≡ is_free phase.now }
-{
-    match phase {
-        Phase::Free => true,
-        Phase::Busy(_) => false,
-        Phase::Pending(_) => false,
-        Phase::Over(_) => false,
-    }
+    matches!(station.request, Request::Sent)
 }
 
 /// Whether a line has nothing left: each of its meters is done with, and that is written.
 pub(crate) fn is_done<B: HalfBus + Drop>(station: &Station<'_, B>) -> bool
     ensures { result ≡ is_done station.now }
 {
-    is_free(&station.phase) && station.left.is_empty()
-}
-
-// Whether a line goes on when its bus has more, or not at all.
-fn is_resting<B: HalfBus + Drop>(station: &Station<'_, B>) -> bool
-    ensures { result ≡ is_resting station.now }
-{
-    is_awaited(station) || is_done(station)
+    matches!(station.phase, Phase::Free) && station.left.is_empty()
 }
 
 /// Whether a poll may sleep until a bus has more: no line goes on without that.
 pub(crate) fn may_sleep<B: HalfBus + Drop>(stations: &[Station<'_, B>]) -> bool
     ensures { result ≡ may_sleep stations.now }
 {
-    stations.iter().all(|station| is_resting(station))
+    stations
+        .iter()
+        .all(|station| is_awaited(station) || is_done(station))
 }

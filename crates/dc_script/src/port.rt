@@ -1,11 +1,10 @@
 //! A bus line, as a script names it and prints its loss.
 
-ghost use Rattle.std.specs.Prelude.{◌≡◌, ◌++◌, codes};
 ghost use Rattle.dc_io.specs.Written.{Wrote};
-ghost use Rattle.dc_io.specs.Words.{number_word};
 ghost use Rattle.dc_script.specs.Link.{link_by, loss_line, loss_text};
 
-use dc_io::{IoFault, Sink, put_number_word};
+use dc_io::{IoFault, Sink};
+use dc_tokens::{Piece, put_pieces};
 
 /// A bus line.
 #[derive(Clone, Copy)]
@@ -40,16 +39,13 @@ pub fn put_lost<W: Sink>(port: Port, out: &mut W) -> Result<(), IoFault>
     if port.is_gateway {
         out.put(b"GATEWAY LOST\n")
     } else {
-        put_line_lost(port.line, out)
+        put_pieces(
+            out,
+            &[
+                Piece::Text(b"LINE"),
+                Piece::Word(u64::from(port.line)),
+                Piece::Text(b" LOST\n"),
+            ],
+        )
     }
-}
-
-#[tactic(auto, using(dc_io::proofs::Pieces::written))]
-fn put_line_lost<W: Sink>(line: u8, out: &mut W) -> Result<(), IoFault>
-    ensures { Wrote W.Sink result out.old out.new
-        (codes "LINE" ++ number_word line ++ codes " LOST\n") }
-{
-    out.put(b"LINE")?;
-    put_number_word(out, u64::from(line))?;
-    out.put(b" LOST\n")
 }

@@ -134,6 +134,7 @@ fn late_since(port: Port, before: u64, after: u64) -> u64
     }
 }
 
+// Writes the result, and the number of late answers, if any.
 #[tactic(auto, using(dc_io::proofs::Pieces::written))]
 fn put_found_late<A: Allocator + Copy, W: Sink>(
     search: &Search<A>,

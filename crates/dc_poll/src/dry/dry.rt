@@ -2,15 +2,15 @@
 
 ghost use Rattle.std.specs.Prelude.{◌≡◌};
 ghost use Rattle.dc_io.specs.Written.{Wrote};
-ghost use Rattle.dc_poll.specs.Dry.{dry_text, is_linked, line_text, lines_text, linked_text, most_line};
-ghost use Rattle.dc_poll.specs.Dry.{count_on};
+ghost use Rattle.dc_poll.specs.Dry.{dry_text, is_linked, line_text, lines_text};
 
 use crate::dry::queue::{count_on, put_queue};
 use crate::dry::refusal::put_refused;
 use dc_address::Identity;
-use dc_io::{IoFault, Sink, put_number_word};
+use dc_io::{IoFault, Sink};
 use dc_json::status::put_room_left;
 use dc_register::House;
+use dc_tokens::{Piece, put_pieces};
 use std::alloc::Allocator;
 
 /// Number of bus lines.
@@ -67,8 +67,8 @@ fn put_lines<A: Allocator + Copy, W: Sink>(
     Ok(())
 }
 
-// Prints the queue of a line and its bounds, where it has a link.
-#[tactic(auto, using(dc_io::proofs::Pieces::written), unfolding(crate::specs::Dry::line_text))]
+// Prints the queue of a line that has a link, and the maximum numbers of its readouts and requests.
+#[tactic(auto, using(dc_io::proofs::Pieces::written), unfolding(crate::specs::Dry::line_text, crate::specs::Dry::most_line))]
 fn put_line<A: Allocator + Copy, W: Sink>(
     out: &mut W,
     house: &House<A>,
@@ -78,11 +78,21 @@ fn put_line<A: Allocator + Copy, W: Sink>(
     ensures { Wrote W.Sink result out.old out.new
         (line_text dry.now.links dry.now.only.now dry.now.tries house.now.state line) }
 {
-    if is_linked(&dry.links, line) {
-        put_linked(out, house, dry, line)
-    } else {
-        Ok(())
+    if !is_linked(&dry.links, line) {
+        return Ok(());
     }
+    put_queue(out, house, dry.only, line)?;
+    let starts = u64::from(dry.tries) * u64::from(count_on(house, dry.only, line));
+    put_pieces(
+        out,
+        &[
+            Piece::Text(b"MOST"),
+            Piece::Word(u64::from(line)),
+            Piece::Word(starts),
+            Piece::Word(MOST_REQUESTS * starts),
+            Piece::Text(b"\n"),
+        ],
+    )
 }
 
 /// Whether a line has a link.
@@ -93,32 +103,4 @@ pub(crate) fn is_linked(links: &[bool; LINES], line: u8) -> bool
         Some(is_linked) => *is_linked,
         None => false,
     }
-}
-
-// Prints the queue of a line that has a link, and its bounds.
-#[tactic(auto, using(dc_io::proofs::Pieces::written), unfolding(crate::specs::Dry::linked_text))]
-fn put_linked<A: Allocator + Copy, W: Sink>(
-    out: &mut W,
-    house: &House<A>,
-    dry: &Dry<'_>,
-    line: u8,
-) -> Result<(), IoFault>
-    ensures { Wrote W.Sink result out.old out.new
-        (linked_text dry.now.only.now dry.now.tries house.now.state line) }
-{
-    put_queue(out, house, dry.only, line)?;
-    put_most(out, line, dry.tries, count_on(house, dry.only, line))
-}
-
-// Prints the maximum numbers of readouts and requests of a line with this number of meters.
-#[tactic(auto, using(dc_io::proofs::Pieces::written), unfolding(crate::specs::Dry::most_line))]
-fn put_most<W: Sink>(out: &mut W, line: u8, tries: u8, meters: u32) -> Result<(), IoFault>
-    ensures { Wrote W.Sink result out.old out.new (most_line line tries meters) }
-{
-    let starts = u64::from(tries) * u64::from(meters);
-    out.put(b"MOST")?;
-    put_number_word(out, u64::from(line))?;
-    put_number_word(out, starts)?;
-    put_number_word(out, MOST_REQUESTS * starts)?;
-    out.put(b"\n")
 }

@@ -2,12 +2,13 @@
 
 ghost use Rattle.std.specs.Prelude.{◌≡◌};
 ghost use Rattle.dc_io.specs.Written.{Wrote};
-ghost use Rattle.dc_poll.specs.Planned.{is_wanted};
-ghost use Rattle.dc_poll.specs.Dry.{count_on, queue_line, queue_text, row_text, rows_text};
+ghost use Rattle.dc_poll.specs.Dry.{count_on, queue_text, row_text, rows_text};
 
+use crate::image::is_wanted;
 use dc_address::Identity;
-use dc_io::{IoFault, Sink, put_number_word};
+use dc_io::{IoFault, Sink};
 use dc_register::{House, Meter};
+use dc_tokens::{Piece, put_pieces};
 use std::alloc::Allocator;
 
 /// Prints the meters of a line that are wanted, in order of identity.
@@ -38,7 +39,8 @@ fn put_rows<A: Allocator + Copy, W: Sink>(
     Ok(())
 }
 
-#[tactic(auto, using(dc_io::proofs::Pieces::written), unfolding(crate::specs::Dry::row_text))]
+// Prints a row of the register, if it is a meter of the queue.
+#[tactic(auto, unfolding(crate::specs::Dry::row_text, crate::specs::Dry::queue_line))]
 fn put_row<A: Allocator, W: Sink>(
     out: &mut W,
     meter: &Identity,
@@ -49,28 +51,19 @@ fn put_row<A: Allocator, W: Sink>(
     ensures { Wrote W.Sink result out.old out.new (row_text only.now line (meter.now, row.now)) }
 {
     if row.line() == line && is_wanted(meter, only) {
-        put_queued(out, meter, line)
+        put_pieces(
+            out,
+            &[
+                Piece::Text(b"QUEUE"),
+                Piece::Word(u64::from(line)),
+                Piece::Text(b" "),
+                Piece::Text(&meter.text()),
+                Piece::Text(b"\n"),
+            ],
+        )
     } else {
         Ok(())
     }
-}
-
-// Where none is named, all are wanted.
-fn is_wanted(meter: &Identity, only: &[Identity]) -> bool
-    ensures { result ≡ is_wanted only.now meter.now }
-{
-    only.is_empty() || only.contains(meter)
-}
-
-#[tactic(auto, using(dc_io::proofs::Pieces::written), unfolding(crate::specs::Dry::queue_line))]
-fn put_queued<W: Sink>(out: &mut W, meter: &Identity, line: u8) -> Result<(), IoFault>
-    ensures { Wrote W.Sink result out.old out.new (queue_line line meter.now) }
-{
-    out.put(b"QUEUE")?;
-    put_number_word(out, u64::from(line))?;
-    out.put(b" ")?;
-    out.put(&meter.text())?;
-    out.put(b"\n")
 }
 
 /// Number of meters in the queue of a line.

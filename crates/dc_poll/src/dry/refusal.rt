@@ -4,10 +4,7 @@ ghost use Rattle.std.specs.Prelude.{◌≡◌, flat_map};
 ghost use Rattle.std.specs.Map.{keys_of};
 ghost use Rattle.dc_io.specs.Written.{Wrote};
 ghost use Rattle.dc_poll.specs.Planned.{refusal_of};
-ghost use Rattle.dc_poll.specs.declared.end.Refusal.TheVariants.{Start};
-ghost use Rattle.dc_poll.specs.declared.event.Event.TheVariants.{Refused};
-ghost use Rattle.dc_poll.specs.Text.{line_of};
-ghost use Rattle.dc_poll.specs.Dry.{is_linked, meter_text, refusal_text, refused_text};
+ghost use Rattle.dc_poll.specs.Dry.{is_linked, meter_text, refused_text};
 ghost use Rattle.dc_poll.specs.Dry.{register_refusals, row_refusal};
 
 use crate::dry::dry::{Dry, LINES, is_linked};
@@ -96,6 +93,7 @@ fn put_of_named<A: Allocator + Copy, W: Sink>(
     Ok(())
 }
 
+// Prints the line of a meter that would be refused, as the poll does.
 #[tactic(auto, unfolding(crate::specs::Dry::meter_text))]
 fn put_meter<A: Allocator + Copy, W: Sink>(
     out: &mut W,
@@ -106,36 +104,16 @@ fn put_meter<A: Allocator + Copy, W: Sink>(
     ensures { Wrote W.Sink result out.old out.new
         (meter_text links.now house.now.state meter.now) }
 {
-    put_refusal(out, meter, refusal_of(house, links, meter))
-}
-
-// Prints the line of a refusal as the poll does.
-#[tactic(auto, using(dc_io::proofs::Pieces::written))]
-fn put_refusal<W: Sink>(
-    out: &mut W,
-    meter: &Identity,
-    refusal: Option<StartFault>,
-) -> Result<(), IoFault>
-    ensures { Wrote W.Sink result out.old out.new (refusal_text meter.now refusal) }
-{
-    match refusal {
-        Some(fault) => put_refused_line(out, meter, fault),
+    match refusal_of(house, links, meter) {
+        Some(fault) => {
+            let event = Event::Refused {
+                meter: *meter,
+                refusal: Refusal::Start(fault),
+            };
+            put_line(out, &event)
+        }
         None => Ok(()),
     }
-}
-
-fn put_refused_line<W: Sink>(
-    out: &mut W,
-    meter: &Identity,
-    fault: StartFault,
-) -> Result<(), IoFault>
-    ensures { Wrote W.Sink result out.old out.new (line_of (Refused meter.now (Start fault))) }
-{
-    let event = Event::Refused {
-        meter: *meter,
-        refusal: Refusal::Start(fault),
-    };
-    put_line(out, &event)
 }
 
 // Why a meter can't be read, before it is started.

@@ -2,11 +2,12 @@
 
 ghost use Rattle.std.specs.Prelude.{◌≡◌, drop};
 ghost use Rattle.dc_io.specs.Written.{Wrote};
-ghost use Rattle.dc_poll.specs.Note.{command_note, flat_field, note_of};
+ghost use Rattle.dc_poll.specs.Note.{command_note, note_of};
 
 use crate::Event;
-use crate::events::objects::{put_field, put_text_field};
+use dc_frame_json::{Cell, put_line};
 use dc_io::{IoFault, Sink};
+use dc_tokens::{Piece, put_pieces};
 
 /// Takes the events of a poll beside its output. What becomes of them changes nothing of the poll.
 pub trait Notes {
@@ -16,24 +17,32 @@ pub trait Notes {
 
 /// Writes the journal's line of an event with this object ([`put_object`](crate::events::put_object)), at this second since
 /// 1970, of a meter in this flat; an empty flat is left out.
-#[tactic(auto, using(dc_io::proofs::Pieces::written), unfolding(crate::specs::Note::note_of))]
+#[tactic(auto, unfolding(crate::specs::Note::note_of))]
 pub fn put_note<W: Sink>(out: &mut W, at: u64, flat: &[u8], object: &[u8]) -> Result<(), IoFault>
     ensures { Wrote W.Sink result out.old out.new (note_of at flat.now object.now) }
 {
-    put_field(out, b"{\"at\":", at)?;
-    put_flat(out, flat)?;
-    out.put(b",")?;
-    out.put(after_bracket(object))
-}
-
-#[tactic(auto, unfolding(crate::specs::Note::flat_field))]
-fn put_flat<W: Sink>(out: &mut W, flat: &[u8]) -> Result<(), IoFault>
-    ensures { Wrote W.Sink result out.old out.new (flat_field flat.now) }
-{
-    if flat.is_empty() {
-        Ok(())
-    } else {
-        put_text_field(out, b",\"flat\":\"", flat)
+    let members = after_bracket(object);
+    match flat {
+        [] => put_pieces(
+            out,
+            &[
+                Piece::Text(b"{\"at\":"),
+                Piece::Number(at),
+                Piece::Text(b","),
+                Piece::Text(members),
+            ],
+        ),
+        _ => put_pieces(
+            out,
+            &[
+                Piece::Text(b"{\"at\":"),
+                Piece::Number(at),
+                Piece::Text(b",\"flat\":\""),
+                Piece::Text(flat),
+                Piece::Text(b"\","),
+                Piece::Text(members),
+            ],
+        ),
     }
 }
 
@@ -48,7 +57,7 @@ fn after_bracket(object: &[u8]) -> &[u8]
 }
 
 /// Writes the journal's line of a command that was done, at this second since 1970: its number and its line.
-#[tactic(auto, using(dc_io::proofs::Pieces::written), unfolding(crate::specs::Note::command_note))]
+#[tactic(auto, unfolding(crate::specs::Note::command_note))]
 pub fn put_command_note<W: Sink>(
     out: &mut W,
     at: u64,
@@ -57,8 +66,13 @@ pub fn put_command_note<W: Sink>(
 ) -> Result<(), IoFault>
     ensures { Wrote W.Sink result out.old out.new (command_note at number line.now) }
 {
-    put_field(out, b"{\"at\":", at)?;
-    put_field(out, b",\"event\":\"command\",\"number\":", number)?;
-    put_text_field(out, b",\"line\":\"", line)?;
-    out.put(b"}\n")
+    put_line(
+        out,
+        &[
+            Cell::Number("at", at),
+            Cell::Text("event", b"command"),
+            Cell::Number("number", number),
+            Cell::Text("line", line),
+        ],
+    )
 }

@@ -36,7 +36,7 @@ impl<'h, R: Clock + Eprint> Progress<'h, R> {
             is_terminal,
             begun: Instant::now(rt).ok(),
             meters: Cell::new(0),
-            tally: Cell::new(Tally::new()),
+            tally: Cell::new(Tally { done: 0, failed: 0 }),
             shown: Cell::new(None),
         }
     }
@@ -46,25 +46,25 @@ impl<'h, R: Clock + Eprint> Progress<'h, R> {
         if !self.is_terminal {
             return;
         }
-        let tally = self.tally.get();
+        let Tally { done, failed } = self.tally.get();
         if self.meters.get() == 0 {
-            self.meters
-                .set(tally.done.saturating_add(meters_of(stations)));
+            self.meters.set(done.saturating_add(meters_of(stations)));
         }
-        let seconds = self.seconds();
-        if self.shown.get() != Some((tally.done, seconds)) {
-            self.put(tally, seconds);
-            self.shown.set(Some((tally.done, seconds)));
+        let seconds = match self.begun {
+            Some(begun) => match begun.elapsed(self.rt) {
+                Ok(elapsed) => elapsed.as_secs(),
+                Err(_) => 0,
+            },
+            None => 0,
+        };
+        if self.shown.get() != Some((done, seconds)) {
+            let meters = self.meters.get().max(done);
+            let _ = eprint!(self.rt;
+                "{}{done} of {meters} meters, {failed} failed, {seconds} s",
+                CLEAR
+            );
+            self.shown.set(Some((done, seconds)));
         }
-    }
-
-    fn put(&self, tally: Tally, seconds: u64) {
-        let Tally { done, failed } = tally;
-        let meters = self.meters.get().max(done);
-        let _ = eprint!(self.rt;
-            "{}{done} of {meters} meters, {failed} failed, {seconds} s",
-            CLEAR
-        );
     }
 
     /// Clears the line, before another one is written to the terminal.
@@ -72,16 +72,6 @@ impl<'h, R: Clock + Eprint> Progress<'h, R> {
         if self.shown.get().is_some() {
             let _ = self.rt.eprint(CLEAR);
             self.shown.set(None);
-        }
-    }
-
-    fn seconds(&self) -> u64 {
-        match self.begun {
-            Some(begun) => match begun.elapsed(self.rt) {
-                Ok(elapsed) => elapsed.as_secs(),
-                Err(_) => 0,
-            },
-            None => 0,
         }
     }
 }

@@ -1,12 +1,12 @@
 //! The meters that a poll is done with.
 
 ghost use Rattle.std.specs.Prelude.{◌≡◌};
-ghost use Rattle.dc_poll.specs.Tally.{tallied, not_read};
+ghost use Rattle.dc_poll.specs.Tally.{tallied};
 
 use crate::Event;
 
 /// Counts the meters that a poll is done with.
-#[derive(Clone, Copy, Debug, PartialEq, Eq)]
+#[derive(Clone, Copy)]
 pub struct Tally {
     /// Number of meters that were read, failed or were refused.
     pub done: u64,
@@ -15,13 +15,6 @@ pub struct Tally {
 }
 
 impl Tally {
-    /// No meter is done with.
-    pub fn new() -> Self
-        ensures { result ≡ record { done = 0; failed = 0 } }
-    {
-        Tally { done: 0, failed: 0 }
-    }
-
     /// The counts after an event.
     pub fn after(self, event: &Event<'_>) -> Self
         ensures { result ≡ tallied event.now self }
@@ -31,17 +24,11 @@ impl Tally {
                 done: self.done.saturating_add(1),
                 failed: self.failed,
             },
-            Event::Failed { .. } | Event::Refused { .. } => self.one_not_read(),
+            Event::Failed { .. } | Event::Refused { .. } => Tally {
+                done: self.done.saturating_add(1),
+                failed: self.failed.saturating_add(1),
+            },
             Event::Lost { .. } | Event::Late { .. } | Event::End { .. } => self,
-        }
-    }
-
-    fn one_not_read(self) -> Self
-        ensures { result ≡ not_read self }
-    {
-        Tally {
-            done: self.done.saturating_add(1),
-            failed: self.failed.saturating_add(1),
         }
     }
 }

@@ -1,17 +1,13 @@
 //! The events of a poll as text.
 
-ghost use Rattle.std.specs.Prelude.{◌≡◌, ◌++◌, codes};
-ghost use Rattle.dc_address.specs.Text.{text_of};
-ghost use Rattle.dc_io.specs.Words.{number_word};
 ghost use Rattle.dc_io.specs.Written.{Wrote};
-ghost use Rattle.dc_poll.specs.declared.event.Event.TheVariants.{Refused, Lost};
-ghost use Rattle.dc_poll.specs.declared.event.Event.TheVariants.{Late, End};
-ghost use Rattle.dc_poll.specs.Text.{line_of, why_text, why_end, refusal_text, refusal_end};
+ghost use Rattle.dc_poll.specs.Text.{failed_line, line_of};
 
-use crate::{Event, Refusal, Teller};
+use crate::{Event, Teller};
 use dc_address::Identity;
-use dc_io::{IoFault, Sink, put_fault, put_number_word};
+use dc_io::{IoFault, Sink};
 use dc_readout::Why;
+use dc_tokens::{Piece, put_pieces};
 
 /// Prints a line of text for each event.
 #[derive(Drop)]
@@ -53,143 +49,90 @@ pub fn put_line<W: Sink>(out: &mut W, event: &Event<'_>) -> Result<(), IoFault>
             serial,
             parts,
             ..
-        } => put_read(out, meter, *serial, *parts),
+        } => put_pieces(
+            out,
+            &[
+                Piece::Text(b"READ "),
+                Piece::Text(&meter.text()),
+                Piece::Word(*serial),
+                Piece::Word(*parts),
+                Piece::Text(b"\n"),
+            ],
+        ),
         Event::Failed { meter, why, .. } => put_failed(out, meter, *why),
-        Event::Refused { meter, refusal } => put_refused(out, meter, *refusal),
-        Event::Lost { line } => put_lost(out, *line),
-        Event::Late { line, answers } => put_late(out, *line, *answers),
-        Event::End { read, failed } => put_end(out, *read, *failed),
+        Event::Refused { meter, refusal } => {
+            let (number, name) = refusal.code();
+            put_pieces(
+                out,
+                &[
+                    Piece::Text(b"REFUSED "),
+                    Piece::Text(&meter.text()),
+                    Piece::Word(u64::from(number)),
+                    Piece::Text(b" "),
+                    Piece::Text(name.as_bytes()),
+                    Piece::Text(b"\n"),
+                ],
+            )
+        }
+        Event::Lost { line } => put_pieces(
+            out,
+            &[
+                Piece::Text(b"LINE"),
+                Piece::Word(u64::from(*line)),
+                Piece::Text(b" LOST\n"),
+            ],
+        ),
+        Event::Late { line, answers } => put_pieces(
+            out,
+            &[
+                Piece::Text(b"LATE"),
+                Piece::Word(u64::from(*line)),
+                Piece::Word(*answers),
+                Piece::Text(b"\n"),
+            ],
+        ),
+        Event::End { read, failed } => put_pieces(
+            out,
+            &[
+                Piece::Text(b"END"),
+                Piece::Word(*read),
+                Piece::Word(*failed),
+                Piece::Text(b"\n"),
+            ],
+        ),
     }
 }
 
-// Writes `READ ident serial parts`.
-#[tactic(auto, using(dc_io::proofs::Pieces::written))]
-fn put_read<W: Sink>(out: &mut W, meter: &Identity, serial: u64, parts: u64) -> Result<(), IoFault>
-    ensures { Wrote W.Sink result out.old out.new
-        (codes "READ " ++ text_of meter.now ++ number_word serial ++ number_word parts
-        ++ codes "\n") }
-{
-    out.put(b"READ ")?;
-    out.put(&meter.text())?;
-    put_number_word(out, serial)?;
-    put_number_word(out, parts)?;
-    out.put(b"\n")
-}
-
-// Writes `FAILED ident n Name`.
-#[tactic(auto, using(dc_io::proofs::Pieces::written))]
+// Writes the line of a failed readout; after a fault of content stands the fault of the body.
+#[tactic(auto, unfolding(crate::specs::Text::failed_line))]
 fn put_failed<W: Sink>(out: &mut W, meter: &Identity, why: Why) -> Result<(), IoFault>
-    ensures { Wrote W.Sink result out.old out.new
-        (codes "FAILED " ++ text_of meter.now ++ why_end why) }
+    ensures { Wrote W.Sink result out.old out.new (failed_line meter.now why) }
 {
-    match out.put(b"FAILED ") {
-        Ok(()) => put_meter_why(out, meter, why),
-        Err(fault) => Err(fault),
+    match why {
+        Why::Content(fault) => put_pieces(
+            out,
+            &[
+                Piece::Text(b"FAILED "),
+                Piece::Text(&meter.text()),
+                Piece::Word(u64::from(why.number())),
+                Piece::Text(b" "),
+                Piece::Text(why.name().as_bytes()),
+                Piece::Word(u64::from(fault.number())),
+                Piece::Text(b" "),
+                Piece::Text(fault.name().as_bytes()),
+                Piece::Text(b"\n"),
+            ],
+        ),
+        _ => put_pieces(
+            out,
+            &[
+                Piece::Text(b"FAILED "),
+                Piece::Text(&meter.text()),
+                Piece::Word(u64::from(why.number())),
+                Piece::Text(b" "),
+                Piece::Text(why.name().as_bytes()),
+                Piece::Text(b"\n"),
+            ],
+        ),
     }
-}
-
-#[tactic(auto, using(dc_io::proofs::Pieces::written))]
-fn put_meter_why<W: Sink>(out: &mut W, meter: &Identity, why: Why) -> Result<(), IoFault>
-    ensures { Wrote W.Sink result out.old out.new
-        (text_of meter.now ++ why_end why) }
-{
-    out.put(&meter.text())?;
-    put_why_end(out, why)
-}
-
-#[tactic(auto, using(dc_io::proofs::Pieces::written), unfolding(crate::specs::Text::why_end))]
-fn put_why_end<W: Sink>(out: &mut W, why: Why) -> Result<(), IoFault>
-    ensures { Wrote W.Sink result out.old out.new (why_end why) }
-{
-    out.put(b" ")?;
-    put_why(out, why)?;
-    out.put(b"\n")
-}
-
-#[tactic(auto, using(dc_io::proofs::Pieces::written), unfolding(crate::specs::Text::why_text))]
-fn put_why<W: Sink>(out: &mut W, why: Why) -> Result<(), IoFault>
-    ensures { Wrote W.Sink result out.old out.new (why_text why) }
-{
-    let Why::Content(fault) = why else {
-        return put_fault(out, why.number(), why.name());
-    };
-    put_fault(out, why.number(), why.name())?;
-    out.put(b" ")?;
-    put_fault(out, fault.number(), fault.name())
-}
-
-// Writes `REFUSED ident n Name`.
-#[tactic(auto, using(dc_io::proofs::Pieces::written))]
-fn put_refused<W: Sink>(out: &mut W, meter: &Identity, refusal: Refusal) -> Result<(), IoFault>
-    ensures { Wrote W.Sink result out.old out.new (line_of (Refused meter.now refusal)) }
-{
-    match out.put(b"REFUSED ") {
-        Ok(()) => put_meter_refusal(out, meter, refusal),
-        Err(fault) => Err(fault),
-    }
-}
-
-#[tactic(auto, using(dc_io::proofs::Pieces::written))]
-fn put_meter_refusal<W: Sink>(
-    out: &mut W,
-    meter: &Identity,
-    refusal: Refusal,
-) -> Result<(), IoFault>
-    ensures { Wrote W.Sink result out.old out.new
-        (text_of meter.now ++ refusal_end refusal) }
-{
-    out.put(&meter.text())?;
-    put_refusal_end(out, refusal)
-}
-
-#[tactic(auto, using(dc_io::proofs::Pieces::written), unfolding(crate::specs::Text::refusal_end))]
-fn put_refusal_end<W: Sink>(out: &mut W, refusal: Refusal) -> Result<(), IoFault>
-    ensures { Wrote W.Sink result out.old out.new (refusal_end refusal) }
-{
-    out.put(b" ")?;
-    put_refusal(out, refusal)?;
-    out.put(b"\n")
-}
-
-#[tactic(auto, unfolding(crate::specs::Text::refusal_text))]
-fn put_refusal<W: Sink>(out: &mut W, refusal: Refusal) -> Result<(), IoFault>
-    ensures { Wrote W.Sink result out.old out.new (refusal_text refusal) }
-{
-    match refusal {
-        Refusal::Start(fault) => put_fault(out, fault.number(), fault.name()),
-        Refusal::Hear(fault) => put_fault(out, fault.number(), fault.name()),
-        Refusal::Commit(fault) => put_fault(out, fault.number(), fault.name()),
-    }
-}
-
-// Writes `LINE n LOST`.
-#[tactic(auto, using(dc_io::proofs::Pieces::written))]
-fn put_lost<W: Sink>(out: &mut W, line: u8) -> Result<(), IoFault>
-    ensures { Wrote W.Sink result out.old out.new (line_of (Lost line)) }
-{
-    out.put(b"LINE")?;
-    put_number_word(out, u64::from(line))?;
-    out.put(b" LOST\n")
-}
-
-// Writes `LATE line n`.
-#[tactic(auto, using(dc_io::proofs::Pieces::written))]
-fn put_late<W: Sink>(out: &mut W, line: u8, answers: u64) -> Result<(), IoFault>
-    ensures { Wrote W.Sink result out.old out.new (line_of (Late line answers)) }
-{
-    out.put(b"LATE")?;
-    put_number_word(out, u64::from(line))?;
-    put_number_word(out, answers)?;
-    out.put(b"\n")
-}
-
-// Writes `END read failed`.
-#[tactic(auto, using(dc_io::proofs::Pieces::written))]
-fn put_end<W: Sink>(out: &mut W, read: u64, failed: u64) -> Result<(), IoFault>
-    ensures { Wrote W.Sink result out.old out.new (line_of (End read failed)) }
-{
-    out.put(b"END")?;
-    put_number_word(out, read)?;
-    put_number_word(out, failed)?;
-    out.put(b"\n")
 }

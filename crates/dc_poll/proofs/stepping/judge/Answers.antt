@@ -10,12 +10,12 @@ pub returns-clause-went : goal.returns-clause-went
 returns-clause-went g c =
     let b = g.B.HalfBus in
     let old = c.args.station.now in
-    let bytes = c.taken.result.now in
+    let bytes = c.taken_of.result.now in
     let first : old.left.now ≡ c.in-Some.meter ∷ drop 1 old.left.now = first_of old.left.now c.in-Some.meter (sym c.present.ensures ∙ c.in-Some.is) in
-    let took : old.request ≡ Answered bytes = taken_is old.request c.requires.answered ∙ ap Answered (sym c.taken.ensures) in
+    let took : old.request ≡ Answered bytes = taken_is old.request c.requires.answered ∙ ap Answered (sym c.taken_of.ensures) in
     runs_as g.D.Disk _ _ c.args.concentrator.now c.hear-answer.new.concentrator c.hear-answer.ensures.went
     (λ core happened is. hears_one c.args.tries c.args.line c.args.moment.seconds bytes c.hear-answer.result c.is_accepted.result old c.judged.new.self happened is c.is_accepted.ensures
-    (line_judged b c.args.tries c.args.line c.args.moment.seconds c.in-Busy.asks c.in-Some.meter bytes c.hear-answer.result old c.judged.new.self c.in-Busy.is took first c.requires.sound c.judged.ensures.after (c.judged.ensures.misses ∙ ap (λ (xs : List ℕ). misses_heard xs c.hear-answer.result old.misses) (sym c.taken.ensures))))
+    (line_judged b c.args.tries c.args.line c.args.moment.seconds c.in-Busy.asks c.in-Some.meter bytes c.hear-answer.result old c.judged.new.self c.in-Busy.is took first c.requires.sound c.judged.ensures.after (c.judged.ensures.misses ∙ ap (λ (xs : List ℕ). misses_heard xs c.hear-answer.result old.misses) (sym c.taken_of.ensures))))
 
 pub judged-requires-clause-due : goal.judged-requires-clause-due
 judged-requires-clause-due g c = busy_due g.B.HalfBus c.args.tries c.in-Busy.asks c.args.station.now c.in-Busy.is c.requires.sound

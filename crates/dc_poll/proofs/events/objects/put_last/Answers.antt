@@ -3,7 +3,7 @@ use Rattle.dc_change.specs.State.{PartRow}
 use Rattle.dc_tokens.specs.Object.{fields_tokens}
 use Rattle.dc_tokens.proofs.Adding.{unchanged, said}
 use Rattle.dc_poll.specs.Read.{last_fields}
-use Rattle.dc_poll.proofs.events.read.put_last.Goals as goal
+use Rattle.dc_poll.proofs.events.objects.put_last.Goals as goal
 
 pub returns-in-None : goal.returns-in-None
 unfolding fields_tokens
