@@ -1,6 +1,7 @@
 -- What a poll does, round after round (this product).
 use Rattle.std.specs.Prelude.{◌≡◌, ◌⊎◌, ℕ, ◌+◌, ◌-◌, ◌^◌, min, Bool, List, [], ◌∷◌, ◌++◌}
 use Rattle.std.specs.Prelude.{Option, None, Some, Result, Ok, Err}
+use Rattle.std.specs.Result.{result_err}
 use Rattle.std.specs.List.{All}
 use Rattle.dc_concentrator.specs.Core.{Core}
 use Rattle.dc_concentrator.specs.Event.{commits, committed}
@@ -22,8 +23,7 @@ use Rattle.dc_poll.specs.declared.station.Station.{Station}
 
 -- the fault of a commit, if it returned one
 abbrev pub fault_of : Result (Unit {0}) CommitFault → Option CommitFault
-fault_of (Ok done) = None
-fault_of (Err fault) = Some fault
+fault_of stored = result_err stored
 
 -- where a commit leaves the store
 abbrev pub store_of : Option CommitFault → Store

@@ -8,7 +8,7 @@ use dc_concentrator::{CommitFault, HearFault, StartFault};
 use dc_readout::Why;
 
 /// The call that refused.
-#[derive(Clone, Copy, Debug, PartialEq, Eq)]
+#[derive(Clone, Copy)]
 pub enum Refusal {
     /// The start of the readout.
     Start(StartFault),
@@ -33,7 +33,7 @@ impl Refusal {
 }
 
 /// The end of a meter's readout.
-#[derive(Clone, Copy, Debug, PartialEq, Eq)]
+#[derive(Clone, Copy)]
 pub enum End {
     /// The readout is whole.
     Read(Identity),

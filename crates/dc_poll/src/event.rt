@@ -7,7 +7,7 @@ use dc_readout::Why;
 use dc_readout::misses::Misses;
 
 /// An event of a poll.
-#[derive(Debug, Drop)]
+#[derive(Drop)]
 pub enum Event<'a> {
     /// A meter was read.
     Read {

@@ -1,6 +1,6 @@
 //! The engine of `poll`: the registered meters of an image are read over the buses of their lines.
 
-ghost use Rattle.std.specs.Prelude.{◌≡◌, ◌<◌, ◌≤◌, ◌-◌, ◌^◌, IfErr, IfOk, IsErrOf, OnErr, OnOk, []};
+ghost use Rattle.std.specs.Prelude.{◌≡◌, ◌<◌, ◌≤◌, ◌-◌, ◌^◌, IfErr, IfOk, IsErrOf, OnOk, []};
 ghost use Rattle.std.specs.Prelude.{MatchResult, length, map, min};
 ghost use Rattle.dc_io.specs.Failures.{HasRisen};
 ghost use Rattle.dc_ending.specs.Fault.{IfOpen, IsOfImage};
@@ -15,7 +15,7 @@ ghost use Rattle.dc_poll.specs.Planned.{queue_on};
 ghost use Rattle.dc_poll.specs.Planned.{refusal_event, refusal_of, refused_count, refused_events};
 ghost use Rattle.dc_poll.specs.Planned.{wanted_on};
 ghost use Rattle.dc_poll.specs.Round.{Runs, most_lines};
-ghost use Rattle.dc_poll.specs.Telling.{HasTold, TakesAll};
+ghost use Rattle.dc_poll.specs.Telling.{CountsFailures, HasTold, TakesAll};
 ghost use Rattle.dc_disk.specs.Runs.{LeavesOnly};
 
 use crate::clock::compare_clock;
@@ -302,8 +302,7 @@ fn refuse_others<A: Allocator + Copy, B: HalfBus + Drop, N: Teller>(
     ensures told { OnOk result (TakesAll N.takes teller.old teller.new
         (refused_events (has_bus B.lost (map (λ s. s.bus) stations.now)) house.now.state
         wanted.now)) }
-    ensures fault { OnErr result (HasRisen (N.failures teller.old) (N.failures teller.new)) }
-    ensures well { OnOk result (N.failures teller.new ≡ N.failures teller.old) }
+    ensures counted { CountsFailures N.Teller result teller.old teller.new }
     ensures count { IfOk result (λ refused. refused
         ≡ min (2 ^ 32 - 1) (refused_count
         (has_bus B.lost (map (λ s. s.bus) stations.now)) house.now.state wanted.now)) }

@@ -11,7 +11,7 @@ use std::marker::Model;
 
 /// The last part of a reading: the body of its last telegram and the time stamp, as the register
 /// holds them.
-#[derive(Debug, Drop)]
+#[derive(Drop)]
 pub struct LastPart<'a> {
     moment: u64,
     body: &'a [u8],

@@ -3,7 +3,7 @@
 use dc_concentrator::CommitFault;
 
 /// The numbers of meters that a poll has read and not read so far.
-#[derive(Clone, Copy, Debug, PartialEq, Eq)]
+#[derive(Clone, Copy)]
 pub struct Counts {
     /// Number of meters that were read.
     pub read: u64,

@@ -4,7 +4,7 @@ use crate::end::End;
 use dc_bus::AnswerBuf;
 
 /// The phase of the readout of a line's current meter.
-#[derive(Clone, Copy, Debug, PartialEq, Eq)]
+#[derive(Clone, Copy)]
 pub enum Phase {
     /// No readout is running.
     Free,

@@ -1,21 +1,20 @@
 //! Many meters on several lines at once, round after round.
 
-ghost use Rattle.std.specs.Prelude.{◌≡◌, ◌⊎◌, ◌<◌, ◌≤◌, ◌-◌, ◌+◌, ◌^◌, ◌++◌, ◌∷◌, ℕ, List, [], length};
-ghost use Rattle.std.specs.Prelude.{OnOk, OnErr, IfOk, None, min, true};
+ghost use Rattle.std.specs.Prelude.{◌≡◌, ◌<◌, ◌≤◌, ◌-◌, ◌+◌, ◌^◌, ◌++◌, ◌∷◌, [], length};
+ghost use Rattle.std.specs.Prelude.{OnOk, IfOk, None, min};
 ghost use Rattle.std.specs.List.{All, list_all};
-ghost use Rattle.dc_io.specs.Failures.{HasRisen};
-ghost use Rattle.dc_poll.specs.Polls.{GoesRound, Polled, PollsAll, fault_of};
-ghost use Rattle.dc_poll.specs.Round.{EachFewer, HasFew, IsFresh, IsOver, Runs};
+ghost use Rattle.dc_poll.specs.Polls.{GoesRound, Polled, PollsAll};
+ghost use Rattle.dc_poll.specs.Round.{EachFewer, IsFresh, Runs};
 ghost use Rattle.dc_poll.specs.Round.{late_on, lates_from, meters_left, most_lines};
 ghost use Rattle.dc_poll.specs.Station.{IsSound, rounds_of};
-ghost use Rattle.dc_poll.specs.Telling.{HasTold, TakesAll};
+ghost use Rattle.dc_poll.specs.Telling.{CountsFailures, HasTold, TakesAll};
 ghost use Rattle.dc_poll.specs.Waiting.{is_done as is_done_with};
 ghost use Rattle.dc_poll.specs.declared.event.Event.TheVariants.{End as has_ended};
 
 use crate::event::Event;
 use crate::lines::{ask_all, commit_all, hear_and_commit, line_at};
 use crate::outcome::{Counts, Outcome};
-use crate::station::Station;
+use crate::station::{MOST_ASKS, Station};
 use crate::teller::Teller;
 use crate::telling::{tell_all, tell_one};
 use crate::timer::Timer;
@@ -26,11 +25,14 @@ use dc_disk::Disk;
 use dc_io::IoFault;
 use std::alloc::Allocator;
 
-// More rounds than are ever needed: of as many meters as a queue has, each tried as often as a byte says.
-const MOST_ROUNDS: u64 = 65_535 * 255 * ROUNDS_A_START + ROUNDS_A_START;
+// One request takes this many rounds at most: while its bus has it wait, and to send, hear and settle it.
+const ROUNDS_A_REQUEST: u64 = 65_535 + 3;
 
-// This many rounds one start takes at most: for each request and its answer, and its end.
-const ROUNDS_A_START: u64 = 3 + 103 * 65_538 + 1;
+// One start takes this many at most: for its requests, and its end.
+const ROUNDS_A_START: u64 = MOST_ASKS as u64 * ROUNDS_A_REQUEST + 4;
+
+// More rounds than are ever needed: of as many meters as a queue has, each tried as often as a byte says.
+const MOST_ROUNDS: u64 = (65_535 * 255 + 1) * ROUNDS_A_START;
 
 // One round. The fault of its commit, if there was one.
 fn round<D: Disk + Drop, A: Allocator + Copy, B: HalfBus + Drop, T: Timer<B>, N: Teller>(
@@ -54,8 +56,7 @@ fn round<D: Disk + Drop, A: Allocator + Copy, B: HalfBus + Drop, T: Timer<B>, N:
     ensures few { OnOk result (counts.new.read + counts.new.failed
         ≤ counts.old.read + counts.old.failed + most_lines) }
     ensures budget { concentrator.new.house.budget ≡ concentrator.old.house.budget }
-    ensures fault { OnErr result (HasRisen (N.failures teller.old) (N.failures teller.new)) }
-    ensures well { OnOk result (N.failures teller.new ≡ N.failures teller.old) }
+    ensures counted { CountsFailures N.Teller result teller.old teller.new }
 {
     ask_all(concentrator, stations, tries);
     let sleeps = may_sleep(stations);
@@ -63,18 +64,8 @@ fn round<D: Disk + Drop, A: Allocator + Copy, B: HalfBus + Drop, T: Timer<B>, N:
     let moment = timer.now();
     let stored = hear_and_commit(concentrator, stations, tries, moment);
     match tell_all(concentrator, stations, counts, teller) {
-        Ok(()) => Ok(fault_of(stored)),
+        Ok(()) => Ok(stored.err()),
         Err(fault) => Err(fault),
-    }
-}
-
-// The fault of a commit, if it returned one.
-fn fault_of(stored: Result<(), CommitFault>) -> Option<CommitFault>
-    ensures { result ≡ fault_of stored }
-{
-    match stored {
-        Ok(()) => None,
-        Err(fault) => Some(fault),
     }
 }
 
@@ -103,8 +94,7 @@ fn read_rounds<D: Disk + Drop, A: Allocator + Copy, B: HalfBus + Drop, T: Timer<
         core happened)) concentrator.old concentrator.new }
     ensures few { IfOk result (λ outcome. outcome.read + outcome.failed < 2 ^ 63 + 2 ^ 62) }
     ensures budget { concentrator.new.house.budget ≡ concentrator.old.house.budget }
-    ensures fault { OnErr result (HasRisen (N.failures teller.old) (N.failures teller.new)) }
-    ensures well { OnOk result (N.failures teller.new ≡ N.failures teller.old) }
+    ensures counted { CountsFailures N.Teller result teller.old teller.new }
 {
     let mut counts = before;
     match commit_all(concentrator, stations) {
@@ -186,8 +176,7 @@ fn finish<B: HalfBus + Drop, N: Teller>(
     }) }
     ensures told { IfOk result (λ outcome. TakesAll N.takes teller.old teller.new
         (lates_from B.HalfBus 1 stations.now ++ has_ended outcome.read outcome.failed ∷ [])) }
-    ensures fault { OnErr result (HasRisen (N.failures teller.old) (N.failures teller.new)) }
-    ensures well { OnOk result (N.failures teller.new ≡ N.failures teller.old) }
+    ensures counted { CountsFailures N.Teller result teller.old teller.new }
 {
     let failed = between.failed.saturating_add(meters_left(stations));
     tell_finish(stations, between.read, failed, teller)?;
@@ -240,8 +229,7 @@ pub fn read_all<D: Disk + Drop, A: Allocator + Copy, B: HalfBus + Drop, T: Timer
         (TakesAll N.takes teller.old teller.new) (record { read = 0; failed = 0 }) outcome core happened))
         concentrator.old concentrator.new }
     ensures budget { concentrator.new.house.budget ≡ concentrator.old.house.budget }
-    ensures fault { OnErr result (HasRisen (N.failures teller.old) (N.failures teller.new)) }
-    ensures well { OnOk result (N.failures teller.new ≡ N.failures teller.old) }
+    ensures counted { CountsFailures N.Teller result teller.old teller.new }
 {
     read_on(
         concentrator,
@@ -276,8 +264,7 @@ pub(crate) fn read_on<
         (TakesAll N.takes teller.old teller.new) before outcome core happened))
         concentrator.old concentrator.new }
     ensures budget { concentrator.new.house.budget ≡ concentrator.old.house.budget }
-    ensures fault { OnErr result (HasRisen (N.failures teller.old) (N.failures teller.new)) }
-    ensures well { OnOk result (N.failures teller.new ≡ N.failures teller.old) }
+    ensures counted { CountsFailures N.Teller result teller.old teller.new }
 {
     match read_rounds(concentrator, stations, tries, timer, before, teller) {
         Ok(between) => finish(stations, between, teller),

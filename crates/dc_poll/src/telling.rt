@@ -1,12 +1,11 @@
 //! Tells the ends of readouts, and the loss of a line.
 
-ghost use Rattle.std.specs.Prelude.{◌≡◌, ◌<◌, ◌≤◌, ◌-◌, ◌+◌, ◌^◌, ◌∷◌, ℕ, OnOk, OnErr, [], length, true};
+ghost use Rattle.std.specs.Prelude.{◌≡◌, ◌<◌, ◌≤◌, ◌-◌, ◌+◌, ◌^◌, ◌∷◌, ℕ, OnOk, [], length, true};
 ghost use Rattle.std.specs.List.{All};
-ghost use Rattle.dc_io.specs.Failures.{HasRisen};
 ghost use Rattle.dc_poll.specs.Round.{AllTells, EachFewer, Runs, Tells, counted, most_lines};
 ghost use Rattle.dc_poll.specs.Round.{told_of};
 ghost use Rattle.dc_poll.specs.Station.{IsSound, rounds_of};
-ghost use Rattle.dc_poll.specs.Telling.{HasTold, TakesAll};
+ghost use Rattle.dc_poll.specs.Telling.{CountsFailures, HasTold, TakesAll};
 ghost use Rattle.dc_poll.specs.declared.outcome.Counts.{Counts as Counted};
 
 use crate::end::End;
@@ -83,8 +82,7 @@ fn tell_end<D: Disk + Drop, A: Allocator + Copy, B: HalfBus + Drop, N: Teller>(
         → IsSound B.HalfBus tries station.new }
     ensures fewer { OnOk result ((tries : ℕ) → rounds_of B.HalfBus 1 1 1 tries station.new
         ≤ rounds_of B.HalfBus 1 1 0 tries station.old) }
-    ensures fault { OnErr result (HasRisen (N.failures teller.old) (N.failures teller.new)) }
-    ensures well { OnOk result (N.failures teller.new ≡ N.failures teller.old) }
+    ensures counted { CountsFailures N.Teller result teller.old teller.new }
 {
     let Phase::Over(end) = station.phase else {
         return Ok(());
@@ -108,8 +106,7 @@ fn tell_loss<D: Disk + Drop, A: Allocator + Copy, B: HalfBus + Drop, N: Teller>(
         concentrator.now concentrator.now }
     ensures kept { station.new ≡ record station.old { said = station.new.said } }
     ensures said { B.lost station.new.bus ≡ true → OnOk result (station.new.said ≡ true) }
-    ensures fault { OnErr result (HasRisen (N.failures teller.old) (N.failures teller.new)) }
-    ensures well { OnOk result (N.failures teller.new ≡ N.failures teller.old) }
+    ensures counted { CountsFailures N.Teller result teller.old teller.new }
 {
     if station.said {
         return Ok(());
@@ -141,8 +138,7 @@ fn tell<D: Disk + Drop, A: Allocator + Copy, B: HalfBus + Drop, N: Teller>(
         → IsSound B.HalfBus tries station.new }
     ensures fewer { OnOk result ((tries : ℕ) → rounds_of B.HalfBus 1 1 1 tries station.new
         ≤ rounds_of B.HalfBus 1 1 0 tries station.old) }
-    ensures fault { OnErr result (HasRisen (N.failures teller.old) (N.failures teller.new)) }
-    ensures well { OnOk result (N.failures teller.new ≡ N.failures teller.old) }
+    ensures counted { CountsFailures N.Teller result teller.old teller.new }
 {
     match tell_end(concentrator, station, line, outcome, teller) {
         Ok(()) => tell_loss(concentrator, station, line, teller),
@@ -170,8 +166,7 @@ pub fn tell_all<D: Disk + Drop, A: Allocator + Copy, B: HalfBus + Drop, N: Telle
     ensures fewer { OnOk result ((tries : ℕ)
         → EachFewer (rounds_of B.HalfBus 1 1 0 tries) (rounds_of B.HalfBus 1 1 1 tries) 0
         stations.old stations.new) }
-    ensures fault { OnErr result (HasRisen (N.failures teller.old) (N.failures teller.new)) }
-    ensures well { OnOk result (N.failures teller.new ≡ N.failures teller.old) }
+    ensures counted { CountsFailures N.Teller result teller.old teller.new }
 {
     'lines: for at in 0..stations.len() {
         match tell(

@@ -1,7 +1,6 @@
 //! When a poll may sleep.
 
 ghost use Rattle.std.specs.Prelude.{◌≡◌};
-ghost use Rattle.std.specs.List.{list_all};
 ghost use Rattle.dc_poll.specs.Waiting.{is_awaited, is_done, may_sleep};
 
 use crate::phase::{Phase, Request};

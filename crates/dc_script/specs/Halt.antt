@@ -1,7 +1,8 @@
 -- What ends a script early (this product).
-use Rattle.std.specs.Prelude.{◌≡◌, ℕ, Result, Ok, Err}
+use Rattle.std.specs.Prelude.{◌≡◌, ℕ, OnErr, OnOk, Result, Ok, Err}
 use Rattle.dc_io.specs.Failures.{HasRisen}
 use Rattle.dc_io.specs.declared.stream.IoFault.{IoFault}
+use Rattle.dc_io.specs.declared.stream.Sink.{Ghosts as SinkGhosts}
 use Rattle.dc_script.specs.declared.halt.Halt.{Halt}
 use Rattle.dc_script.specs.declared.halt.Halt.TheVariants.{Write, NoMemory}
 
@@ -26,3 +27,9 @@ abbrev pub IsCounted : {X : Type 0} → Result X Halt → ℕ → ℕ → Type 0
 IsCounted (Ok x) before after = after ≡ before
 IsCounted (Err Write) before after = HasRisen before after
 IsCounted (Err NoMemory) before after = after ≡ before
+
+-- the same of a call that only writes
+abbrev pub CountsPuts : {W X E : Type 0} → SinkGhosts W → Result X E → W → W → Type 0
+CountsPuts sink result old new =
+    OnOk result (sink.put_failures new ≡ sink.put_failures old)
+    × OnErr result (HasRisen (sink.put_failures old) (sink.put_failures new))

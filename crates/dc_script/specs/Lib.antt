@@ -1,6 +1,8 @@
 -- the definitions that contracts cite
 -- what ends a script early
 pub mod Halt
+-- how a script ended
+pub mod Ended
 -- what `run` does to an image
 pub mod ImageRun
 -- how a script finds the bus lines

@@ -10,11 +10,12 @@ use Rattle.dc_io.specs.declared.stream.IoFault.{IoFault}
 use Rattle.dc_io.specs.declared.stream.Sink.{Ghosts as SinkGhosts}
 use Rattle.dc_disk.specs.declared.device.Disk.{Ghosts}
 use Rattle.dc_readout.specs.Summary.{Summary}
+use Rattle.dc_concentrator.specs.Images.{Machine}
 use Rattle.dc_concentrator.specs.Lines.{requests_on}
 use Rattle.dc_script.specs.Poll.{Phase, Due, Happening, IsWay, happened_exchanges, happened_text}
 use Rattle.dc_script.specs.Poll.{happened_turns, to_ask, is_over}
 use Rattle.dc_script.specs.Link.{Link, link_by}
-use Rattle.dc_script.specs.Run.{Run, IsRunOf}
+use Rattle.dc_script.specs.Run.{AnyRun, Run, IsRunOf}
 use Rattle.dc_script.specs.declared.port.Port.{Port}
 
 -- From this phase of a poll on that happened, and it ended so: its turns are run, and its text was written.
@@ -80,3 +81,12 @@ Polled g run port moment meter phase sink old new result ends talked =
     (λ happened last. ends happened last × OnErr result (FailsInLast sink port old new happened)
     × talked (happened_exchanges happened))
     (λ text. OnOk result (PutsInto sink old new text))
+
+-- What a call of a round did once the bus had answered, from where this is due on: nothing more goes over the bus,
+-- whichever meter is read and however the bus is found.
+abbrev pub Judged : {D W : Type 0} → Ghosts D → Port → ℕ → Due → Machine D → Machine D
+    → SinkGhosts W → W → W → Result Bool IoFault → Type 0
+Judged g port moment due first last sink old new result =
+    (meter : Identity) (link : Link) → AnyRun g first last (λ run.
+    Polled g run port moment meter (record { due = due; link = link }) sink old new result
+    (RoundEnds result link) (λ exchanges. exchanges ≡ []))

@@ -3,16 +3,16 @@
 ghost use Rattle.std.specs.Prelude.{◌≡◌, ◌<◌, ◌≤◌, ℕ, List, Option, true, false, [], IfOk, OnOk, OnErr};
 ghost use Rattle.std.specs.Prelude.{length};
 ghost use Rattle.dc_address.specs.declared.identity.Identity.{Identity as Meter};
-ghost use Rattle.dc_io.specs.Failures.{HasRisen};
 ghost use Rattle.dc_readout.specs.Summary.{Summary};
 ghost use Rattle.dc_concentrator.specs.Lines.{requests_on, NoMoreRequests};
 ghost use Rattle.dc_concentrator.specs.Step.{longest_request};
 ghost use Rattle.dc_bus.specs.Limits.{most_answer};
 ghost use Rattle.dc_io.specs.Written.{Wrote};
-ghost use Rattle.dc_script.specs.Link.{Link, link_by, loss_text, IsHeardOver};
+ghost use Rattle.dc_script.specs.Halt.{CountsPuts};
+ghost use Rattle.dc_script.specs.Link.{link_by, loss_text, IsHeardOver};
 ghost use Rattle.dc_script.specs.Poll.{to_start, to_ask, to_send, to_hear};
 ghost use Rattle.dc_script.specs.Poll.{to_commit, to_make_room, to_hear_again, behind_heard};
-ghost use Rattle.dc_script.specs.Way.{phase_at, Polled, PollEnds, RoundEnds, Spends, WentOver};
+ghost use Rattle.dc_script.specs.Way.{phase_at, Judged, Polled, PollEnds, RoundEnds, Spends, WentOver};
 ghost use Rattle.dc_script.specs.declared.port.Port.{Port};
 ghost use Rattle.dc_script.specs.Run.{AnyRun};
 
@@ -41,8 +41,7 @@ pub fn poll<D: Disk + Drop, A: Allocator + Copy, B: Bus, W: Sink>(
         Polled D.Disk run port moment.seconds meter.now (phase_at to_start (B.lost bus.old))
         W.Sink out.old out.new result (PollEnds result (link_by (B.lost bus.new)))
         (WentOver B.asks bus.old bus.new)) }
-    ensures fault { OnErr result (HasRisen (W.put_failures out.old) (W.put_failures out.new)) }
-    ensures well { OnOk result (W.put_failures out.new ≡ W.put_failures out.old) }
+    ensures counted { CountsPuts W.Sink result out.old out.new }
     ensures budget { concentrator.new.house.budget ≡ concentrator.old.house.budget }
     ensures untouched { B.lost bus.old ≡ true → bus.new ≡ bus.old }
 {
@@ -66,8 +65,7 @@ fn read_parts<D: Disk + Drop, A: Allocator + Copy, B: Bus, W: Sink>(
         Polled D.Disk run port moment.seconds meter (phase_at to_ask (B.lost bus.old)) W.Sink
         out.old out.new result (PollEnds result (link_by (B.lost bus.new)))
         (WentOver B.asks bus.old bus.new)) }
-    ensures fault { OnErr result (HasRisen (W.put_failures out.old) (W.put_failures out.new)) }
-    ensures well { OnOk result (W.put_failures out.new ≡ W.put_failures out.old) }
+    ensures counted { CountsPuts W.Sink result out.old out.new }
     ensures budget { concentrator.new.house.budget ≡ concentrator.old.house.budget }
     ensures untouched { B.lost bus.old ≡ true → bus.new ≡ bus.old }
 {
@@ -92,8 +90,7 @@ fn ask_and_hear<D: Disk + Drop, A: Allocator + Copy, B: Bus, W: Sink>(
         Polled D.Disk run port moment.seconds meter (phase_at to_ask (B.lost bus.old)) W.Sink
         out.old out.new result (RoundEnds result (link_by (B.lost bus.new)))
         (WentOver B.asks bus.old bus.new)) }
-    ensures fault { OnErr result (HasRisen (W.put_failures out.old) (W.put_failures out.new)) }
-    ensures well { OnOk result (W.put_failures out.new ≡ W.put_failures out.old) }
+    ensures counted { CountsPuts W.Sink result out.old out.new }
     ensures fewer { Spends result port.line concentrator.old.lines concentrator.new.lines }
     ensures budget { concentrator.new.house.budget ≡ concentrator.old.house.budget }
     ensures untouched { B.lost bus.old ≡ true → bus.new ≡ bus.old }
@@ -119,8 +116,7 @@ fn exchange<D: Disk + Drop, A: Allocator + Copy, B: Bus, W: Sink>(
         Polled D.Disk run port moment.seconds meter
         (phase_at (to_send request.now) (B.lost bus.old)) W.Sink out.old out.new result
         (RoundEnds result (link_by (B.lost bus.new))) (WentOver B.asks bus.old bus.new)) }
-    ensures fault { OnErr result (HasRisen (W.put_failures out.old) (W.put_failures out.new)) }
-    ensures well { OnOk result (W.put_failures out.new ≡ W.put_failures out.old) }
+    ensures counted { CountsPuts W.Sink result out.old out.new }
     ensures fewer { Spends result port.line concentrator.old.lines concentrator.new.lines }
     ensures budget { concentrator.new.house.budget ≡ concentrator.old.house.budget }
     ensures untouched { B.lost bus.old ≡ true → bus.new ≡ bus.old }
@@ -166,13 +162,9 @@ fn hear<D: Disk + Drop, A: Allocator + Copy, W: Sink>(
     bytes: &[u8],
     out: &mut W,
 ) -> Result<bool, IoFault>
-    ensures went { (meter : Meter) (link : Link) → AnyRun D.Disk concentrator.old concentrator.new
-        (λ run.
-        Polled D.Disk run port moment.seconds meter
-        (record { due = to_hear bytes.now; link = link }) W.Sink out.old out.new result
-        (RoundEnds result link) (λ exchanges. exchanges ≡ [])) }
-    ensures fault { OnErr result (HasRisen (W.put_failures out.old) (W.put_failures out.new)) }
-    ensures well { OnOk result (W.put_failures out.new ≡ W.put_failures out.old) }
+    ensures went { Judged D.Disk port moment.seconds (to_hear bytes.now) concentrator.old
+        concentrator.new W.Sink out.old out.new result }
+    ensures counted { CountsPuts W.Sink result out.old out.new }
     ensures fewer { Spends result port.line concentrator.old.lines concentrator.new.lines }
     ensures budget { concentrator.new.house.budget ≡ concentrator.old.house.budget }
 {
@@ -194,13 +186,9 @@ fn hear_again<D: Disk + Drop, A: Allocator + Copy, W: Sink>(
     bytes: &[u8],
     out: &mut W,
 ) -> Result<bool, IoFault>
-    ensures went { (meter : Meter) (link : Link) → AnyRun D.Disk concentrator.old concentrator.new
-        (λ run.
-        Polled D.Disk run port moment.seconds meter
-        (record { due = to_make_room bytes.now; link = link }) W.Sink out.old out.new result
-        (RoundEnds result link) (λ exchanges. exchanges ≡ [])) }
-    ensures fault { OnErr result (HasRisen (W.put_failures out.old) (W.put_failures out.new)) }
-    ensures well { OnOk result (W.put_failures out.new ≡ W.put_failures out.old) }
+    ensures went { Judged D.Disk port moment.seconds (to_make_room bytes.now) concentrator.old
+        concentrator.new W.Sink out.old out.new result }
+    ensures counted { CountsPuts W.Sink result out.old out.new }
     ensures fewer { Spends result port.line concentrator.old.lines concentrator.new.lines }
     ensures budget { concentrator.new.house.budget ≡ concentrator.old.house.budget }
 {
@@ -219,13 +207,9 @@ fn hear_once_more<D: Disk + Drop, A: Allocator + Copy, W: Sink>(
     bytes: &[u8],
     out: &mut W,
 ) -> Result<bool, IoFault>
-    ensures went { (meter : Meter) (link : Link) → AnyRun D.Disk concentrator.old concentrator.new
-        (λ run.
-        Polled D.Disk run port moment.seconds meter
-        (record { due = to_hear_again bytes.now; link = link }) W.Sink out.old out.new result
-        (RoundEnds result link) (λ exchanges. exchanges ≡ [])) }
-    ensures fault { OnErr result (HasRisen (W.put_failures out.old) (W.put_failures out.new)) }
-    ensures well { OnOk result (W.put_failures out.new ≡ W.put_failures out.old) }
+    ensures went { Judged D.Disk port moment.seconds (to_hear_again bytes.now) concentrator.old
+        concentrator.new W.Sink out.old out.new result }
+    ensures counted { CountsPuts W.Sink result out.old out.new }
     ensures fewer { Spends result port.line concentrator.old.lines concentrator.new.lines }
     ensures budget { concentrator.new.house.budget ≡ concentrator.old.house.budget }
 {
@@ -239,12 +223,9 @@ fn after_heard<D: Disk + Drop, A: Allocator + Copy, W: Sink>(
     answer: Result<LineHeard, HearFault>,
     out: &mut W,
 ) -> Result<bool, IoFault>
-    ensures went { (port : Port) (moment : ℕ) (meter : Meter) (link : Link) → AnyRun D.Disk
-        concentrator.old concentrator.new (λ run.
-        Polled D.Disk run port moment meter (record { due = behind_heard answer; link = link })
-        W.Sink out.old out.new result (RoundEnds result link) (λ exchanges. exchanges ≡ [])) }
-    ensures fault { OnErr result (HasRisen (W.put_failures out.old) (W.put_failures out.new)) }
-    ensures well { OnOk result (W.put_failures out.new ≡ W.put_failures out.old) }
+    ensures went { (port : Port) (moment : ℕ) → Judged D.Disk port moment (behind_heard answer)
+        concentrator.old concentrator.new W.Sink out.old out.new result }
+    ensures counted { CountsPuts W.Sink result out.old out.new }
     // If an answer that was taken is one request less, so is the round.
     ensures fewer { (line : ℕ) (before : List (Option Summary)) → OnOk answer
         (requests_on line concentrator.old.lines < requests_on line before)
@@ -266,12 +247,9 @@ fn commit_part<D: Disk + Drop, A: Allocator + Copy, W: Sink>(
     concentrator: &mut Concentrator<D, A>,
     out: &mut W,
 ) -> Result<bool, IoFault>
-    ensures went { (port : Port) (moment : ℕ) (meter : Meter) (link : Link) → AnyRun D.Disk
-        concentrator.old concentrator.new (λ run.
-        Polled D.Disk run port moment meter (record { due = to_commit; link = link }) W.Sink
-        out.old out.new result (RoundEnds result link) (λ exchanges. exchanges ≡ [])) }
-    ensures fault { OnErr result (HasRisen (W.put_failures out.old) (W.put_failures out.new)) }
-    ensures well { OnOk result (W.put_failures out.new ≡ W.put_failures out.old) }
+    ensures went { (port : Port) (moment : ℕ) → Judged D.Disk port moment to_commit
+        concentrator.old concentrator.new W.Sink out.old out.new result }
+    ensures counted { CountsPuts W.Sink result out.old out.new }
     ensures no_more { NoMoreRequests concentrator.old.lines concentrator.new.lines }
     ensures budget { concentrator.new.house.budget ≡ concentrator.old.house.budget }
 {

@@ -1,19 +1,17 @@
 //! The engine of `run`: a script over an image, from a source's lines to a sink's text.
 
 ghost use Rattle.std.specs.Prelude.{◌≡◌, ◌≢◌, ◌∷◌, [], ◌⊎◌, ◌≤◌, ◌<◌, ◌*◌, length, vec_len, IfSome};
-ghost use Rattle.std.specs.Prelude.{IfOk, IfErr, MatchResult, OnOk, IsErrOf};
+ghost use Rattle.std.specs.Prelude.{IfOk, IfErr, OnOk, IsErrOf};
 ghost use Rattle.dc_io.specs.Failures.{HasRisen};
-ghost use Rattle.dc_log.specs.Halves.{fewest_sectors};
-ghost use Rattle.dc_log.specs.declared.fault.OpenFault.TheVariants.{NotImage};
 ghost use Rattle.dc_io.specs.Stream.{IsAtEnd};
 ghost use Rattle.dc_io.specs.Written.{PutsInto};
 ghost use Rattle.dc_io.specs.Lines.{longest_input_line, most_input};
 ghost use Rattle.dc_ending.specs.Fault.{IfOpen, IsOfReading};
 ghost use Rattle.dc_ending.specs.Unopened.{IsUnopened, Stands};
-ghost use Rattle.dc_script.specs.Starved.{IsOfSearch};
+ghost use Rattle.dc_script.specs.Ended.{HasEnded};
 ghost use Rattle.dc_script.specs.ImageRun.{ImageCut, ImageRan};
 ghost use Rattle.dc_script.specs.Link.{gateway_links, link_at_first, links_of, only_gateway};
-ghost use Rattle.dc_script.specs.Starved.{ImageStarved};
+ghost use Rattle.dc_script.specs.Starved.{ImageStarved, IsOfSearch};
 ghost use Rattle.dc_script.specs.Traffic.{AreCarried, OverGateway, gateway_slot};
 
 use crate::halt::Halt;
@@ -79,39 +77,18 @@ pub fn run_script_over<D: Disk + Drop, A: Allocator + Copy, R: Source, W: Sink, 
         (links_of B.lost lines.old) (R.left reader.old) (PutsInto W.Sink writer.old writer.new)
         (AreCarried B.lost B.asks B.asks_all lines.old lines.new) disk result.0 }
 
+    // The disk, the reader and the writer are left so by the result.
+    ensures ended { HasEnded D.Disk R.Source W.Sink disk result.0 reader.old reader.new
+        writer.old writer.new result.1 }
     // An image that isn't opened is refused as by the store, and nothing is lost of it.
-    ensures small { D.sectors disk < fewest_sectors → MatchResult result.1 (λ faulty. ⊥) (λ fault.
-        IfOpen fault (λ e. (e ≡ NotImage) × (result.0 ≡ disk))) }
     ensures unopened { IfErr result.1 (λ fault.
         IfOpen fault (IsUnopened D.Disk disk result.0)) }
-
-    // Exactly the scripts over the limit are rejected for their length.
-    ensures fits { OnOk result.1 (IfSome (R.left reader.old) (λ input. length input ≤ most_input)) }
-    ensures too_long { IsErrOf result.1 ProgramFault.TooLong
-        → IfSome (R.left reader.old) (λ input. most_input < length input) }
-    // The image is opened after the whole script was read, and found within the limit.
-    ensures read_first { IfErr result.1 (λ fault.
-        IfOpen fault (λ e. (R.take_failures reader.new ≡ R.take_failures reader.old)
-        × IsAtEnd (R.left reader.new) × IfSome (R.left reader.old)
-        (λ input. length input ≤ most_input))) }
-
-    // A fault of an end is reported only where that end counted a failure.
-    ensures read { IsErrOf result.1 ProgramFault.Read
-        → HasRisen (R.take_failures reader.old) (R.take_failures reader.new) }
-    ensures write { IsErrOf result.1 ProgramFault.Write
-        → HasRisen (W.put_failures writer.old) (W.put_failures writer.new) }
-    ensures ok { OnOk result.1 ((R.take_failures reader.new ≡ R.take_failures reader.old)
-        × (W.put_failures writer.new ≡ W.put_failures writer.old)) }
-
-    // What isn't read touches nothing, and after any fault but a failed write the writer is
-    // unchanged, unless a search over a bus line ran out of memory.
+    // What isn't read touches nothing, and after any fault but a failed write the writer is unchanged, unless a search
+    // over a bus line ran out of memory.
     ensures unread { IfErr result.1 (λ fault.
         IsOfReading fault → (result.0 ≡ disk) ⊎ IsOfSearch (links_of B.lost lines.old) fault) }
-    ensures untouched { IfErr result.1 (λ fault.
-        fault ≢ ProgramFault.Write → (writer.new ≡ writer.old)
-        ⊎ IsOfSearch (links_of B.lost lines.old) fault) }
-    ensures spared { IsErrOf result.1 ProgramFault.NoMemory
-        → W.put_failures writer.new ≡ W.put_failures writer.old }
+    ensures untouched { IfErr result.1 (λ fault. fault ≢ ProgramFault.Write
+        → (writer.new ≡ writer.old) ⊎ IsOfSearch (links_of B.lost lines.old) fault) }
 {
     let (input, mut bytes) = match read_script(alloc, reader) {
         Ok(read) => read,
@@ -174,38 +151,18 @@ pub fn run_script<
         ImageStarved D.Disk (gateway_links gateway) (R.left reader.old)
         (PutsInto W.Sink writer.old writer.new) carries disk result.0) }
 
+    // The disk, the reader and the writer are left so by the result.
+    ensures ended { HasEnded D.Disk R.Source W.Sink disk result.0 reader.old reader.new
+        writer.old writer.new result.1 }
     // An image that isn't opened is refused as by the store, and nothing is lost of it.
-    ensures small { D.sectors disk < fewest_sectors → MatchResult result.1 (λ faulty. ⊥) (λ fault.
-        IfOpen fault (λ e. (e ≡ NotImage) × (result.0 ≡ disk))) }
     ensures unopened { IfErr result.1 (λ fault.
         IfOpen fault (IsUnopened D.Disk disk result.0)) }
-
-    // Exactly the scripts over the limit are rejected for their length.
-    ensures fits { OnOk result.1 (IfSome (R.left reader.old) (λ input. length input ≤ most_input)) }
-    ensures too_long { IsErrOf result.1 ProgramFault.TooLong
-        → IfSome (R.left reader.old) (λ input. most_input < length input) }
-    // The image is opened after the whole script was read, and found within the limit.
-    ensures read_first { IfErr result.1 (λ fault.
-        IfOpen fault (λ e. (R.take_failures reader.new ≡ R.take_failures reader.old)
-        × IsAtEnd (R.left reader.new) × IfSome (R.left reader.old)
-        (λ input. length input ≤ most_input))) }
-
-    // A fault of an end is reported only where that end counted a failure.
-    ensures read { IsErrOf result.1 ProgramFault.Read
-        → HasRisen (R.take_failures reader.old) (R.take_failures reader.new) }
-    ensures write { IsErrOf result.1 ProgramFault.Write
-        → HasRisen (W.put_failures writer.old) (W.put_failures writer.new) }
-    ensures ok { OnOk result.1 ((R.take_failures reader.new ≡ R.take_failures reader.old)
-        × (W.put_failures writer.new ≡ W.put_failures writer.old)) }
-
-    // What isn't read touches nothing, and after any fault but a failed write the writer is
-    // unchanged, unless a search through a gateway ran out of memory.
-    ensures unread { IfErr result.1 (λ fault. IsOfReading fault → (result.0 ≡ disk) ⊎ IsOfSearch
-        (gateway_links gateway) fault) }
+    // What isn't read touches nothing, and after any fault but a failed write the writer is unchanged, unless a search
+    // over a bus line ran out of memory.
+    ensures unread { IfErr result.1 (λ fault.
+        IsOfReading fault → (result.0 ≡ disk) ⊎ IsOfSearch (gateway_links gateway) fault) }
     ensures untouched { IfErr result.1 (λ fault. fault ≢ ProgramFault.Write
         → (writer.new ≡ writer.old) ⊎ IsOfSearch (gateway_links gateway) fault) }
-    ensures spared { IsErrOf result.1 ProgramFault.NoMemory
-        → W.put_failures writer.new ≡ W.put_failures writer.old }
 {
     let mut lines = match only_line(alloc, gateway) {
         Ok(lines) => lines,

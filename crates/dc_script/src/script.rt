@@ -2,13 +2,12 @@
 
 ghost use Rattle.std.specs.Prelude.{◌≡◌, ◌⊎◌, ◌≤◌, ◌<◌, ◌*◌, ◌++◌, ℕ, suc, codes, length};
 ghost use Rattle.std.specs.Prelude.{IfOk, IfSome, IfNone, OnOk, OnErr};
-ghost use Rattle.dc_io.specs.Failures.{HasRisen};
 ghost use Rattle.dc_concentrator.specs.Run.{event_of};
 ghost use Rattle.dc_concentrator.specs.Text.{answer_text};
 ghost use Rattle.dc_io.specs.Written.{PutsInto, Wrote};
 ghost use Rattle.dc_io.specs.Words.{number_word};
 ghost use Rattle.dc_io.specs.Lines.{lines_of, longest_input_line};
-ghost use Rattle.dc_script.specs.Halt.{IsCounted, OnNoMemory, OnWrite};
+ghost use Rattle.dc_script.specs.Halt.{CountsPuts, IsCounted, OnNoMemory, OnWrite};
 ghost use Rattle.dc_script.specs.Link.{AreAbsent, absent, line_of, links_of};
 ghost use Rattle.dc_script.specs.Slots.{CutOver, IsKept, OnLine, RanOver, StarvedOver};
 ghost use Rattle.dc_script.specs.Script.{ScriptCut, ScriptRan, LineCut, LineRan, moment_behind};
@@ -127,8 +126,7 @@ fn run_plain<D: Disk + Drop, A: Allocator + Copy, B: Bus + Drop, W: Sink>(
     ensures cut { AnyRun D.Disk concentrator.old concentrator.new (λ run.
         OnErr result (CutOver D.Disk run moment.seconds (seen asked.now) B.lost B.asks
         B.asks_all slots.old slots.new)) }
-    ensures fault { OnErr result (HasRisen (W.put_failures out.old) (W.put_failures out.new)) }
-    ensures well { OnOk result (W.put_failures out.new ≡ W.put_failures out.old) }
+    ensures counted { CountsPuts W.Sink result out.old out.new }
     ensures absent { AreAbsent (links_of B.lost slots.old) → AreAbsent (links_of B.lost slots.new) }
     ensures budget { concentrator.new.house.budget ≡ concentrator.old.house.budget }
 {
@@ -171,8 +169,7 @@ fn poll_line<D: Disk + Drop, A: Allocator + Copy, B: Bus + Drop, W: Sink>(
     ensures cut { AnyRun D.Disk concentrator.old concentrator.new (λ run.
         OnErr result (CutOver D.Disk run moment.seconds (polls line meter.now) B.lost B.asks
         B.asks_all slots.old slots.new)) }
-    ensures fault { OnErr result (HasRisen (W.put_failures out.old) (W.put_failures out.new)) }
-    ensures well { OnOk result (W.put_failures out.new ≡ W.put_failures out.old) }
+    ensures counted { CountsPuts W.Sink result out.old out.new }
     ensures absent { AreAbsent (links_of B.lost slots.old) → AreAbsent (links_of B.lost slots.new) }
     ensures budget { concentrator.new.house.budget ≡ concentrator.old.house.budget }
 {
@@ -200,8 +197,7 @@ fn poll_slot<D: Disk + Drop, A: Allocator + Copy, B: Bus + Drop, W: Sink>(
         AnyRun D.Disk concentrator.old concentrator.new (λ run.
         OnErr result (LineCut D.Disk run moment.seconds (polls line meter.now) links (PollsOver
         B.lost B.asks slot.old slot.new)))) }
-    ensures fault { OnErr result (HasRisen (W.put_failures out.old) (W.put_failures out.new)) }
-    ensures well { OnOk result (W.put_failures out.new ≡ W.put_failures out.old) }
+    ensures counted { CountsPuts W.Sink result out.old out.new }
     ensures kept { IsKept B.lost slot.old slot.new }
     ensures budget { concentrator.new.house.budget ≡ concentrator.old.house.budget }
 {
@@ -315,8 +311,7 @@ fn run_event<D: Disk + Drop, A: Allocator + Copy, W: Sink>(
     ensures went { AnyRun D.Disk concentrator.old concentrator.new (λ run.
         OneTurn D.Disk run (event_of event.now) (λ answer. OnOk result
         (PutsInto W.Sink out.old out.new (answer_text answer)))) }
-    ensures fault { OnErr result (HasRisen (W.put_failures out.old) (W.put_failures out.new)) }
-    ensures well { OnOk result (W.put_failures out.new ≡ W.put_failures out.old) }
+    ensures counted { CountsPuts W.Sink result out.old out.new }
     ensures budget { concentrator.new.house.budget ≡ concentrator.old.house.budget }
 {
     match concentrator.run(&[*event], out) {

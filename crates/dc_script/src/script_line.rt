@@ -71,7 +71,7 @@ impl<'a> ScriptLine<'a> {
         if let Some(line) = parse_ask(text) {
             return Some(ScriptLine::Ask { line });
         }
-        if let Some(line) = after_word(text, b"OFFICE") {
+        if let Some(line) = behind_office(text) {
             return Some(ScriptLine::Office { text: line });
         }
         if let Some((line, meter)) = parse_poll(text) {
@@ -130,7 +130,7 @@ fn parse_search(text: &[u8]) -> Option<(u32, u8)>
     ensures found { IfSome result (λ told. IsLineOf text.now (search told.0 told.1)) }
     ensures only { (budget line : ℕ) → IsLineOf text.now (search budget line) → IsSome result }
 {
-    let words = after_word(text, b"SEARCH")?;
+    let words = behind_search(text)?;
     let Some((budget, line)) = split_word(words) else {
         return Some((parse_budget(words)?, FIRST_LINE));
     };
@@ -145,7 +145,7 @@ fn parse_hear<'a>(text: &[u8], room: &'a mut [u8]) -> Option<(u8, &'a [u8])>
     ensures only { (line : ℕ) (answer : List ℕ) → IsLineOf text.now (hear line answer)
         → IsSome result }
 {
-    let words = after_word(text, b"HEAR")?;
+    let words = behind_hear(text)?;
     let Some((line, digits)) = split_word(words) else {
         return Some((parse_line_number(words)?, &[]));
     };
@@ -153,12 +153,25 @@ fn parse_hear<'a>(text: &[u8], room: &'a mut [u8]) -> Option<(u8, &'a [u8])>
     Some((line, parse_answer(digits, room)?))
 }
 
-// What stands after a word and a space.
-fn after_word<'a>(text: &'a [u8], word: &[u8]) -> Option<&'a [u8]>
-    ensures found { IfSome result (λ rest. text.now ≡ word.now ++ 32 ∷ rest.now) }
-    ensures only { (rest : List ℕ) → text.now ≡ word.now ++ 32 ∷ rest → IsSome result }
+fn behind_hear(text: &[u8]) -> Option<&[u8]>
+    ensures found { IfSome result (λ words. text.now ≡ codes "HEAR" ++ 32 ∷ words.now) }
+    ensures only { (words : List ℕ) → text.now ≡ codes "HEAR" ++ 32 ∷ words → IsSome result }
 {
-    text.strip_prefix(word)?.strip_prefix(b" ".as_slice())
+    text.strip_prefix(b"HEAR ".as_slice())
+}
+
+fn behind_search(text: &[u8]) -> Option<&[u8]>
+    ensures found { IfSome result (λ words. text.now ≡ codes "SEARCH" ++ 32 ∷ words.now) }
+    ensures only { (words : List ℕ) → text.now ≡ codes "SEARCH" ++ 32 ∷ words → IsSome result }
+{
+    text.strip_prefix(b"SEARCH ".as_slice())
+}
+
+fn behind_office(text: &[u8]) -> Option<&[u8]>
+    ensures found { IfSome result (λ line. text.now ≡ codes "OFFICE" ++ 32 ∷ line.now) }
+    ensures only { (line : List ℕ) → text.now ≡ codes "OFFICE" ++ 32 ∷ line → IsSome result }
+{
+    text.strip_prefix(b"OFFICE ".as_slice())
 }
 
 // ---- words

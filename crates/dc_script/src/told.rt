@@ -1,12 +1,12 @@
 //! Single events of a concentrator: each answer is written as a line of text, and returned.
 
-ghost use Rattle.std.specs.Prelude.{◌≡◌, ◌<◌, ◌≤◌, IfOk, IfSome, OnOk, OnErr, length};
-ghost use Rattle.dc_io.specs.Failures.{HasRisen};
+ghost use Rattle.std.specs.Prelude.{◌≡◌, ◌<◌, ◌≤◌, IfOk, IfSome, OnOk, length};
 ghost use Rattle.dc_concentrator.specs.Lines.{requests_on, NoMoreRequests};
 ghost use Rattle.dc_concentrator.specs.Event.{starts, asks, hears, commits, started, asked, heard};
 ghost use Rattle.dc_concentrator.specs.Event.{committed};
 ghost use Rattle.dc_concentrator.specs.Step.{longest_request};
 ghost use Rattle.dc_io.specs.Written.{PutsInto};
+ghost use Rattle.dc_script.specs.Halt.{CountsPuts};
 ghost use Rattle.dc_script.specs.Poll.{told_text};
 ghost use Rattle.dc_script.specs.Run.{AnyRun, OneTurn};
 
@@ -31,8 +31,7 @@ pub fn told_start<D: Disk + Drop, A: Allocator + Copy, W: Sink>(
     ensures went { AnyRun D.Disk concentrator.old concentrator.new (λ run.
         OneTurn D.Disk run (starts line meter.now) (λ answer. IfOk result (λ told.
         (answer ≡ started told) × PutsInto W.Sink out.old out.new (told_text (started told))))) }
-    ensures fault { OnErr result (HasRisen (W.put_failures out.old) (W.put_failures out.new)) }
-    ensures well { OnOk result (W.put_failures out.new ≡ W.put_failures out.old) }
+    ensures counted { CountsPuts W.Sink result out.old out.new }
     ensures budget { concentrator.new.house.budget ≡ concentrator.old.house.budget }
 {
     let answer = concentrator.start(line, meter);
@@ -51,8 +50,7 @@ pub fn told_ask<D: Disk + Drop, A: Allocator + Copy, W: Sink>(
         × PutsInto W.Sink out.old out.new (told_text (asked told))))) }
     ensures short { IfOk result (λ told.
         IfSome told (λ request. length request ≤ longest_request)) }
-    ensures fault { OnErr result (HasRisen (W.put_failures out.old) (W.put_failures out.new)) }
-    ensures well { OnOk result (W.put_failures out.new ≡ W.put_failures out.old) }
+    ensures counted { CountsPuts W.Sink result out.old out.new }
 {
     match concentrator.ask(line) {
         None => Ok(None),
@@ -74,8 +72,7 @@ pub fn told_hear<D: Disk + Drop, A: Allocator + Copy, W: Sink>(
     ensures went { AnyRun D.Disk concentrator.old concentrator.new (λ run.
         OneTurn D.Disk run (hears line moment.seconds bytes.now) (λ answer. IfOk result (λ told.
         (answer ≡ heard told) × PutsInto W.Sink out.old out.new (told_text (heard told))))) }
-    ensures fault { OnErr result (HasRisen (W.put_failures out.old) (W.put_failures out.new)) }
-    ensures well { OnOk result (W.put_failures out.new ≡ W.put_failures out.old) }
+    ensures counted { CountsPuts W.Sink result out.old out.new }
     ensures fewer { IfOk result (λ told. OnOk told
         (requests_on line concentrator.new.lines < requests_on line concentrator.old.lines)) }
     ensures no_more { NoMoreRequests concentrator.old.lines concentrator.new.lines }
@@ -94,8 +91,7 @@ pub fn told_commit<D: Disk + Drop, A: Allocator + Copy, W: Sink>(
     ensures went { AnyRun D.Disk concentrator.old concentrator.new (λ run.
         OneTurn D.Disk run commits (λ answer. IfOk result (λ told. (answer ≡ committed told)
         × PutsInto W.Sink out.old out.new (told_text (committed told))))) }
-    ensures fault { OnErr result (HasRisen (W.put_failures out.old) (W.put_failures out.new)) }
-    ensures well { OnOk result (W.put_failures out.new ≡ W.put_failures out.old) }
+    ensures counted { CountsPuts W.Sink result out.old out.new }
     ensures no_more { NoMoreRequests concentrator.old.lines concentrator.new.lines }
     ensures budget { concentrator.new.house.budget ≡ concentrator.old.house.budget }
 {

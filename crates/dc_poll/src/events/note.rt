@@ -22,8 +22,8 @@ pub fn put_note<W: Sink>(out: &mut W, at: u64, flat: &[u8], object: &[u8]) -> Re
     ensures { Wrote W.Sink result out.old out.new (note_of at flat.now object.now) }
 {
     let members = after_bracket(object);
-    match flat {
-        [] => put_pieces(
+    if flat.is_empty() {
+        put_pieces(
             out,
             &[
                 Piece::Text(b"{\"at\":"),
@@ -31,8 +31,9 @@ pub fn put_note<W: Sink>(out: &mut W, at: u64, flat: &[u8], object: &[u8]) -> Re
                 Piece::Text(b","),
                 Piece::Text(members),
             ],
-        ),
-        _ => put_pieces(
+        )
+    } else {
+        put_pieces(
             out,
             &[
                 Piece::Text(b"{\"at\":"),
@@ -42,7 +43,7 @@ pub fn put_note<W: Sink>(out: &mut W, at: u64, flat: &[u8], object: &[u8]) -> Re
                 Piece::Text(b"\","),
                 Piece::Text(members),
             ],
-        ),
+        )
     }
 }
 

@@ -21,4 +21,4 @@ returns g c =
     (kept_so (line_writer_contents g.O.Write.contents) _ _ _ c.in-Ok.ensures.bytes c.new-writer.ensures.writer)
     (written_out g.O.Write.contents g.K.Known.writes _ _ _ _ c.is_written-is_written.result text c.new-writer.ensures.well (λ all. put) (λ all. c.is_written-is_written.ensures.well all other) (λ all. c.is_written-is_written.ensures.left all other)))
     (λ same. nothing_put c.new-writer.result c.run_script_over-disk.new.writer (λ w. text_of g.K.Known.writes (w.sink.failures == 0) (line_writer_contents g.O.Write.contents w.sink.writer)) same)
-    (c.run_script_over-disk.ensures.ran c.requires.stands) (c.run_script_over-disk.ensures.cut c.requires.stands) (c.run_script_over-disk.ensures.starved c.requires.stands) c.run_script_over-disk.ensures.unread c.run_script_over-disk.ensures.unopened c.run_script_over-disk.ensures.untouched c.run_script_over-disk.ensures.fits c.run_script_over-disk.ensures.too_long
+    (c.run_script_over-disk.ensures.ran c.requires.stands) (c.run_script_over-disk.ensures.cut c.requires.stands) (c.run_script_over-disk.ensures.starved c.requires.stands) c.run_script_over-disk.ensures.unread c.run_script_over-disk.ensures.unopened c.run_script_over-disk.ensures.untouched c.run_script_over-disk.ensures.ended.fits c.run_script_over-disk.ensures.ended.too_long

@@ -38,7 +38,7 @@ pub returns-in-Err-refuse_others-clause-went : goal.returns-in-Err-refuse_others
 returns-in-Err-refuse_others-clause-went g c = runs_none g.D.Disk _ c.args.concentrator.now (λ image left. g.met.D.Disk.only_now c.args.concentrator.now.store.disk image left) (λ core. tt)
 
 pub returns-clause-write : goal.returns-clause-write
-returns-clause-write g c is = subst (λ (n : ℕ). HasRisen n (g.N.Teller.failures c.read_on.new.teller)) c.in-Ok-refuse_others.ensures.well c.in-Err-read_on.ensures.fault
+returns-clause-write g c is = subst (λ (n : ℕ). HasRisen n (g.N.Teller.failures c.read_on.new.teller)) c.in-Ok-refuse_others.ensures.counted.0 c.in-Err-read_on.ensures.counted.1
 
 pub returns-in-Ok-read_on-clause-went : goal.returns-in-Ok-read_on-clause-went
 returns-in-Ok-read_on-clause-went g c =

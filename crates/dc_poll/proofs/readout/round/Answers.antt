@@ -26,7 +26,7 @@ returns-in-Ok-clause-went g c =
     (λ core happened more a h. record { asking = happened; rest = more; parts = refl; asks = a; hears = h }))
     (c.hear_and_commit-stored.ensures.budget ∙ c.ask_all.ensures.budget) c.in-Ok.ensures.went
     (λ core happened more a t. subst (λ (fault : Option CommitFault). GoesRound b g.T.Timer.tells g.T.Timer.passes c.args.tries fault olds news c.args.timer.now c.now-moment.new.self (TakesAll g.N.Teller.takes c.args.teller.now c.tell_all.new.teller) c.args.counts.now c.tell_all.new.outcome core (happened ++ more))
-    (sym c.fault_of.ensures)
+    (sym c.err.ensures.value)
     (goes_round b g.T.Timer.tells g.T.Timer.passes g.N.Teller.takes c.args.tries m stored olds asked mids news c.args.timer.now c.pause.new.self c.now-moment.new.self c.args.teller.now c.tell_all.new.teller c.args.counts.now c.tell_all.new.outcome core happened more
     c.ask_all.auto.stations c.hear_and_commit-stored.auto.stations
     (subst (λ (may : Bool). g.T.Timer.passes c.args.timer.now may c.pause.new.self) c.may_sleep-sleeps.ensures c.pause.ensures) c.now-moment.ensures a t))
@@ -50,5 +50,5 @@ returns-in-Ok-clause-fewer g c kept =
     let news : List (Station g.row.B.Denot) = c.tell_all.new.stations in
     fewer_both (rounds_of b 1 1 1 t) (rounds_of b 1 1 0 t) (rounds_of b 1 1 1 t) 1 0 olds mids news (c.hear_and_commit-stored.auto.stations ∙ c.ask_all.auto.stations)
     (fewer_both (rounds_of b 1 1 1 t) (rounds_of b 0 0 0 t) (rounds_of b 1 1 0 t) 1 0 olds asked mids c.ask_all.auto.stations c.ask_all.ensures.fewer
-    (none_of c.hear_and_commit-stored.result _ c.hear_and_commit-stored.ensures.fewer (sym c.fault_of.ensures ∙ kept)))
+    (none_of c.hear_and_commit-stored.result _ c.hear_and_commit-stored.ensures.fewer (sym c.err.ensures.value ∙ kept)))
     (c.in-Ok.ensures.fewer t)

@@ -33,7 +33,7 @@ lines-preserved g c =
     let less = c.tell.ensures.few in
     let was = c.lines.invariant.few in
     record {
-      well = c.in-Ok.ensures.well ∙ c.lines.invariant.well;
+      well = c.in-Ok.ensures.counted.0 ∙ c.lines.invariant.well;
       count = length-set mids at new ∙ c.lines.invariant.count;
       few = omega (arith, less, was);
       becomes = becomes_step one at olds mids new within c.lines.invariant.becomes

@@ -28,4 +28,4 @@ pub returns-in_err-answer-clause-went : goal.returns-in_err-answer-clause-went
 returns-in_err-answer-clause-went g c port moment meter link origin state before chain at =
     let p = err_from_is_err_and c.from_residual.result c.from_residual.ensures.1 in
     rw p.1 (way_turn g.D.Disk origin c.args.concentrator.now.house.budget state before port moment meter to_commit link commits _ _ _ c.args.concentrator.now c.told_commit.new.concentrator
-    refl (c.told_commit.ensures.went origin state before chain at) (λ answer is. (tt, fails_in_one g.W.Sink port c.args.out.now c.told_commit.new.out (does (commits, answer)) c.in_err-answer.ensures.fault, refl)) (λ answer is. tt))
+    refl (c.told_commit.ensures.went origin state before chain at) (λ answer is. (tt, fails_in_one g.W.Sink port c.args.out.now c.told_commit.new.out (does (commits, answer)) c.in_err-answer.ensures.counted.1, refl)) (λ answer is. tt))

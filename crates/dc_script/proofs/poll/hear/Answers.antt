@@ -25,7 +25,7 @@ returns-in-Ok-clause-went g c meter link origin state before chain at =
     refl one (λ answer s. s.0 ∙ ap heard c.in-Ok.is) c.told_hear.ensures.budget (λ behind ch a. c.after_heard.ensures.went c.args.port c.args.moment.seconds meter link origin state behind ch a)
     (λ more last e. (
       e.0,
-      if_fails_later g.W.Sink c.args.port c.after_heard.result c.args.out.now c.told_hear.new.out c.after_heard.new.out (hears c.args.port.line c.args.moment.seconds c.args.bytes.now, heard (Ok c.in-Ok.heard)) more told c.in_ok-answer.ensures.well e.1,
+      if_fails_later g.W.Sink c.args.port c.after_heard.result c.args.out.now c.told_hear.new.out c.after_heard.new.out (hears c.args.port.line c.args.moment.seconds c.args.bytes.now, heard (Ok c.in-Ok.heard)) more told c.in_ok-answer.ensures.counted.0 e.1,
       e.2,
     ))
     (λ more m. on_ok c.after_heard.result _ _ (λ p. puts-both w0 w1 w2 (told_text (heard (Ok c.in-Ok.heard))) more told p) m)
@@ -43,7 +43,7 @@ returns-in-PendingFull-clause-went g c meter link origin state before chain at =
     refl one (λ answer s. s.0 ∙ ap heard full) c.told_hear.ensures.budget (λ behind ch a. c.hear_again.ensures.went meter link origin state behind ch a)
     (λ more last e. (
       e.0,
-      if_fails_later g.W.Sink c.args.port c.hear_again.result c.args.out.now c.told_hear.new.out c.hear_again.new.out (hears c.args.port.line c.args.moment.seconds c.args.bytes.now, heard (Err PendingFull)) more told c.in_ok-answer.ensures.well e.1,
+      if_fails_later g.W.Sink c.args.port c.hear_again.result c.args.out.now c.told_hear.new.out c.hear_again.new.out (hears c.args.port.line c.args.moment.seconds c.args.bytes.now, heard (Err PendingFull)) more told c.in_ok-answer.ensures.counted.0 e.1,
       e.2,
     ))
     (λ more m. on_ok c.hear_again.result _ _ (λ p. puts-both w0 w1 w2 (told_text (heard (Err PendingFull))) more told p) m)
@@ -57,8 +57,7 @@ returns-in_default g c =
           let one = c.in_ok-answer.ensures.went origin state before chain at in
           turn_last g.D.Disk origin c.args.concentrator.now.house.budget state before c.args.port c.args.moment.seconds meter (to_hear c.args.bytes.now) link (hears c.args.port.line c.args.moment.seconds c.args.bytes.now) _ (heard (Err c.in-Err.fault)) _ _ c.args.concentrator.now c.told_hear.new.concentrator
           refl one (λ answer s. s.0 ∙ ap heard c.in-Err.is) (ap (λ (d : Due). record { due = d; link = link }) (behind_other c.args.bytes.now c.in-Err.fault c.in_default.not-PendingFull), tt, refl) (subst (λ (a : Result LineHeard HearFault). Puts w0 w1 (told_text (heard a))) c.in-Err.is one.is_such.1);
-      fault = tt;
-      well = c.in_ok-answer.ensures.well;
+      counted = (c.in_ok-answer.ensures.counted.0, tt);
       fewer = λ on. absurd cc;
       budget = c.told_hear.ensures.budget;
     }
@@ -67,7 +66,7 @@ pub returns-in_err-answer-clause-went : goal.returns-in_err-answer-clause-went
 returns-in_err-answer-clause-went g c meter link origin state before chain at =
     let p = err_from_is_err_and c.from_residual.result c.from_residual.ensures.1 in
     rw p.1 (way_turn g.D.Disk origin c.args.concentrator.now.house.budget state before c.args.port c.args.moment.seconds meter (to_hear c.args.bytes.now) link (hears c.args.port.line c.args.moment.seconds c.args.bytes.now) _ _ _ c.args.concentrator.now c.told_hear.new.concentrator
-    refl (c.told_hear.ensures.went origin state before chain at) (λ answer is. (tt, fails_in_one g.W.Sink c.args.port c.args.out.now c.told_hear.new.out (does (hears c.args.port.line c.args.moment.seconds c.args.bytes.now, answer)) c.in_err-answer.ensures.fault, refl)) (λ answer is. tt))
+    refl (c.told_hear.ensures.went origin state before chain at) (λ answer is. (tt, fails_in_one g.W.Sink c.args.port c.args.out.now c.told_hear.new.out (does (hears c.args.port.line c.args.moment.seconds c.args.bytes.now, answer)) c.in_err-answer.ensures.counted.1, refl)) (λ answer is. tt))
 
 pub returns-in-Ok-clause-fewer : goal.returns-in-Ok-clause-fewer
 returns-in-Ok-clause-fewer g c =

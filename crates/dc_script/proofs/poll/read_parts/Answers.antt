@@ -22,7 +22,7 @@ pub rounds-preserved : goal.rounds-preserved
 rounds-preserved g c =
     record {
       budget = c.ask_and_hear.ensures.budget ∙ c.rounds.invariant.budget;
-      well = c.in_ok-more.ensures.well ∙ c.rounds.invariant.well;
+      well = c.in_ok-more.ensures.counted.0 ∙ c.rounds.invariant.well;
       untouched = untouched_both g.B.Bus.lost c.args.bus.now c.rounds.bus c.ask_and_hear.new.bus c.rounds.invariant.untouched c.ask_and_hear.ensures.untouched;
       so_far = λ meter origin state before chain at.
           let w = g.W.Sink.written in
@@ -55,9 +55,9 @@ returns-then-not-more-clause-went g c meter origin state before chain at =
     ))
     (λ text more p q. puts-both (w c.args.out.now) (w c.rounds.out) (w c.ask_and_hear.new.out) text more p q)
 
-pub returns-then-not-more-clause-well : goal.returns-then-not-more-clause-well
-returns-then-not-more-clause-well g c =
-    c.in_ok-more.ensures.well ∙ c.rounds.invariant.well
+pub returns-then-not-more-clause-counted : goal.returns-then-not-more-clause-counted
+returns-then-not-more-clause-counted g c =
+    (c.in_ok-more.ensures.counted.0 ∙ c.rounds.invariant.well, tt)
 
 pub returns-then-not-more-clause-budget : goal.returns-then-not-more-clause-budget
 returns-then-not-more-clause-budget g c =
@@ -84,10 +84,10 @@ returns-in_err-more-clause-went g c meter origin state before chain at =
     ))
     (λ text more p q. tt))
 
-pub returns-in_err-more-clause-fault : goal.returns-in_err-more-clause-fault
-returns-in_err-more-clause-fault g c =
+pub returns-in_err-more-clause-counted : goal.returns-in_err-more-clause-counted
+returns-in_err-more-clause-counted g c =
     let p = err_from_is_err_and c.from_residual.result c.from_residual.ensures.1 in
-    rw p.1 (subst (λ (n : ℕ). HasRisen n (g.W.Sink.put_failures c.ask_and_hear.new.out)) c.rounds.invariant.well c.in_err-more.ensures.fault)
+    rw p.1 (tt, subst (λ (n : ℕ). HasRisen n (g.W.Sink.put_failures c.ask_and_hear.new.out)) c.rounds.invariant.well c.in_err-more.ensures.counted.1)
 
 pub returns-in_err-more-clause-budget : goal.returns-in_err-more-clause-budget
 returns-in_err-more-clause-budget g c =

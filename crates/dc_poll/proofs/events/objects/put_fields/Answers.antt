@@ -8,7 +8,7 @@ use Rattle.dc_poll.proofs.events.objects.put_fields.Goals as goal
 pub returns-in-Refused : goal.returns-in-Refused
 unfolding fields_tokens
 returns-in-Refused g c =
-    said (fields_tokens (fields_of c.args.event.now)) (c.put_row-in-Refused.ensures >> unchanged)
+    said (fields_tokens (fields_of c.args.event.now)) (c.put_row.ensures >> unchanged)
     (ap (λ (event : Event). fields_tokens (fields_of event)) (sym c.in-Refused.is))
 
 pub returns-in-Lost : goal.returns-in-Lost

@@ -11,9 +11,9 @@ returns-in-Some-parse_start-clause-only c = λ asked told. one_line c.args.text.
 pub returns-in-Some-parse_ask-clause-only : goal.returns-in-Some-parse_ask-clause-only
 returns-in-Some-parse_ask-clause-only c = λ asked told. one_line c.args.text.now _ asked c.in-Some-parse_ask.ensures.found told
 
-pub returns-in-Some-after_word-clause-only : goal.returns-in-Some-after_word-clause-only
-returns-in-Some-after_word-clause-only c = λ asked told.
-    one_line c.args.text.now _ asked (record { fits = omega arith; has_bounds = tt; spells = c.in-Some-after_word.ensures.found }) told
+pub returns-in-Some-behind_office-clause-only : goal.returns-in-Some-behind_office-clause-only
+returns-in-Some-behind_office-clause-only c = λ asked told.
+    one_line c.args.text.now _ asked (record { fits = omega arith; has_bounds = tt; spells = c.in-Some-behind_office.ensures.found }) told
 
 pub returns-in-Some-parse_poll-clause-only : goal.returns-in-Some-parse_poll-clause-only
 returns-in-Some-parse_poll-clause-only c = λ asked told. one_line c.args.text.now _ asked c.in-Some-parse_poll.ensures.found told
