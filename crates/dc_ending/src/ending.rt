@@ -108,11 +108,11 @@ fn put_named<W: Sink>(out: &mut W, what: &[u8], name: &str) -> Result<(), IoFaul
 
 // Writes a fault's number and name, and the damaged sector.
 #[tactic(auto, unfolding(crate::specs::Ending::fault_line))]
-fn put_store<W: Sink>(
+fn put_store<'t, W: Sink>(
     out: &mut W,
-    what: &[u8],
+    what: &'t [u8],
     number: u8,
-    name: &str,
+    name: &'t str,
     sector: Option<u32>,
 ) -> Result<(), IoFault>
     ensures { Wrote W.Sink result out.old out.new

@@ -1,6 +1,6 @@
 //! Writes the contents of an image as text.
 
-ghost use Rattle.std.specs.Prelude.{◌≡◌, ◌≤◌, ◌++◌, codes, option_map, Some};
+ghost use Rattle.std.specs.Prelude.{◌≡◌, ◌≤◌, ◌++◌, codes, option_map};
 ghost use Rattle.dc_io.specs.Written.{Wrote};
 ghost use Rattle.dc_log.specs.Halves.{half_start, half_end, longest_half};
 ghost use Rattle.dc_log.specs.declared.fault.OpenFault.TheVariants.{NotImage};
@@ -193,22 +193,8 @@ fn put_refusal<W: Sink>(out: &mut W, refusal: Option<OpenFault>) -> Result<(), I
     }
 }
 
-// Writes the state that an image reads as.
-#[tactic(auto, using(dc_io::proofs::Pieces::written))]
-fn put_seen<A: Allocator + Copy, W: Sink>(
-    out: &mut W,
-    half_len: u32,
-    found: &Found<House<A>>,
-) -> Result<(), IoFault>
-    requires most { half_len ≤ longest_half }
-    requires placed { IsPlaced half_len (Some found.now) }
-    ensures { Wrote W.Sink result out.old out.new (seen_text half_len (Some (seen_of found.now))) }
-{
-    put_place(out, half_len, found)?;
-    put_summary(out, &summary_of(&found.house))
-}
-
 // Writes the state that an image reads as, if it reads.
+#[tactic(auto, using(dc_io::proofs::Pieces::written))]
 fn put_found<A: Allocator + Copy, W: Sink>(
     out: &mut W,
     half_len: u32,
@@ -221,7 +207,10 @@ fn put_found<A: Allocator + Copy, W: Sink>(
 {
     match found {
         None => Ok(()),
-        Some(found) => put_seen(out, half_len, found),
+        Some(found) => {
+            put_place(out, half_len, found)?;
+            put_summary(out, &summary_of(&found.house))
+        }
     }
 }
 

@@ -33,19 +33,6 @@ impl<'r, R: Eprint, F: Drop> Pointed<'r, R, F> {
         }
     }
 
-    fn see(&mut self, byte: u8) {
-        if byte == b'\n' {
-            self.end_line();
-            return;
-        }
-        self.characters = self.characters.saturating_add(1);
-        if byte.is_ascii_hexdigit() {
-            self.digits = self.digits.saturating_add(1);
-        } else if byte != b' ' {
-            self.name(Mistake::Character(byte, self.characters));
-        }
-    }
-
     // Names what can be said of a line only at its end, and begins the next one.
     fn end_line(&mut self) {
         if self.characters > LONGEST as u64 {
@@ -76,7 +63,16 @@ impl<R: Eprint, F: Read + Drop> Read for Pointed<'_, R, F> {
     fn read(&mut self, room: &mut [u8]) -> io::Result<usize> {
         let count = self.inner.read(room)?;
         for byte in &room[..count] {
-            self.see(*byte);
+            if *byte == b'\n' {
+                self.end_line();
+            } else {
+                self.characters = self.characters.saturating_add(1);
+                if byte.is_ascii_hexdigit() {
+                    self.digits = self.digits.saturating_add(1);
+                } else if *byte != b' ' {
+                    self.name(Mistake::Character(*byte, self.characters));
+                }
+            }
         }
         if count == 0 {
             self.end_line();

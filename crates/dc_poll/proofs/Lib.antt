@@ -48,6 +48,10 @@ pub mod Planning
 pub mod ImagePolls
 -- of the module `events`
 
+-- the lines of events, in pieces
+mod Lines
+-- the fields of events, in pieces
+mod Objects
 -- events that a teller took, one after the other
 mod Printing
 -- of the module `dry`

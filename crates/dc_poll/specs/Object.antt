@@ -33,7 +33,7 @@ abbrev pub meter_field : Identity → Field
 meter_field meter = text_field (codes "meter") (text_of meter)
 
 -- a fault's number and name
-abbrev pub fault_fields : ℕ → List ℕ → List Field
+unfoldable pub fault_fields : ℕ → List ℕ → List Field
 fault_fields number name = count_field (codes "number") number ∷ text_field (codes "name") name ∷ []
 
 -- the fault of the body, of a fault of content
@@ -47,17 +47,20 @@ body_fields ApplicationError = []
 body_fields Stranger = []
 body_fields TooManyParts = []
 
--- how many of the failed tries brought what
-abbrev pub heard_fields : Misses → List Field
-heard_fields misses =
-    count_field (codes "silent") misses.silent ∷ count_field (codes "noise") misses.noise
-    ∷ count_field (codes "others") misses.others ∷ []
+-- the line of a failed readout, and how many of its failed tries brought what
+unfoldable pub heard_fields : ℕ → Misses → List Field
+heard_fields line misses = count_field (codes "line") line
+    ∷ (
+      codes "heard",
+      object_with (count_field (codes "silent") misses.silent
+          ∷ count_field (codes "noise") misses.noise ∷ count_field (codes "others") misses.others ∷ []),
+    )
+    ∷ []
 
 unfoldable pub failed_fields : ℕ → Identity → Why → Misses → List Field
 failed_fields line meter why misses =
-    (event_field (codes "failed") ∷ meter_field meter ∷ fault_fields (why_number why) (why_name why))
-    ++ (body_fields why ++ (count_field (codes "line") line
-    ∷ (codes "heard", object_with (heard_fields misses)) ∷ []))
+    (event_field (codes "failed") ∷ meter_field meter ∷ [])
+    ++ (fault_fields (why_number why) (why_name why) ++ (body_fields why ++ heard_fields line misses))
 
 -- what was read, the reading's serial and number of parts, and what the last part reports
 unfoldable pub read_fields : Identity → ℕ → ℕ → List Field → List Field
@@ -69,8 +72,8 @@ read_fields meter serial parts last =
 abbrev pub fields_of : Event → List Field
 fields_of (Read meter serial parts last) = read_fields meter serial parts (last_fields last)
 fields_of (Failed line meter why misses) = failed_fields line meter why misses
-fields_of (Refused meter refusal) = event_field (codes "refused") ∷ meter_field meter
-    ∷ fault_fields (refusal_number refusal) (refusal_name refusal)
+fields_of (Refused meter refusal) = (event_field (codes "refused") ∷ meter_field meter ∷ [])
+    ++ fault_fields (refusal_number refusal) (refusal_name refusal)
 fields_of (Lost line) = event_field (codes "lost") ∷ count_field (codes "line") line ∷ []
 fields_of (Late line answers) = event_field (codes "late") ∷ count_field (codes "line") line
     ∷ count_field (codes "answers") answers ∷ []

@@ -18,7 +18,12 @@ pub trait Notes {
 /// Writes the journal's line of an event with this object ([`put_object`](crate::events::put_object)), at this second since
 /// 1970, of a meter in this flat; an empty flat is left out.
 #[tactic(auto, unfolding(crate::specs::Note::note_of))]
-pub fn put_note<W: Sink>(out: &mut W, at: u64, flat: &[u8], object: &[u8]) -> Result<(), IoFault>
+pub fn put_note<'t, W: Sink>(
+    out: &mut W,
+    at: u64,
+    flat: &'t [u8],
+    object: &'t [u8],
+) -> Result<(), IoFault>
     ensures { Wrote W.Sink result out.old out.new (note_of at flat.now object.now) }
 {
     let members = after_bracket(object);

@@ -6,8 +6,8 @@ ghost use Rattle.dc_frame_json.specs.Text.{value_line};
 ghost use Rattle.dc_record.specs.Telegram.{telegram_at};
 ghost use Rattle.dc_tokens.specs.Object.{fields_tokens};
 ghost use Rattle.dc_tokens.specs.Writing.{Added};
-ghost use Rattle.dc_poll.specs.Object.{body_fields, failed_fields, fields_of, json_of, object_of};
-ghost use Rattle.dc_poll.specs.Object.{read_fields};
+ghost use Rattle.dc_poll.specs.Object.{body_fields, failed_fields, fault_fields, fields_of, heard_fields};
+ghost use Rattle.dc_poll.specs.Object.{json_of, object_of, read_fields};
 ghost use Rattle.dc_poll.specs.Read.{last_fields, reported_by};
 
 use crate::{Event, LastPart, Teller};
@@ -83,10 +83,9 @@ fn put_fields<W: Sink>(out: &mut TokenWriter<'_, W>, event: &Event<'_>)
                 &[
                     Cell::Text("event", b"refused"),
                     Cell::Text("meter", &meter.text()),
-                    Cell::Number("number", u64::from(number)),
-                    Cell::Text("name", name.as_bytes()),
                 ],
             );
+            put_code(out, number, name);
         }
         Event::Lost { line } => put_row(
             out,
@@ -169,11 +168,43 @@ fn put_failed<W: Sink>(
         &[
             Cell::Text("event", b"failed"),
             Cell::Text("meter", &meter.text()),
-            Cell::Number("number", u64::from(why.number())),
-            Cell::Text("name", why.name().as_bytes()),
         ],
     );
+    put_code(out, why.number(), why.name());
     put_body_fault(out, why);
+    put_heard(out, line, misses);
+}
+
+// Writes the number and the name of a fault.
+#[tactic(auto, unfolding(crate::specs::Object::fault_fields))]
+fn put_code<W: Sink>(out: &mut TokenWriter<'_, W>, number: u8, name: &'static str)
+    ensures { Added W.Sink out.old out.new (fields_tokens (fault_fields number name.now)) }
+{
+    put_row(
+        out,
+        &[
+            Cell::Number("number", u64::from(number)),
+            Cell::Text("name", name.as_bytes()),
+        ],
+    );
+}
+
+// Writes the fault of the body, of a fault of content.
+fn put_body_fault<W: Sink>(out: &mut TokenWriter<'_, W>, why: Why)
+    ensures { Added W.Sink out.old out.new (fields_tokens (body_fields why)) }
+{
+    if let Why::Content(fault) = why {
+        out.put_name("fault");
+        out.begin_object();
+        put_code(out, fault.number(), fault.name());
+        out.end_object();
+    }
+}
+
+// Writes the line of a failed readout, and how many of its failed tries brought what.
+fn put_heard<W: Sink>(out: &mut TokenWriter<'_, W>, line: u8, misses: &Misses)
+    ensures { Added W.Sink out.old out.new (fields_tokens (heard_fields line misses.now)) }
+{
     out.put_count("line", u64::from(line));
     out.put_name("heard");
     dc_frame_json::put_object(
@@ -184,21 +215,4 @@ fn put_failed<W: Sink>(
             Cell::Number("others", u64::from(misses.others)),
         ],
     );
-}
-
-// Writes the fault of the body, of a fault of content.
-#[tactic(auto, unfolding(crate::specs::Object::body_fields))]
-fn put_body_fault<W: Sink>(out: &mut TokenWriter<'_, W>, why: Why)
-    ensures { Added W.Sink out.old out.new (fields_tokens (body_fields why)) }
-{
-    if let Why::Content(fault) = why {
-        out.put_name("fault");
-        dc_frame_json::put_object(
-            out,
-            &[
-                Cell::Number("number", u64::from(fault.number())),
-                Cell::Text("name", fault.name().as_bytes()),
-            ],
-        );
-    }
 }

@@ -1,9 +1,9 @@
 //! The events of a poll as text.
 
 ghost use Rattle.dc_io.specs.Written.{Wrote};
-ghost use Rattle.dc_poll.specs.Text.{failed_line, line_of};
+ghost use Rattle.dc_poll.specs.Text.{failed_line, line_of, refused_line, why_end};
 
-use crate::{Event, Teller};
+use crate::{Event, Refusal, Teller};
 use dc_address::Identity;
 use dc_io::{IoFault, Sink};
 use dc_readout::Why;
@@ -60,20 +60,7 @@ pub fn put_line<W: Sink>(out: &mut W, event: &Event<'_>) -> Result<(), IoFault>
             ],
         ),
         Event::Failed { meter, why, .. } => put_failed(out, meter, *why),
-        Event::Refused { meter, refusal } => {
-            let (number, name) = refusal.code();
-            put_pieces(
-                out,
-                &[
-                    Piece::Text(b"REFUSED "),
-                    Piece::Text(&meter.text()),
-                    Piece::Word(u64::from(number)),
-                    Piece::Text(b" "),
-                    Piece::Text(name.as_bytes()),
-                    Piece::Text(b"\n"),
-                ],
-            )
-        }
+        Event::Refused { meter, refusal } => put_refused(out, meter, *refusal),
         Event::Lost { line } => put_pieces(
             out,
             &[
@@ -104,35 +91,57 @@ pub fn put_line<W: Sink>(out: &mut W, event: &Event<'_>) -> Result<(), IoFault>
 }
 
 // Writes the line of a failed readout; after a fault of content stands the fault of the body.
-#[tactic(auto, unfolding(crate::specs::Text::failed_line))]
+#[tactic(auto, using(dc_io::proofs::Pieces::written), unfolding(crate::specs::Text::failed_line))]
 fn put_failed<W: Sink>(out: &mut W, meter: &Identity, why: Why) -> Result<(), IoFault>
     ensures { Wrote W.Sink result out.old out.new (failed_line meter.now why) }
 {
+    put_pieces(
+        out,
+        &[
+            Piece::Text(b"FAILED "),
+            Piece::Text(&meter.text()),
+            Piece::Word(u64::from(why.number())),
+            Piece::Text(b" "),
+        ],
+    )?;
+    put_why_end(out, why)
+}
+
+// Writes the name of what failed, and of a fault of content the fault of the body.
+#[tactic(auto, unfolding(crate::specs::Text::why_end))]
+fn put_why_end<W: Sink>(out: &mut W, why: Why) -> Result<(), IoFault>
+    ensures { Wrote W.Sink result out.old out.new (why_end why) }
+{
+    let name = why.name().as_bytes();
     match why {
         Why::Content(fault) => put_pieces(
             out,
             &[
-                Piece::Text(b"FAILED "),
-                Piece::Text(&meter.text()),
-                Piece::Word(u64::from(why.number())),
-                Piece::Text(b" "),
-                Piece::Text(why.name().as_bytes()),
+                Piece::Text(name),
                 Piece::Word(u64::from(fault.number())),
                 Piece::Text(b" "),
                 Piece::Text(fault.name().as_bytes()),
                 Piece::Text(b"\n"),
             ],
         ),
-        _ => put_pieces(
-            out,
-            &[
-                Piece::Text(b"FAILED "),
-                Piece::Text(&meter.text()),
-                Piece::Word(u64::from(why.number())),
-                Piece::Text(b" "),
-                Piece::Text(why.name().as_bytes()),
-                Piece::Text(b"\n"),
-            ],
-        ),
+        _ => put_pieces(out, &[Piece::Text(name), Piece::Text(b"\n")]),
     }
+}
+
+// Writes the line of a meter that was refused.
+#[tactic(auto, using(dc_io::proofs::Pieces::written), unfolding(crate::specs::Text::refused_line))]
+fn put_refused<W: Sink>(out: &mut W, meter: &Identity, refusal: Refusal) -> Result<(), IoFault>
+    ensures { Wrote W.Sink result out.old out.new (refused_line meter.now refusal) }
+{
+    let (number, name) = refusal.code();
+    put_pieces(
+        out,
+        &[
+            Piece::Text(b"REFUSED "),
+            Piece::Text(&meter.text()),
+            Piece::Word(u64::from(number)),
+            Piece::Text(b" "),
+        ],
+    )?;
+    put_pieces(out, &[Piece::Text(name.as_bytes()), Piece::Text(b"\n")])
 }

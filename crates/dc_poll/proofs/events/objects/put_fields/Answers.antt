@@ -1,30 +1,31 @@
-use Rattle.std.proofs.Common.{ap, sym}
+use Rattle.std.proofs.Common.{◌++◌, ℕ, List, [], ◌∷◌, codes, ap, sym, ◌∙◌}
 use Rattle.dc_tokens.specs.Object.{fields_tokens}
-use Rattle.dc_tokens.proofs.Adding.{◌>>◌, unchanged, said}
-use Rattle.dc_poll.specs.Object.{fields_of}
+use Rattle.dc_tokens.proofs.Adding.{◌>>◌, said}
+use Rattle.dc_poll.specs.Object.{count_field, event_field, fault_fields, fields_of}
+use Rattle.dc_poll.specs.Refusal.{refusal_number, refusal_name}
 use Rattle.dc_poll.specs.declared.event.Event.{Event}
+use Rattle.dc_poll.proofs.Objects.{fault_is, of_meter}
 use Rattle.dc_poll.proofs.events.objects.put_fields.Goals as goal
 
 pub returns-in-Refused : goal.returns-in-Refused
-unfolding fields_tokens
 returns-in-Refused g c =
-    said (fields_tokens (fields_of c.args.event.now)) (c.put_row.ensures >> unchanged)
-    (ap (λ (event : Event). fields_tokens (fields_of event)) (sym c.in-Refused.is))
+    said (fields_tokens (fields_of c.args.event.now)) (c.put_row.ensures >> c.put_code.ensures)
+    (of_meter (codes "refused") _ _ _ _ c.text.ensures (ap (λ f. fields_tokens f) (fault_is c.code-number.ensures.number c.code-number.ensures.name))
+    ∙ ap (λ (event : Event). fields_tokens (fields_of event)) (sym c.in-Refused.is))
 
 pub returns-in-Lost : goal.returns-in-Lost
-unfolding fields_tokens
 returns-in-Lost g c =
-    said (fields_tokens (fields_of c.args.event.now)) (c.put_row-in-Lost.ensures >> unchanged)
-    (ap (λ (event : Event). fields_tokens (fields_of event)) (sym c.in-Lost.is))
+    said (fields_tokens (fields_of c.args.event.now)) c.put_row-in-Lost.ensures
+    (ap (λ (n : ℕ). fields_tokens (event_field (codes "lost") ∷ count_field (codes "line") n ∷ [])) c.from.ensures
+    ∙ ap (λ (event : Event). fields_tokens (fields_of event)) (sym c.in-Lost.is))
 
 pub returns-in-Late : goal.returns-in-Late
-unfolding fields_tokens
 returns-in-Late g c =
-    said (fields_tokens (fields_of c.args.event.now)) (c.put_row-in-Late.ensures >> unchanged)
-    (ap (λ (event : Event). fields_tokens (fields_of event)) (sym c.in-Late.is))
+    said (fields_tokens (fields_of c.args.event.now)) c.put_row-in-Late.ensures
+    (ap (λ (n : ℕ). fields_tokens (event_field (codes "late") ∷ count_field (codes "line") n ∷ count_field (codes "answers") c.in-Late.answers ∷ [])) c.from-in-Late.ensures
+    ∙ ap (λ (event : Event). fields_tokens (fields_of event)) (sym c.in-Late.is))
 
 pub returns-in-End : goal.returns-in-End
-unfolding fields_tokens
 returns-in-End g c =
-    said (fields_tokens (fields_of c.args.event.now)) (c.put_row-in-End.ensures >> unchanged)
+    said (fields_tokens (fields_of c.args.event.now)) c.put_row-in-End.ensures
     (ap (λ (event : Event). fields_tokens (fields_of event)) (sym c.in-End.is))
