@@ -49,7 +49,7 @@ pub mod ImagePolls
 -- of the module `events`
 
 -- the lines of events, in pieces
-mod Lines
+mod EventLines
 -- the fields of events, in pieces
 mod Objects
 -- events that a teller took, one after the other

@@ -71,6 +71,13 @@ refusal_text meter (Some fault) = line_of (Refused meter (Start fault))
 unfoldable pub meter_text : List Bool → State → Identity → List ℕ
 meter_text links state meter = refusal_text meter (refusal_of (is_linked links) state meter)
 
+-- the same, row by row of the register
+unfoldable pub row_refusal : List Bool → State → Identity × MeterRow → List ℕ
+row_refusal links state row = meter_text links state row.0
+
+unfoldable pub register_refusals : List Bool → State → List ℕ
+register_refusals links state = flat_map (row_refusal links state) state.meters
+
 -- THE REFUSALS before anything is asked, in order, of the meters that are to be read
 unfoldable pub refused_text : List Bool → List Identity → State → List ℕ
 refused_text links only state = flat_map (meter_text links state) (asked_for only state)

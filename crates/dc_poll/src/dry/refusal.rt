@@ -5,6 +5,7 @@ ghost use Rattle.std.specs.Map.{keys_of};
 ghost use Rattle.dc_io.specs.Written.{Wrote};
 ghost use Rattle.dc_poll.specs.Planned.{refusal_of};
 ghost use Rattle.dc_poll.specs.Dry.{is_linked, meter_text, refused_text};
+ghost use Rattle.dc_poll.specs.Dry.{register_refusals, row_refusal};
 
 use crate::dry::dry::{Dry, LINES, is_linked};
 use crate::events::put_line;
@@ -12,7 +13,7 @@ use crate::{Event, Refusal};
 use dc_address::Identity;
 use dc_concentrator::StartFault;
 use dc_io::{IoFault, Sink};
-use dc_register::House;
+use dc_register::{House, Meter};
 use std::alloc::Allocator;
 
 /// Prints each meter that is to be read and would be refused, in order, and why.
@@ -33,7 +34,6 @@ pub(crate) fn put_refused<A: Allocator + Copy, W: Sink>(
 }
 
 // Of all registered meters.
-#[tactic(auto, using(dc_io::proofs::Pieces::written))]
 fn put_of_register<A: Allocator + Copy, W: Sink>(
     out: &mut W,
     house: &House<A>,
@@ -42,10 +42,38 @@ fn put_of_register<A: Allocator + Copy, W: Sink>(
     ensures { Wrote W.Sink result out.old out.new
         (flat_map (meter_text links.now house.now.state) (keys_of house.now.state.meters)) }
 {
-    'meters: for (meter, _) in house.meters() {
-        put_meter(out, house, links, meter)?;
+    put_rows(out, house, links)
+}
+
+// Goes through the register.
+#[tactic(auto, using(dc_io::proofs::Pieces::written), unfolding(crate::specs::Dry::register_refusals))]
+fn put_rows<A: Allocator + Copy, W: Sink>(
+    out: &mut W,
+    house: &House<A>,
+    links: &[bool; LINES],
+) -> Result<(), IoFault>
+    ensures { Wrote W.Sink result out.old out.new
+        (register_refusals links.now house.now.state) }
+{
+    'rows: for (meter, row) in house.meters() {
+        put_row(out, house, links, meter, row)?;
     }
     Ok(())
+}
+
+// The row names the meter's place in the register; the contract alone reads it.
+#[tactic(auto, unfolding(crate::specs::Dry::row_refusal))]
+fn put_row<A: Allocator + Copy, W: Sink>(
+    out: &mut W,
+    house: &House<A>,
+    links: &[bool; LINES],
+    meter: &Identity,
+    _row: &Meter<A>,
+) -> Result<(), IoFault>
+    ensures { Wrote W.Sink result out.old out.new
+        (row_refusal links.now house.now.state (meter.now, _row.now)) }
+{
+    put_meter(out, house, links, meter)
 }
 
 // Of the meters that are named.

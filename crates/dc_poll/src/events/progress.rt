@@ -48,7 +48,13 @@ impl<'h, R: Clock + Eprint> Progress<'h, R> {
         }
         let Tally { done, failed } = self.tally.get();
         if self.meters.get() == 0 {
-            self.meters.set(done.saturating_add(meters_of(stations)));
+            let mut meters = done;
+            for station in stations {
+                let over = u64::from(matches!(station.phase, Phase::Over(_)));
+                let left = (station.left.len() as u64).saturating_add(over);
+                meters = meters.saturating_add(left);
+            }
+            self.meters.set(meters);
         }
         let seconds = match self.begun {
             Some(begun) => match begun.elapsed(self.rt) {
@@ -74,18 +80,6 @@ impl<'h, R: Clock + Eprint> Progress<'h, R> {
             self.shown.set(None);
         }
     }
-}
-
-// The meters that aren't done with.
-fn meters_of<B: HalfBus + Drop>(stations: &[Station<'_, B>]) -> u64 {
-    let mut count: u64 = 0;
-    for station in stations {
-        count = count.saturating_add(station.left.len() as u64);
-        if matches!(station.phase, Phase::Over(_)) {
-            count = count.saturating_add(1);
-        }
-    }
-    count
 }
 
 // Room for the longest line of a failed readout.

@@ -1,7 +1,7 @@
 use Rattle.std.proofs.Common.{List, ℕ, codes, subst, arith, ◌∙◌}
 use Rattle.dc_io.proofs.Pieces.{puts_front-first}
 use Rattle.dc_io.specs.Stream.{PutsFront}
-use Rattle.dc_poll.proofs.Lines.{begun_as}
+use Rattle.dc_poll.proofs.EventLines.{begun_as}
 use Rattle.dc_poll.specs.Text.{failed_line, why_end}
 use Rattle.dc_poll.proofs.events.text.put_failed.Goals as goal
 

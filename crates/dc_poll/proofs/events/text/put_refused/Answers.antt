@@ -1,7 +1,7 @@
 use Rattle.std.proofs.Common.{List, ℕ, ◌++◌, codes, subst, arith, ◌∙◌}
 use Rattle.dc_io.proofs.Pieces.{puts_front-first}
 use Rattle.dc_io.specs.Stream.{PutsFront}
-use Rattle.dc_poll.proofs.Lines.{begun_as}
+use Rattle.dc_poll.proofs.EventLines.{begun_as}
 use Rattle.dc_poll.specs.Refusal.{refusal_name}
 use Rattle.dc_poll.specs.Text.{refused_line}
 use Rattle.dc_poll.proofs.events.text.put_refused.Goals as goal
