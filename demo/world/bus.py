@@ -9,6 +9,7 @@ from world.frames import ACK, parse
 from world.meters import Meter, Readout
 
 COLLISION = b"\x00"  # what answers of several meters at once are received as
+NOISE = b"\xF8\x00\xE0"  # what a meter of another speed is received as
 LOST, GARBLED = 0.05, 0.02  # shares of requests and answers on a line that isn't quiet
 
 
@@ -82,3 +83,10 @@ class Bus:
     def together(self, answers: list[bytes]) -> bytes:
         """What answers of several meters at once are received as."""
         return COLLISION
+
+
+class Noise(Bus):
+    """A line of another speed than the master's: what comes back is no frame."""
+
+    def carry(self, request: bytes) -> bytes:
+        return NOISE

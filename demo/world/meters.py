@@ -93,7 +93,7 @@ class Meter:
         is_selection = control | FRAME_COUNT == SND_UD | FRAME_COUNT and len(content) == 9 and content[0] == CI_SELECT
         if address == SECONDARY and is_selection:
             return self.select(content[1:])
-        if address != self.primary and not (address == SECONDARY and self.is_selected):
+        if address != (self.primary or 0) and not (address == SECONDARY and self.is_selected):
             return b""
         if control == SND_NKE:
             self.bit, self.is_selected = None, self.is_selected and address != SECONDARY

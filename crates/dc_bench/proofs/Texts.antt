@@ -44,7 +44,7 @@ module _ {B : Type 0} (bus : BusGhosts B) (P Q : List ℕ → Type 0) (then : (t
 
   is_read_so : (meter : MeterName) (old new : B) (readout : Readout) → IsRead bus P meter old new readout → IsRead bus Q meter old new readout
   is_read_so _ old new readout (by_identity meter r) = by_identity meter (read_on_so _ _ _ _ r)
-  is_read_so _ old new readout (by_address address meter named r) = by_address address meter named (read_on_so _ _ _ _ r)
+  is_read_so _ old new readout (by_address address primary meter is named r) = by_address address primary meter is named (read_on_so _ _ _ _ r)
   is_read_so _ old new _ (unidentified address misses named wrote) = unidentified address misses named (then _ wrote)
   is_read_so _ old new readout (by_number digits meter found r) = by_number digits meter found (read_on_so _ _ _ _ r)
   is_read_so _ old new _ (shared digits misses found wrote) = shared digits misses found (then _ wrote)
@@ -55,4 +55,4 @@ module _ {B : Type 0} (bus : BusGhosts B) (P Q : List ℕ → Type 0) (then : (t
   is_done_so _ old new _ (scans budget count s) = scans budget count (scanned_so budget old new _ s)
   is_done_so _ old new _ (asks_each text asked wrote) = asks_each text asked (then text wrote)
   is_done_so _ old new _ (reads meter r) = reads meter (is_read_so meter old new _ r)
-  is_done_so _ old new _ (addresses from to is wrote) = addresses from to is (then _ wrote)
+  is_done_so _ old new _ (addresses target to is wrote) = addresses target to is (then _ wrote)

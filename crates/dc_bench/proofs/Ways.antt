@@ -1,6 +1,7 @@
 -- The ways to a readout, where its text was printed.
-use Rattle.std.proofs.Common.{ℕ, true, false, List, None, Some}
-use Rattle.std.specs.Prelude.{codes, Result, Ok, Err, IfOk, OnOk}
+use Rattle.std.proofs.Common.{ℕ, true, false, List, Option, None}
+use Rattle.std.specs.Prelude.{codes, Result, Ok, Err, IfOk, OnOk, SomeIff}
+use Rattle.dc_address.specs.Primary.{IsPrimary}
 use Rattle.dc_address.specs.declared.identity.Identity.{Identity}
 use Rattle.dc_bench.specs.Command.{IsRead, by_address, by_identity, by_number, missed_by, shared, unfound, unidentified}
 use Rattle.dc_bus.specs.declared.bus.Bus.{Ghosts as BusGhosts}
@@ -12,7 +13,7 @@ use Rattle.dc_installer.specs.declared.reading.Readout.{Readout}
 use Rattle.dc_io.specs.declared.stream.IoFault.{IoFault}
 use Rattle.dc_readout.specs.declared.misses.misses.Misses.{Misses}
 use Rattle.dc_readout.specs.Summary.{begun}
-use Rattle.dc_words.specs.declared.task.MeterName.TheVariants.{Identity as ByIdentity, Primary as ByAddress, Number as ByNumber}
+use Rattle.dc_words.specs.declared.task.MeterName.TheVariants.{Identity as ByIdentity, Address as ByAddress, Number as ByNumber}
 
 module _ {B : Type 0} (bus : BusGhosts B) (wrote : List ℕ → Type 0) where
   pub selected : (meter : Identity) (old new : B) (r : Result Readout IoFault)
@@ -21,12 +22,12 @@ module _ {B : Type 0} (bus : BusGhosts B) (wrote : List ℕ → Type 0) where
   selected meter old new (Ok readout) is = by_identity meter is
   selected meter old new (Err e) is = tt
 
-  pub at_address : (address : ℕ) (meter : Identity) (old between new : B) (r : Result Readout IoFault)
-      → Identifies bus.asks_all address old (Ok meter) between
-      → IfOk r (λ readout. IsReadOn bus.asks between new (begun meter (Some address)) wrote (Tells readout))
+  pub at_address : (address : ℕ) (primary : Option ℕ) (meter : Identity) (old between new : B) (r : Result Readout IoFault)
+      → SomeIff primary (IsPrimary address) address → Identifies bus.asks_all address old (Ok meter) between
+      → IfOk r (λ readout. IsReadOn bus.asks between new (begun meter primary) wrote (Tells readout))
       → IfOk r (λ readout. IsRead bus wrote (ByAddress address) old new readout)
-  at_address address meter old between new (Ok readout) named is = by_address address meter named is
-  at_address address meter old between new (Err e) named is = tt
+  at_address address primary meter old between new (Ok readout) some named is = by_address address primary meter some named is
+  at_address address primary meter old between new (Err e) some named is = tt
 
   pub at_none : (address : ℕ) (misses : Misses) (old new : B) (put : Result (Unit {0}) IoFault)
       → Identifies bus.asks_all address old (Err misses) new → OnOk put (wrote (codes "FAILED 1 NoAnswer\n"))

@@ -1,7 +1,8 @@
 -- The commands `scan`, `read` and `address`: what goes over the bus, what is printed, and how they end (this product).
 use Rattle.std.specs.Prelude.{◌==◌, ◌++◌, ℕ, Bool, true, false, not, List, codes, None, Some}
-use Rattle.std.specs.Prelude.{Result, Ok, Err}
+use Rattle.std.specs.Prelude.{Result, Ok, Err, Option, SomeIff}
 use Rattle.std.specs.List.{range_with_len}
+use Rattle.dc_address.specs.Primary.{IsPrimary}
 use Rattle.dc_address.specs.declared.identity.Identity.{Identity}
 use Rattle.dc_bench.specs.Ending.{EndsOver, IsStopped, late_text}
 use Rattle.dc_bench.specs.declared.command.Done.{Done}
@@ -15,6 +16,7 @@ use Rattle.dc_installer.specs.Number.{IsFound, unfound_text}
 use Rattle.dc_installer.specs.Read.{IsReadOn, Tells}
 use Rattle.dc_installer.specs.Scan.{AsksEach, Counts, Identifies, Scanned, greatest}
 use Rattle.dc_installer.specs.declared.address.Addressing.{Addressing}
+use Rattle.dc_installer.specs.declared.address.Target.{Target}
 use Rattle.dc_installer.specs.declared.address.Addressing.TheVariants.{Set, Taken, Nobody as NobodyThere}
 use Rattle.dc_installer.specs.declared.address.Addressing.TheVariants.{Unclear, Unconfirmed}
 use Rattle.dc_installer.specs.declared.number.Numbered.TheVariants.{One, Shared, Nobody}
@@ -28,21 +30,22 @@ use Rattle.dc_io.specs.declared.stream.Sink.{Ghosts}
 use Rattle.dc_readout.specs.declared.misses.misses.Misses.{Misses}
 use Rattle.dc_readout.specs.Summary.{begun}
 use Rattle.dc_words.specs.declared.task.MeterName.{MeterName}
-use Rattle.dc_words.specs.declared.task.MeterName.TheVariants.{Identity as ByIdentity, Primary as ByAddress, Number as ByNumber}
+use Rattle.dc_words.specs.declared.task.MeterName.TheVariants.{Identity as ByIdentity, Address as ByAddress, Number as ByNumber}
 use Rattle.dc_words.specs.declared.task.Scan.TheVariants.{Wildcards, Primary}
 
 -- ---- what goes over the bus
 
 -- THE READOUT OF A METER by its name. An address is asked for its meter, and a number is looked for; where either names
--- no one meter, nothing more goes out.
+-- no one meter, nothing more goes out. At another address than a primary one, as 0, the meter is selected.
 pub data IsRead {B : Type 0} (bus : BusGhosts B) (wrote : List ℕ → Type 0)
     : MeterName → B → B → Readout → Type 0 where
   by_identity : {old new : B} {readout : Readout} (meter : Identity)
       → IsReadOn bus.asks old new (begun meter None) wrote (Tells readout)
       → IsRead bus wrote (ByIdentity meter) old new readout
-  by_address : {old between new : B} {readout : Readout} (address : ℕ) (meter : Identity)
+  by_address : {old between new : B} {readout : Readout} (address : ℕ) (primary : Option ℕ)
+      (meter : Identity) → SomeIff primary (IsPrimary address) address
       → Identifies bus.asks_all address old (Ok meter) between
-      → IsReadOn bus.asks between new (begun meter (Some address)) wrote (Tells readout)
+      → IsReadOn bus.asks between new (begun meter primary) wrote (Tells readout)
       → IsRead bus wrote (ByAddress address) old new readout
   unidentified : {old new : B} (address : ℕ) (misses : Misses)
       → Identifies bus.asks_all address old (Err misses) new
@@ -76,10 +79,10 @@ pub data IsDone {B : Type 0} (bus : BusGhosts B) (wrote : List ℕ → Type 0)
   reads : {old new : B} {readout : Readout} (meter : MeterName)
       → IsRead bus wrote meter old new readout
       → IsDone bus wrote (Read meter) old new (ReadOut readout)
-  addresses : {old new : B} {outcome : Addressing} (from to : ℕ)
-      → IsAddressed bus.asks bus.asks_all from to old outcome new
-      → wrote (addressing_text from to outcome)
-      → IsDone bus wrote (Address from to) old new (Addressed outcome)
+  addresses : {old new : B} {outcome : Addressing} (target : Target) (to : ℕ)
+      → IsAddressed bus.asks bus.asks_all target to old outcome new
+      → wrote (addressing_text target to outcome)
+      → IsDone bus wrote (Address target to) old new (Addressed outcome)
 
 -- ---- what was at fault
 

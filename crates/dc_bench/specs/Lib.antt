@@ -3,5 +3,7 @@
 pub mod Ending
 -- what a command does and prints
 pub mod Command
+-- a search that hears noise alone
+pub mod Listening
 -- what standard error says after a command
 pub mod Remark

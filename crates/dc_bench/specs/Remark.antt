@@ -13,7 +13,7 @@ use Rattle.dc_readout.specs.Reason.{reason_text}
 use Rattle.dc_readout.specs.declared.misses.reason.Owner.{Owner}
 use Rattle.dc_readout.specs.declared.misses.reason.Owner.TheVariants.{Meter as OfMeter, Address as OfAddress, Number as OfNumber}
 use Rattle.dc_words.specs.declared.task.MeterName.{MeterName}
-use Rattle.dc_words.specs.declared.task.MeterName.TheVariants.{Identity as ByIdentity, Primary as ByAddress, Number as ByNumber}
+use Rattle.dc_words.specs.declared.task.MeterName.TheVariants.{Identity as ByIdentity, Address as ByAddress, Number as ByNumber}
 
 -- of what was counted: numbers of several meters come first
 abbrev pub counted_hint : Course → Option Count → List ℕ
@@ -46,5 +46,5 @@ remark_text work (Searched count) course is_watched = advice_text course count i
 remark_text (Read meter) (ReadOut (Failed misses)) course is_watched = reason_text (owner_of meter) misses
 remark_text (Read meter) (ReadOut Whole) course is_watched = []
 remark_text (Search what) (ReadOut readout) course is_watched = []
-remark_text (Address from to) (ReadOut readout) course is_watched = []
+remark_text (Address target to) (ReadOut readout) course is_watched = []
 remark_text work (Addressed outcome) course is_watched = []

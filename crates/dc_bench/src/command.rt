@@ -6,19 +6,25 @@ ghost use Rattle.dc_bench.specs.Command.{DoesOrStops, IsDone, Works, fault_of, i
 ghost use Rattle.dc_bench.specs.Ending.{IsStopped};
 
 use crate::ending::{ended, finish};
+use crate::listening::{Listening, MOST_NOISE};
+use crate::listing::list_over;
 use crate::printer::Printer;
 use crate::progress::{Cleared, Progress};
 use crate::reading::read_named;
 use dc_bus::Bus;
 use dc_ending::Ending;
 use dc_installer::{
-    Addressing, Count, Readout, ScanFault, put_addressing, scan, scan_primary, set_address,
+    Addressing, Count, Readout, ScanFault, Target, put_addressing, scan, scan_primary, set_address,
 };
 use dc_io::{IoFault, Sink, WriteSink};
-use dc_words::{MeterName, Scan};
+use dc_words::{Listing, MeterName, Scan};
 use std::alloc::Global;
 use std::io::{LineWriter, Write};
 use std::rt::Clock;
+
+// What 16 answers without a frame mean.
+const NOISE: &str =
+    "mbdc: 16 answers, none of them a frame: given up. Are speed and parity right? Is another master on the bus?\n";
 
 /// What is done on a bus.
 #[derive(Clone, Copy)]
@@ -27,8 +33,8 @@ pub enum Work {
     Search(Scan),
     /// The readout of a meter.
     Read(MeterName),
-    /// A new primary address, from the first to the second.
-    Address(u8, u8),
+    /// A new primary address for the meter that is reached so.
+    Address(Target, u8),
 }
 
 /// What came of it.
@@ -43,17 +49,18 @@ pub enum Done {
 }
 
 /// Does the work on a bus, prints it line by line, and says on standard error what is to be known of it. Returns how the
-/// command ends.
+/// command ends. A search may be listed in another form. One that hears noise alone is given up: after 16 answers, none of which is a frame.
 pub fn run_over<'a, R, B, O>(
     alloc: Global,
     work: Work,
-    bus: &mut B,
+    listing: Listing,
+    bus: B,
     out: O,
     progress: &Progress<'_, R>,
 ) -> Ending<'a>
 where
     R: Clock + Eprint,
-    B: Bus,
+    B: Bus + Drop,
     O: Write + Drop,
 {
     let out = Cleared {
@@ -63,7 +70,26 @@ where
     let Ok(out) = LineWriter::new(alloc, out) else {
         return Ending::Memory;
     };
-    work_over(alloc, work, bus, &mut WriteSink::new(out), progress)
+    let mut bus = Listening {
+        bus,
+        left: if matches!(work, Work::Search(_)) {
+            Some(MOST_NOISE)
+        } else {
+            None
+        },
+    };
+    let mut out = WriteSink::new(out);
+    let ending = match (work, listing) {
+        (Work::Search(scan), Listing::Csv(_) | Listing::Json) => {
+            list_over(alloc, scan, listing, &mut bus, &mut out, progress)
+        }
+        _ => work_over(alloc, work, &mut bus, &mut out, progress),
+    };
+    if !bus.is_given_up() {
+        return ending;
+    }
+    progress.say(NOISE);
+    Ending::Faulty
 }
 
 /// Does the work on a bus, and prints it. Returns how the command ends: a search is at fault where bytes came that nothing
@@ -136,9 +162,9 @@ fn do_work<B: Bus, W: Sink>(
             Ok(readout) => Ok(Done::ReadOut(readout)),
             Err(IoFault) => Err(ScanFault::Write),
         },
-        Work::Address(from, to) => {
-            let outcome = set_address(bus, from, to);
-            match put_addressing(from, to, &outcome, out) {
+        Work::Address(target, to) => {
+            let outcome = set_address(bus, &target, to);
+            match put_addressing(&target, to, &outcome, out) {
                 Ok(()) => Ok(Done::Addressed(outcome)),
                 Err(IoFault) => Err(ScanFault::Write),
             }

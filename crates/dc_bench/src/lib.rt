@@ -8,6 +8,8 @@
 
 mod command;
 mod ending;
+mod listening;
+mod listing;
 mod meter_text;
 mod printer;
 mod progress;
@@ -16,7 +18,7 @@ mod reading;
 mod remark;
 
 pub use command::{Done, Work, run_over, work_over};
-pub use meter_text::put_found;
+pub use dc_installer::Target;
 pub use printer::Printer;
 pub use progress::{Progress, Show};
 pub use remark::put_remark;

@@ -9,27 +9,29 @@ use dc_record::value::{Point, Seen, point_of};
 
 /// Writes the meter of a telegram, its medium, and its first current value where it sends one:
 /// `found 12345678.PAD.01.07 water 12.345 m3`.
-pub fn put_found<W: Sink>(out: &mut W, answer: &[u8]) -> Result<(), IoFault> {
-    let Ok(Frame::Long { body, .. }) = parse(answer) else {
-        return Ok(());
-    };
-    let Ok(telegram) = Telegram::parse(body) else {
-        return Ok(());
-    };
+pub(crate) fn put_found<W: Sink>(out: &mut W, telegram: &Telegram<'_>) -> Result<(), IoFault> {
     let meter = telegram.header().identity;
     out.put(b"found ")?;
     out.put(&meter.text())?;
     out.put(b" ")?;
     out.put(medium_name(meter.kind).as_bytes())?;
-    if let Some(point) = first_current(&telegram) {
+    if let Some(point) = first_current(telegram) {
         out.put(b" ")?;
         put_point(&point, out)?;
     }
     out.put(b"\n")
 }
 
-// The first current value with a unit.
-fn first_current(telegram: &Telegram<'_>) -> Option<Point> {
+/// The telegram that an answer is.
+pub(crate) fn telegram_in(answer: &[u8]) -> Option<Telegram<'_>> {
+    match parse(answer) {
+        Ok(Frame::Long { body, .. }) => Telegram::parse(body).ok(),
+        _ => None,
+    }
+}
+
+/// The first current value with a unit.
+pub(crate) fn first_current(telegram: &Telegram<'_>) -> Option<Point> {
     for record in telegram.records() {
         if let Seen::Point(point) = point_of(&record)
             && point.storage == 0

@@ -1,15 +1,18 @@
 //! The progress of a search, on a terminal.
 
 use crate::command::{Done, Work};
-use crate::meter_text::put_found;
+use crate::meter_text::{first_current, put_found, telegram_in};
 use crate::progress_text::{Addresses, CLEAR, put_course, put_estimate};
 use crate::remark::put_remark;
+use dc_address::Identity;
 use dc_bus::TRIES;
 use dc_bus::trace::Observer;
 use dc_installer::{Course, GREATEST};
 use dc_io::FixedSink;
+use dc_record::value::Point;
 use dc_words::Scan;
-use std::cell::Cell;
+use std::alloc::Global;
+use std::cell::{Cell, RefCell};
 use std::io::Write;
 use std::rt::Clock;
 use std::time::Instant;
@@ -31,13 +34,15 @@ pub struct Progress<'h, R> {
     course: Cell<Course>,
     // Number of meters that were shown.
     meters: Cell<u64>,
+    // The meters that answered, each with its first current value.
+    values: RefCell<Vec<(Identity, Point)>>,
     is_shown: Cell<bool>,
 }
 
 impl<'h, R: Clock + Eprint> Progress<'h, R> {
     /// Begins a work on a bus with a time-out of this many milliseconds, with no progress shown. Of a search at primary
     /// addresses it says how long that takes.
-    pub fn new(rt: &'h R, is_terminal: bool, work: Work, patience: u16) -> Self {
+    pub fn new(rt: &'h R, alloc: Global, is_terminal: bool, work: Work, patience: u16) -> Self {
         let progress = Progress {
             rt,
             is_terminal,
@@ -45,6 +50,7 @@ impl<'h, R: Clock + Eprint> Progress<'h, R> {
             begun: Instant::now(rt).ok(),
             course: Cell::new(Course::new()),
             meters: Cell::new(0),
+            values: RefCell::new(Vec::new(alloc)),
             is_shown: Cell::new(false),
         };
         if is_terminal && let Some(addresses) = progress.addresses {
@@ -71,6 +77,12 @@ impl<'h, R: Clock + Eprint> Progress<'h, R> {
             self.clear();
             self.print(&text);
         }
+    }
+
+    /// Prints a line, whether standard error is a terminal or not.
+    pub(crate) fn say(&self, line: &str) {
+        self.clear();
+        let _ = self.rt.eprint(line);
     }
 
     // Prints a text, whether standard error is a terminal or not.
@@ -101,14 +113,37 @@ impl<'h, R: Clock + Eprint> Progress<'h, R> {
         let before = self.course.get();
         let course = before.after_answer(answer);
         self.course.set(course);
-        if self.is_terminal && course.meter != before.meter {
+        if course.meter == before.meter {
+            return;
+        }
+        let Some(telegram) = telegram_in(answer) else {
+            return;
+        };
+        if let Some(value) = first_current(&telegram)
+            && let Ok(mut values) = self.values.try_borrow_mut()
+        {
+            // A meter that memory has no room for has no value in a list.
+            let _ = values.push((telegram.header().identity, value));
+        }
+        if self.is_terminal {
             self.meters.set(self.meters.get().saturating_add(1));
             self.clear();
             let mut text = Text::new();
-            if put_found(&mut text, answer).is_ok() {
+            if put_found(&mut text, &telegram).is_ok() {
                 self.print(&text);
             }
         }
+    }
+
+    /// The first current value that a meter answered.
+    pub(crate) fn value_of(&self, meter: &Identity) -> Option<Point> {
+        let values = self.values.try_borrow().ok()?;
+        for (known, value) in values.as_slice() {
+            if known == meter {
+                return Some(*value);
+            }
+        }
+        None
     }
 
     fn seconds(&self) -> u64 {

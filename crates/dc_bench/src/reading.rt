@@ -12,7 +12,8 @@ use dc_io::{IoFault, Sink};
 use dc_readout::misses::Misses;
 use dc_words::MeterName;
 
-/// Reads a meter, which is found first where it is named by its primary address, or by its number.
+/// Reads a meter, which is found first where it is named by its primary address, or by its number. One at address 0 is
+/// selected, then.
 ///
 /// # Errors
 /// A write failed.
@@ -28,19 +29,19 @@ pub(crate) fn read_named<B: Bus, W: Sink>(
 {
     match meter {
         MeterName::Identity(meter) => read(bus, meter, None, out),
-        MeterName::Primary(address) => read_at(bus, *address, out),
+        MeterName::Address(address) => read_at(bus, *address, out),
         MeterName::Number(digits) => read_numbered(bus, digits, out),
     }
 }
 
-fn read_at<B: Bus, W: Sink>(bus: &mut B, address: Primary, out: &mut W) -> Result<Readout, IoFault>
+fn read_at<B: Bus, W: Sink>(bus: &mut B, address: u8, out: &mut W) -> Result<Readout, IoFault>
     ensures read { IfOk result (λ readout. IsRead B.Bus (PutsInto W.Sink out.old out.new)
-        (MeterName.Primary address) bus.old bus.new readout) }
+        (MeterName.Address address) bus.old bus.new readout) }
     ensures well { OnOk result (W.put_failures out.new ≡ W.put_failures out.old) }
     ensures failed { OnErr result (HasRisen (W.put_failures out.old) (W.put_failures out.new)) }
 {
     match identify(bus, address) {
-        Ok(meter) => read(bus, &meter, Some(address), out),
+        Ok(meter) => read(bus, &meter, Primary::new(address), out),
         Err(misses) => missed_by(misses, out.put(b"FAILED 1 NoAnswer\n")),
     }
 }

@@ -1,12 +1,11 @@
 //! What standard error says after a command.
 
 ghost use Rattle.std.specs.Prelude.{◌≡◌};
-ghost use Rattle.dc_installer.specs.Unread.{is_all_read};
 ghost use Rattle.dc_io.specs.Written.{Wrote};
 ghost use Rattle.dc_bench.specs.Remark.{advice_text, hint, owner_of, remark_text};
 
 use crate::command::{Done, Work};
-use dc_installer::{Count, Course, Readout, put_unread};
+use dc_installer::{Count, Course, Readout, is_all_read, put_unread};
 use dc_io::{IoFault, Sink};
 use dc_readout::misses::{Owner, put_reason};
 use dc_words::MeterName;
@@ -67,20 +66,13 @@ fn hint(course: &Course, count: Option<Count>, is_watched: bool) -> &'static [u8
     }
 }
 
-// Whether each answer was a frame.
-fn is_all_read(course: &Course) -> bool
-    ensures { result ≡ is_all_read course.now }
-{
-    course.unreadable == 0 && course.collided == 0
-}
-
 // Whose readout it is, in the words of the person who asked for it.
 fn owner_of(meter: &MeterName) -> Owner
     ensures { result ≡ owner_of meter.now }
 {
     match meter {
         MeterName::Identity(meter) => Owner::Meter(*meter),
-        MeterName::Primary(address) => Owner::Address(address.get()),
+        MeterName::Address(address) => Owner::Address(*address),
         MeterName::Number(digits) => Owner::Number(*digits),
     }
 }

@@ -1,5 +1,5 @@
 -- What `fit` leaves of a disk, by what is said of its text.
-use Rattle.std.proofs.Common.{◌≡◌, ℕ, Bool, false, List, Option, Result, Ok, Err, refl}
+use Rattle.std.proofs.Common.{◌≡◌, ℕ, false, List, Option, Result, Ok, Err, refl}
 use Rattle.std.specs.Prelude.{IfOk}
 use Rattle.dc_commands.specs.FitOver.{FitsOver}
 use Rattle.dc_disk.proofs.Moments.{started}
@@ -12,6 +12,7 @@ use Rattle.dc_log.specs.Halves.{half_of}
 use Rattle.dc_concentrator.specs.PendingImages.{StandsForOne}
 use Rattle.dc_disk.specs.declared.device.Disk.{Ghosts}
 use Rattle.dc_fit.specs.Fit.{FitsAll}
+use Rattle.dc_fit.specs.Plan.{Outcome}
 use Rattle.dc_fit.specs.declared.fault.FitFault.{FitFault}
 
 -- memory ran out before anything was done
@@ -30,9 +31,9 @@ module _ {D O : Type 0} (g : Ghosts D) (wish : Wish) (contents : O → Option (L
   }
 
 module _ {D : Type 0} (g : Ghosts D) (wish : Wish) (disk left : D) (wrote written : List ℕ → Type 0) (shows : (text : List ℕ) → wrote text → written text) where
-  fits_as : (wrong : Bool) → FitsAll g wish wrote wrong disk left → FitsAll g wish written wrong disk left
-  fits_as wrong a = record { fits = a.fits; wrong_is = a.wrong_is; text = shows _ a.text; stands = a.stands; durable = a.durable }
+  fits_as : (plan : Outcome) → FitsAll g wish wrote plan disk left → FitsAll g wish written plan disk left
+  fits_as plan a = record { fits = a.fits; plan_is = a.plan_is; text = shows _ a.text; stands = a.stands; durable = a.durable }
 
-  pub fitted_as : (outcome : Result Bool FitFault) → IfOk outcome (λ wrong. FitsAll g wish wrote wrong disk left) → IfOk outcome (λ wrong. FitsAll g wish written wrong disk left)
-  fitted_as (Ok wrong) a = fits_as wrong a
+  pub fitted_as : (outcome : Result Outcome FitFault) → IfOk outcome (λ plan. FitsAll g wish wrote plan disk left) → IfOk outcome (λ plan. FitsAll g wish written plan disk left)
+  fitted_as (Ok plan) a = fits_as plan a
   fitted_as (Err fault) a = tt

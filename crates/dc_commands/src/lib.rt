@@ -23,6 +23,6 @@ pub use ending::{look_ending, poll_ending, run_result};
 pub use fit::fit_over;
 pub use poll::{Printing, poll_over};
 pub use rescue::{put_rescued, rescue_over};
-pub use run::{run_over, run_over_gateway};
+pub use run::run_over;
 pub use timer::HostTimer;
 pub use waiting::{Waits, add_awaited};

@@ -3,8 +3,7 @@
 ghost use Rattle.std.specs.Prelude.{◌≡◌, Bool, IsErrOf, IsTrue, Result, is_some};
 ghost use Rattle.std.specs.Io.Buffered.{line_writer_contents};
 ghost use Rattle.std.specs.Io.KnownBytes.{Keeps};
-ghost use Rattle.dc_script.specs.Link.{gateway_links, links_of};
-ghost use Rattle.dc_script.specs.Traffic.{OverGateway};
+ghost use Rattle.dc_script.specs.Link.{links_of};
 ghost use Rattle.dc_commands.specs.Guard.{Guards};
 ghost use Rattle.dc_ending.specs.Outcome.{EndsAs};
 ghost use Rattle.dc_ending.specs.declared.fault.ProgramFault.{ProgramFault};
@@ -20,22 +19,23 @@ use dc_bus::Bus;
 use dc_disk::Disk;
 use dc_ending::{Ending, ProgramFault};
 use dc_files::Why;
-use dc_io::{Sink, Source};
-use dc_script::{Slot, run_script, run_script_over};
+use dc_script::{CommandNotes, Slot, run_script_over};
 use std::alloc::Global;
 use std::io::{LineWriter, Read, Write};
 use std::marker::Brand;
 
 /// Looks at the image, runs the lines of a file over it, with the buses of the bus lines, and says how that ended. Each
 /// line of text is printed as it is whole: a readout takes seconds, and what was committed is printed also where the run
-/// is killed later.
-pub fn run_over<'a, D, F, O, B>(
+/// is killed later. Each command that is done is noted; no clause names the notes, since all that is promised here holds
+/// whatever becomes of them.
+pub fn run_over<'a, D, F, O, B, N>(
     alloc: Global,
     why: &Why,
     disk: D,
     lines: F,
     out: O,
     slots: &mut [Option<Slot<B>>],
+    notes: &mut N,
     script: &'a str,
 ) -> (D, Ending<'a>)
 where
@@ -43,6 +43,7 @@ where
     F: Read + Drop,
     O: Write + Drop,
     B: Bus + Drop,
+    N: CommandNotes,
     // One run of the script, whatever became of the image before, gives the disk, the text, the traffic and the ending.
     ensures { Guards D.Disk disk result.0 result.1 (λ ready.
         (ran : Result Bool ProgramFault) × EndsAs ran script.now result.1
@@ -54,23 +55,25 @@ where
         Ok(()) => {}
         Err(ending) => return (disk, ending),
     }
-    let (disk, outcome) = run_slots::<D, F, O, B, Brand>(alloc, disk, lines, out, slots);
+    let (disk, outcome) = run_slots::<D, F, O, B, N, Brand>(alloc, disk, lines, out, slots, notes);
     (disk, why.ended(outcome, script))
 }
 
 // Runs the lines, of which contracts know the bytes where they know the reader's.
-fn run_slots<D, F, O, B, K>(
+fn run_slots<D, F, O, B, N, K>(
     alloc: Global,
     disk: D,
     lines: F,
     out: O,
     slots: &mut [Option<Slot<B>>],
+    notes: &mut N,
 ) -> (D, Result<bool, ProgramFault>)
 where
     D: Disk + Drop,
     F: Read + Drop,
     O: Write + Drop,
     B: Bus + Drop,
+    N: CommandNotes,
     K: Known,
     requires reads { K.reads ≡ is_some (F.remaining lines) }
     requires writes { K.writes ≡ is_some (O.contents out) }
@@ -84,69 +87,7 @@ where
     };
     let mut reader: KnownSource<F, K> = KnownSource::new(lines);
     let mut writer: KnownSink<LineWriter<O>, K> = KnownSink::new(out);
-    let (disk, outcome) = run_script_over(alloc, disk, &mut reader, &mut writer, slots);
-    let is_written = is_written(&outcome, writer);
-    (disk, run_result(outcome, is_written))
-}
-
-/// As [`run_over`], with the gateway of bus line 1, where one is given.
-pub fn run_over_gateway<'a, D, F, O, GR, GW>(
-    alloc: Global,
-    why: &Why,
-    disk: D,
-    lines: F,
-    out: O,
-    gateway: Option<(GR, GW)>,
-    script: &'a str,
-) -> (D, Ending<'a>)
-where
-    D: Disk + Drop,
-    F: Read + Drop,
-    O: Write + Drop,
-    GR: Source + Drop,
-    GW: Sink + Drop,
-    // One run of the script, whatever became of the image before, gives the disk, the text, the traffic and the ending.
-    ensures { Guards D.Disk disk result.0 result.1 (λ ready.
-        (ran : Result Bool ProgramFault) × EndsAs ran script.now result.1
-        × RunsOver D.Disk (gateway_links gateway) (F.remaining lines)
-        (OverGateway GR.Source GW.Sink gateway) O.contents out ready result.0 ran) }
-{
-    let mut disk = disk;
-    match guarded(alloc, &mut disk) {
-        Ok(()) => {}
-        Err(ending) => return (disk, ending),
-    }
-    let (disk, outcome) = run_gateway::<D, F, O, GR, GW, Brand>(alloc, disk, lines, out, gateway);
-    (disk, why.ended(outcome, script))
-}
-
-// Runs the lines, of which contracts know the bytes where they know the reader's.
-fn run_gateway<D, F, O, GR, GW, K>(
-    alloc: Global,
-    disk: D,
-    lines: F,
-    out: O,
-    gateway: Option<(GR, GW)>,
-) -> (D, Result<bool, ProgramFault>)
-where
-    D: Disk + Drop,
-    F: Read + Drop,
-    O: Write + Drop,
-    GR: Source + Drop,
-    GW: Sink + Drop,
-    K: Known,
-    requires reads { K.reads ≡ is_some (F.remaining lines) }
-    requires writes { K.writes ≡ is_some (O.contents out) }
-    requires stands { Stands D.Disk disk }
-    ensures { RunsOver D.Disk (gateway_links gateway) (F.remaining lines)
-        (OverGateway GR.Source GW.Sink gateway) O.contents out disk result.0 result.1 }
-{
-    let Ok(out) = LineWriter::new(alloc, out) else {
-        return (disk, Err(ProgramFault::NoMemory));
-    };
-    let mut reader: KnownSource<F, K> = KnownSource::new(lines);
-    let mut writer: KnownSink<LineWriter<O>, K> = KnownSink::new(out);
-    let (disk, outcome) = run_script(alloc, disk, &mut reader, &mut writer, gateway);
+    let (disk, outcome) = run_script_over(alloc, disk, &mut reader, &mut writer, slots, notes);
     let is_written = is_written(&outcome, writer);
     (disk, run_result(outcome, is_written))
 }

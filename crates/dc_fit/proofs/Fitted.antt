@@ -40,19 +40,19 @@ none_spelled bytes changes none spells = one_history bytes changes [] spells (re
 
 module _ {D : Type 0} (g : Ghosts D) (wish : Wish) (house : Held) (plan : Outcome) (planned : IsMetBy wish house plan) where
   -- a row is wrong: nothing is done
-  pub all_wrong : IsOneGroup house plan → plan.wrong ≡ true → (wrote : List ℕ → Type 0) (old : Opened D) → wrote (fit_text plan) → ListsAll g wish house wrote true old old
+  pub all_wrong : IsOneGroup house plan → plan.wrong ≡ true → (wrote : List ℕ → Type 0) (old : Opened D) → wrote (fit_text plan) → ListsAll g wish house wrote plan old old
   all_wrong group is wrote old text = record {
     lists = record { plan = plan; changes = group.changes; listed = record { planned = planned; spells = group.spells; accepted = group.accepted }; did = inl refl };
-    wrong_is = sym is;
+    plan_is = refl;
     text = text;
     kept = λ keeps. subst (Keeps g old) (sym (stays plan group.changes house.state is)) keeps;
   }
 
   -- each row stands already
-  pub all_standing : IsOneGroup house plan → plan.wrong ≡ false → length plan.payload ≡ 0 → (wrote : List ℕ → Type 0) (old : Opened D) → wrote (fit_text plan) → ListsAll g wish house wrote false old old
+  pub all_standing : IsOneGroup house plan → plan.wrong ≡ false → length plan.payload ≡ 0 → (wrote : List ℕ → Type 0) (old : Opened D) → wrote (fit_text plan) → ListsAll g wish house wrote plan old old
   all_standing group is none wrote old text = record {
     lists = record { plan = plan; changes = group.changes; listed = record { planned = planned; spells = group.spells; accepted = group.accepted }; did = inl refl };
-    wrong_is = sym is;
+    plan_is = refl;
     text = text;
     kept = λ keeps. subst (Keeps g old)
         (sym (gains plan group.changes house.state is ∙ ap (after house.state) (none_spelled plan.payload group.changes none group.spells))) keeps;
@@ -72,11 +72,11 @@ module _ {D : Type 0} (g : Ghosts D) (wish : Wish) (house : Held) (plan : Outcom
 
     pub all_written : (wrote : List ℕ → Type 0) → wrote (fit_text plan)
         → (Keeps g old house.state → LeavesOnly g old.disk new.disk (StandsForEither (half_of g old.disk) house.state (after house.state changes)))
-        → (Keeps g old house.state → Keeps g new (after house.state changes)) → ListsAll g wish house wrote false old new
+        → (Keeps g old house.state → Keeps g new (after house.state changes)) → ListsAll g wish house wrote plan old new
     unfolding some_written
     all_written wrote text leaves kept = record {
       lists = some_written leaves;
-      wrong_is = sym is;
+      plan_is = refl;
       text = text;
       kept = λ keeps. subst (Keeps g new) (sym (gains plan changes house.state is)) (kept keeps);
     }
@@ -112,16 +112,16 @@ module _ {D : Type 0} (g : Ghosts D) (wish : Wish) (house : Held) (disk left : D
             l.did);
       }
 
-  pub fits_all : (wrote : List ℕ → Type 0) (wrong : Bool) → ListsAll g wish house wrote wrong old new → FitsAll g wish wrote wrong disk left
+  pub fits_all : (wrote : List ℕ → Type 0) (done : Outcome) → ListsAll g wish house wrote done old new → FitsAll g wish wrote done disk left
   unfolding fits
-  fits_all wrote wrong a =
+  fits_all wrote done a =
       let l = a.lists in
       let S = fitted l.plan l.changes house.state in
       let ends : g.keeps left → Keeps g new S = λ h. a.kept (kept (back (subst g.keeps same h))) in
       let half : half_of g new.disk ≡ half_of g disk = ap half_len_of (still ∙ count) in
       record {
         fits = fits l;
-        wrong_is = a.wrong_is;
+        plan_is = a.plan_is;
         text = a.text;
         stands = λ h.
             let k = ends h in
@@ -130,19 +130,19 @@ module _ {D : Type 0} (g : Ghosts D) (wish : Wish) (house : Held) (disk left : D
         durable = λ h. let k = ends h in subst (λ (d : D). g.choices d ≡ settled (g.reads d)) (sym same) k.is_settled;
       }
 
-  pub fits_ok : (wrote : List ℕ → Type 0) (result : Result Bool FitFault) → IfOk result (λ wrong. ListsAll g wish house wrote wrong old new) → IfOk result (λ wrong. FitsAll g wish wrote wrong disk left)
-  fits_ok wrote (Ok wrong) all = fits_all wrote wrong all
+  pub fits_ok : (wrote : List ℕ → Type 0) (result : Result Outcome FitFault) → IfOk result (λ done. ListsAll g wish house wrote done old new) → IfOk result (λ done. FitsAll g wish wrote done disk left)
+  fits_ok wrote (Ok done) all = fits_all wrote done all
   fits_ok wrote (Err fault) all = tt
 
-  pub fits_err : (result : Result Bool FitFault) → IfErr result (λ fault. IfDisk fault (λ e. Lists g wish house old new)) → IfErr result (λ fault. IfDisk fault (λ e. Fits g wish disk left))
-  fits_err (Ok wrong) some = tt
+  pub fits_err : (result : Result Outcome FitFault) → IfErr result (λ fault. IfDisk fault (λ e. Lists g wish house old new)) → IfErr result (λ fault. IfDisk fault (λ e. Fits g wish disk left))
+  fits_err (Ok done) some = tt
   fits_err (Err (Open e)) some = tt
   fits_err (Err NoMemory) some = tt
   fits_err (Err Write) some = tt
   fits_err (Err (Disk e)) some = fits some
 
-  pub before_err : (result : Result Bool FitFault) → IfErr result (λ fault. IsBefore fault → new ≡ old)
+  pub before_err : (result : Result Outcome FitFault) → IfErr result (λ fault. IsBefore fault → new ≡ old)
       → IfErr result (λ fault. IsBefore fault → g.keeps left → LeavesOnly g disk left (StandsForOne (half_of g disk) (g.choices disk)))
-  before_err (Ok wrong) some = tt
+  before_err (Ok done) some = tt
   before_err (Err fault) some = λ is h.
       subst (λ (d : D). LeavesOnly g disk d (StandsForOne (half_of g disk) (g.choices disk))) (sym (same ∙ ap (λ (o : Opened D). o.disk) (some is))) (opens (back (subst g.keeps same h)))

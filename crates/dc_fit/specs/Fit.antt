@@ -1,6 +1,6 @@
 -- What `fit`, `swap`, `move` and `out` do to an image (this product): the list or the command is planned on the register
 -- that the image stands for, and all of it is written at once, or nothing of it.
-use Rattle.std.specs.Prelude.{◌≡◌, ◌⊎◌, ℕ, Bool, List, [], ◌++◌, codes, if◌then◌else◌}
+use Rattle.std.specs.Prelude.{◌≡◌, ◌⊎◌, ℕ, List, [], ◌++◌, codes, if◌then◌else◌}
 use Rattle.dc_change.specs.State.{State, Held}
 use Rattle.dc_change.specs.History.{after, AcceptsAll}
 use Rattle.dc_change.specs.Spelled.{SpellsChanges}
@@ -48,9 +48,9 @@ pub record Lists {D : Type 0} (g : Ghosts D) (wish : Wish) (house : Held) (old n
 
 -- and all was done, and said
 pub record ListsAll {D : Type 0} (g : Ghosts D) (wish : Wish) (house : Held) (wrote : List ℕ → Type 0)
-    (wrong : Bool) (old new : Opened D) : Type 0 where
+    (plan : Outcome) (old new : Opened D) : Type 0 where
   pub lists : Lists g wish house old new
-  pub wrong_is : wrong ≡ lists.plan.wrong
+  pub plan_is : plan ≡ lists.plan
   pub text : wrote (fit_text lists.plan)
   pub kept : Keeps g old house.state → Keeps g new (fitted lists.plan lists.changes house.state)
 
@@ -72,11 +72,11 @@ pub record Fits {D : Type 0} (g : Ghosts D) (wish : Wish) (disk left : D) : Type
       StandsForOne (half_of g disk) (g.choices disk) image
       ⊎ StandsForEither (half_of g disk) state (fitted plan changes state) image)
 
--- DONE: the disk has the whole list, durably, or a row was wrong and nothing is done; which of both was said.
-pub record FitsAll {D : Type 0} (g : Ghosts D) (wish : Wish) (wrote : List ℕ → Type 0) (wrong : Bool)
+-- DONE: the disk has the whole list, durably, or a row was wrong and nothing is done; the plan says which of both.
+pub record FitsAll {D : Type 0} (g : Ghosts D) (wish : Wish) (wrote : List ℕ → Type 0) (plan : Outcome)
     (disk left : D) : Type 0 where
   pub fits : Fits g wish disk left
-  pub wrong_is : wrong ≡ fits.plan.wrong
+  pub plan_is : plan ≡ fits.plan
   pub text : wrote (fit_text fits.plan)
   pub stands : g.keeps left → Stands (half_of g disk) (fitted fits.plan fits.changes fits.state) (g.reads left)
   pub durable : g.keeps left → IsSettled g left

@@ -38,17 +38,17 @@ fn copy_of<A: Allocator + Copy>(alloc: A, house: &House<A>) -> Result<House<A>, 
     }
 }
 
-// Plans what is asked, says what comes of it, and writes it where nothing is wrong.
+// Plans what is asked, says what comes of it, and writes it where nothing is wrong. The result is the plan.
 fn fit<D: Disk + Drop, A: Allocator + Copy, W: Sink>(
     alloc: A,
     store: &mut Store<D>,
     house: House<A>,
     wish: &Wish<'_>,
     out: &mut W,
-) -> Result<bool, FitFault>
+) -> Result<Plan<A>, FitFault>
     requires { house.budget ≡ budget_of (half_of D.Disk store.old.disk) }
-    ensures fitted { IfOk result (λ wrong. ListsAll D.Disk wish.now house
-        (PutsInto W.Sink out.old out.new) wrong store.old store.new) }
+    ensures fitted { IfOk result (λ plan. ListsAll D.Disk wish.now house
+        (PutsInto W.Sink out.old out.new) plan store.old store.new) }
     ensures broken { IfErr result (λ fault. IfDisk fault (λ e.
         Lists D.Disk wish.now house store.old store.new)) }
     ensures before { IfErr result (λ fault. IsBefore fault → store.new ≡ store.old) }
@@ -63,10 +63,10 @@ fn fit<D: Disk + Drop, A: Allocator + Copy, W: Sink>(
     say(&plan, out)?;
     let is_wrong = plan.is_wrong();
     if is_wrong {
-        return Ok(true);
+        return Ok(plan);
     }
     if plan.changes().is_empty() {
-        return Ok(false);
+        return Ok(plan);
     }
     let mut house = house;
     match house.replay(plan.changes()) {
@@ -75,7 +75,7 @@ fn fit<D: Disk + Drop, A: Allocator + Copy, W: Sink>(
         Err(DecodeFault::Bad) => unreachable!(),
     }
     match write_changes(store, plan.changes(), &house) {
-        Ok(()) => Ok(false),
+        Ok(()) => Ok(plan),
         Err(fault) => Err(FitFault::Disk(fault)),
     }
 }
@@ -99,7 +99,7 @@ fn last_line(wrong: bool) -> &'static [u8]
 /// Opens the image, fits the meters of a list or does one command, and closes it. What is asked is planned on the
 /// register first ([`plan_wish`]), and what is said of it is written. Where a row or the command is wrong nothing is
 /// done, and the last line says so. Else the changes of the plan are written as one group; a row that stands already
-/// asks for none. The result is whether something was wrong: at `false` each row stands, and the command is done. The
+/// asks for none. The result is the plan: where nothing is wrong in it, each row stands, and its commands are done. The
 /// disk is returned in every case.
 ///
 /// # Errors
@@ -110,10 +110,10 @@ pub fn fit_on<D: Disk + Drop, A: Allocator + Copy, W: Sink>(
     disk: D,
     wish: &Wish<'_>,
     out: &mut W,
-) -> (D, Result<bool, FitFault>)
+) -> (D, Result<Plan<A>, FitFault>)
     // Where each image of the disk stands for some state: all that is asked is done, or nothing.
-    ensures fitted { IsStanding D.Disk disk → IfOk result.1 (λ wrong.
-        FitsAll D.Disk wish.now (PutsInto W.Sink out.old out.new) wrong disk result.0) }
+    ensures fitted { IsStanding D.Disk disk → IfOk result.1 (λ plan.
+        FitsAll D.Disk wish.now (PutsInto W.Sink out.old out.new) plan disk result.0) }
     ensures broken { IsStanding D.Disk disk → IfErr result.1 (λ fault.
         IfDisk fault (λ e. Fits D.Disk wish.now disk result.0)) }
     ensures before { IsStanding D.Disk disk → IfErr result.1 (λ fault.

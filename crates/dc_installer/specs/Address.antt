@@ -1,15 +1,19 @@
 -- Setting a primary address (EN 13757-3, bus address; EN 13757-2, SND_NKE, SND_UD and REQ_UD2).
 use Rattle.std.specs.Prelude.{◌≡◌, ◌≢◌, ℕ, Bool, true, false, List, [], ◌∷◌, ◌++◌, codes}
 use Rattle.std.specs.Prelude.{Option, None, Some, if◌then◌else◌}
+use Rattle.dc_address.specs.Mask.{mask_of, mask_wire}
 use Rattle.dc_address.specs.Text.{text_of}
 use Rattle.dc_address.specs.declared.identity.Identity.{Identity}
 use Rattle.dc_bus.specs.Windows.{Insists, most_tries}
-use Rattle.dc_frame.specs.Control.{request_to, reset_to, snd_ud}
-use Rattle.dc_frame.specs.Frame.{long, spelling}
+use Rattle.dc_frame.specs.Control.{request_to, reset_to, selected, selection_by, snd_ud}
+use Rattle.dc_frame.specs.Frame.{FrameSeen, long, spelling}
 use Rattle.dc_frame.specs.Reading.{frame_of}
 use Rattle.dc_io.specs.Words.{number_word}
 use Rattle.dc_readout.specs.Answer.{is_meter}
-use Rattle.dc_installer.specs.Scan.{IsAsked, address_line, is_ack, is_none, sender_at}
+use Rattle.dc_search.specs.Answer.{answer_of}
+use Rattle.dc_installer.specs.Scan.{IsAsked, IsCalled, address_line, is_ack, is_none, sender_at}
+use Rattle.dc_installer.specs.declared.address.Target.{Target}
+use Rattle.dc_installer.specs.declared.address.Target.TheVariants.{Address, Meter}
 use Rattle.dc_installer.specs.declared.address.Addressing.{Addressing}
 use Rattle.dc_installer.specs.declared.address.Addressing.TheVariants.{Set, Taken, Nobody, Unclear}
 use Rattle.dc_installer.specs.declared.address.Addressing.TheVariants.{Unconfirmed}
@@ -32,10 +36,29 @@ pub data IsFree {B : Type 0} (asks_all : B → List ℕ → List ℕ → B → T
       → Insists asks_all (spelling (request_to true address)) most_tries between telegram new
       → free ≡ is_none telegram → IsFree asks_all address old free new
 
--- the one meter that acknowledges at an address, and whose telegram comes from there
-abbrev pub one_at : ℕ → List ℕ → List ℕ → Option Identity
-one_at address answer telegram =
-    if is_ack (frame_of answer) then sender_at address telegram else None
+-- the frame after which the meter answers: a reset of its address, or its selection
+abbrev pub call_to : Target → FrameSeen
+call_to (Address address) = reset_to address
+call_to (Meter meter) = selection_by (mask_wire (mask_of meter))
+
+-- the address at which it answers then
+abbrev pub place_of : Target → ℕ
+place_of (Address address) = address
+place_of (Meter meter) = selected
+
+abbrev pub if_is : Identity → Option Identity → Option Identity
+if_is meter None = None
+if_is meter (Some sender) = if is_meter meter sender then Some meter else None
+
+-- the meter of a telegram: it comes from the address, or the selected meter sends it
+abbrev pub sender_of : Target → List ℕ → Option Identity
+sender_of (Address address) telegram = sender_at address telegram
+sender_of (Meter meter) telegram = if_is meter (answer_of telegram)
+
+-- the one meter that acknowledges, and whose telegram says who it is
+abbrev pub one_at : Target → List ℕ → List ℕ → Option Identity
+one_at target answer telegram =
+    if is_ack (frame_of answer) then sender_of target telegram else None
 
 -- what came of a change, by the meter that answers at the new address
 abbrev pub confirmed : Identity → Option Identity → Addressing
@@ -54,25 +77,30 @@ pub record IsChanged {B : Type 0} (asks asks_all : B → List ℕ → List ℕ �
   pub asked : IsAsked asks_all to between answer telegram new
   pub outcome_is : outcome ≡ confirmed meter (sender_at to telegram)
 
+-- it is called as the target says
+abbrev pub IsReached : {B : Type 0} → (B → List ℕ → List ℕ → B → Type 0) → Target → B → List ℕ → List ℕ
+    → B → Type 0
+IsReached asks_all target = IsCalled asks_all (spelling (call_to target)) (place_of target)
+
 -- SETTING AN ADDRESS, in order, and nothing else goes out. The change follows only where the new address is
--- free, one meter acknowledges at the old one, and its telegram names it.
-pub data IsAddressed {B : Type 0} (asks asks_all : B → List ℕ → List ℕ → B → Type 0) (from to : ℕ)
-    (old : B) : Addressing → B → Type 0 where
+-- free, one meter acknowledges, and its telegram says that it is the one.
+pub data IsAddressed {B : Type 0} (asks asks_all : B → List ℕ → List ℕ → B → Type 0)
+    (target : Target) (to : ℕ) (old : B) : Addressing → B → Type 0 where
   is_taken : {new : B} → IsFree asks_all to old false new
-      → IsAddressed asks asks_all from to old Taken new
+      → IsAddressed asks asks_all target to old Taken new
   is_nobody : {free new : B} (telegram : List ℕ) → IsFree asks_all to old true free
-      → IsAsked asks_all from free [] telegram new
-      → IsAddressed asks asks_all from to old Nobody new
+      → IsReached asks_all target free [] telegram new
+      → IsAddressed asks asks_all target to old Nobody new
   is_unclear : {free new : B} (answer telegram : List ℕ) → IsFree asks_all to old true free
-      → IsAsked asks_all from free answer telegram new → answer ≢ []
-      → one_at from answer telegram ≡ None
-      → IsAddressed asks asks_all from to old Unclear new
+      → IsReached asks_all target free answer telegram new → answer ≢ []
+      → one_at target answer telegram ≡ None
+      → IsAddressed asks asks_all target to old Unclear new
   is_one : {free named new : B} {meter : Identity} {outcome : Addressing}
       (answer telegram : List ℕ) → IsFree asks_all to old true free
-      → IsAsked asks_all from free answer telegram named
-      → one_at from answer telegram ≡ Some meter
-      → IsChanged asks asks_all from to meter named outcome new
-      → IsAddressed asks asks_all from to old outcome new
+      → IsReached asks_all target free answer telegram named
+      → one_at target answer telegram ≡ Some meter
+      → IsChanged asks asks_all (place_of target) to meter named outcome new
+      → IsAddressed asks asks_all target to old outcome new
 
 -- ---- the text
 
@@ -82,11 +110,16 @@ address_word address = codes "address" ++ number_word address
 unfoldable pub elsewhere : Identity → List ℕ
 elsewhere meter = text_of meter ++ codes " doesn't answer there\n"
 
-abbrev pub addressing_text : ℕ → ℕ → Addressing → List ℕ
-addressing_text from to (Set meter) = address_line to (Some meter)
-addressing_text from to Taken = address_word to ++ codes " is taken: somebody answers there\n"
-addressing_text from to Nobody = address_word from ++ codes ": no meter acknowledges there\n"
-addressing_text from to Unclear =
-    address_word from ++ codes ": several meters answer, or one that can't be read\n"
-addressing_text from to (Unconfirmed meter) =
+-- how a meter is reached
+abbrev pub target_word : Target → List ℕ
+target_word (Address address) = address_word address
+target_word (Meter meter) = text_of meter
+
+abbrev pub addressing_text : Target → ℕ → Addressing → List ℕ
+addressing_text target to (Set meter) = address_line to (Some meter)
+addressing_text target to Taken = address_word to ++ codes " is taken: somebody answers there\n"
+addressing_text target to Nobody = target_word target ++ codes ": no meter acknowledges there\n"
+addressing_text target to Unclear =
+    target_word target ++ codes ": several meters answer, or one that can't be read\n"
+addressing_text target to (Unconfirmed meter) =
     address_word to ++ (codes ": " ++ elsewhere meter)

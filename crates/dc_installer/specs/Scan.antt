@@ -79,17 +79,20 @@ abbrev pub sender_at : ℕ → List ℕ → Option Identity
 sender_at address telegram =
     if is_sent_from address (frame_of telegram) then answer_of telegram else None
 
--- AN ADDRESS IS ASKED: it is reset, and where bytes come to that, its telegram is requested. This is what came to the one
--- and to the other.
-pub data IsAsked {B : Type 0} (asks_all : B → List ℕ → List ℕ → B → Type 0) (address : ℕ) (old : B)
-    (answer telegram : List ℕ) (new : B) : Type 0 where
-  is_silent : answer ≡ [] → telegram ≡ []
-      → Insists asks_all (spelling (reset_to address)) most_tries old answer new
-      → IsAsked asks_all address old answer telegram new
-  answers : {between : B} → answer ≢ []
-      → Insists asks_all (spelling (reset_to address)) most_tries old answer between
+-- A METER IS CALLED: the frame goes out, and where bytes come to that, a telegram is requested at the address. This is what
+-- came to the one and to the other.
+pub data IsCalled {B : Type 0} (asks_all : B → List ℕ → List ℕ → B → Type 0) (frame : List ℕ)
+    (address : ℕ) (old : B) (answer telegram : List ℕ) (new : B) : Type 0 where
+  is_silent : answer ≡ [] → telegram ≡ [] → Insists asks_all frame most_tries old answer new
+      → IsCalled asks_all frame address old answer telegram new
+  answers : {between : B} → answer ≢ [] → Insists asks_all frame most_tries old answer between
       → Reads asks_all (spelling (request_to true address)) between telegram new
-      → IsAsked asks_all address old answer telegram new
+      → IsCalled asks_all frame address old answer telegram new
+
+-- AN ADDRESS IS ASKED: it is reset.
+abbrev pub IsAsked : {B : Type 0} → (B → List ℕ → List ℕ → B → Type 0) → ℕ → B → List ℕ → List ℕ → B
+    → Type 0
+IsAsked asks_all address = IsCalled asks_all (spelling (reset_to address)) address
 
 -- the meter at an address, or what the failed try brought
 abbrev pub identified : Option Identity → List ℕ → Result Identity Misses

@@ -1,20 +1,22 @@
 //! Setting a primary address.
 
-ghost use Rattle.std.specs.Prelude.{◌≡◌, ◌++◌, true, ℕ, List, codes};
+ghost use Rattle.std.specs.Prelude.{◌≡◌, ◌≤◌, ◌++◌, true, ℕ, List, codes, length};
+ghost use Rattle.dc_bus.specs.Limits.{most_request};
 ghost use Rattle.dc_bus.specs.Windows.{Insists, most_tries};
 ghost use Rattle.dc_frame.specs.Control.{request_to};
 ghost use Rattle.dc_frame.specs.Frame.{spelling};
 ghost use Rattle.dc_io.specs.Written.{Wrote};
 ghost use Rattle.dc_installer.specs.Address.{IsAddressed, IsChanged, IsFree, address_word};
-ghost use Rattle.dc_installer.specs.Address.{addressing_text, change_to, confirmed, elsewhere};
-ghost use Rattle.dc_installer.specs.Address.{one_at};
+ghost use Rattle.dc_installer.specs.Address.{addressing_text, call_to, change_to, confirmed, elsewhere};
+ghost use Rattle.dc_installer.specs.Address.{one_at, place_of, target_word};
 
-use crate::primary::{Asked, ask_address, ask_reset, is_ack, put_address, sender_at};
-use dc_address::Identity;
+use crate::primary::{Asked, ask_address, ask_reset, call, is_ack, put_address, sender_at};
+use dc_address::{Identity, Mask};
 use dc_bus::{AnswerBuf, Bus, TRIES, insist};
-use dc_frame::control::{SND_UD, write_request};
+use dc_frame::control::{SELECTED, SND_UD, write_request, write_reset, write_selection};
 use dc_frame::{FrameBuf, write_long};
 use dc_io::{IoFault, Sink, put_number_word};
+use dc_search::meter_of;
 
 // CI of data that a meter is to take, in records.
 const DATA: u8 = 0x51;
@@ -24,41 +26,75 @@ const EIGHT_BITS: u8 = 0x01;
 
 const BUS_ADDRESS: u8 = 0x7A;
 
+/// How the meter that gets an address is reached.
+#[derive(Clone, Copy, Debug, PartialEq, Eq)]
+pub enum Target {
+    /// At the primary address that it has; 0 where it got none.
+    Address(u8),
+    /// By secondary addressing: it is selected.
+    Meter(Identity),
+}
+
 /// What came of setting a primary address.
 #[derive(Clone, Copy, Debug, PartialEq, Eq)]
 pub enum Addressing {
     /// The meter answers at the new address.
     Set(Identity),
-    /// Somebody answers at the new address. Nothing was sent to the old one.
+    /// Somebody answers at the new address. Nothing else was sent.
     Taken,
-    /// No meter acknowledges at the old address. Its address wasn't changed.
+    /// No meter acknowledges. No address was changed.
     Nobody,
-    /// At the old address no telegram can be read: more than one meter answers, or one that can't be named. Its
-    /// address wasn't changed.
+    /// No telegram of that one meter can be read: several answer, or one that can't be named. No address was changed.
     Unclear,
     /// The meter was sent its new address, and doesn't answer there.
     Unconfirmed(Identity),
 }
 
-/// Sets the primary address of the meter at `from` to `to`, by SND_UD with the record `01 7A to` (EN 13757-3, bus
-/// address), and reads it there.
+/// Sets the primary address of a meter to `to`, by SND_UD with the record `01 7A to` (EN 13757-3, bus address), and reads
+/// it there.
 ///
-/// Nothing goes to `from` unless `to` is silent: a reset and a request are met by silence three times each. The change
-/// goes out only where one meter acknowledges at `from`, and its telegram comes twice and names that address. Whether
-/// the change is acknowledged doesn't count; the telegram at `to` decides.
-pub fn set_address<B: Bus>(bus: &mut B, from: u8, to: u8) -> Addressing
-    ensures { IsAddressed B.asks B.asks_all from to bus.old result bus.new }
+/// Nothing goes to the meter unless `to` is silent: a reset and a request are met by silence three times each. The change
+/// goes out only where one meter acknowledges, and its telegram comes twice; at a primary address the telegram names that
+/// address, and a meter that was selected is that very one. Whether the change is acknowledged doesn't count; the telegram
+/// at `to` decides, which names that address and the meter.
+pub fn set_address<B: Bus>(bus: &mut B, target: &Target, to: u8) -> Addressing
+    ensures { IsAddressed B.asks B.asks_all target.now to bus.old result bus.new }
 {
     if !is_free(bus, to) {
         return Addressing::Taken;
     }
-    let asked = ask_address(bus, from);
+    let request = call_to(target);
+    let place = place_of(target);
+    let asked = call(bus, &request, place);
     if asked.answer.as_slice().is_empty() {
         return Addressing::Nobody;
     }
-    match one_at(from, &asked) {
-        Some(meter) => change(bus, &meter, from, to),
+    match one_at(target, &asked) {
+        Some(meter) => change(bus, &meter, place, to),
         None => Addressing::Unclear,
+    }
+}
+
+// The frame after which the meter answers: a reset of its address, or its selection.
+fn call_to(target: &Target) -> FrameBuf
+    ensures frame { result ≡ spelling (call_to target.now) }
+    ensures short { length result ≤ most_request }
+{
+    let mut request = FrameBuf::new();
+    match *target {
+        Target::Address(address) => write_reset(address, &mut request),
+        Target::Meter(meter) => write_selection(&Mask::of(&meter).wire(), &mut request),
+    }
+    request
+}
+
+// The address at which it answers then.
+fn place_of(target: &Target) -> u8
+    ensures { result ≡ place_of target.now }
+{
+    match *target {
+        Target::Address(address) => address,
+        Target::Meter(_) => SELECTED,
     }
 }
 
@@ -84,14 +120,19 @@ fn ask_data<B: Bus>(bus: &mut B, address: u8) -> AnswerBuf
     insist(bus, &request, TRIES)
 }
 
-// The one meter that acknowledges at an address, and whose telegram comes from there.
-fn one_at(address: u8, asked: &Asked) -> Option<Identity>
-    ensures { result ≡ one_at address asked.now.answer asked.now.telegram }
+// The one meter that acknowledges: at an address its telegram comes from there, and a selected one is that meter.
+fn one_at(target: &Target, asked: &Asked) -> Option<Identity>
+    ensures { result ≡ one_at target.now asked.now.answer asked.now.telegram }
 {
-    if is_ack(&asked.answer) {
-        sender_at(address, &asked.telegram)
-    } else {
-        None
+    if !is_ack(&asked.answer) {
+        return None;
+    }
+    match *target {
+        Target::Address(address) => sender_at(address, &asked.telegram),
+        Target::Meter(meter) => {
+            let sender = meter_of(asked.telegram.as_slice())?;
+            if sender == meter { Some(meter) } else { None }
+        }
     }
 }
 
@@ -136,20 +177,26 @@ fn confirmed(meter: &Identity, sender: Option<Identity>) -> Addressing
 
 /// Prints what came of setting a primary address: `ADDRESS to ident`, or a sentence.
 pub fn put_addressing<W: Sink>(
-    from: u8,
+    target: &Target,
     to: u8,
     outcome: &Addressing,
     out: &mut W,
 ) -> Result<(), IoFault>
-    ensures { Wrote W.Sink result out.old out.new (addressing_text from to outcome.now) }
+    ensures { Wrote W.Sink result out.old out.new (addressing_text target.now to outcome.now) }
 {
     match outcome {
         Addressing::Set(meter) => put_address(to, Some(*meter), out),
-        Addressing::Taken => put_sentence(to, b" is taken: somebody answers there\n", out),
-        Addressing::Nobody => put_sentence(from, b": no meter acknowledges there\n", out),
+        Addressing::Taken => {
+            put_sentence(
+                &Target::Address(to),
+                b" is taken: somebody answers there\n",
+                out,
+            )
+        }
+        Addressing::Nobody => put_sentence(target, b": no meter acknowledges there\n", out),
         Addressing::Unclear => {
             put_sentence(
-                from,
+                target,
                 b": several meters answer, or one that can't be read\n",
                 out,
             )
@@ -159,11 +206,21 @@ pub fn put_addressing<W: Sink>(
 }
 
 #[tactic(auto, using(dc_io::proofs::Pieces::written))]
-fn put_sentence<W: Sink>(address: u8, text: &[u8], out: &mut W) -> Result<(), IoFault>
-    ensures { Wrote W.Sink result out.old out.new (address_word address ++ text.now) }
+fn put_sentence<W: Sink>(target: &Target, text: &[u8], out: &mut W) -> Result<(), IoFault>
+    ensures { Wrote W.Sink result out.old out.new (target_word target.now ++ text.now) }
 {
-    put_address_word(address, out)?;
+    put_target(target, out)?;
     out.put(text)
+}
+
+// Writes how a meter is reached.
+fn put_target<W: Sink>(target: &Target, out: &mut W) -> Result<(), IoFault>
+    ensures { Wrote W.Sink result out.old out.new (target_word target.now) }
+{
+    match *target {
+        Target::Address(address) => put_address_word(address, out),
+        Target::Meter(meter) => out.put(&meter.text()),
+    }
 }
 
 #[tactic(auto, using(dc_io::proofs::Pieces::written))]

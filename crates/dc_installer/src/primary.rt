@@ -1,7 +1,8 @@
 //! The search at primary addresses.
 
-ghost use Rattle.std.specs.Prelude.{◌≡◌, ◌≤◌, ◌+◌, ◌∷◌, [], true, List, ℕ, OnOk, OnErr};
+ghost use Rattle.std.specs.Prelude.{◌≡◌, ◌≤◌, ◌+◌, ◌∷◌, [], true, List, ℕ, OnOk, OnErr, length};
 ghost use Rattle.std.specs.List.{range_with_len};
+ghost use Rattle.dc_bus.specs.Limits.{most_request};
 ghost use Rattle.dc_bus.specs.Windows.{Insists, Reads, most_tries};
 ghost use Rattle.dc_frame.specs.Control.{request_to, reset_to};
 ghost use Rattle.dc_frame.specs.Frame.{spelling};
@@ -9,11 +10,11 @@ ghost use Rattle.dc_frame.specs.Reading.{frame_of};
 ghost use Rattle.dc_io.specs.Failures.{HasRisen};
 ghost use Rattle.dc_io.specs.Written.{PutsInto, Wrote};
 ghost use Rattle.dc_readout.specs.Misses.{misses_of};
-ghost use Rattle.dc_installer.specs.Scan.{AsksEach, AsksOne, Identifies, IsAsked, address_line};
+ghost use Rattle.dc_installer.specs.Scan.{AsksEach, AsksOne, Identifies, IsAsked, IsCalled, address_line};
 ghost use Rattle.dc_installer.specs.Scan.{greatest, identified, identity_word, is_ack, is_sent_from};
 ghost use Rattle.dc_installer.specs.Scan.{is_there, line_of, sender_at};
 
-use dc_address::{Identity, Primary};
+use dc_address::Identity;
 use dc_bus::{AnswerBuf, Bus, TRIES, insist, read_twice};
 use dc_frame::control::{write_request, write_reset};
 use dc_frame::{Frame, FrameBuf, parse};
@@ -48,14 +49,14 @@ pub fn scan_primary<B: Bus, W: Sink>(bus: &mut B, out: &mut W) -> Result<(), IoF
     scan_range(1, GREATEST, bus, out)
 }
 
-/// Identifies the meter at a primary address. The meter repeats its telegram to the next readout.
+/// Identifies the meter at a primary address, or at 0, which a meter has that got none. The meter repeats its telegram to
+/// the next readout.
 ///
 /// # Errors
 /// No telegram of one meter came from that address. The try that failed is counted by what it brought.
-pub fn identify<B: Bus>(bus: &mut B, address: Primary) -> Result<Identity, Misses>
+pub fn identify<B: Bus>(bus: &mut B, address: u8) -> Result<Identity, Misses>
     ensures { Identifies B.asks_all address bus.old result bus.new }
 {
-    let address = address.get();
     let asked = ask_address(bus, address);
     identified(sender_at(address, &asked.telegram), &asked.telegram)
 }
@@ -124,18 +125,28 @@ fn put_asked<W: Sink>(address: u8, asked: &Asked, out: &mut W) -> Result<(), IoF
     put_address(address, sender_at(address, &asked.telegram), out)
 }
 
-// Whether somebody answers.
-fn is_there(asked: &Asked) -> bool
+/// Whether somebody answers.
+pub fn is_there(asked: &Asked) -> bool
     ensures { result ≡ is_there asked.now.answer asked.now.telegram }
 {
     is_ack(&asked.answer) || !asked.telegram.as_slice().is_empty()
 }
 
 /// Resets an address, and requests its telegram where bytes come to that.
-pub(crate) fn ask_address<B: Bus>(bus: &mut B, address: u8) -> Asked
+pub fn ask_address<B: Bus>(bus: &mut B, address: u8) -> Asked
     ensures { IsAsked B.asks_all address bus.old result.answer result.telegram bus.new }
 {
-    let answer = ask_reset(bus, address);
+    let mut request = FrameBuf::new();
+    write_reset(address, &mut request);
+    call(bus, &request, address)
+}
+
+/// Sends a frame, and requests a telegram at an address where bytes come to that.
+pub(crate) fn call<B: Bus>(bus: &mut B, request: &FrameBuf, address: u8) -> Asked
+    requires { length request.now ≤ most_request }
+    ensures { IsCalled B.asks_all request.now address bus.old result.answer result.telegram bus.new }
+{
+    let answer = insist(bus, request, TRIES);
     if answer.as_slice().is_empty() {
         return Asked {
             answer,
@@ -172,7 +183,7 @@ pub(crate) fn is_ack(answer: &AnswerBuf) -> bool
 }
 
 /// The meter of a telegram that comes from this address.
-pub(crate) fn sender_at(address: u8, telegram: &AnswerBuf) -> Option<Identity>
+pub fn sender_at(address: u8, telegram: &AnswerBuf) -> Option<Identity>
     ensures { result ≡ sender_at address telegram.now }
 {
     if is_sent_from(address, telegram) {

@@ -22,8 +22,8 @@ pub fn put_unread<W: Sink>(out: &mut W, course: &Course) -> Result<(), IoFault>
     put_line(out, course)
 }
 
-// Whether each answer was a frame.
-fn is_all_read(course: &Course) -> bool
+/// Whether each answer was a frame.
+pub fn is_all_read(course: &Course) -> bool
     ensures { result ≡ is_all_read course.now }
 {
     course.unreadable == 0 && course.collided == 0

@@ -15,6 +15,7 @@ ghost use Rattle.dc_script.specs.Starved.{ImageStarved, IsOfSearch};
 ghost use Rattle.dc_script.specs.Traffic.{AreCarried, OverGateway, gateway_slot};
 
 use crate::halt::Halt;
+use crate::notes::CommandNotes;
 use crate::script::run_lines;
 use crate::slot::Slot;
 use dc_bus::Bus;
@@ -45,7 +46,8 @@ use std::alloc::Allocator;
 /// meter whose answer is lost or late isn't found. For a line without a bus `SEARCH` writes `NO
 /// GATEWAY`.
 ///
-/// The whole script is read before the image is opened. The disk is returned in every case.
+/// The whole script is read before the image is opened. The disk is returned in every case. Each command that is done is
+/// noted once it is on the disk, whether its answer is written or not.
 ///
 /// # Errors
 /// [`ProgramFault::Read`], [`ProgramFault::TooLong`] over 1 MiB and [`ProgramFault::NoMemory`],
@@ -54,12 +56,20 @@ use std::alloc::Allocator;
 /// of the bus is written; [`ProgramFault::Open`] if the image wasn't opened, with the writer
 /// unchanged; [`ProgramFault::Write`] if the writer failed: the line at which it did is done, and
 /// none after it.
-pub fn run_script_over<D: Disk + Drop, A: Allocator + Copy, R: Source, W: Sink, B: Bus + Drop>(
+pub fn run_script_over<
+    D: Disk + Drop,
+    A: Allocator + Copy,
+    R: Source,
+    W: Sink,
+    B: Bus + Drop,
+    N: CommandNotes,
+>(
     alloc: A,
     disk: D,
     reader: &mut R,
     writer: &mut W,
     lines: &mut [Option<Slot<B>>],
+    notes: &mut N,
 ) -> (D, Result<bool, ProgramFault>)
     // Where each image of the disk stands for some state: the run is that of the script's lines, of which exactly the
     // text is written, and the image is left as that run leaves it. Over the bus of each bus line go the exchanges of
@@ -105,6 +115,7 @@ pub fn run_script_over<D: Disk + Drop, A: Allocator + Copy, R: Source, W: Sink, 
         input.as_slice(),
         bytes.as_mut_slice(),
         writer,
+        notes,
     ) {
         Ok(faulty) => (concentrator.close(), Ok(faulty)),
         Err(halt) => match halt {
@@ -168,7 +179,7 @@ pub fn run_script<
         Ok(lines) => lines,
         Err(NoMemory) => return (disk, Err(ProgramFault::NoMemory)),
     };
-    run_script_over(alloc, disk, reader, writer, lines.as_mut_slice())
+    run_script_over(alloc, disk, reader, writer, lines.as_mut_slice(), &mut ())
 }
 
 // The whole script, and room for an answer's bytes.

@@ -18,6 +18,7 @@ ghost use Rattle.dc_script.specs.Traffic.{AreCarried, PollsOver, SearchesOver};
 ghost use Rattle.dc_script.specs.Run.{AnyRun, OneTurn};
 
 use crate::halt::{Halt, written};
+use crate::notes::CommandNotes;
 use crate::poll::poll;
 use crate::port::Port;
 use crate::script_line::ScriptLine;
@@ -25,21 +26,23 @@ use crate::searching::search_on;
 use crate::slot::Slot;
 use dc_address::Identity;
 use dc_bus::Bus;
-use dc_change::Moment;
+use dc_change::{Command, Moment};
 use dc_concentrator::{Concentrator, Event, WriteFault};
 use dc_disk::Disk;
 use dc_io::{IoFault, Sink, first_line, put_number_word};
+use dc_register::House;
 use std::alloc::Allocator;
 
 /// Executes the lines of an input, up to the first that spells nothing, and returns whether there
-/// was one. `bytes` is room for an answer.
-pub fn run_lines<D: Disk + Drop, A: Allocator + Copy, B: Bus + Drop, W: Sink>(
+/// was one. `bytes` is room for an answer. The commands that were done are noted.
+pub fn run_lines<D: Disk + Drop, A: Allocator + Copy, B: Bus + Drop, W: Sink, N: CommandNotes>(
     alloc: A,
     concentrator: &mut Concentrator<D, A>,
     slots: &mut [Option<Slot<B>>],
     input: &[u8],
     bytes: &mut [u8],
     out: &mut W,
+    notes: &mut N,
 ) -> Result<bool, Halt>
     requires { longest_input_line ≤ 2 * length bytes.old }
     ensures ran { AnyRun D.Disk concentrator.old concentrator.new (λ run.
@@ -70,14 +73,32 @@ pub fn run_lines<D: Disk + Drop, A: Allocator + Copy, B: Bus + Drop, W: Sink>(
                 Err(IoFault) => Err(Halt::Write),
             };
         };
+        let last = concentrator.house().last_number();
         if let Err(halt) = run_line(alloc, concentrator, slots, &asked, moment, out) {
+            note_done(&asked, last, concentrator.house(), notes);
             return Err(halt);
         }
+        note_done(&asked, last, concentrator.house(), notes);
         moment = moment_behind(&asked, moment);
         count += 1;
         rest = after;
     }
     Ok(false)
+}
+
+// Notes the command of a line, if the house has it done now: its last command was another one before.
+fn note_done<A: Allocator + Copy, N: CommandNotes>(
+    asked: &ScriptLine<'_>,
+    last: u64,
+    house: &House<A>,
+    notes: &mut N,
+) {
+    if let ScriptLine::Office { text } = *asked
+        && house.last_number() != last
+        && let Some(done) = Command::parse_line(text)
+    {
+        notes.note(&done);
+    }
 }
 
 // Executes a line, at the script's time.

@@ -1,6 +1,6 @@
 -- What is wrong with the words (this product).
 use Rattle.dc_words.specs.declared.fault.WordsFault.{WordsFault}
-use Rattle.dc_words.specs.declared.fault.WordsFault.TheVariants.{Clap, Link, Meter, NoLink}
+use Rattle.dc_words.specs.declared.fault.WordsFault.TheVariants.{Clap, Link, Meter, Reached, NoLink}
 use Rattle.dc_words.specs.declared.fault.WordsFault.TheVariants.{Boundaries, Silence, Dash, Flat, Address, NoMemory}
 
 -- what is said where they are a mistake of which `clap` knows nothing
@@ -8,6 +8,7 @@ abbrev pub IfMistake : WordsFault → Type 0 → Type 0
 IfMistake (Clap error) said = Unit {0}
 IfMistake (Link fault) said = said
 IfMistake Meter said = said
+IfMistake Reached said = said
 IfMistake NoLink said = said
 IfMistake Boundaries said = said
 IfMistake Silence said = said

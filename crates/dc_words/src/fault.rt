@@ -42,6 +42,8 @@ pub enum WordsFault {
     Link(LinkFault),
     /// A word that has to name a meter doesn't.
     Meter,
+    /// A word that has to say how a meter is reached doesn't.
+    Reached,
     /// No bus line has a link.
     NoLink,
     /// A word that has to be boundaries of periods isn't.

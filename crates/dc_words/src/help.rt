@@ -357,6 +357,7 @@ them at the end.
 --csv N prints a list of bus line N that fit takes once its flats are filled in:
   meter,line,address,flat,medium,value
 All else that was found goes to standard error then. --json: an object a meter.
+After 16 answers of which none is a frame the search is given up, status 1.
 Nobody answers: is the bus powered, are speed and parity right? SHARED: read
 these meters by their primary addresses (scan --primary).
 --trace FILE gets milliseconds, bus line, > or <, hex digits, and what they are:
@@ -374,7 +375,8 @@ changed. Then the meter gets its new address, and is read there. Printed:
   address OLD: no meter acknowledges there
   address OLD: several meters answer, or one that can't be read
   address NEW: ident doesn't answer there      the change was sent: read both
-A meter without an address has 0. Nothing else is written to any meter.
+A meter without an address has 0. OLD may be its identity: it is selected then,
+and named so in these lines. Nothing else is written to any meter.
 Status: 0 the meter answers at NEW, 1 it doesn't, 4 the link or memory.";
 
 /// Of `read`.
@@ -387,6 +389,7 @@ follows and the status is 1; standard error says what the failed tries brought:
 mbdc: 12345678.PAD.01.07: 3 tries failed: 2 silent, 1 unreadable. LATE n comes
 last where n times bytes came that nothing could have sent. A number alone, as
 12345678, is the one meter on the bus that has it; SHARED number where several
-have it, or where the answers of one are damaged.
+have it, or where the answers of one are damaged. Address 0 is that of a meter
+that got none; it is selected once it is known.
 --trace FILE gets each request and answer, as of scan.
 Faults: mbdc: gateway where the link can't be connected or is lost; mbdc: memory";

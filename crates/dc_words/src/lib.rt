@@ -20,7 +20,7 @@ pub use link::LinkName;
 pub use links::{LINES, Links};
 pub use near::nearest;
 pub use task::{
-    Call, Engine, Form, Listing, MeterName, OrderTask, PollTask, RunTask, Scan, StatusForm, Task,
-    Turn,
+    Call, Engine, Form, Listing, MeterName, OrderTask, PollTask, Reached, RunTask, Scan,
+    StatusForm, Task, Turn,
 };
 pub use words::call_of;

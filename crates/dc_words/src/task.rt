@@ -70,10 +70,19 @@ pub enum Listing {
 pub enum MeterName {
     /// By its identity: it is selected.
     Identity(Identity),
-    /// By its primary address.
-    Primary(Primary),
+    /// By its primary address; 0 is that of a meter that got none.
+    Address(u8),
     /// By the eight digits of its number alone: all with that number are selected.
     Number([u8; 8]),
+}
+
+/// How a meter that gets an address is reached.
+#[derive(Clone, Copy, Debug, PartialEq, Eq)]
+pub enum Reached {
+    /// By its identity: it is selected.
+    Selected(Identity),
+    /// At the address that it has.
+    At(u8),
 }
 
 /// A script over an image, in files.
@@ -83,10 +92,10 @@ pub struct RunTask<'a> {
     pub image: &'a str,
     /// The script's file.
     pub script: &'a str,
-    /// Where the gateway is, as `HOST:PORT`.
-    pub gateway: Option<&'a str>,
-    /// The links of the bus lines; empty if only a gateway is named.
+    /// The links of the bus lines.
     pub links: Links<'a>,
+    /// Whether the only one is a gateway that was named as such.
+    pub is_gateway: bool,
     /// The time-out of an answer in milliseconds; that of the link where none is given.
     pub patience: Option<u16>,
 }
@@ -259,8 +268,8 @@ pub enum Task<'a> {
     Address {
         /// The bus.
         link: LinkName<'a>,
-        /// The address that the meter has.
-        from: u8,
+        /// The meter, by its identity or the address that it has.
+        meter: Reached,
         /// The address that it gets.
         to: u8,
         /// The time-out of an answer in milliseconds.

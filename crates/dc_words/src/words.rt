@@ -6,8 +6,8 @@ use crate::link::LinkName;
 use crate::links::Links;
 use crate::silence::silence_of;
 use crate::task::{
-    Call, Engine, Form, Listing, MeterName, OrderTask, PollTask, RunTask, Scan, StatusForm, Task,
-    Turn,
+    Call, Engine, Form, Listing, MeterName, OrderTask, PollTask, Reached, RunTask, Scan,
+    StatusForm, Task, Turn,
 };
 use clap::{Arg, ArgAction, ArgMatches, Command, value_parser};
 use dc_address::Primary;
@@ -18,6 +18,9 @@ use std::alloc::{AllocError, Global};
 
 // The least and the greatest number of sectors: what the file of the largest image holds.
 const SECTORS: (i64, i64) = (131, 131_075);
+
+// The greatest primary address.
+const GREATEST: u8 = 250;
 
 // The word for standard input.
 const DASH: &str = "-";
@@ -48,23 +51,6 @@ fn option_arg<'a>(alloc: Global, id: &'a str, long: &'a str, value: &'a str) -> 
 
 fn image_arg<'a>(alloc: Global) -> Arg<'a> {
     required_arg(alloc, "IMAGE", "The image's file")
-}
-
-fn new_arg<'a>(alloc: Global) -> Arg<'a> {
-    required_arg(
-        alloc,
-        "FILE",
-        "The new image's file: nothing has its name yet",
-    )
-}
-
-fn sectors_arg<'a>(alloc: Global) -> Arg<'a> {
-    required_arg(
-        alloc,
-        "SECTORS",
-        "How many sectors of 512 bytes it has, from 131 to 131075",
-    )
-    .value_parser(value_parser!(u32).range(SECTORS.0..=SECTORS.1))
 }
 
 // `--line N=LINK`, as often as there are lines.
@@ -115,11 +101,6 @@ fn link_arg<'a>(alloc: Global) -> Arg<'a> {
         "LINK",
         "The bus: tcp://HOST:PORT, serial:PATH or blocks://HOST:PORT",
     )
-}
-
-// A primary address, or that of a meter that has none yet.
-fn address_arg<'a>(alloc: Global, id: &'a str, help: &'a str) -> Arg<'a> {
-    required_arg(alloc, id, help).value_parser(value_parser!(u8).range(0..=250))
 }
 
 fn budget_arg<'a>(alloc: Global) -> Arg<'a> {
@@ -179,8 +160,8 @@ fn decode_command<'a>(alloc: Global) -> Result<Command<'a>, AllocError> {
 }
 
 fn fold_command<'a>(alloc: Global) -> Result<Command<'a>, AllocError> {
-    let file = required_arg(alloc, "FILE", "Lines of telegrams and commands");
     let about = "Applies telegrams and commands to an empty register, and prints it";
+    let file = required_arg(alloc, "FILE", "Lines of telegrams and commands");
     command_of(alloc, "fold", about, help::FOLD, vec![in alloc; file]?)
 }
 
@@ -214,7 +195,13 @@ fn consumption_command<'a>(alloc: Global) -> Result<Command<'a>, AllocError> {
 
 fn format_command<'a>(alloc: Global) -> Result<Command<'a>, AllocError> {
     let image = "The image's file; it is made where it isn't there";
-    let args = vec![in alloc; required_arg(alloc, "IMAGE", image), sectors_arg(alloc)]?;
+    let sectors = "How many sectors of 512 bytes it has, from 131 to 131075";
+    let args = vec![in alloc;
+        required_arg(alloc, "IMAGE", image),
+        required_arg(alloc, "SECTORS", sectors).value_parser(value_parser!(u32).range(
+            SECTORS.0..=SECTORS.1
+        )),
+    ]?;
     let about = "Makes an image that holds an empty register";
     command_of(alloc, "format", about, help::FORMAT, args)
 }
@@ -374,16 +361,16 @@ fn out_command<'a>(alloc: Global) -> Result<Command<'a>, AllocError> {
     command_of(alloc, "out", about, help::OUT, args)
 }
 
-fn copy_command<'a>(alloc: Global) -> Result<Command<'a>, AllocError> {
-    let args = vec![in alloc; image_arg(alloc), new_arg(alloc)]?;
-    let about = "Copies an image as it is at one instant, also while mbdc writes it";
-    command_of(alloc, "copy", about, help::COPY, args)
-}
-
-fn rescue_command<'a>(alloc: Global) -> Result<Command<'a>, AllocError> {
-    let args = vec![in alloc; image_arg(alloc), new_arg(alloc)]?;
-    let about = "Writes what an image reads as, or what is left of it, to a new image";
-    command_of(alloc, "rescue", about, help::RESCUE, args)
+// A command that makes a new image of one.
+fn renewing_command<'a>(
+    alloc: Global,
+    name: &'a str,
+    about: &'a str,
+    after: &'a str,
+) -> Result<Command<'a>, AllocError> {
+    let file = "The new image's file: nothing has its name yet";
+    let args = vec![in alloc; image_arg(alloc), required_arg(alloc, "FILE", file)]?;
+    command_of(alloc, name, about, after, args)
 }
 
 // The bus line of a list.
@@ -428,27 +415,24 @@ fn read_command<'a>(alloc: Global) -> Result<Command<'a>, AllocError> {
 }
 
 fn address_command<'a>(alloc: Global) -> Result<Command<'a>, AllocError> {
+    let old = "Its identity, as 12345678.PAD.01.07, or the primary address that it has, 0 to 250";
+    let new = "The one that it gets, 0 to 250: nobody may answer there";
     let args = vec![in alloc;
         link_arg(alloc),
-        address_arg(alloc, "OLD", "The primary address that it has, 0 to 250"),
-        address_arg(
-            alloc,
-            "NEW",
-            "The one that it gets, 0 to 250: nobody may answer there"
-        ),
+        required_arg(alloc, "OLD", old),
+        required_arg(alloc, "NEW", new).value_parser(value_parser!(u8).range(0..=250)),
         patience_arg(alloc),
     ]?;
     let about = "Gives one meter on one bus another primary address";
     command_of(alloc, "address", about, help::ADDRESS, args)
 }
 
-fn demo_command<'a>(alloc: Global) -> Result<Command<'a>, AllocError> {
-    let about = "Reads a simulated meter in this process, and reports its value";
-    command_of(alloc, "demo", about, help::DEMO, Vec::new(alloc))
-}
-
 fn program<'a>(alloc: Global) -> Result<Command<'a>, AllocError> {
-    let program = with_command(bare_program(alloc), decode_command(alloc));
+    let program = Command::new(alloc, "mbdc")
+        .version(help::VERSION)
+        .override_help(help::PROGRAM)
+        .arg(verbose_arg(alloc));
+    let program = with_command(program, decode_command(alloc));
     let program = with_command(program, fold_command(alloc));
     let program = with_command(program, consumption_command(alloc));
     let program = with_command(program, audit_command(alloc));
@@ -459,8 +443,12 @@ fn program<'a>(alloc: Global) -> Result<Command<'a>, AllocError> {
     let program = with_command(program, swap_command(alloc));
     let program = with_command(program, move_command(alloc));
     let program = with_command(program, out_command(alloc));
-    let program = with_command(program, copy_command(alloc));
-    let program = with_command(program, rescue_command(alloc));
+    let about = "Copies an image as it is at one instant, also while mbdc writes it";
+    let copy = renewing_command(alloc, "copy", about, help::COPY);
+    let program = with_command(program, copy);
+    let about = "Writes what an image reads as, or what is left of it, to a new image";
+    let rescue = renewing_command(alloc, "rescue", about, help::RESCUE);
+    let program = with_command(program, rescue);
     let program = with_command(program, report_command(alloc));
     let program = with_command(program, values_command(alloc));
     let program = with_command(program, status_command(alloc));
@@ -468,14 +456,9 @@ fn program<'a>(alloc: Global) -> Result<Command<'a>, AllocError> {
     let program = with_command(program, scan_command(alloc));
     let program = with_command(program, read_command(alloc));
     let program = with_command(program, address_command(alloc));
-    with_command(program, demo_command(alloc))
-}
-
-fn bare_program<'a>(alloc: Global) -> Result<Command<'a>, AllocError> {
-    Command::new(alloc, "mbdc")
-        .version(help::VERSION)
-        .override_help(help::PROGRAM)
-        .arg(verbose_arg(alloc))
+    let about = "Reads a simulated meter in this process, and reports its value";
+    let demo = command_of(alloc, "demo", about, help::DEMO, Vec::new(alloc));
+    with_command(program, demo)
 }
 
 // Adds a command, where both were made.
@@ -563,22 +546,15 @@ fn file_of<'a>(inner: &ArgMatches<'a>, id: &str) -> Result<&'a str, WordsFault> 
 }
 
 fn decoder_of(inner: &ArgMatches<'_>) -> Engine {
-    let form = form_of(inner);
+    let form = match (inner.get_flag("JSON"), inner.get_flag("EXPLAIN")) {
+        (true, _) => Form::Json,
+        (false, true) => Form::Table,
+        (false, false) => Form::Text,
+    };
     if inner.get_flag("LOOSE") {
         Engine::Loose(form)
     } else {
         Engine::Decode(form)
-    }
-}
-
-fn form_of(inner: &ArgMatches<'_>) -> Form {
-    if inner.get_flag("JSON") {
-        return Form::Json;
-    }
-    if inner.get_flag("EXPLAIN") {
-        Form::Table
-    } else {
-        Form::Text
     }
 }
 
@@ -603,7 +579,7 @@ fn bus_task<'a>(name: &str, inner: &ArgMatches<'a>) -> Result<Task<'a>, WordsFau
     if name == "address" {
         return Ok(Task::Address {
             link,
-            from: inner.get_one("OLD").unwrap_or_default(),
+            meter: reached_by(inner.get_str("OLD").unwrap_or_default())?,
             to: inner.get_one("NEW").unwrap_or_default(),
             patience,
         });
@@ -615,6 +591,15 @@ fn bus_task<'a>(name: &str, inner: &ArgMatches<'a>) -> Result<Task<'a>, WordsFau
         patience,
         trace: inner.get_str("TRACE"),
     })
+}
+
+// The meter that gets an address.
+fn reached_by(word: &str) -> Result<Reached, WordsFault> {
+    match meter_of(word) {
+        Some(MeterName::Identity(meter)) => Ok(Reached::Selected(meter)),
+        Some(MeterName::Address(address)) => Ok(Reached::At(address)),
+        Some(MeterName::Number(_)) | None => Err(WordsFault::Reached),
+    }
 }
 
 fn listing_of(inner: &ArgMatches<'_>) -> Listing {
@@ -677,20 +662,16 @@ fn order_task<'a>(
 ) -> Result<Task<'a>, WordsFault> {
     let meter = inner.get_str("METER").unwrap_or_default();
     let meter = Named::parse(meter.as_bytes()).ok_or(WordsFault::Meter)?;
-    let flat = flat_of(inner)?;
+    let flat = match inner.get_str("FLAT") {
+        Some(word) => Some(Flat::new(word.as_bytes()).ok_or(WordsFault::Flat)?),
+        None => None,
+    };
     let turn = match (name, flat) {
         ("swap", flat) => swap_of(inner, flat)?,
         (_, Some(flat)) => Turn::Move(flat),
         (_, None) => Turn::Out,
     };
     Ok(Task::Order(OrderTask { image, meter, turn }))
-}
-
-fn flat_of(inner: &ArgMatches<'_>) -> Result<Option<Flat>, WordsFault> {
-    match inner.get_str("FLAT") {
-        Some(word) => Ok(Some(Flat::new(word.as_bytes()).ok_or(WordsFault::Flat)?)),
-        None => Ok(None),
-    }
 }
 
 fn swap_of(inner: &ArgMatches<'_>, flat: Option<Flat>) -> Result<Turn, WordsFault> {
@@ -725,18 +706,15 @@ fn status_task<'a>(image: &'a str, inner: &ArgMatches<'a>) -> Result<Task<'a>, W
 fn run_task<'a>(image: &'a str, inner: &ArgMatches<'a>) -> Result<Task<'a>, WordsFault> {
     let mut links = links_of(inner)?;
     let gateway = inner.get_str("GATEWAY");
+    let is_gateway = links.is_empty() && gateway.is_some();
     if let Some(place) = gateway {
-        if links.is_empty() {
-            let _ = LinkName::gateway(place)?;
-        } else {
-            links.add_gateway(place)?;
-        }
+        links.add_gateway(place)?;
     }
     Ok(Task::Run(RunTask {
         image,
         script: file_of(inner, "SCRIPT")?,
-        gateway,
         links,
+        is_gateway,
         patience: inner.get_one("PATIENCE"),
     }))
 }
@@ -779,10 +757,10 @@ fn meter_of(word: &str) -> Option<MeterName> {
     match Named::parse(word.as_bytes()) {
         Some(Named::Identity(meter)) => Some(MeterName::Identity(meter)),
         Some(Named::Number(digits)) => Some(MeterName::Number(digits)),
-        None => {
-            let number = word.parse::<u8>().ok()?;
-            Some(MeterName::Primary(Primary::new(number)?))
-        }
+        None => match word.parse::<u8>() {
+            Ok(address) if address <= GREATEST => Some(MeterName::Address(address)),
+            _ => None,
+        },
     }
 }
 

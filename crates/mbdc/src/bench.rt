@@ -1,7 +1,6 @@
 //! The commands `scan`, `read` and `address`: one bus, without an image.
 
-use crate::connecting::{connected_alone, released};
-use crate::rows::{Answers, Listed, Seen};
+use crate::connecting::{connected, released};
 use crate::tracing::{shows_progress, trace_file_of, tracer_of};
 use dc_bench::{Progress, Show, Work, run_over};
 use dc_bus::Both;
@@ -12,7 +11,6 @@ use dc_links::{Peer, Waiter};
 use dc_words::{LinkName, Listing};
 use std::fs::File;
 use std::io;
-use std::io::Write;
 use std::net::{Net, TcpStream};
 use std::rt::{Clock, Files};
 
@@ -35,7 +33,7 @@ where
         Ok(file) => file,
         Err(error) => return host.why.file(trace.unwrap_or_default(), error),
     };
-    let peers = match connected_alone(host, link) {
+    let peers = match connected(host, &[Some(*link)]) {
         Ok(peers) => peers,
         Err(ending) => return ending,
     };
@@ -47,7 +45,8 @@ where
     ending
 }
 
-// Does the work over a connected link; a terminal is shown how far a search is.
+// Does the work over a connected link; a terminal is shown how far a search is. The trace and the progress see each
+// request and answer.
 fn over_peer<'a, R>(
     host: &Host<'_, R>,
     peer: &Peer<R>,
@@ -60,63 +59,43 @@ where
     R: Net<Stream = TcpStream> + Clock + Copy + Print + Eprint + AllocGlobal,
 {
     let is_shown = matches!(work, Work::Search(_)) && shows_progress(host, trace);
-    let progress = Progress::new(host.rt, is_shown, *work, patience);
-    let ending = over_watched(host, peer, *work, listing, patience, trace, &progress);
+    let progress = Progress::new(host.rt, host.rt.alloc(), is_shown, *work, patience);
+    let observer = Pair {
+        first: tracer_of(trace, LINE),
+        second: Show {
+            progress: &progress,
+        },
+    };
+    let ending = over_bus(host, peer, *work, listing, patience, observer, &progress);
     progress.clear();
     ending
 }
 
-// Does the work, of which the trace and the progress see each request and answer.
-fn over_watched<'a, R>(
+// Makes the bus of a link, and does the work on it. The observer is any, for the checker meets its step limit over the
+// parts of this one.
+fn over_bus<'a, R, O>(
     host: &Host<'_, R>,
     peer: &Peer<R>,
     work: Work,
     listing: Listing,
     patience: u16,
-    trace: Option<&TraceFile<'_, R>>,
-    progress: &Progress<'_, R>,
-) -> Ending<'a>
-where
-    R: Net<Stream = TcpStream> + Clock + Copy + Print + Eprint + AllocGlobal,
-{
-    let answers = Answers::new(host.rt.alloc());
-    let observer = Pair {
-        first: tracer_of(trace, LINE),
-        second: Pair {
-            first: Show { progress },
-            second: Seen { answers: &answers },
-        },
-    };
-    let out = Noted::new(io::writer(host.rt), host.why);
-    let out = Listed::new(out, host, listing, &answers);
-    over_bus(host, peer, work, patience, observer, out, progress)
-}
-
-// Makes the bus of a link, and does the work on it. The observer is any, for the checker meets its step limit over the
-// parts of this one.
-fn over_bus<'a, R, O, W>(
-    host: &Host<'_, R>,
-    peer: &Peer<R>,
-    work: Work,
-    patience: u16,
     observer: O,
-    out: W,
     progress: &Progress<'_, R>,
 ) -> Ending<'a>
 where
     R: Net<Stream = TcpStream> + Clock + Copy + Print + Eprint + AllocGlobal,
     O: Observer + Drop,
-    W: Write + Drop,
 {
     let bus = match peer.bus(*host.rt, patience) {
         Ok(bus) => bus,
         Err(error) => return host.why.link(None, error),
     };
-    let mut bus = Both {
+    let bus = Both {
         bus: Observed { bus, observer },
         pause: Waiter,
     };
-    let ending = run_over(host.rt.alloc(), work, &mut bus, out, progress);
+    let out = Noted::new(io::writer(host.rt), host.why);
+    let ending = run_over(host.rt.alloc(), work, listing, bus, out, progress);
     if matches!(ending, Ending::Gateway) {
         host.why.say("the connection ended or failed");
     }

@@ -6,10 +6,10 @@ use dc_register::named::{Named, resolve};
 use std::alloc::{AllocError, Global};
 use std::str;
 
-// The columns that a row has to have, in the order of the engine, and those that are known to be left out.
-const COLUMNS: [&str; 4] = ["meter", "line", "address", "flat"];
-
-const KNOWN: [&str; 3] = ["medium", "value", "open"];
+// The columns that a row has to have, in the order of the engine, and then those that are known to be left out.
+const COLUMNS: [&str; 7] = [
+    "meter", "line", "address", "flat", "medium", "value", "open",
+];
 
 const QUOTE: u8 = b'"';
 
@@ -69,13 +69,12 @@ fn columns_of(alloc: Global, header: &[u8]) -> Result<Option<Columns>, AllocErro
     let mut places = [usize::MAX; 4];
     let mut unknown = Vec::new(alloc);
     for (at, name) in names.as_slice().iter().enumerate() {
-        match place_in(&COLUMNS, name.as_str()) {
+        match place_of(name.as_str()) {
             Some(column) => {
                 if let Some(place) = places.get_mut(column) {
                     *place = at;
                 }
             }
-            None if place_in(&KNOWN, name.as_str()).is_some() => {}
             None => unknown.push(String::from_str(alloc, name.as_str())?)?,
         }
     }
@@ -84,14 +83,15 @@ fn columns_of(alloc: Global, header: &[u8]) -> Result<Option<Columns>, AllocErro
     }
     Ok(Some(Columns {
         separator,
-        is_same: places == [0, 1, 2, 3] && names.len() == COLUMNS.len(),
+        is_same: places == [0, 1, 2, 3] && names.len() == places.len(),
         places,
         unknown,
     }))
 }
 
-fn place_in(columns: &[&str], name: &str) -> Option<usize> {
-    for (at, column) in columns.iter().enumerate() {
+// The place of a column that is known: from the fifth on it is left out.
+fn place_of(name: &str) -> Option<usize> {
+    for (at, column) in COLUMNS.iter().enumerate() {
         if name.eq_ignore_ascii_case(column) {
             return Some(at);
         }
@@ -120,23 +120,19 @@ fn fields_of(alloc: Global, line: &[u8], separator: u8) -> Result<Vec<String>, A
     let mut fields = Vec::new(alloc);
     let mut field = Vec::new(alloc);
     let mut is_quoted = false;
-    for byte in line {
-        if *byte == QUOTE {
-            is_quoted = !is_quoted;
-        } else if *byte == separator && !is_quoted {
-            fields.push(text_of(alloc, field.as_slice())?)?;
-            field.truncate(0);
-        } else {
-            field.push(*byte)?;
+    for at in 0..=line.len() {
+        match line.get(at).copied() {
+            Some(QUOTE) => is_quoted = !is_quoted,
+            Some(byte) if byte != separator || is_quoted => field.push(byte)?,
+            _ => {
+                let text = str::from_utf8(field.as_slice()).unwrap_or("?");
+                let text = text.trim_start_matches(MARK).trim();
+                fields.push(String::from_str(alloc, text)?)?;
+                field.truncate(0);
+            }
         }
     }
-    fields.push(text_of(alloc, field.as_slice())?)?;
     Ok(fields)
-}
-
-fn text_of(alloc: Global, field: &[u8]) -> Result<String, AllocError> {
-    let text = str::from_utf8(field).unwrap_or("?");
-    String::from_str(alloc, text.trim_start_matches(MARK).trim())
 }
 
 // Whether a row of the engine's own columns has a quotation mark, or a number alone for its meter.
@@ -177,26 +173,16 @@ fn add_row(
         let Some(field) = fields.as_slice().get(*place) else {
             continue;
         };
-        match named(alloc, column, field.as_str(), house) {
-            Some(meter) => lines.extend_from_slice(&meter)?,
-            None => lines.extend_from_slice(field.as_bytes())?,
+        // A number alone is the registered meter that has it.
+        if column == 0
+            && let Some(house) = house
+            && let Some(name @ Named::Number(_)) = Named::parse(field.as_bytes())
+            && let Ok(meter) = resolve(alloc, house, name)
+        {
+            lines.extend_from_slice(&meter.text())?;
+        } else {
+            lines.extend_from_slice(field.as_bytes())?;
         }
     }
     Ok(())
-}
-
-// The identity of a registered meter that is named by its number alone.
-fn named(
-    alloc: Global,
-    column: usize,
-    field: &str,
-    house: Option<&House<Global>>,
-) -> Option<[u8; 18]> {
-    if column > 0 {
-        return None;
-    }
-    let name @ Named::Number(_) = Named::parse(field.as_bytes())? else {
-        return None;
-    };
-    resolve(alloc, house?, name).ok().map(|meter| meter.text())
 }

@@ -1,5 +1,7 @@
 //! The links of the bus lines on this system.
 
+ghost use Rattle.std.specs.Prelude.{◌≤◌, length};
+
 use dc_commands::links_of;
 use dc_ending::Ending;
 use dc_files::Host;
@@ -14,32 +16,19 @@ use std::rt::{Clock, Files};
 // The links of a command, or the ending of the command without them.
 type Connected<'a, R> = Result<Vec<Option<Peer<R>>>, Ending<'a>>;
 
-/// Connects each link; the first is that of line 1.
+/// Connects each of at most eight links; the first is that of line 1. A command with one link has no numbers of lines.
 ///
 /// # Errors
 /// The ending of the command: a link can't be connected, or memory ran out.
-pub fn connected<'a, R>(host: &Host<'_, R>, links: &Links<'_>) -> Connected<'a, R>
+pub fn connected<'a, R>(host: &Host<'_, R>, links: &[Option<LinkName<'_>>]) -> Connected<'a, R>
 where
     R: Files<File = File> + Net<Stream = TcpStream> + Clock + Copy + Eprint + AllocGlobal,
+    requires { length links.now ≤ 8 }
 {
     let mut linker = Linker { rt: host.rt };
-    let peers = connect_all(host.rt.alloc(), links.by_line(), &mut linker);
-    links_of(host.why, peers)
-}
-
-/// Connects the link of a command that has one bus line.
-///
-/// # Errors
-/// The ending of the command: the link can't be connected, or memory ran out.
-pub fn connected_alone<'a, R>(host: &Host<'_, R>, link: &LinkName<'_>) -> Connected<'a, R>
-where
-    R: Files<File = File> + Net<Stream = TcpStream> + Clock + Copy + Eprint + AllocGlobal,
-{
-    let mut linker = Linker { rt: host.rt };
-    match connect_all(host.rt.alloc(), &[Some(*link)], &mut linker) {
-        Ok(peers) => Ok(peers),
-        Err(Unconnected::Link(missed)) => Err(host.why.link(None, missed.why)),
-        Err(Unconnected::NoMemory) => Err(Ending::Memory),
+    match connect_all(host.rt.alloc(), links, &mut linker) {
+        Err(Unconnected::Link(missed)) if links.len() == 1 => Err(host.why.link(None, missed.why)),
+        peers => links_of(host.why, peers),
     }
 }
 

@@ -10,7 +10,7 @@ use dc_io::{Buffered, WriteSink};
 use dc_log::OpenFault;
 use dc_poll::dry::{Dry, LINES, put_dry};
 use dc_register::House;
-use dc_words::{LinkName, PollTask};
+use dc_words::PollTask;
 use std::alloc::Global;
 use std::fs::File;
 use std::io;
@@ -21,10 +21,27 @@ pub fn dry_run<'a, R>(host: &Host<'_, R>, task: &PollTask<'a>) -> Ending<'a>
 where
     R: Files<File = File> + Print + AllocGlobal,
 {
-    match look(host, task.image) {
-        Ok((house, None)) => foresee(host, &house, task),
-        Ok((_, Some(sector))) => Ending::Behind(sector),
-        Err(ending) => ending,
+    let house = match look(host, task.image) {
+        Ok((house, None)) => house,
+        Ok((_, Some(sector))) => return Ending::Behind(sector),
+        Err(ending) => return ending,
+    };
+    let only = match meters_in(host.rt.alloc(), &house, task.only.as_slice(), ONLY) {
+        Ok(only) => only,
+        Err(ending) => return ending,
+    };
+    let mut links = [false; LINES];
+    for (has_link, link) in links.iter_mut().zip(task.links.by_line()) {
+        *has_link = link.is_some();
+    }
+    let dry = Dry {
+        links,
+        only: only.as_slice(),
+        tries: task.tries.max(1),
+    };
+    match print(host, &house, &dry) {
+        Ok(()) => Ending::Clean,
+        Err(fault) => ending_of(Err(fault), STREAM),
     }
 }
 
@@ -52,36 +69,6 @@ fn look<'a, R: Files<File = File> + AllocGlobal>(
         }
     }
     Err(file.busy(image))
-}
-
-// What the poll would do with this register.
-fn foresee<'a, R: Print + AllocGlobal>(
-    host: &Host<'_, R>,
-    house: &House<Global>,
-    task: &PollTask<'a>,
-) -> Ending<'a> {
-    let only = match meters_in(host.rt.alloc(), house, task.only.as_slice(), ONLY) {
-        Ok(only) => only,
-        Err(ending) => return ending,
-    };
-    let dry = Dry {
-        links: linked(task.links.by_line()),
-        only: only.as_slice(),
-        tries: task.tries.max(1),
-    };
-    match print(host, house, &dry) {
-        Ok(()) => Ending::Clean,
-        Err(fault) => ending_of(Err(fault), STREAM),
-    }
-}
-
-// Whether each line has a link.
-fn linked(links: &[Option<LinkName<'_>>; LINES]) -> [bool; LINES] {
-    let mut linked = [false; LINES];
-    for (has_link, link) in linked.iter_mut().zip(links) {
-        *has_link = link.is_some();
-    }
-    linked
 }
 
 // Writes it to standard output.

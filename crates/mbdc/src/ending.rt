@@ -11,9 +11,11 @@ ghost use Rattle.dc_words.specs.Fault.{IfMistake};
 
 use clap::Error;
 use clap::error::ErrorKind;
+use dc_concentrator::CommitFault;
 use dc_ending::{Ending, STREAM};
-use dc_files::{DiskReason, Reason, Why, holder_of, without_number};
+use dc_files::{Reason, Why, holder_of, without_number};
 use dc_io::{Buffered, IoFault, Sink, WriteSink, put_number};
+use dc_log::{FormatFault, OpenFault};
 use dc_words::{WordsFault, nearest};
 use std::alloc::{AllocError, Global};
 use std::io;
@@ -22,7 +24,11 @@ use std::process::ExitCode;
 
 // A word that has to name a meter doesn't.
 const NO_METER: &str =
-    "a meter is its identity, as 12345678.PAD.01.07, or its number, as 12345678; for read also its primary address, 1 to 250";
+    "a meter is its identity, as 12345678.PAD.01.07, or its number, as 12345678; for read also its primary address, 0 to 250";
+
+// A word that has to say how a meter is reached doesn't.
+const NO_OLD: &str =
+    "OLD is the meter's identity, as 12345678.PAD.01.07, or the primary address that it has, 0 to 250";
 
 // A word that has to be boundaries of periods isn't.
 const NO_BOUNDARIES: &str =
@@ -47,7 +53,12 @@ const NO_DASH: &str =
 const NO_LINK: &str = "no bus line has a link; try mbdc poll --help";
 
 // What a person does next where another process is named that has the file.
-const ENDS: &str = ". Wait until it ends";
+const ENDS: &str = "Wait until it ends";
+
+// What becomes of an image that doesn't open.
+const RESCUE: &str = "mbdc rescue IMAGE NEW writes what is left of it to a new image";
+
+const RENEW: &str = "its counters are spent: mbdc rescue IMAGE NEW writes its state to a new image";
 
 // A line of up to this many bytes goes out as one write.
 const LINE: usize = 8_192;
@@ -75,16 +86,26 @@ pub fn is_cut_off(ending: &Ending, why: &Why) -> bool {
         && matches!(why.last(), Some(reason) if reason.error.kind() == io::ErrorKind::BrokenPipe)
 }
 
-/// Prints on a second line why the run failed, if the system gave a reason; for a person with the next step.
+/// Prints on a second line why the run failed, if the system gave a reason, and for a person the next step.
 pub fn told_why(rt: &HostRuntime, ending: &Ending, why: &Why, is_watched: bool) {
-    if let Ending::File(_)
-    | Ending::Gateway
-    | Ending::Format(_)
-    | Ending::Open(_)
-    | Ending::Disk(_) = ending
-        && let Some(reason) = why.last()
-        && let Ok(mut out) = Buffered::new(rt.alloc(), LINE, WriteSink::new(rt.stderr()))
-        && put_reason(rt, ending, &reason, is_watched, &mut out).is_ok()
+    let reason = match ending {
+        Ending::File(_) | Ending::Gateway | Ending::Format(_) | Ending::Open(_) | Ending::Disk(_) =>
+            why.last(),
+        _ => None,
+    };
+    let step = if is_watched {
+        step_of(ending, &reason)
+    } else {
+        ""
+    };
+    let Some(reason) = reason else {
+        if !step.is_empty() {
+            let _ = eprint!(rt; "mbdc: next: {step}\n");
+        }
+        return;
+    };
+    if let Ok(mut out) = Buffered::new(rt.alloc(), LINE, WriteSink::new(rt.stderr()))
+        && put_reason(rt, ending, &reason, step, &mut out).is_ok()
     {
         let _ = out.flush();
     }
@@ -101,31 +122,23 @@ pub fn told_disk(rt: &HostRuntime, ending: &Ending, why: &Why) {
     };
     if is_told
         && let Some(reason) = why.disk()
-        && let Ok(mut out) = Buffered::new(rt.alloc(), LINE, WriteSink::new(rt.stderr()))
-        && put_disk(rt.alloc(), &reason, &mut out).is_ok()
+        && let Ok(said) = format!(in rt.alloc(); "{}", reason.error)
     {
-        let _ = out.flush();
+        let said = without_number(said.as_str());
+        let _ = match reason.sector {
+            Some(sector) => eprint!(rt; "mbdc: disk: sector {sector}: {said}\n"),
+            None => eprint!(rt; "mbdc: disk: {said}\n"),
+        };
     }
 }
 
-fn put_disk<W: Sink>(alloc: Global, reason: &DiskReason, out: &mut W) -> Result<(), IoFault> {
-    out.put(b"mbdc: disk: ")?;
-    if let Some(sector) = reason.sector {
-        out.put(b"sector ")?;
-        put_number(out, sector)?;
-        out.put(b": ")?;
-    }
-    put_error(alloc, &reason.error, out)?;
-    out.put(b"\n")
-}
-
-// Writes the line of the reason. Of a file that another process has locked it names that process, where the system shows
-// it.
+// Writes the line of the reason: the system's message without its error number, and the next step. Of a file that another
+// process has locked it names that process, where the system shows it.
 fn put_reason<W: Sink>(
     rt: &HostRuntime,
     ending: &Ending,
     reason: &Reason,
-    is_watched: bool,
+    step: &str,
     out: &mut W,
 ) -> Result<(), IoFault> {
     out.put(b"mbdc: reason: ")?;
@@ -134,8 +147,11 @@ fn put_reason<W: Sink>(
         put_number(out, u64::from(line))?;
         out.put(b": ")?;
     }
-    put_error(rt.alloc(), &reason.error, out)?;
-    let mut step = step_of(ending, reason, is_watched);
+    let Ok(said) = format!(in rt.alloc(); "{}", reason.error) else {
+        return Err(IoFault);
+    };
+    out.put(without_number(said.as_str()).as_bytes())?;
+    let mut step = step;
     if let Ending::File(name) = ending
         && reason.error.kind() == io::ErrorKind::WouldBlock
         && let Some(process) = holder_of(rt, name)
@@ -143,40 +159,49 @@ fn put_reason<W: Sink>(
         out.put(b" (pid ")?;
         put_number(out, u64::from(process))?;
         out.put(b")")?;
-        step = if is_watched { ENDS } else { "" };
+        step = if step.is_empty() { "" } else { ENDS };
     }
-    out.put(step.as_bytes())?;
+    if !step.is_empty() {
+        out.put(b". ")?;
+        out.put(step.as_bytes())?;
+    }
     out.put(b"\n")
 }
 
-// Writes the system's message, without the error number.
-fn put_error<W: Sink>(alloc: Global, error: &io::Error, out: &mut W) -> Result<(), IoFault> {
-    let Ok(said) = format!(in alloc; "{error}") else {
-        return Err(IoFault);
-    };
-    out.put(without_number(said.as_str()).as_bytes())
+// What a person does next.
+fn step_of(ending: &Ending, reason: &Option<Reason>) -> &'static str {
+    match ending {
+        Ending::Open(OpenFault::NotImage) =>
+            "is it this file? mbdc inspect shows what it holds, mbdc format makes an image",
+        Ending::Open(OpenFault::Damaged(_)) => RESCUE,
+        Ending::Open(OpenFault::Version) => "a later mbdc wrote it: install that one",
+        Ending::Open(OpenFault::Worn) | Ending::Disk(CommitFault::Worn) => RENEW,
+        Ending::Open(OpenFault::Device) | Ending::Disk(_) => "look at the drive: dmesg",
+        Ending::Format(FormatFault::AlreadyFormatted) =>
+            "it holds an image already: mbdc inspect shows it",
+        _ => match reason {
+            Some(reason) => step_by(ending, reason.error.kind()),
+            None => "",
+        },
+    }
 }
 
-// What a person does next, after the reason; nothing in a pipe or a file.
-fn step_of(ending: &Ending, reason: &Reason, is_watched: bool) -> &'static str {
-    if !is_watched {
-        return "";
-    }
-    match (ending, reason.error.kind()) {
+// What a person does next after this kind of message of the system.
+fn step_by(ending: &Ending, kind: io::ErrorKind) -> &'static str {
+    match (ending, kind) {
         (Ending::Gateway, io::ErrorKind::ConnectionRefused) => {
-            ". Is the converter in TCP server mode, at this port?"
+            "Is the converter in TCP server mode, at this port?"
         }
         (Ending::Gateway, io::ErrorKind::TimedOut | io::ErrorKind::HostUnreachable) => {
-            ". Is the converter on, and at this address?"
+            "Is the converter on, and at this address?"
         }
-        (Ending::Gateway, io::ErrorKind::NotFound) =>
-            ". Is the adapter plugged in? Try ls /dev/tty*",
-        (_, io::ErrorKind::PermissionDenied) => ". Who may open it: ls -l; who you are: id",
+        (Ending::Gateway, io::ErrorKind::NotFound) => "Is the adapter plugged in? Try ls /dev/tty*",
+        (_, io::ErrorKind::PermissionDenied) => "Who may open it: ls -l; who you are: id",
         (Ending::File(_), io::ErrorKind::WouldBlock) =>
-            ". Wait until it ends, or see who has it: fuser -v",
+            "Wait until it ends, or see who has it: fuser -v",
         (Ending::File(_), io::ErrorKind::NotFound) =>
-            ". Is the name right? mbdc format makes an image",
-        (Ending::File(_), io::ErrorKind::StorageFull) => ". Make room: df -h",
+            "Is the name right? mbdc format makes an image",
+        (Ending::File(_), io::ErrorKind::StorageFull) => "Make room: df -h",
         _ => "",
     }
 }
@@ -191,6 +216,7 @@ pub fn told_words(rt: &HostRuntime, fault: &WordsFault, words: &[String]) -> Exi
         WordsFault::NoMemory => told(rt, &Ending::Memory),
         WordsFault::Link(fault) => told(rt, &Ending::Words(fault.text())),
         WordsFault::Meter => told(rt, &Ending::Words(NO_METER)),
+        WordsFault::Reached => told(rt, &Ending::Words(NO_OLD)),
         WordsFault::NoLink => told(rt, &Ending::Words(NO_LINK)),
         WordsFault::Boundaries => told(rt, &Ending::Words(NO_BOUNDARIES)),
         WordsFault::Silence => told(rt, &Ending::Words(NO_SILENCE)),
@@ -213,20 +239,16 @@ fn told_by_clap(rt: &HostRuntime, error: &Error, words: &[String]) -> ExitCode
         return told(rt, &Ending::Memory);
     }
     if !error.use_stderr() {
-        return match shown(rt, error) {
-            Ok(()) => told(rt, &Ending::Clean),
-            Err(_) => told(rt, &Ending::File(STREAM)),
+        return if rt.print(error).is_ok() && io::writer(rt).flush().is_ok() {
+            told(rt, &Ending::Clean)
+        } else {
+            told(rt, &Ending::File(STREAM))
         };
     }
     match mistake(rt.alloc(), error, words) {
         Ok(what) => told(rt, &Ending::Words(what.as_str())),
         Err(_) => told(rt, &Ending::Memory),
     }
-}
-
-fn shown<R: Print>(rt: &R, error: &Error) -> io::Result<()> {
-    rt.print(error)?;
-    io::writer(rt).flush()
 }
 
 // The mistake in the words, on one line: `clap` prints a paragraph, and its usage after it.

@@ -1,7 +1,7 @@
 //! The command `fit`: the meters of a list, added to the register of an image in a file.
 
 use crate::columns::in_order;
-use crate::journal::{Kept, Printed, note_printed};
+use crate::journal::Noting;
 use dc_commands::fit_over;
 use dc_disk::FileDisk;
 use dc_ending::{Ending, ProgramFault};
@@ -56,13 +56,9 @@ where
     D: FileExt + OpenFile + Drop,
     R: Files<File = File> + Clock + Print + Eprint + AllocGlobal,
 {
-    let alloc = host.rt.alloc();
-    let mut printed = Printed::new(alloc);
-    let out = Kept::new(Noted::new(io::writer(host.rt), host.why), &mut printed);
-    let (_disk, ending) = fit_over(alloc, disk, wish, out);
-    if matches!(ending, Ending::Clean) {
-        note_printed(host, image, &printed);
-    }
+    let out = Noted::new(io::writer(host.rt), host.why);
+    let mut notes = Noting::new(host, image, None);
+    let (_disk, ending) = fit_over(host.rt.alloc(), disk, wish, out, &mut notes);
     ending
 }
 

@@ -17,7 +17,6 @@ mod names;
 mod order;
 mod poll;
 mod rescue;
-mod rows;
 mod script;
 mod tasks;
 mod tracing;

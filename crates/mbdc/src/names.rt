@@ -5,7 +5,7 @@ use dc_disk::Disk;
 use dc_ending::{Ending, ending_of};
 use dc_files::Host;
 use dc_inspect::register_of;
-use dc_io::{Bytes, IoFault, NoMemory, Sink, put_number};
+use dc_io::{Bytes, IoFault, Sink, put_number};
 use dc_log::Greatest;
 use dc_register::House;
 use dc_register::named::{NameFault, Named, having, resolve_all};
@@ -49,12 +49,17 @@ pub fn meters_in<'a>(
     names: &[Named],
     option: &str,
 ) -> Result<Vec<Identity>, Ending<'a>> {
-    match resolve_all(alloc, house, names) {
-        Ok(meters) => Ok(meters),
-        Err(fault) => match mistake_of(alloc, house, fault, option) {
-            Ok(mistake) => Err(leaked(alloc, &mistake)),
-            Err(NoMemory) => Err(Ending::Memory),
-        },
+    let (digits, several) = match resolve_all(alloc, house, names) {
+        Ok(meters) => return Ok(meters),
+        Err(NameFault::NoMemory) => return Err(Ending::Memory),
+        Err(NameFault::Unknown(digits)) => (digits, Ok(Vec::new(alloc))),
+        Err(NameFault::Several(digits)) => (digits, having(alloc, house, &digits)),
+    };
+    let mut mistake = Bytes::new(alloc);
+    match several {
+        Ok(several) if put_mistake(&mut mistake, option, &digits, several.as_slice()).is_ok() =>
+            Err(leaked(alloc, &mistake)),
+        _ => Err(Ending::Memory),
     }
 }
 
@@ -63,28 +68,6 @@ pub fn leaked<'a>(alloc: Global, mistake: &Bytes<Global>) -> Ending<'a> {
     match Vec::from_slice(alloc, mistake.as_slice()) {
         Ok(text) => Ending::Words(str::from_utf8(text.leak()).unwrap_or_default()),
         Err(_) => Ending::Memory,
-    }
-}
-
-// The mistake of a name that means no meter.
-fn mistake_of(
-    alloc: Global,
-    house: &House<Global>,
-    fault: NameFault,
-    option: &str,
-) -> Result<Bytes<Global>, NoMemory> {
-    let mut text = Bytes::new(alloc);
-    let put = match fault {
-        NameFault::Unknown(digits) => put_mistake(&mut text, option, &digits, &[]),
-        NameFault::Several(digits) => {
-            let meters = having(alloc, house, &digits)?;
-            put_mistake(&mut text, option, &digits, meters.as_slice())
-        }
-        NameFault::NoMemory => return Err(NoMemory),
-    };
-    match put {
-        Ok(()) => Ok(text),
-        Err(IoFault) => Err(NoMemory),
     }
 }
 

@@ -79,25 +79,22 @@ fn is_in<'a>(
     if known.flat().as_slice() == flat.as_slice() {
         return Ok(());
     }
+    let (meter, known) = (meter.text(), known.flat());
+    let pieces: [&[u8]; 6] = [
+        b"--flat ",
+        flat.as_slice(),
+        b": ",
+        &meter,
+        b" is in flat ",
+        known.as_slice(),
+    ];
     let mut text = Bytes::new(alloc);
-    match put_elsewhere(&mut text, &meter, flat, known.flat()) {
-        Ok(()) => Err(leaked(alloc, &text)),
-        Err(IoFault) => Err(Ending::Memory),
+    for piece in pieces {
+        if text.put(piece).is_err() {
+            return Err(Ending::Memory);
+        }
     }
-}
-
-fn put_elsewhere<W: Sink>(
-    out: &mut W,
-    meter: &Identity,
-    flat: Flat,
-    known: Flat,
-) -> Result<(), IoFault> {
-    out.put(b"--flat ")?;
-    out.put(flat.as_slice())?;
-    out.put(b": ")?;
-    out.put(&meter.text())?;
-    out.put(b" is in flat ")?;
-    out.put(known.as_slice())
+    Err(leaked(alloc, &text))
 }
 
 // Says on standard error what will be done.

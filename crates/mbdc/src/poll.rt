@@ -2,7 +2,7 @@
 
 use crate::clock::moment;
 use crate::connecting::{reached, released};
-use crate::journal::PollNotes;
+use crate::journal::Noting;
 use crate::names::meters_of;
 use crate::tracing::{shows_progress, trace_file_of, tracers_of};
 use dc_address::Identity;
@@ -61,7 +61,7 @@ where
             observers,
             only.as_slice(),
             printing,
-            PollNotes::new(host, task.image, house),
+            Noting::new(host, task.image, house),
             task,
         ),
         Err(ending) => ending,

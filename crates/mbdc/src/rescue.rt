@@ -3,7 +3,7 @@
 use dc_commands::{put_rescued, rescue_over};
 use dc_disk::{Disk, FileDisk};
 use dc_ending::{Ending, ProgramFault, STREAM, ending_of};
-use dc_files::{HalfMade, Host, Noted, begin_image, copy_disk, end_image};
+use dc_files::{Host, Noted, begin_image, copy_disk, end_image};
 use dc_inspect::{Asked, answer, scan};
 use dc_io::{Sink, WriteSink};
 use dc_json::journal::Journal;
@@ -32,25 +32,21 @@ where
     };
     let new = match half_made.disk(host.why) {
         Ok(new) => new,
-        Err(error) => return given_up(host, half_made, host.why.file(file, error)),
+        Err(error) => {
+            half_made.unlink(host.rt);
+            return host.why.file(file, error);
+        }
     };
     match rescue_over(host.rt.alloc(), &mut copy, new) {
         Ok((rescued, new)) => match end_image(host, half_made, file) {
             Ending::Clean => ending_of(print(host, &rescued, new), STREAM),
             ending => ending,
         },
-        Err(ending) => given_up(host, half_made, ending),
+        Err(ending) => {
+            half_made.unlink(host.rt);
+            ending
+        }
     }
-}
-
-// Removes what was begun.
-fn given_up<'a, R: Files<File = File>>(
-    host: &Host<'_, R>,
-    half_made: HalfMade,
-    ending: Ending<'a>,
-) -> Ending<'a> {
-    half_made.unlink(host.rt);
-    ending
 }
 
 // Prints what was rescued, and what the new image holds.

@@ -11,7 +11,7 @@ use crate::poll::poll_on_image;
 use crate::rescue::rescue_image;
 use crate::script::run_on_image;
 use dc_audit::{audit, fill};
-use dc_bench::Work;
+use dc_bench::{Target, Work};
 use dc_consumption::table::{Boundaries, consumption_lines};
 use dc_decode::decode_lines;
 use dc_ending::{Ending, ProgramFault, STREAM};
@@ -22,7 +22,7 @@ use dc_io::{Buffered, Bytes, ReadSource, Sink, Source, WriteSink};
 use dc_json::explain_lines;
 use dc_paste::Pointed;
 use dc_script::fold_lines;
-use dc_words::{Engine, Form, Listing, Task};
+use dc_words::{Engine, Form, Listing, Reached, Task};
 use std::alloc::{Allocator, Global};
 use std::fs::File;
 use std::io::{Read, Write};
@@ -107,13 +107,16 @@ where
         ),
         Task::Address {
             link,
-            from,
+            meter,
             to,
             patience,
         } => on_bus(
             host,
             link,
-            Work::Address(*from, *to),
+            match meter {
+                Reached::Selected(meter) => Work::Address(Target::Meter(*meter), *to),
+                Reached::At(address) => Work::Address(Target::Address(*address), *to),
+            },
             Listing::Text,
             *patience,
             None,

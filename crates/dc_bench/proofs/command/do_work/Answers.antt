@@ -22,5 +22,5 @@ returns-in-Ok-read_named-clause-done g c =
 
 pub returns-in-Ok-put_addressing-clause-done : goal.returns-in-Ok-put_addressing-clause-done
 returns-in-Ok-put_addressing-clause-done g c =
-    let is : c.args.work ≡ Address c.in-Address.from c.in-Address.to = cc c.in-Address.is in
-    rw is (addresses c.in-Address.from c.in-Address.to c.set_address-outcome.ensures c.in-Ok-put_addressing.ensures.0)
+    let is : c.args.work ≡ Address c.in-Address.target c.in-Address.to = cc c.in-Address.is in
+    rw is (addresses c.in-Address.target c.in-Address.to c.set_address-outcome.ensures c.in-Ok-put_addressing.ensures.0)

@@ -4,8 +4,8 @@ use Rattle.dc_bench.proofs.reading.read_at.Goals as goal
 
 pub returns-in-Ok-clause-read : goal.returns-in-Ok-clause-read
 returns-in-Ok-clause-read g c =
-    at_address g.B.Bus (PutsInto g.W.Sink c.args.out.now c.read.new.out) c.args.address c.in-Ok.meter c.args.bus.now c.identify.new.bus c.read.new.bus c.read.result
-    c.in-Ok.ensures c.read.ensures.read
+    at_address g.B.Bus (PutsInto g.W.Sink c.args.out.now c.read.new.out) c.args.address c.new.result c.in-Ok.meter c.args.bus.now c.identify.new.bus c.read.new.bus c.read.result
+    c.new.ensures c.in-Ok.ensures c.read.ensures.read
 
 pub returns-in-Err-clause-read : goal.returns-in-Err-clause-read
 returns-in-Err-clause-read g c =

@@ -1,7 +1,21 @@
 use Rattle.std.proofs.Common.{◌≡◌, ◌≢◌, ℕ, Bool, true, false, List, [], sym, subst, rules}
-use Rattle.dc_installer.specs.Address.{IsFree, is_nobody, is_one, is_taken, is_unclear}
-use Rattle.dc_installer.specs.Scan.{IsAsked}
+use Rattle.dc_installer.specs.Address.{IsChanged, IsFree, IsReached, call_to, is_nobody, is_one, is_taken, is_unclear, place_of}
+use Rattle.dc_installer.specs.Scan.{IsCalled}
+use Rattle.dc_frame.specs.Frame.{spelling}
+use Rattle.dc_installer.proofs.address.set_address.Given.{Over}
+use Rattle.dc_installer.proofs.address.set_address.Goals.{After-call-asked}
 use Rattle.dc_installer.proofs.address.set_address.Goals as goal
+
+-- the new address is free
+free : (g : Over) (c : After-call-asked g) → c.is_free.result ≡ true → IsFree g.B.Bus.asks_all c.args.to c.args.bus.now true c.is_free.new.bus
+free g c is = subst (λ (b : Bool). IsFree g.B.Bus.asks_all c.args.to c.args.bus.now b c.is_free.new.bus) is c.is_free.ensures
+
+-- the meter is called as the target says
+reached : (g : Over) (c : After-call-asked g) → IsReached g.B.Bus.asks_all c.args.target.now c.is_free.new.bus c.call-asked.result.answer c.call-asked.result.telegram c.call-asked.new.bus
+reached g c =
+    let Calls : List ℕ → ℕ → Type 0 = λ frame place. IsCalled g.B.Bus.asks_all frame place c.is_free.new.bus c.call-asked.result.answer c.call-asked.result.telegram c.call-asked.new.bus in
+    subst (λ (frame : List ℕ). Calls frame (place_of c.args.target.now)) c.call_to-request.ensures.frame
+    (subst (λ (place : ℕ). Calls c.call_to-request.result place) c.place_of-place.ensures c.call-asked.ensures)
 
 pub returns-then-not-is_free : goal.returns-then-not-is_free
 returns-then-not-is_free g c =
@@ -10,20 +24,19 @@ returns-then-not-is_free g c =
 
 pub returns-then-is_empty : goal.returns-then-is_empty
 returns-then-is_empty g c =
-    let yes : c.is_free.result ≡ true = search rules in
-    let none : c.ask_address-asked.result.answer ≡ [] = search rules in
-    is_nobody c.ask_address-asked.result.telegram (subst (λ (b : Bool). IsFree g.B.Bus.asks_all c.args.to c.args.bus.now b c.is_free.new.bus) yes c.is_free.ensures)
-    (subst (λ (bytes : List ℕ). IsAsked g.B.Bus.asks_all c.args.from c.is_free.new.bus bytes c.ask_address-asked.result.telegram c.ask_address-asked.new.bus) none c.ask_address-asked.ensures)
+    let from = (goal.at.returns-then-is_empty g c).After-call-asked in
+    let none : c.call-asked.result.answer ≡ [] = search rules in
+    is_nobody c.call-asked.result.telegram (free g from (search rules))
+    (subst (λ (bytes : List ℕ). IsReached g.B.Bus.asks_all c.args.target.now c.is_free.new.bus bytes c.call-asked.result.telegram c.call-asked.new.bus) none (reached g from))
 
 pub returns-in-Some : goal.returns-in-Some
 returns-in-Some g c =
-    let yes : c.is_free.result ≡ true = search rules in
-    is_one c.ask_address-asked.result.answer c.ask_address-asked.result.telegram (subst (λ (b : Bool). IsFree g.B.Bus.asks_all c.args.to c.args.bus.now b c.is_free.new.bus) yes c.is_free.ensures)
-    c.ask_address-asked.ensures (sym c.in-Some.ensures) c.change.ensures
+    let from = (goal.at.returns-in-Some g c).After-call-asked in
+    is_one c.call-asked.result.answer c.call-asked.result.telegram (free g from (search rules)) (reached g from) (sym c.in-Some.ensures)
+    (subst (λ (place : ℕ). IsChanged g.B.Bus.asks g.B.Bus.asks_all place c.args.to c.in-Some.meter c.call-asked.new.bus c.change.result c.change.new.bus) c.place_of-place.ensures c.change.ensures)
 
 pub returns-in-None : goal.returns-in-None
 returns-in-None g c =
-    let yes : c.is_free.result ≡ true = search rules in
-    let some : c.ask_address-asked.result.answer ≢ [] = search rules in
-    is_unclear c.ask_address-asked.result.answer c.ask_address-asked.result.telegram (subst (λ (b : Bool). IsFree g.B.Bus.asks_all c.args.to c.args.bus.now b c.is_free.new.bus) yes c.is_free.ensures)
-    c.ask_address-asked.ensures some (sym c.in-None.ensures)
+    let from = (goal.at.returns-in-None g c).After-call-asked in
+    let some : c.call-asked.result.answer ≢ [] = search rules in
+    is_unclear c.call-asked.result.answer c.call-asked.result.telegram (free g from (search rules)) (reached g from) some (sym c.in-None.ensures)
