@@ -1,7 +1,7 @@
 """The calls of libmbdc, by ctypes.
 
-The library is the one that the variable MBDC_LIBRARY names, else the checkout's own (out/library, made by
-tools/library), else the system's.
+The library is the one that the variable MBDC_LIBRARY names, else the one beside this file, as in a wheel, else the checkout's own
+(out/library, made by tools/library), else the system's.
 """
 
 import ctypes
@@ -25,9 +25,9 @@ class LibraryFault(Exception):
 
 
 def _path() -> str:
-    named = os.environ.get("MBDC_LIBRARY")
-    built = pathlib.Path(__file__).resolve().parents[2] / "out" / "library" / _NAME
-    return named or (str(built) if built.exists() else _NAME)
+    here = pathlib.Path(__file__).resolve()
+    built = [file for file in (here.with_name(_NAME), here.parents[2] / "out" / "library" / _NAME) if file.exists()]
+    return os.environ.get("MBDC_LIBRARY") or (str(built[0]) if built else _NAME)
 
 
 def _load() -> ctypes.CDLL:
@@ -38,10 +38,18 @@ def _load() -> ctypes.CDLL:
     for call in (library.mbdc_decode_text, library.mbdc_decode_json, library.mbdc_decode_body):
         call.restype = ctypes.c_size_t
         call.argtypes = [ctypes.c_char_p, ctypes.c_size_t, ctypes.c_void_p, ctypes.c_size_t]
+    number = ctypes.c_uint64
+    for call, arguments in (
+            (library.mbdc_header, [number, ctypes.c_char_p, ctypes.c_size_t, ctypes.c_void_p]),
+            (library.mbdc_next_record, [number, ctypes.c_char_p, ctypes.c_size_t, number, ctypes.c_void_p]),
+            (library.mbdc_name, [number, number, ctypes.c_void_p, ctypes.c_size_t]),
+            (library.mbdc_value_text, [ctypes.c_void_p, ctypes.c_char_p, ctypes.c_size_t, ctypes.c_void_p, ctypes.c_size_t])):
+        call.restype = ctypes.c_uint64
+        call.argtypes = arguments
     return library
 
 
-_library = _load()
+library = _load()
 _Call = Callable[[bytes, int, int, int], int]
 
 
@@ -88,7 +96,7 @@ def decode_text(frames: Union[str, bytes]) -> str:
     >>> decode_text("E5 10 40 05 45 16")
     'ACK\\nSHORT 40 05\\n'
     """
-    return _written(_library.mbdc_decode_text, _digits(frames))
+    return _written(library.mbdc_decode_text, _digits(frames))
 
 
 def decode_json(frames: Union[str, bytes]) -> str:
@@ -99,7 +107,7 @@ def decode_json(frames: Union[str, bytes]) -> str:
     >>> decode_json("E5")
     '{"line":1,"frame":"ack"}\\n'
     """
-    return _written(_library.mbdc_decode_json, _digits(frames))
+    return _written(library.mbdc_decode_json, _digits(frames))
 
 
 def decode_body(body: bytes, ci: int = 0x72) -> dict[str, Any]:
@@ -117,7 +125,7 @@ def decode_body(body: bytes, ci: int = 0x72) -> dict[str, Any]:
     'encrypted (mode 5, AES-128-CBC): only mode 0 is read'
     """
     if ci == _VARIABLE_DATA:
-        found: dict[str, Any] = json.loads(_written(_library.mbdc_decode_body, body))
+        found: dict[str, Any] = json.loads(_written(library.mbdc_decode_body, body))
         return found
     if not 0 <= ci <= 0xFF or len(body) > _MOST_BODY:
         raise ValueError(f"no long frame has CI {ci:X}h and a body of {len(body)} bytes")

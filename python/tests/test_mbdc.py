@@ -9,6 +9,7 @@ import types
 
 import mbdc
 import mbdc._library
+import mbdc._readings
 import mbdc._records
 import pytest
 from world.frames import REQ_UD2, Identity, answer, digits, header, short_frame
@@ -107,6 +108,6 @@ def test_no_library(monkeypatch: pytest.MonkeyPatch) -> None:
         mbdc._library._load()
 
 
-@pytest.mark.parametrize("module", [mbdc, mbdc._library, mbdc._records])
+@pytest.mark.parametrize("module", [mbdc, mbdc._library, mbdc._readings, mbdc._records])
 def test_examples(module: types.ModuleType) -> None:
     assert doctest.testmod(module).failed == 0
