@@ -7,7 +7,7 @@ FUNCTIONS = ("instantaneous", "maximum", "minimum", "error state")
 
 Object = dict[str, Any]
 
-REPORTED = ("moment", "utc", "status", "values", "also")  # of a reading's last telegram
+REPORTED = ("moment", "utc", "status", "headline", "values", "also")  # of a reading's last telegram
 
 
 def value_of(record: Object) -> str:

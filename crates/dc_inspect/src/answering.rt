@@ -22,9 +22,9 @@ use dc_io::{Bytes, IoFault, NoMemory, Sink};
 use dc_json::journal::Journal;
 use dc_json::latest::put_values;
 use dc_json::status::{Clock, any_silent, put_metrics, put_status, put_status_objects};
-use dc_json::{due_json, register_json, values_json};
+use dc_json::{put_due_objects, put_register_objects, put_value_objects};
 use dc_log::{FEWEST_SECTORS, Greatest, OpenFault, greatest_of, half_len_of};
-use dc_office::table::{due_table, register_table};
+use dc_office::table::{due_table, register_table, rows};
 use dc_register::House;
 use std::alloc::Allocator;
 
@@ -66,20 +66,31 @@ fn put_status_in<A: Allocator + Copy, W: Sink>(
     }
 }
 
-// The table of a house.
-fn table_of<A: Allocator + Copy>(
+// Appends a table of a house.
+fn add_table<A: Allocator + Copy>(
     alloc: A,
     house: &House<A>,
     report: Report,
     form: Form,
-) -> Result<Vec<u8, A>, NoMemory>
-    ensures { IfOk result (λ table. table.items ≡ table_text form report house.now.state) }
+    text: &mut Bytes<A>,
+) -> Result<(), NoMemory>
+    ensures { OnOk result (text.new.bytes
+        ≡ text.old.bytes ++ table_text form report house.now.state) }
 {
     match (form, report) {
-        (Form::Text, Report::Register) => register_table(alloc, house),
-        (Form::Text, Report::Due(date)) => due_table(alloc, house, date),
-        (Form::Json, Report::Register) => register_json(alloc, house),
-        (Form::Json, Report::Due(date)) => due_json(alloc, house, date),
+        (Form::Text, Report::Register) => {
+            let table = register_table(alloc, house)?;
+            kept(text.put(table.as_slice()))
+        }
+        (Form::Text, Report::Due(date)) => {
+            let table = due_table(alloc, house, date)?;
+            kept(text.put(table.as_slice()))
+        }
+        (Form::Json, Report::Register) => kept(put_register_objects(text, house)),
+        (Form::Json, Report::Due(date)) => {
+            let rows = rows(alloc, house, date)?;
+            kept(put_due_objects(text, date, rows.as_slice()))
+        }
     }
 }
 
@@ -97,15 +108,9 @@ fn add_house<A: Allocator + Copy>(
     match asked {
         Asked::Contents => Ok(()),
         Asked::Values(Form::Text) => kept(put_values(text, house)),
-        Asked::Values(Form::Json) => {
-            let lines = values_json(alloc, house)?;
-            kept(text.put(lines.as_slice()))
-        }
+        Asked::Values(Form::Json) => kept(put_value_objects(text, house)),
         Asked::Status(form, clock) => kept(put_status_in(text, *form, *clock, journal, house)),
-        Asked::Table(report, form) => {
-            let table = table_of(alloc, house, *report, *form)?;
-            kept(text.put(table.as_slice()))
-        }
+        Asked::Table(report, form) => add_table(alloc, house, *report, *form, text),
     }
 }
 

@@ -1,9 +1,15 @@
--- the current values among points
-mod Currents
--- what one telegram reports
-mod Telegrams
--- the records that the due-date table doesn't have
-mod Alsos
+-- the records of several telegrams
+mod Sents
+-- what is told of a reading
+mod Told
+-- how many records aren't read
+mod Unread
+-- a row of the due-date table
+mod Rows
+-- the names of VIFEs
+mod Names
+-- a prefix of one piece of a text
+mod Fronts
 -- of the module `latest`
 
 -- the days after 1 January 1970 are those of the calendar

@@ -1,7 +1,7 @@
 -- the definitions that contracts cite
 
--- the current values that the due-date table doesn't have
-pub mod Also
+-- the headline of a reading, and its current records
+pub mod Stand
 -- the rows of the tables of `report`
 pub mod Report
 -- what the meters of a house stand at

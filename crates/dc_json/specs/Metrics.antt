@@ -56,14 +56,10 @@ abbrev pub meter_sample : Metric → ℕ → ℕ → Notes → State → Place �
 meter_sample metric patience now journal s place =
     sample_of (name_of metric) (row_at patience now journal s place) (value_of metric (row_at patience now journal s place))
 
-unfoldable pub meter_samples : Metric → ℕ → ℕ → Notes → State → List ℕ
-meter_samples metric patience now journal s =
-    flat_map (meter_sample metric patience now journal s) (by_flat s.meters)
-
 -- A METRIC OF THE METERS at a clock
 unfoldable pub metric_text : Metric → ℕ → ℕ → Notes → State → List ℕ
 metric_text metric patience now journal s =
-    head_of (name_of metric) (help_of metric) ++ meter_samples metric patience now journal s
+    head_of (name_of metric) (help_of metric) ++ flat_map (meter_sample metric patience now journal s) (by_flat s.meters)
 
 -- ---- of the image
 

@@ -5,13 +5,12 @@ use Rattle.std.specs.List.{flat_map, list_any}
 use Rattle.dc_io.specs.Words.{number_word}
 use Rattle.dc_address.specs.Text.{text_of}
 use Rattle.dc_record.specs.Text.{value_text}
-use Rattle.dc_record.specs.Fields.{application_name}
 use Rattle.dc_change.specs.Size.{size_of, empty_size}
 use Rattle.dc_change.specs.State.{State, Held, ReadingRow}
 use Rattle.dc_register.specs.Places.{by_flat}
 use Rattle.dc_register.specs.declared.place.Place.{Place}
 use Rattle.dc_json.specs.Utc.{minute_of}
-use Rattle.dc_json.specs.LatestValues.{bits_words}
+use Rattle.dc_json.specs.LatestValues.{byte_words}
 use Rattle.dc_json.specs.Heard.{ago, moment_of}
 use Rattle.dc_json.specs.Journal.{Notes}
 use Rattle.dc_json.specs.Row.{row_at}
@@ -35,16 +34,10 @@ abbrev pub silent_words : Bool → List ℕ
 silent_words true = codes " SILENT"
 silent_words false = []
 
--- what the last reading says of the meter (EN 13757-3, status byte)
-unfoldable pub byte_words : ℕ → List ℕ
-byte_words status = codes " " ++ (application_name status ++ bits_words status)
-
-unfoldable pub state_words : Option ℕ → List ℕ
+-- what the last reading says of the meter
+abbrev pub state_words : Option ℕ → List ℕ
 state_words None = []
 state_words (Some status) = byte_words status
-
-unfoldable pub meter_words : Row → List ℕ
-meter_words row = codes "METER " ++ (row.flat ++ (codes " " ++ text_of row.meter))
 
 -- the reading is the journal's
 abbrev pub source_words : Option Told → List ℕ
@@ -69,20 +62,23 @@ failed_words moment number = codes "FAILED " ++ (value_text (minute_of moment)
 unfoldable pub name_end : ℕ → List ℕ
 name_end number = codes " " ++ (failure_name number ++ codes "\n")
 
-unfoldable pub failed_line : Option ℕ → ℕ → List ℕ
-failed_line None number = []
-failed_line (Some moment) number = failed_words moment number ++ name_end number
+-- the last failed readout since: its minute (UTC), its number and its name
+unfoldable pub failed_line : ℕ → ℕ → List ℕ
+failed_line moment number = failed_words moment number ++ name_end number
 
--- the last failed readout since
-unfoldable pub failed_text : Option Told → List ℕ
+abbrev pub failed_since : Option ℕ → ℕ → List ℕ
+failed_since None number = []
+failed_since (Some moment) number = failed_line moment number
+
+abbrev pub failed_text : Option Told → List ℕ
 failed_text None = []
-failed_text (Some told) = failed_line told.failed told.number
+failed_text (Some told) = failed_since told.failed told.number
 
 unfoldable pub row_text : Row → List ℕ
-row_text row = meter_words row
+row_text row = codes "METER " ++ (row.flat ++ (codes " " ++ (text_of row.meter
     ++ (heard_words row.heard row.age
     ++ (silent_words row.is_silent ++ (state_words row.status
-    ++ (source_words row.told ++ (codes "\n" ++ failed_text row.told)))))
+    ++ (source_words row.told ++ (codes "\n" ++ failed_text row.told))))))))
 
 -- ---- how full it is
 

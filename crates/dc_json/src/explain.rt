@@ -10,7 +10,7 @@ ghost use Rattle.dc_decode.specs.Frames.{is_bad, is_bad_content, is_bad_frame};
 ghost use Rattle.dc_decode.specs.Text.{has_fault};
 
 use crate::place::{body_place, frame_place};
-use crate::table::{put_content_table, put_telegram_table};
+use crate::table::put_content;
 use dc_decode::{Input, LineForm, read_frame};
 use dc_frame::Frame;
 use dc_frame::control::VARIABLE_DATA;
@@ -48,12 +48,12 @@ fn put_body<W: Sink>(out: &mut W, start: usize, ci: u8, body: &[u8]) -> Result<b
     ensures { IfOk result (λ bad. bad ≡ is_bad_content ci body.now) }
 {
     if ci != VARIABLE_DATA {
-        put_content(out, ci, body)?;
+        put_told(out, ci, body, false)?;
         return Ok(false);
     }
     match Telegram::parse(body) {
-        Ok(telegram) => {
-            put_telegram_table(out, &telegram)?;
+        Ok(_) => {
+            put_told(out, ci, body, true)?;
             Ok(false)
         }
         Err(fault) => {
@@ -61,16 +61,16 @@ fn put_body<W: Sink>(out: &mut W, start: usize, ci: u8, body: &[u8]) -> Result<b
             out.put(b"  body fault ")?;
             put_fault(out, fault.number(), fault.name())?;
             put_expected(out, start.saturating_add(place), expected)?;
-            put_content(out, ci, body)?;
+            put_told(out, ci, body, false)?;
             Ok(true)
         }
     }
 }
 
-// Writes what a body says that is no telegram.
-fn put_content<W: Sink>(out: &mut W, ci: u8, body: &[u8]) -> Result<(), IoFault> {
+// Writes what a body says.
+fn put_told<W: Sink>(out: &mut W, ci: u8, body: &[u8], is_telegram: bool) -> Result<(), IoFault> {
     match content_of(ci, body) {
-        Some(content) => put_content_table(out, &content),
+        Some(content) => put_content(out, &content, is_telegram),
         None => Ok(()),
     }
 }

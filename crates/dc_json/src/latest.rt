@@ -12,6 +12,9 @@ mod reading;
 mod status;
 mod utc;
 
+pub(crate) use lines::put_names;
 pub use lines::put_values;
 pub use reading::last_reading;
+pub(crate) use reading::{last_of, part_in};
+pub(crate) use status::put_byte_words;
 pub use utc::minute;

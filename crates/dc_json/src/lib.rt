@@ -1,8 +1,8 @@
 //! The tables of `report` and what the meters of a house stand at as JSON Lines, and the output of
 //! `decode` as a table for readers.
 //!
-//! [`register_json`] and [`due_json`] return the tables of a house as JSON Lines, an object per row
-//! (`specs/Report.antt`); [`values_json`] returns what its meters stand at (`specs/Values.antt`).
+//! [`put_register_objects`] and [`put_due_objects`] write the tables of a house as JSON Lines, an object per row
+//! (`specs/Report.antt`); [`put_value_objects`] writes what its meters stand at (`specs/Values.antt`).
 //! Each object is the compact text of the value that these define. [`put_reported`] writes what one telegram
 //! reports as the fields that such a reading has (`specs/Reported.antt`).
 //!
@@ -10,19 +10,18 @@
 //! of each fault and what was expected there. Its text has no contract.
 #![tactic(auto)]
 
-mod also;
 mod explain;
-mod grown;
 pub mod journal;
 pub mod latest;
 mod place;
 mod report;
 mod reported;
+mod stand;
 pub mod status;
 mod table;
 mod values;
 
 pub use explain::explain_lines;
-pub use report::{due_json, register_json};
+pub use report::{put_due_objects, put_register_objects};
 pub use reported::put_reported;
-pub use values::values_json;
+pub use values::put_value_objects;

@@ -1,218 +1,99 @@
 //! The rows of the tables of `report`, as JSON Lines.
 
-ghost use Rattle.std.specs.Prelude.{◌≡◌, ◌++◌, IfOk};
+ghost use Rattle.std.specs.Prelude.{◌≡◌, codes};
 ghost use Rattle.std.specs.List.{flat_map};
-ghost use Rattle.dc_register.specs.Places.{by_flat};
-ghost use Rattle.json.specs.Tree.{json_tokens};
 ghost use Rattle.dc_io.specs.Written.{Wrote};
-ghost use Rattle.dc_tokens.specs.Object.{fields_tokens};
-ghost use Rattle.dc_tokens.specs.Writing.{Added};
-ghost use Rattle.dc_json.specs.Report.{address_json, date_fields, due_lines, line_at, meter_json};
-ghost use Rattle.dc_json.specs.Report.{point_fields, register_lines, row_json, row_line};
-ghost use Rattle.dc_json.specs.Report.{station_fields, whose_fields};
-ghost use Rattle.dc_frame_json.specs.Text.{value_line};
+ghost use Rattle.dc_frame_json.specs.Row.{field_of};
+ghost use Rattle.dc_json.specs.Report.{address_json, line_at, register_lines, row_line};
 
-use crate::grown::Grown;
-use dc_address::{Identity, Primary};
-use dc_change::Flat;
-use dc_frame_json::{put_meter, put_unit, put_value};
-use dc_io::{IoFault, NoMemory, Sink};
-use dc_office::table::{Row, rows};
+use dc_address::Primary;
+use dc_frame_json::{Cell, put_line};
+use dc_io::{IoFault, Sink};
+use dc_office::table::Row;
 use dc_record::names::function_name;
-use dc_record::value::{Date, Point, TEXT_ROOM, Value};
-use dc_register::{House, Meter};
-use dc_tokens::TokenWriter;
+use dc_record::value::{Date, Value};
+use dc_register::{House, Place};
 use std::alloc::Allocator;
 
-/// Writes a flat and a meter.
-pub(crate) fn put_whose<W: Sink>(out: &mut TokenWriter<'_, W>, flat: &Flat, meter: &Identity)
-    ensures { Added W.Sink out.old out.new (fields_tokens (whose_fields flat.now meter.now)) }
+// The cell of a primary address, or of none.
+fn address(number: Option<Primary>) -> Cell<'static>
+    ensures { field_of result ≡ (codes "address", address_json number) }
 {
-    out.put_name("flat");
-    out.put_string(flat.as_slice());
-    out.put_name("meter");
-    put_meter(out, meter);
-}
-
-// Writes a primary address, or null.
-fn put_address<W: Sink>(out: &mut TokenWriter<'_, W>, address: Option<Primary>)
-    ensures { Added W.Sink out.old out.new (json_tokens (address_json address)) }
-{
-    match address {
-        Some(number) => out.put_whole(u64::from(number.get())),
-        None => out.put_null(),
+    match number {
+        Some(number) => Cell::Number("address", u64::from(number.get())),
+        None => Cell::Null("address"),
     }
-}
-
-// Writes a meter's bus line and address, and the number of its open parts.
-fn put_station<A: Allocator + Copy, W: Sink>(out: &mut TokenWriter<'_, W>, row: &Meter<A>)
-    ensures { Added W.Sink out.old out.new (fields_tokens (station_fields row.now)) }
-{
-    out.put_count("line", u64::from(row.line()));
-    out.put_name("address");
-    put_address(out, row.address());
-    out.put_count("open", row.parts().len() as u64);
-}
-
-// Writes the due date of a row.
-fn put_date<W: Sink>(out: &mut TokenWriter<'_, W>, date: Date)
-    ensures { Added W.Sink out.old out.new (fields_tokens (date_fields date)) }
-{
-    let mut room = [0u8; TEXT_ROOM];
-    out.put_name("date");
-    out.put_string(Value::Day(date).write_into(&mut room));
-}
-
-// Writes a point of a reading.
-fn put_point<W: Sink>(out: &mut TokenWriter<'_, W>, serial: u64, point: &Point)
-    ensures { Added W.Sink out.old out.new (fields_tokens (point_fields serial point.now)) }
-{
-    out.put_count("serial", serial);
-    out.put_count("storage", point.storage);
-    out.put_count("tariff", u64::from(point.tariff));
-    out.put_count("subunit", u64::from(point.subunit));
-    out.put_text("function", function_name(point.function));
-    out.put_name("value");
-    put_value(out, &point.value);
-    out.put_name("unit");
-    put_unit(out, point.quantity.unit().as_bytes());
-}
-
-// Writes the object of a registered meter.
-fn put_meter_json<A: Allocator + Copy, W: Sink>(
-    out: &mut TokenWriter<'_, W>,
-    meter: &Identity,
-    row: &Meter<A>,
-)
-    ensures { Added W.Sink out.old out.new (json_tokens (meter_json meter.now row.now)) }
-{
-    out.begin_object();
-    put_whose(out, &row.flat(), meter);
-    put_station(out, row);
-    out.end_object();
 }
 
 // Writes the line of a registered meter.
-#[tactic(auto, using(dc_tokens::proofs::Adding::whole, dc_io::proofs::Pieces::written), unfolding(dc_frame_json::specs::Text::value_line))]
-fn put_meter_line<A: Allocator + Copy, W: Sink>(
+#[tactic(auto, unfolding(crate::specs::Report::meter_json))]
+fn put_meter<A: Allocator + Copy, W: Sink>(
     out: &mut W,
-    meter: &Identity,
-    row: &Meter<A>,
+    house: &House<A>,
+    place: &Place,
 ) -> Result<(), IoFault>
-    ensures { Wrote W.Sink result out.old out.new (value_line (meter_json meter.now row.now)) }
+    ensures { Wrote W.Sink result out.old out.new (line_at house.now.state place.now) }
 {
-    let mut tokens = TokenWriter::new(out);
-    put_meter_json(&mut tokens, meter, row);
-    tokens.outcome()?;
-    out.put(b"\n")
-}
-
-// Writes the object of a row of the due-date table.
-fn put_row_json<W: Sink>(out: &mut TokenWriter<'_, W>, date: Date, row: &Row)
-    ensures { Added W.Sink out.old out.new (json_tokens (row_json date row.now)) }
-{
-    out.begin_object();
-    put_date(out, date);
-    put_whose(out, &row.flat, &row.meter);
-    put_point(out, row.serial, &row.point);
-    out.end_object();
+    match house.meter(&place.meter) {
+        Some(row) => put_line(
+            out,
+            &[
+                Cell::Text("flat", place.flat.as_slice()),
+                Cell::Meter("meter", place.meter),
+                Cell::Number("line", u64::from(row.line())),
+                address(row.address()),
+                Cell::Number("open", row.parts().len() as u64),
+            ],
+        ),
+        None => Ok(()),
+    }
 }
 
 // Writes the line of a row of the due-date table.
-#[tactic(auto, using(dc_tokens::proofs::Adding::whole, dc_io::proofs::Pieces::written), unfolding(dc_frame_json::specs::Text::value_line))]
-fn put_row_line<W: Sink>(out: &mut W, date: Date, row: &Row) -> Result<(), IoFault>
-    ensures { Wrote W.Sink result out.old out.new (value_line (row_json date row.now)) }
+#[tactic(auto, unfolding(crate::specs::Report::row_json))]
+fn put_row<W: Sink>(out: &mut W, date: Date, row: &Row) -> Result<(), IoFault>
+    ensures { Wrote W.Sink result out.old out.new (row_line date row.now) }
 {
-    let mut tokens = TokenWriter::new(out);
-    put_row_json(&mut tokens, date, row);
-    tokens.outcome()?;
-    out.put(b"\n")
+    let point = &row.point;
+    put_line(
+        out,
+        &[
+            Cell::Value("date", Value::Day(date)),
+            Cell::Text("flat", row.flat.as_slice()),
+            Cell::Meter("meter", row.meter),
+            Cell::Number("serial", row.serial),
+            Cell::Number("storage", point.storage),
+            Cell::Number("tariff", u64::from(point.tariff)),
+            Cell::Number("subunit", u64::from(point.subunit)),
+            Cell::Text("function", function_name(point.function).as_bytes()),
+            Cell::Value("value", point.value),
+            Cell::Unit("unit", point.quantity.unit().as_bytes()),
+        ],
+    )
 }
 
-// Appends the line of a registered meter.
-fn add_meter<A: Allocator + Copy>(
-    text: Vec<u8, A>,
-    meter: &Identity,
-    row: &Meter<A>,
-) -> Result<Vec<u8, A>, NoMemory>
-    ensures { IfOk result (λ added. added.items ≡ text.items
-        ++ value_line (meter_json meter.now row.now)) }
-{
-    let mut out = Grown::new(text);
-    match put_meter_line(&mut out, meter, row) {
-        Ok(()) => Ok(out.items),
-        Err(IoFault) => Err(NoMemory),
-    }
-}
-
-// Appends the line of a row of the due-date table.
-fn add_row<A: Allocator + Copy>(
-    text: Vec<u8, A>,
-    date: Date,
-    row: &Row,
-) -> Result<Vec<u8, A>, NoMemory>
-    ensures { IfOk result (λ added. added.items ≡ text.items
-        ++ value_line (row_json date row.now)) }
-{
-    let mut out = Grown::new(text);
-    match put_row_line(&mut out, date, row) {
-        Ok(()) => Ok(out.items),
-        Err(IoFault) => Err(NoMemory),
-    }
-}
-
-// Appends the lines of a house's meters.
-fn add_meters<A: Allocator + Copy>(
-    text: Vec<u8, A>,
+/// Writes the register as JSON Lines (RFC 8259): an object for each registered meter, by flat and then by identity.
+#[tactic(auto, using(dc_io::proofs::Pieces::written), unfolding(crate::specs::Report::register_lines))]
+pub fn put_register_objects<A: Allocator + Copy, W: Sink>(
+    out: &mut W,
     house: &House<A>,
-) -> Result<Vec<u8, A>, NoMemory>
-    ensures { IfOk result (λ added. added.items ≡ text.items
-        ++ flat_map (line_at house.now.state) (by_flat house.now.state.meters)) }
+) -> Result<(), IoFault>
+    ensures { Wrote W.Sink result out.old out.new (register_lines house.now.state) }
 {
-    let mut grown = text;
     for place in house.meters_by_flat() {
-        if let Some(row) = house.meter(&place.meter) {
-            grown = add_meter(grown, &place.meter, row)?;
-        }
+        put_meter(out, house, place)?;
     }
-    Ok(grown)
+    Ok(())
 }
 
-// Appends the lines of rows.
-fn add_rows<A: Allocator + Copy>(
-    text: Vec<u8, A>,
-    date: Date,
-    rows: &[Row],
-) -> Result<Vec<u8, A>, NoMemory>
-    ensures { IfOk result (λ added. added.items ≡ text.items ++ flat_map (row_line date) rows.now) }
+/// Writes rows of the due-date table for a date as JSON Lines (RFC 8259), an object for each: its
+/// [`rows`](dc_office::table::rows) are the table.
+#[tactic(auto, using(dc_io::proofs::Pieces::written))]
+pub fn put_due_objects<W: Sink>(out: &mut W, date: Date, rows: &[Row]) -> Result<(), IoFault>
+    ensures { Wrote W.Sink result out.old out.new (flat_map (row_line date) rows.now) }
 {
-    let mut grown = text;
     for row in rows {
-        grown = add_row(grown, date, row)?;
+        put_row(out, date, row)?;
     }
-    Ok(grown)
-}
-
-/// Returns the register as JSON Lines (RFC 8259): an object for each registered meter, by flat and
-/// then by identity. The only error is out of memory.
-pub fn register_json<A: Allocator + Copy>(
-    alloc: A,
-    house: &House<A>,
-) -> Result<Vec<u8, A>, NoMemory>
-    ensures { IfOk result (λ text. text.items ≡ register_lines house.now.state) }
-{
-    add_meters(Vec::new(alloc), house)
-}
-
-/// Returns the due-date table for a date as JSON Lines (RFC 8259): an object for each row, in the
-/// order of [`due_table`](dc_office::table::due_table). The only error is out of memory.
-pub fn due_json<A: Allocator + Copy>(
-    alloc: A,
-    house: &House<A>,
-    date: Date,
-) -> Result<Vec<u8, A>, NoMemory>
-    ensures { IfOk result (λ text. text.items ≡ due_lines date house.now.state) }
-{
-    let rows = rows(alloc, house, date)?;
-    add_rows(Vec::new(alloc), date, rows.as_slice())
+    Ok(())
 }

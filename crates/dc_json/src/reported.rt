@@ -1,41 +1,39 @@
 //! What one telegram reports, as fields of an object.
 
-ghost use Rattle.std.specs.Prelude.{◌≡◌, ◌≤◌, ◌∷◌, []};
-ghost use Rattle.std.specs.List.{flat_map};
-ghost use Rattle.dc_record.specs.Record.{view};
+ghost use Rattle.std.specs.Prelude.{◌≡◌, ◌≤◌, ◌∷◌, [], codes};
 ghost use Rattle.dc_record.specs.Telegram.{parsed};
-ghost use Rattle.dc_record.specs.Point.{seen_of};
 ghost use Rattle.dc_change.specs.Fields.{last_moment};
-ghost use Rattle.dc_register.specs.Points.{points_in, shown};
 ghost use Rattle.dc_tokens.specs.Writing.{Added};
-ghost use Rattle.dc_tokens.specs.Object.{fields_tokens, values_tokens};
-ghost use Rattle.dc_json.specs.Values.{current_of, received_fields, values_field};
+ghost use Rattle.dc_tokens.specs.Object.{fields_tokens};
+ghost use Rattle.dc_json.specs.Stand.{all_sent};
+ghost use Rattle.dc_json.specs.Values.{received_fields, records_field, told_fields};
 ghost use Rattle.dc_json.specs.Reported.{reported_fields};
 
-use crate::also::put_also;
 use crate::latest::minute;
-use crate::values::put_if_current;
-use dc_frame_json::{Cell, put_row};
+use crate::stand::{Current, Headline, Listed};
+use dc_frame_json::{Cell, put_record, put_row};
 use dc_io::Sink;
-use dc_record::value::{Seen, point_of};
-use dc_record::{Record, Records, Telegram};
+use dc_record::Telegram;
+use dc_register::Part;
 use dc_tokens::TokenWriter;
+use std::alloc::{Allocator, Global};
 
 /// Writes the fields of a reading that a telegram received at this moment has: `moment`, `utc`,
-/// `status`, `values` and `also`, as [`values_json`](crate::values_json) writes them.
+/// `status`, `headline`, `values` and `also`, as [`put_value_objects`](crate::put_value_objects) writes them.
 pub fn put_reported<W: Sink>(out: &mut TokenWriter<'_, W>, moment: u64, telegram: &Telegram<'_>)
     requires { moment ≤ last_moment }
     ensures { Added W.Sink out.old out.new
         (fields_tokens (reported_fields moment (parsed telegram.now))) }
 {
-    put_received(out, moment, telegram.header().status);
-    put_values(out, telegram.records());
-    put_also(out, telegram.body());
+    let header = telegram.header();
+    let kept: &[Part<Global>] = &[];
+    put_received(out, moment, header.status);
+    put_told(out, header.identity.kind, telegram.body(), kept);
 }
 
-// Writes when a telegram was received, and the status that it reports.
+/// Writes when a telegram was received, and the status that it reports.
 #[tactic(auto, unfolding(crate::specs::Values::received_fields))]
-fn put_received<W: Sink>(out: &mut TokenWriter<'_, W>, moment: u64, status: u8)
+pub(crate) fn put_received<W: Sink>(out: &mut TokenWriter<'_, W>, moment: u64, status: u8)
     requires { moment ≤ last_moment }
     ensures { Added W.Sink out.old out.new (fields_tokens (received_fields moment status)) }
 {
@@ -49,34 +47,47 @@ fn put_received<W: Sink>(out: &mut TokenWriter<'_, W>, moment: u64, status: u8)
     );
 }
 
-// Writes the field of the current values.
-fn put_values<W: Sink>(out: &mut TokenWriter<'_, W>, records: Records<'_>)
+/// Writes what is told of the records of a telegram that isn't kept, and of parts, of a meter of this device type.
+pub(crate) fn put_told<A: Allocator, W: Sink>(
+    out: &mut TokenWriter<'_, W>,
+    kind: u8,
+    body: &[u8],
+    parts: &[Part<A>],
+)
     ensures { Added W.Sink out.old out.new
-        (fields_tokens (values_field (points_in records.entry) ∷ [])) }
+        (fields_tokens (told_fields kind (all_sent body.now parts.now))) }
 {
-    out.put_name("values");
+    put_headline(out, Headline::new(kind, body, parts));
+    put_listed(out, "values", Listed::new(Current::Values, body, parts));
+    put_listed(out, "also", Listed::new(Current::Also, body, parts));
+}
+
+// Writes the field of the records that a meter stands at.
+fn put_headline<A: Allocator, W: Sink>(out: &mut TokenWriter<'_, W>, headline: Headline<'_, A>)
+    ensures { Added W.Sink out.old out.new
+        (fields_tokens (records_field (codes "headline") headline.entry ∷ [])) }
+{
+    out.put_name("headline");
     out.begin_array();
-    put_records(out, records);
+    'records: for sent in headline {
+        put_record(out, &sent);
+    }
     out.end_array();
 }
 
-// Writes the current values among records.
-fn put_records<W: Sink>(out: &mut TokenWriter<'_, W>, records: Records<'_>)
+// Writes the field of the records of a list.
+fn put_listed<A: Allocator, W: Sink>(
+    out: &mut TokenWriter<'_, W>,
+    name: &str,
+    listed: Listed<'_, A>,
+)
     ensures { Added W.Sink out.old out.new
-        (values_tokens (flat_map current_of (points_in records.entry))) }
+        (fields_tokens (records_field name.now listed.entry ∷ [])) }
 {
-    'records: for found in records {
-        put_record(out, &found);
+    out.put_name(name);
+    out.begin_array();
+    'records: for sent in listed {
+        put_record(out, &sent);
     }
-}
-
-// Writes the value of a record, if it is current.
-fn put_record<W: Sink>(out: &mut TokenWriter<'_, W>, found: &Record<'_>)
-    ensures { Added W.Sink out.old out.new
-        (values_tokens (flat_map current_of (shown (seen_of (view found.now))))) }
-{
-    match point_of(found) {
-        Seen::Point(point) => put_if_current(out, &point),
-        Seen::Other => {}
-    }
+    out.end_array();
 }

@@ -1,16 +1,17 @@
 //! A telegram, or what another body says, as an aligned table.
 
+use crate::latest::{put_byte_words, put_names};
 use dc_address::Identity;
 use dc_io::{IoFault, Sink, put_byte, put_hex, put_number};
 use dc_reading::content::{
     Content, Counter, FixedData, REASON_ROOM, Security, Variable, medium_of, security_name,
 };
 use dc_reading::{
-    How, READING_ROOM, Reading, Sent, SentRecords, code_at, digits_text, is_extension, label_text,
-    maker_of, number_after, number_of, reading_of, told_of, unit_text, value_text, vife_at,
+    How, READING_ROOM, Reading, Sent, SentRecords, code_at, digits_text, label_text, maker_of,
+    number_of, reading_of, told_of, unit_text, value_text,
 };
-use dc_record::names::{application_name, function_name, medium_name};
-use dc_record::{Record, Telegram};
+use dc_record::names::{function_name, medium_name};
+use dc_record::{End, Record};
 use itoa::Buffer;
 
 // The widths of the columns, in characters.
@@ -61,20 +62,9 @@ fn put_state<W: Sink>(out: &mut W, access: u8, status: u8) -> Result<(), IoFault
     put_number(out, u64::from(access))?;
     out.put(b"\n  status  ")?;
     put_byte(out, status)?;
-    out.put(b": application: ")?;
-    out.put(application_name(status).as_bytes())?;
-    put_bit(out, status / 4, b", power low")?;
-    put_bit(out, status / 8, b", permanent error")?;
-    put_bit(out, status / 16, b", temporary error")?;
+    out.put(b": application:")?;
+    put_byte_words(out, status)?;
     out.put(b"\n")
-}
-
-// Writes words where the lowest bit is set.
-fn put_bit<W: Sink>(out: &mut W, bits: u8, words: &[u8]) -> Result<(), IoFault> {
-    if bits % 2 == 1 {
-        out.put(words)?;
-    }
-    Ok(())
 }
 
 // Writes a text from a meter, with a point for each control character.
@@ -112,15 +102,6 @@ fn put_value<W: Sink>(out: &mut W, found: &Record<'_>, reading: &Reading) -> Res
     )
 }
 
-// Writes a record's unit.
-fn put_unit<W: Sink>(out: &mut W, unit: &[u8], reading: &Reading) -> Result<(), IoFault> {
-    if matches!(reading.how, How::Other) {
-        return put_cell(out, b"hex", UNIT);
-    }
-    put_shown(out, unit)?;
-    put_spaces(out, UNIT.saturating_sub(unit.len()))
-}
-
 // Writes the row of a record: what it is of, its value information block where it has one, its unit, and what is read.
 fn put_told<W: Sink>(
     out: &mut W,
@@ -133,7 +114,12 @@ fn put_told<W: Sink>(
     out.put(b"  ")?;
     put_cell(out, name.as_bytes(), QUANTITY)?;
     put_value(out, found, reading)?;
-    put_unit(out, unit, reading)?;
+    if matches!(reading.how, How::Other) {
+        put_cell(out, b"hex", UNIT)?;
+    } else {
+        put_shown(out, unit)?;
+        put_spaces(out, UNIT.saturating_sub(unit.len()))?;
+    }
     let mut number = Buffer::new();
     put_cell(out, number.format(found.storage).as_bytes(), NUMBER)?;
     put_cell(out, number.format(found.tariff).as_bytes(), NUMBER)?;
@@ -173,12 +159,7 @@ fn put_counter<W: Sink>(out: &mut W, counter: &Counter<'_>) -> Result<(), IoFaul
 
 // Writes the names of a record's VIFEs, the manufacturer's bytes and the text of a unit in plain text.
 fn put_qualifiers<W: Sink>(out: &mut W, vib: &[u8]) -> Result<(), IoFault> {
-    let mut after_fc = false;
-    'vifes: for vife in told_of(vib) {
-        out.put(b", ")?;
-        out.put(vife_at(number_after(after_fc, *vife)).name.as_bytes())?;
-        after_fc = is_extension(after_fc, *vife);
-    }
+    put_names(out, told_of(vib))?;
     if let Some(maker) = maker_of(vib) {
         out.put(b", maker ")?;
         put_hex(out, maker)?;
@@ -212,22 +193,30 @@ fn put_records<W: Sink>(out: &mut W, records: SentRecords<'_>) -> Result<(), IoF
     Ok(())
 }
 
-/// Writes a telegram: its meter, its status, and a row for each record.
-pub(crate) fn put_telegram_table<W: Sink>(
+// Writes the header of variable data, and a row for each record before the first fault; of what is no telegram also its
+// structure.
+fn put_variable<W: Sink>(
     out: &mut W,
-    telegram: &Telegram<'_>,
+    variable: &Variable<'_>,
+    is_telegram: bool,
 ) -> Result<(), IoFault> {
-    let header = telegram.header();
-    put_header(out, Some(header.identity), header.access, header.status)?;
-    put_records(out, SentRecords::of_body(telegram.body()))?;
-    if telegram.more_follows() {
+    if !is_telegram {
+        put_structure(out, variable)?;
+    }
+    if let Some(head) = variable.head {
+        put_header(out, variable.meter, head.access, head.status)?;
+    }
+    if variable.refused.is_none() {
+        put_records(out, variable.records())?;
+    }
+    if is_telegram && matches!(variable.end(), Ok(End::More(_))) {
         out.put(b"  more records follow in the next telegram\n")?;
     }
     Ok(())
 }
 
-// Writes the structure and the header of variable data, and a row for each record before the first fault.
-fn put_variable<W: Sink>(out: &mut W, variable: &Variable<'_>) -> Result<(), IoFault> {
+// Writes the structure of variable data, and its security mode.
+fn put_structure<W: Sink>(out: &mut W, variable: &Variable<'_>) -> Result<(), IoFault> {
     out.put(b"  body    ")?;
     out.put(variable.structure.name().as_bytes())?;
     if let Some(head) = variable.head {
@@ -236,15 +225,9 @@ fn put_variable<W: Sink>(out: &mut W, variable: &Variable<'_>) -> Result<(), IoF
         put_number(out, u64::from(mode))?;
         out.put(b" (")?;
         out.put(security_name(mode).as_bytes())?;
-        out.put(b")\n")?;
-        put_header(out, variable.meter, head.access, head.status)?;
-    } else {
-        out.put(b"\n")?;
+        out.put(b")")?;
     }
-    if variable.refused.is_none() {
-        put_records(out, variable.records())?;
-    }
-    Ok(())
+    out.put(b"\n")
 }
 
 // Writes the meter of fixed data, and its counters.
@@ -267,13 +250,14 @@ fn put_fixed<W: Sink>(out: &mut W, data: &FixedData<'_>) -> Result<(), IoFault> 
     Ok(())
 }
 
-/// Writes what a body says that the register refuses: its header, a row for each record, and why it is refused.
-pub(crate) fn put_content_table<W: Sink>(
+/// Writes what a body says: its header, a row for each record, and why the register refuses it.
+pub(crate) fn put_content<W: Sink>(
     out: &mut W,
     content: &Content<'_>,
+    is_telegram: bool,
 ) -> Result<(), IoFault> {
     match content {
-        Content::Variable(variable) => put_variable(out, variable)?,
+        Content::Variable(variable) => put_variable(out, variable, is_telegram)?,
         Content::Fixed(Some(data)) => put_fixed(out, data)?,
         Content::Fixed(None) => {}
     }

@@ -1,19 +1,30 @@
 //! The lines of `values`.
 
-ghost use Rattle.std.specs.Prelude.{◌≡◌, ◌++◌, codes, option_copied};
+ghost use Rattle.std.specs.Prelude.{◌≡◌, [], false, map, option_copied, option_map};
 ghost use Rattle.dc_io.specs.Written.{Wrote};
 ghost use Rattle.dc_json.specs.LatestValues.{current_line, held_words, last_part, meter_text};
 ghost use Rattle.dc_json.specs.LatestValues.{moment_words, part_words, place_words, reading_words};
-ghost use Rattle.dc_json.specs.LatestValues.{value_line, value_lines, values_text};
+ghost use Rattle.dc_json.specs.LatestValues.{also_line, also_lines, counted, headline_line, headline_lines};
+ghost use Rattle.dc_json.specs.LatestValues.{name_words, names_words, other_lines, sent_words, shown, shown_word, told_lines};
+ghost use Rattle.dc_json.specs.LatestValues.{unread_line, value_line, value_lines, value_word, values_text};
+ghost use Rattle.dc_json.specs.Stand.{all_sent};
+ghost use Rattle.dc_reading.specs.Sent.{sent_view};
+ghost use Rattle.dc_reading.specs.Vifes.{vife_at};
 
 use crate::latest::reading::last_reading;
 use crate::latest::status::put_status;
 use crate::latest::utc::minute;
+use crate::stand::{Current, Headline, Listed};
 use dc_decode::put_point;
 use dc_io::{IoFault, Sink, put_number_word};
+use dc_reading::{
+    READING_ROOM, Sent, code_at, is_extension, number_after, number_of, reading_of, told_of,
+    unit_text, value_text, vife_at,
+};
 use dc_record::names::medium_name;
 use dc_record::value::{Point, TEXT_ROOM};
 use dc_register::{House, Part, Place, Points, Reading};
+use dc_tokens::{Piece, put_pieces};
 use std::alloc::Allocator;
 
 /// Writes what each registered meter stands at, by flat and then by identity.
@@ -67,14 +78,175 @@ fn put_held<A: Allocator, W: Sink>(out: &mut W, reading: Option<&Reading<A>>) ->
     }
 }
 
-// Writes the serial and the moment of a reading, the status and the current values.
-#[tactic(auto, using(dc_io::proofs::Pieces::written), unfolding(crate::specs::LatestValues::reading_words))]
+// Writes the serial and the moment of a reading, the status, and what its records tell.
+#[tactic(auto, using(dc_io::proofs::Pieces::written, crate::proofs::Sents::all_of_parts), unfolding(crate::specs::LatestValues::reading_words))]
 fn put_reading<A: Allocator, W: Sink>(out: &mut W, reading: &Reading<A>) -> Result<(), IoFault>
     ensures { Wrote W.Sink result out.old out.new (reading_words reading.now) }
 {
     put_number_word(out, reading.serial())?;
     put_moment(out, reading)?;
-    put_current(out, reading)
+    put_told(out, reading)
+}
+
+// Writes what the records of a reading tell.
+#[tactic(auto, using(dc_io::proofs::Pieces::written), unfolding(crate::specs::LatestValues::told_lines))]
+fn put_told<A: Allocator, W: Sink>(out: &mut W, reading: &Reading<A>) -> Result<(), IoFault>
+    ensures { Wrote W.Sink result out.old out.new (told_lines reading.now (all_sent [] reading.now.parts)) }
+{
+    let parts = reading.parts();
+    put_headline(out, Headline::new(reading.meter().kind, &[], parts))?;
+    put_current(out, reading)?;
+    put_others(out, parts)
+}
+
+// Writes the records that the due-date table doesn't have, and how many aren't read.
+#[tactic(auto, using(dc_io::proofs::Pieces::written), unfolding(crate::specs::LatestValues::other_lines))]
+fn put_others<A: Allocator, W: Sink>(out: &mut W, parts: &[Part<A>]) -> Result<(), IoFault>
+    ensures { Wrote W.Sink result out.old out.new (other_lines (all_sent [] parts.now)) }
+{
+    put_also(out, Listed::new(Current::Also, &[], parts))?;
+    put_unread(out, Listed::new(Current::Unread, &[], parts))
+}
+
+// Writes the lines of what a meter stands at.
+#[tactic(auto, using(dc_io::proofs::Pieces::written), unfolding(crate::specs::LatestValues::headline_lines))]
+fn put_headline<A: Allocator, W: Sink>(
+    out: &mut W,
+    headline: Headline<'_, A>,
+) -> Result<(), IoFault>
+    ensures { Wrote W.Sink result out.old out.new (headline_lines headline.entry) }
+{
+    for sent in headline {
+        put_headline_line(out, &sent)?;
+    }
+    Ok(())
+}
+
+#[tactic(auto, using(dc_io::proofs::Pieces::written), unfolding(crate::specs::LatestValues::headline_line))]
+fn put_headline_line<W: Sink>(out: &mut W, sent: &Sent<'_>) -> Result<(), IoFault>
+    ensures { Wrote W.Sink result out.old out.new (headline_line (sent_view sent.now)) }
+{
+    put_sent(out, b"HEADLINE", sent)?;
+    out.put(b"\n")
+}
+
+// Writes the lines of records that the due-date table doesn't have.
+#[tactic(auto, using(dc_io::proofs::Pieces::written), unfolding(crate::specs::LatestValues::also_lines))]
+fn put_also<A: Allocator, W: Sink>(out: &mut W, also: Listed<'_, A>) -> Result<(), IoFault>
+    ensures { Wrote W.Sink result out.old out.new (also_lines also.entry) }
+{
+    for sent in also {
+        put_also_line(out, &sent)?;
+    }
+    Ok(())
+}
+
+#[tactic(auto, using(dc_io::proofs::Pieces::written), unfolding(crate::specs::LatestValues::also_line))]
+fn put_also_line<W: Sink>(out: &mut W, sent: &Sent<'_>) -> Result<(), IoFault>
+    ensures { Wrote W.Sink result out.old out.new (also_line (sent_view sent.now)) }
+{
+    let vib = sent.record.vib;
+    put_sent(out, b"ALSO", sent)?;
+    out.put(b" ")?;
+    out.put(code_at(number_of(vib)).name.as_bytes())?;
+    put_names(out, told_of(vib))?;
+    out.put(b"\n")
+}
+
+// Writes a word, and a record's tariff, subunit, value and unit.
+#[tactic(auto, using(dc_io::proofs::Pieces::written), unfolding(crate::specs::LatestValues::sent_words))]
+fn put_sent<W: Sink>(out: &mut W, word: &'static [u8], sent: &Sent<'_>) -> Result<(), IoFault>
+    ensures { Wrote W.Sink result out.old out.new (sent_words word.now (sent_view sent.now)) }
+{
+    let record = &sent.record;
+    let reading = reading_of(record, sent.len);
+    let mut room = [0u8; READING_ROOM];
+    out.put(word)?;
+    put_number_word(out, u64::from(record.tariff))?;
+    put_number_word(out, u64::from(record.subunit))?;
+    out.put(b" ")?;
+    put_value_word(out, value_text(&reading, record.content, &mut room))?;
+    out.put(b" ")?;
+    put_word(out, unit_text(&reading, record.vib, &mut room))
+}
+
+// Writes a value as one word.
+fn put_value_word<W: Sink>(out: &mut W, text: Option<&[u8]>) -> Result<(), IoFault>
+    ensures { Wrote W.Sink result out.old out.new (value_word (option_map (λ s. s.now) text.entry)) }
+{
+    match text {
+        Some(text) => put_word(out, text),
+        None => out.put(b"-"),
+    }
+}
+
+// Writes a text as one word.
+fn put_word<W: Sink>(out: &mut W, text: &[u8]) -> Result<(), IoFault>
+    ensures { Wrote W.Sink result out.old out.new (shown_word text.now) }
+{
+    if text.is_empty() {
+        return out.put(b"-");
+    }
+    put_shown(out, text)
+}
+
+fn put_shown<W: Sink>(out: &mut W, text: &[u8]) -> Result<(), IoFault>
+    ensures { Wrote W.Sink result out.old out.new (map shown text.now) }
+{
+    'bytes: for byte in text {
+        out.put(&[shown(*byte)])?;
+    }
+    Ok(())
+}
+
+fn shown(byte: u8) -> u8
+    ensures { result ≡ shown byte }
+{
+    match byte {
+        0x21..=0x7E => byte,
+        _ => b'.',
+    }
+}
+
+/// Writes the names of VIFEs, each after a comma.
+pub(crate) fn put_names<W: Sink>(out: &mut W, vifes: &[u8]) -> Result<(), IoFault>
+    ensures { Wrote W.Sink result out.old out.new (names_words false vifes.now) }
+{
+    let mut after_fc = false;
+    'vifes: for vife in vifes {
+        put_name(out, number_after(after_fc, *vife))?;
+        after_fc = is_extension(after_fc, *vife);
+    }
+    Ok(())
+}
+
+#[tactic(auto, using(dc_io::proofs::Pieces::written))]
+fn put_name<W: Sink>(out: &mut W, number: u8) -> Result<(), IoFault>
+    ensures { Wrote W.Sink result out.old out.new (name_words (vife_at number).name) }
+{
+    out.put(b", ")?;
+    out.put(vife_at(number).name.as_bytes())
+}
+
+// Writes how many records aren't read, if there are any.
+#[tactic(auto, unfolding(crate::specs::LatestValues::unread_line))]
+fn put_unread<A: Allocator, W: Sink>(out: &mut W, unread: Listed<'_, A>) -> Result<(), IoFault>
+    ensures { Wrote W.Sink result out.old out.new (unread_line (counted unread.entry)) }
+{
+    let mut count: u64 = 0;
+    for _sent in unread {
+        count = count.saturating_add(1);
+    }
+    if count == 0 {
+        return Ok(());
+    }
+    if count == 1 {
+        return out.put(b"1 record not read\n");
+    }
+    put_pieces(
+        out,
+        &[Piece::Number(count), Piece::Text(b" records not read\n")],
+    )
 }
 
 // Writes the moment of a reading's last part, and the status in it.

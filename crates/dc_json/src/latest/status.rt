@@ -1,7 +1,7 @@
-//! The status byte of a meter in words.
+//! The status byte of a meter in words (EN 13757-3, long data header).
 
 ghost use Rattle.dc_io.specs.Written.{Wrote};
-ghost use Rattle.dc_json.specs.LatestValues.{bit_words, bits_words, state_words, status_line};
+ghost use Rattle.dc_json.specs.LatestValues.{bit_words, bits_words, byte_words, status_line};
 
 use dc_io::{IoFault, Sink, put_byte_word};
 use dc_record::names::application_name;
@@ -14,17 +14,6 @@ fn put_bit<W: Sink>(out: &mut W, bit: u8, words: &[u8]) -> Result<(), IoFault>
     if bit % 2 == 1 { out.put(words) } else { Ok(()) }
 }
 
-// Writes the byte, and what the application says of itself.
-#[tactic(auto, using(dc_io::proofs::Pieces::written), unfolding(crate::specs::LatestValues::state_words))]
-fn put_state<W: Sink>(out: &mut W, status: u8) -> Result<(), IoFault>
-    ensures { Wrote W.Sink result out.old out.new (state_words status) }
-{
-    out.put(b"STATUS")?;
-    put_byte_word(out, status)?;
-    out.put(b" ")?;
-    out.put(application_name(status).as_bytes())
-}
-
 // Writes the words of the bits that are set.
 #[tactic(auto, using(dc_io::proofs::Pieces::written), unfolding(crate::specs::LatestValues::bits_words))]
 fn put_bits<W: Sink>(out: &mut W, status: u8) -> Result<(), IoFault>
@@ -35,12 +24,23 @@ fn put_bits<W: Sink>(out: &mut W, status: u8) -> Result<(), IoFault>
     put_bit(out, status / 16, b", temporary error")
 }
 
-/// Writes the line of the status byte (EN 13757-3, long data header), in hex and in words.
+/// Writes what a status byte says.
+#[tactic(auto, using(dc_io::proofs::Pieces::written), unfolding(crate::specs::LatestValues::byte_words))]
+pub(crate) fn put_byte_words<W: Sink>(out: &mut W, status: u8) -> Result<(), IoFault>
+    ensures { Wrote W.Sink result out.old out.new (byte_words status) }
+{
+    out.put(b" ")?;
+    out.put(application_name(status).as_bytes())?;
+    put_bits(out, status)
+}
+
+/// Writes the line of a status byte, in hex and in words.
 #[tactic(auto, using(dc_io::proofs::Pieces::written), unfolding(crate::specs::LatestValues::status_line))]
 pub(crate) fn put_status<W: Sink>(out: &mut W, status: u8) -> Result<(), IoFault>
     ensures { Wrote W.Sink result out.old out.new (status_line status) }
 {
-    put_state(out, status)?;
-    put_bits(out, status)?;
+    out.put(b"STATUS")?;
+    put_byte_word(out, status)?;
+    put_byte_words(out, status)?;
     out.put(b"\n")
 }

@@ -3,22 +3,19 @@
 ghost use Rattle.std.specs.Prelude.{◌≡◌, ◌≤◌, IfSome};
 ghost use Rattle.dc_io.specs.Written.{Wrote};
 ghost use Rattle.dc_change.specs.Fields.{last_moment};
-ghost use Rattle.dc_json.specs.LatestValues.{bit_words, bits_words};
-ghost use Rattle.dc_json.specs.Status.{byte_words, failed_line, failed_text, failed_words, failure_name};
-ghost use Rattle.dc_json.specs.Status.{heard_words, meter_words, name_end, number_line, readings_left};
-ghost use Rattle.dc_json.specs.Status.{source_words};
-ghost use Rattle.dc_json.specs.Status.{room_words, row_lines, row_text, silent_words, size_line};
-ghost use Rattle.dc_json.specs.Status.{state_words, status_text};
+ghost use Rattle.dc_json.specs.Status.{failed_text, failed_words, failure_name, heard_words};
+ghost use Rattle.dc_json.specs.Status.{name_end, number_line, readings_left, room_words, row_lines, row_text};
+ghost use Rattle.dc_json.specs.Status.{silent_words, size_line};
+ghost use Rattle.dc_json.specs.Status.{source_words, state_words, status_text};
 
 use crate::journal::Journal;
-use crate::latest::minute;
+use crate::latest::{minute, put_byte_words};
 use crate::status::full::{days_left, readings_left};
 use crate::status::row::{Row, Told, row_at};
 use crate::status::silence::Clock;
 use dc_io::{IoFault, Sink};
 use dc_readout::Why;
 use dc_record::BodyFault;
-use dc_record::names::application_name;
 use dc_record::value::TEXT_ROOM;
 use dc_register::House;
 use dc_tokens::{Piece, put_pieces};
@@ -66,13 +63,16 @@ fn put_row<W: Sink>(out: &mut W, row: &Row) -> Result<(), IoFault>
         IfSome told.failed (λ moment. moment ≤ last_moment)) }
     ensures { Wrote W.Sink result out.old out.new (row_text row.now) }
 {
-    put_place(out, row)?;
+    out.put(b"METER ")?;
+    out.put(row.flat.as_slice())?;
+    out.put(b" ")?;
+    out.put(&row.meter.text())?;
     put_heard(out, row.heard, row.age)?;
     out.put(silent_words(row.is_silent))?;
     put_state(out, row.status)?;
     out.put(source_words(row.told))?;
     out.put(b"\n")?;
-    put_told(out, row.told)
+    put_failed(out, row.told)
 }
 
 // Whether the reading is the journal's.
@@ -86,28 +86,23 @@ fn source_words(told: Option<Told>) -> &'static [u8]
 }
 
 // Writes the last failed readout since.
-#[tactic(auto, unfolding(crate::specs::Status::failed_text))]
-fn put_told<W: Sink>(out: &mut W, told: Option<Told>) -> Result<(), IoFault>
+#[tactic(auto, using(dc_io::proofs::Pieces::written), unfolding(crate::specs::Status::failed_line))]
+fn put_failed<W: Sink>(out: &mut W, told: Option<Told>) -> Result<(), IoFault>
     requires { IfSome told (λ told. IfSome told.failed (λ moment. moment ≤ last_moment)) }
     ensures { Wrote W.Sink result out.old out.new (failed_text told) }
 {
     match told {
-        Some(told) => put_failed(out, told.failed, told.number),
-        None => Ok(()),
-    }
-}
-
-#[tactic(auto, using(dc_io::proofs::Pieces::written), unfolding(crate::specs::Status::failed_line))]
-fn put_failed<W: Sink>(out: &mut W, moment: Option<u64>, number: u8) -> Result<(), IoFault>
-    requires { IfSome moment (λ moment. moment ≤ last_moment) }
-    ensures { Wrote W.Sink result out.old out.new (failed_line moment number) }
-{
-    match moment {
-        Some(moment) => {
+        Some(
+            Told {
+                failed: Some(moment),
+                number,
+                ..
+            },
+        ) => {
             put_failed_words(out, moment, number)?;
             put_name_end(out, number)
         }
-        None => Ok(()),
+        _ => Ok(()),
     }
 }
 
@@ -156,21 +151,6 @@ pub(crate) fn failure_name(number: u8) -> &'static str
     }
 }
 
-#[tactic(auto, unfolding(crate::specs::Status::meter_words))]
-fn put_place<W: Sink>(out: &mut W, row: &Row) -> Result<(), IoFault>
-    ensures { Wrote W.Sink result out.old out.new (meter_words row.now) }
-{
-    put_pieces(
-        out,
-        &[
-            Piece::Text(b"METER "),
-            Piece::Text(row.flat.as_slice()),
-            Piece::Text(b" "),
-            Piece::Text(&row.meter.text()),
-        ],
-    )
-}
-
 // Writes the minute (UTC) of the moment at which a meter was last heard, and how many seconds ago it was.
 #[tactic(auto, unfolding(crate::specs::Status::heard_words))]
 fn put_heard<W: Sink>(out: &mut W, moment: Option<u64>, age: Option<u64>) -> Result<(), IoFault>
@@ -196,40 +176,13 @@ fn put_heard<W: Sink>(out: &mut W, moment: Option<u64>, age: Option<u64>) -> Res
 }
 
 // Writes what the last reading of a meter says of it.
-#[tactic(auto, unfolding(crate::specs::Status::state_words))]
 fn put_state<W: Sink>(out: &mut W, status: Option<u8>) -> Result<(), IoFault>
     ensures { Wrote W.Sink result out.old out.new (state_words status) }
 {
     match status {
-        Some(status) => put_byte(out, status),
+        Some(status) => put_byte_words(out, status),
         None => Ok(()),
     }
-}
-
-// Writes what a status byte says (EN 13757-3).
-#[tactic(auto, using(dc_io::proofs::Pieces::written), unfolding(crate::specs::Status::byte_words))]
-fn put_byte<W: Sink>(out: &mut W, status: u8) -> Result<(), IoFault>
-    ensures { Wrote W.Sink result out.old out.new (byte_words status) }
-{
-    out.put(b" ")?;
-    out.put(application_name(status).as_bytes())?;
-    put_bits(out, status)
-}
-
-#[tactic(auto, using(dc_io::proofs::Pieces::written), unfolding(crate::specs::LatestValues::bits_words))]
-fn put_bits<W: Sink>(out: &mut W, status: u8) -> Result<(), IoFault>
-    ensures { Wrote W.Sink result out.old out.new (bits_words status) }
-{
-    put_bit(out, status / 4, b", power low")?;
-    put_bit(out, status / 8, b", permanent error")?;
-    put_bit(out, status / 16, b", temporary error")
-}
-
-#[tactic(auto, unfolding(crate::specs::LatestValues::bit_words))]
-fn put_bit<W: Sink>(out: &mut W, bit: u8, words: &[u8]) -> Result<(), IoFault>
-    ensures { Wrote W.Sink result out.old out.new (bit_words bit words.now) }
-{
-    if bit % 2 == 1 { out.put(words) } else { Ok(()) }
 }
 
 fn silent_words(is_silent: bool) -> &'static [u8]

@@ -2,9 +2,8 @@
 
 ghost use Rattle.std.specs.Prelude.{◌≡◌};
 ghost use Rattle.dc_io.specs.Written.{Wrote};
-ghost use Rattle.dc_json.specs.Metrics.{gauge_text, head_of, help_of, image_text, labels_of};
-ghost use Rattle.dc_json.specs.Metrics.{meter_samples, metric_text, metrics_text};
-ghost use Rattle.dc_json.specs.Metrics.{name_of, sample_of, value_of};
+ghost use Rattle.dc_json.specs.Metrics.{gauge_text, head_of, help_of, image_text, labels_of, metric_text};
+ghost use Rattle.dc_json.specs.Metrics.{metrics_text, name_of, sample_of, value_of};
 
 use crate::journal::Journal;
 use crate::status::full::readings_left;
@@ -65,7 +64,7 @@ pub fn put_metrics<A: Allocator + Copy, W: Sink>(
     put_image(out, house)
 }
 
-// Writes a metric of the meters.
+// Writes a metric of the meters: a sample of each that has one.
 #[tactic(auto, using(dc_io::proofs::Pieces::written), unfolding(crate::specs::Metrics::metric_text))]
 fn put_metric<A: Allocator + Copy, W: Sink>(
     out: &mut W,
@@ -78,21 +77,6 @@ fn put_metric<A: Allocator + Copy, W: Sink>(
         (metric_text metric clock.patience clock.now journal.now house.now.state) }
 {
     put_head(out, metric.name(), metric.help())?;
-    put_samples(out, house, clock, journal, metric)
-}
-
-// Writes the sample of each meter that has one.
-#[tactic(auto, using(dc_io::proofs::Pieces::written), unfolding(crate::specs::Metrics::meter_samples))]
-fn put_samples<A: Allocator + Copy, W: Sink>(
-    out: &mut W,
-    house: &House<A>,
-    clock: Clock,
-    journal: &Journal<A>,
-    metric: Metric,
-) -> Result<(), IoFault>
-    ensures { Wrote W.Sink result out.old out.new
-        (meter_samples metric clock.patience clock.now journal.now house.now.state) }
-{
     for place in house.meters_by_flat() {
         let row = row_at(house, clock, journal, place);
         put_sample(out, metric.name(), &row, value_of(metric, &row))?;
@@ -119,7 +103,7 @@ fn value_of(metric: Metric, row: &Row) -> Option<u64>
 #[tactic(auto, using(dc_io::proofs::Pieces::written), unfolding(crate::specs::Metrics::sample_of))]
 fn put_sample<W: Sink>(
     out: &mut W,
-    name: &[u8],
+    name: &'static [u8],
     row: &Row,
     value: Option<u64>,
 ) -> Result<(), IoFault>

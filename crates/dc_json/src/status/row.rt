@@ -7,8 +7,8 @@ ghost use Rattle.dc_json.specs.Row.{code_of, failing_at, failing_since, is_later
 ghost use Rattle.dc_json.specs.Row.{status_in, taken_at, within};
 
 use crate::journal::{Failing, Journal, Taken};
-use crate::latest::last_reading;
-use crate::status::silence::{Clock, heard, is_silent, part_in};
+use crate::latest::{last_reading, part_in};
+use crate::status::silence::{Clock, heard, is_silent};
 use dc_address::Identity;
 use dc_change::{Flat, LAST_MOMENT};
 use dc_register::{House, Part, Place};

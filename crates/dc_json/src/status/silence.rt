@@ -2,16 +2,15 @@
 
 ghost use Rattle.std.specs.Prelude.{◌≡◌, ◌≤◌, Some, IfSome, option_copied};
 ghost use Rattle.dc_change.specs.Fields.{last_moment};
-ghost use Rattle.dc_json.specs.LatestValues.{last_part};
-ghost use Rattle.dc_json.specs.Heard.{heard, is_long, is_silent, last_of_parts, later, moment_of};
-ghost use Rattle.dc_json.specs.Heard.{open_part, part_in};
+ghost use Rattle.dc_json.specs.Heard.{heard, is_long, is_silent, later, moment_of};
+ghost use Rattle.dc_json.specs.Heard.{open_part};
 ghost use Rattle.dc_json.specs.Status.{any_silent};
 
 use crate::journal::Journal;
-use crate::latest::last_reading;
+use crate::latest::{last_of, last_reading, part_in};
 use crate::status::row::row_at;
 use dc_address::Identity;
-use dc_register::{House, Meter, Part, Reading};
+use dc_register::{House, Meter, Part};
 use std::alloc::Allocator;
 
 /// The moment at which a status is asked for.
@@ -21,12 +20,6 @@ pub struct Clock {
     pub now: u64,
     /// A meter that isn't heard for longer than this many seconds is silent.
     pub patience: u64,
-}
-
-fn last_of<A: Allocator>(parts: &[Part<A>]) -> Option<&Part<A>>
-    ensures { option_copied result ≡ last_of_parts parts.now }
-{
-    parts.get(parts.len().saturating_sub(1))
 }
 
 /// When a part was received.
@@ -45,16 +38,6 @@ fn open_part<A: Allocator>(row: Option<&Meter<A>>) -> Option<&Part<A>>
 {
     match row {
         Some(row) => last_of(row.parts()),
-        None => None,
-    }
-}
-
-/// The last part of a reading.
-pub(crate) fn part_in<A: Allocator>(reading: Option<&Reading<A>>) -> Option<&Part<A>>
-    ensures { option_copied result ≡ part_in (option_copied reading.entry) }
-{
-    match reading {
-        Some(reading) => last_of(reading.parts()),
         None => None,
     }
 }

@@ -1,6 +1,6 @@
-use Rattle.std.proofs.Common.{◌≡◌, ℕ, arith, rules, pos}
+use Rattle.std.proofs.Common.{◌≡◌, arith, pos}
 use Rattle.jiff_core.specs.Date.{epoch_day}
-use Rattle.jiff_core.proofs.SignedLemmas.{signed_arith, signed_casts}
+use Rattle.jiff_core.proofs.SignedLemmas.{signed_casts}
 use Rattle.dc_json.proofs.Days.{same_parts, year_fits}
 use Rattle.dc_json.proofs.latest.utc.day.Goals as goal
 

@@ -1,0 +1,101 @@
+-- What is told of a reading, and what one telegram reports: their fields, one after the other.
+use Rattle.std.proofs.Common.{◌≡◌, ℕ, List, [], ◌∷◌, ◌++◌, Option, codes, decimal, ap, sym, ◌∙◌, append-nil, append_assoc}
+use Rattle.json.specs.Json.{Json, string}
+use Rattle.json.specs.Token as Token
+use Rattle.json.specs.Tree.{json_tokens}
+use Rattle.dc_address.specs.declared.identity.Identity.{Identity}
+use Rattle.dc_change.specs.State.{PartRow, ReadingRow, State}
+use Rattle.dc_register.specs.declared.place.Place.{Place}
+use Rattle.dc_record.specs.Telegram.{Parsed, telegram_at}
+use Rattle.dc_record.specs.declared.header.Header.{Header}
+use Rattle.dc_reading.specs.Headline.{headline}
+use Rattle.dc_reading.specs.Sent.{Sent}
+use Rattle.dc_frame_json.specs.Meter.{identity_fields}
+use Rattle.dc_tokens.specs.Object.{Field, fields_tokens, object_of}
+use Rattle.dc_tokens.proofs.Objects.{fields-append, fields-cons, members_are}
+use Rattle.dc_json.specs.Reported.{reported_fields}
+use Rattle.dc_json.specs.Stand.{all_sent, body_sent, listed, parts_sent}
+use Rattle.dc_json.specs.declared.stand.Current.TheVariants.{Values, Also}
+use Rattle.dc_json.specs.LatestValues.{last_reading}
+use Rattle.dc_json.specs.Values.{byte_in, held_json, reading_json, received_fields, records_field, stands_json, told_fields}
+use Rattle.dc_json.proofs.Sents.{all_of_body, all_of_parts}
+
+three : (a b c : Field) → fields_tokens (a ∷ []) ++ (fields_tokens (b ∷ []) ++ (fields_tokens (c ∷ []) ++ [])) ≡ fields_tokens (a ∷ b ∷ c ∷ [])
+three a b c =
+    ap (λ (ts : List Token.Token). fields_tokens (a ∷ []) ++ (fields_tokens (b ∷ []) ++ ts)) (append-nil (fields_tokens (c ∷ [])))
+    ∙ ap (λ (ts : List Token.Token). fields_tokens (a ∷ []) ++ ts) (sym (fields-cons b (c ∷ [])))
+    ∙ sym (fields-cons a (b ∷ c ∷ []))
+
+abbrev told : List Sent → List Sent → List Sent → List Field
+told a b c = records_field (codes "headline") a ∷ records_field (codes "values") b ∷ records_field (codes "also") c ∷ []
+
+pub told_as : (kind : ℕ) (ss a b c : List Sent) → a ≡ headline kind ss → b ≡ listed Values ss → c ≡ listed Also ss
+    → fields_tokens (records_field (codes "headline") a ∷ []) ++ (fields_tokens (records_field (codes "values") b ∷ []) ++ (fields_tokens (records_field (codes "also") c ∷ []) ++ [])) ≡ fields_tokens (told_fields kind ss)
+unfolding told_fields
+told_as kind ss a b c first second third =
+    three (records_field (codes "headline") a) (records_field (codes "values") b) (records_field (codes "also") c)
+    ∙ ap (λ (x : List Sent). fields_tokens (told x b c)) first
+    ∙ ap (λ (x : List Sent). fields_tokens (told (headline kind ss) x c)) second
+    ∙ ap (λ (x : List Sent). fields_tokens (told (headline kind ss) (listed Values ss) x)) third
+
+pub reported_as : (moment : ℕ) (header : Header) (body : List ℕ) (t : Parsed) → header ≡ t.header → body ≡ t.body
+    → fields_tokens (received_fields moment header.status) ++ (fields_tokens (told_fields header.identity.kind (all_sent body [])) ++ []) ≡ fields_tokens (reported_fields moment t)
+unfolding reported_fields
+reported_as moment header body t same sent =
+    ap (λ (ts : List Token.Token). fields_tokens (received_fields moment header.status) ++ ts) (append-nil (fields_tokens (told_fields header.identity.kind (all_sent body []))))
+    ∙ sym (fields-append (received_fields moment header.status) (told_fields header.identity.kind (all_sent body [])))
+    ∙ ap (λ (ss : List Sent). fields_tokens (received_fields moment header.status ++ told_fields header.identity.kind ss)) (all_of_body body)
+    ∙ ap (λ (h : Header). fields_tokens (received_fields moment h.status ++ told_fields h.identity.kind (body_sent body))) same
+    ∙ ap (λ (b : List ℕ). fields_tokens (received_fields moment t.header.status ++ told_fields t.header.identity.kind (body_sent b))) sent
+
+-- the tokens of a reading
+abbrev pub reading_tokens : ℕ → ℕ → ℕ → ℕ → List Sent → List Token.Token
+reading_tokens serial moment status kind ss =
+    Token.begin_object ∷ Token.key (codes "serial") ∷ Token.number (decimal serial) ∷ (fields_tokens (received_fields moment status) ++ (fields_tokens (told_fields kind ss) ++ (Token.end_object ∷ [])))
+
+same_tokens : (r : ReadingRow) (part : PartRow) → reading_tokens r.serial part.moment (byte_in (telegram_at part.body)) r.meter.kind (parts_sent r.parts) ≡ json_tokens (reading_json r part)
+unfolding reading_json fields_tokens
+same_tokens r part =
+    let received = received_fields part.moment (byte_in (telegram_at part.body)) in
+    let others = told_fields r.meter.kind (parts_sent r.parts) in
+    let start = λ (ts : List Token.Token). Token.begin_object ∷ Token.key (codes "serial") ∷ Token.number (decimal r.serial) ∷ ts in
+    ap start (sym (append_assoc (fields_tokens received) (fields_tokens others) (Token.end_object ∷ [])))
+    ∙ ap (λ (ts : List Token.Token). start (ts ++ (Token.end_object ∷ []))) (sym (fields-append received others))
+    ∙ ap start (sym (members_are (received ++ others)))
+
+pub reading_as : (r : ReadingRow) (part : PartRow) (serial moment status kind : ℕ) (parts : List PartRow)
+    → serial ≡ r.serial → moment ≡ part.moment → status ≡ byte_in (telegram_at part.body) → kind ≡ r.meter.kind → parts ≡ r.parts
+    → reading_tokens serial moment status kind (all_sent [] parts) ≡ json_tokens (reading_json r part)
+reading_as r part serial moment status kind parts a b c d e =
+    ap (λ (n : ℕ). reading_tokens n moment status kind (all_sent [] parts)) a
+    ∙ ap (λ (n : ℕ). reading_tokens r.serial n status kind (all_sent [] parts)) b
+    ∙ ap (λ (n : ℕ). reading_tokens r.serial part.moment n kind (all_sent [] parts)) c
+    ∙ ap (λ (n : ℕ). reading_tokens r.serial part.moment (byte_in (telegram_at part.body)) n (all_sent [] parts)) d
+    ∙ ap (reading_tokens r.serial part.moment (byte_in (telegram_at part.body)) r.meter.kind) (all_of_parts parts)
+    ∙ ap (λ (ps : List PartRow). reading_tokens r.serial part.moment (byte_in (telegram_at part.body)) r.meter.kind (parts_sent ps)) e
+    ∙ same_tokens r part
+
+-- ---- a registered meter
+
+abbrev whose : List ℕ → Identity → List Field
+whose flat meter = (codes "flat", string flat) ∷ (codes "meter", object_of (identity_fields meter)) ∷ []
+
+abbrev stands_tokens : List ℕ → Identity → Option ReadingRow → List Token.Token
+stands_tokens flat meter held =
+    Token.begin_object ∷ (fields_tokens (whose flat meter) ++ (Token.key (codes "reading") ∷ (json_tokens (held_json held) ++ (Token.end_object ∷ []))))
+
+same_stands : (s : State) (place : Place) → stands_tokens place.flat place.meter (last_reading place.meter s) ≡ json_tokens (stands_json s place)
+unfolding stands_json fields_tokens
+same_stands s place =
+    let first = whose place.flat place.meter in
+    let held : Json = held_json (last_reading place.meter s) in
+    let last : List Field = (codes "reading", held) ∷ [] in
+    ap (λ (ts : List Token.Token). Token.begin_object ∷ (fields_tokens first ++ (Token.key (codes "reading") ∷ (ts ++ (Token.end_object ∷ []))))) (sym (append-nil (json_tokens held)))
+    ∙ ap (λ (ts : List Token.Token). Token.begin_object ∷ ts) (sym (append_assoc (fields_tokens first) (fields_tokens last) (Token.end_object ∷ [])))
+    ∙ ap (λ (ts : List Token.Token). Token.begin_object ∷ (ts ++ (Token.end_object ∷ []))) (sym (fields-append first last))
+    ∙ ap (λ (ts : List Token.Token). Token.begin_object ∷ ts) (sym (members_are (first ++ last)))
+
+pub stands_as : (s : State) (place : Place) (flat : List ℕ) (held : Option ReadingRow) → flat ≡ place.flat → held ≡ last_reading place.meter s
+    → stands_tokens flat place.meter held ≡ json_tokens (stands_json s place)
+stands_as s place flat held named is =
+    ap (λ (f : List ℕ). stands_tokens f place.meter held) named ∙ ap (stands_tokens place.flat place.meter) is ∙ same_stands s place
