@@ -1,9 +1,9 @@
 //! The columns of a dump.
 
-ghost use Rattle.std.specs.Prelude.{◌≡◌, ◌≤◌, ◌<◌, length, true};
+ghost use Rattle.std.specs.Prelude.{◌≡◌, ◌≤◌, ◌<◌, length, position, true};
 ghost use Rattle.std.specs.List.{list_all};
 ghost use Rattle.dc_paste.specs.Columns.{after_address, before_bar, before_spaces, begins_with_spaces};
-ghost use Rattle.dc_paste.specs.Columns.{column, has_address, is_hex, is_last_address};
+ghost use Rattle.dc_paste.specs.Columns.{column, has_address, is_bar, is_hex, is_last_address, is_zero};
 
 // Length of an address.
 const ADDRESS: usize = 8;
@@ -20,6 +20,12 @@ fn are_hex(text: &[u8]) -> bool
     text.iter().all(|byte| is_hex(*byte))
 }
 
+fn are_zeros(text: &[u8]) -> bool
+    ensures { result ≡ list_all is_zero text.now }
+{
+    text.iter().all(|byte| *byte == b'0')
+}
+
 // Whether eight digits and another character begin a line.
 #[tactic(auto, unfolding(crate::specs::Columns::has_address))]
 fn has_address(line: &[u8]) -> bool
@@ -34,7 +40,13 @@ fn has_address(line: &[u8]) -> bool
 fn is_last_address(line: &[u8]) -> bool
     ensures { result ≡ is_last_address line.now }
 {
-    line.len() == ADDRESS && line[..3].iter().all(|byte| *byte == b'0') && are_hex(line)
+    line.len() == ADDRESS && are_zeros(&line[..3]) && are_hex(line)
+}
+
+fn first_bar(text: &[u8]) -> Option<usize>
+    ensures { result ≡ position is_bar text.now }
+{
+    text.iter().position(|byte| *byte == b'|')
 }
 
 // What stands before the first `|`.
@@ -42,7 +54,7 @@ fn before_bar(text: &[u8]) -> &[u8]
     ensures value { result.now ≡ before_bar text.now }
     ensures within { length result.now ≤ length text.now }
 {
-    match text.iter().position(|byte| *byte == b'|') {
+    match first_bar(text) {
         Some(end) => &text[..end],
         None => text,
     }

@@ -3,12 +3,11 @@
 ghost use Rattle.json.specs.Tree.{json_tokens};
 ghost use Rattle.dc_io.specs.Written.{Wrote};
 ghost use Rattle.dc_frame_json.specs.Text.{value_line};
-ghost use Rattle.dc_record.specs.Telegram.{telegram_at};
 ghost use Rattle.dc_tokens.specs.Object.{fields_tokens};
 ghost use Rattle.dc_tokens.specs.Writing.{Added};
 ghost use Rattle.dc_poll.specs.Object.{body_fields, failed_fields, fault_fields, fields_of, heard_fields};
 ghost use Rattle.dc_poll.specs.Object.{json_of, object_of, read_fields};
-ghost use Rattle.dc_poll.specs.Read.{last_fields, reported_by};
+ghost use Rattle.dc_poll.specs.Read.{last_fields};
 
 use crate::{Event, LastPart, Teller};
 use dc_address::Identity;
@@ -139,17 +138,9 @@ fn put_read<W: Sink>(
 fn put_last<W: Sink>(out: &mut TokenWriter<'_, W>, last: &Option<LastPart<'_>>)
     ensures { Added W.Sink out.old out.new (fields_tokens (last_fields last.now)) }
 {
-    match last {
-        Some(part) => put_part(out, part),
-        None => {}
+    if let Some(part) = last {
+        put_reported(out, part.moment(), &part.telegram());
     }
-}
-
-fn put_part<W: Sink>(out: &mut TokenWriter<'_, W>, part: &LastPart<'_>)
-    ensures { Added W.Sink out.old out.new
-        (fields_tokens (reported_by part.now.moment (telegram_at part.now.body))) }
-{
-    put_reported(out, part.moment(), &part.telegram());
 }
 
 // Writes the fields of a failed readout, and how many of its failed tries brought what.
