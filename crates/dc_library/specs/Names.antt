@@ -21,18 +21,20 @@ abbrev pub fixed_unit_text : Option FixedUnit → List ℕ
 fixed_unit_text None = []
 fixed_unit_text (Some u) = u.unit
 
--- the names that aren't those of codes of the standard, by their tables
-abbrev pub listed_name : ℕ → ℕ → List ℕ
+-- the names of lists and of VIFEs, by their tables
+unfoldable pub listed_name : ℕ → ℕ → List ℕ
 listed_name table place =
     if table == 7 then name_in (map (λ s. s.now) READING_NAMES) place
     else if table == 8 then name_in (map (λ s. s.now) TYPE_NAMES) place
     else if table == 9 then name_in (map (λ s. s.now) ERROR_NAMES) place
+    else if table == 12 then (vife_at place).name
+    else if table == 13 then (vife_at place).text
     else if table == 14 then name_in (map (λ s. s.now) FRAME_FAULT_NAMES) place
     else if table == 15 then name_in (map (λ s. s.now) BODY_FAULT_NAMES) place
     else []
 
 -- the names of numbers below 256, by their tables
-abbrev pub byte_name : ℕ → ℕ → List ℕ
+unfoldable pub byte_name : ℕ → ℕ → List ℕ
 byte_name table code =
     if table == 0 then control_name code
     else if table == 1 then ci_name code
@@ -41,8 +43,6 @@ byte_name table code =
     else if table == 4 then application_name code
     else if table == 5 then security_name code
     else if table == 6 then function_name code
-    else if table == 12 then (vife_at code).name
-    else if table == 13 then (vife_at code).text
     else listed_name table code
 
 -- The codes of quantities and units have two bytes, and those of fixed data come after them; the VIFEs of record errors come after the

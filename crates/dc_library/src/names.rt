@@ -106,7 +106,8 @@ fn name_in(mut names: &[&'static str], place: u8) -> &'static str
     ""
 }
 
-// The name at a place of one of the lists.
+// The name at a place of one of the lists, or of a VIFE.
+#[tactic(auto, unfolding(crate::specs::Names::listed_name))]
 fn listed_name(table: u64, place: u8) -> &'static str
     ensures { result.now ≡ listed_name table place }
 {
@@ -114,6 +115,8 @@ fn listed_name(table: u64, place: u8) -> &'static str
         READINGS => name_in(&READING_NAMES, place),
         TYPES => name_in(&TYPE_NAMES, place),
         ERRORS => name_in(&ERROR_NAMES, place),
+        VIFES => vife_at(place).name,
+        VIFE_TEXTS => vife_at(place).text,
         FRAME_FAULTS => name_in(&FRAME_FAULT_NAMES, place),
         BODY_FAULTS => name_in(&BODY_FAULT_NAMES, place),
         _ => "",
@@ -121,6 +124,7 @@ fn listed_name(table: u64, place: u8) -> &'static str
 }
 
 // The name of a code of one byte.
+#[tactic(auto, unfolding(crate::specs::Names::byte_name))]
 fn byte_name(table: u64, code: u8) -> &'static str
     ensures { result.now ≡ byte_name table code }
 {
@@ -132,8 +136,6 @@ fn byte_name(table: u64, code: u8) -> &'static str
         STATES => application_name(code),
         SECURITY => security_name(code),
         FUNCTIONS => function_name(code),
-        VIFES => vife_at(code).name,
-        VIFE_TEXTS => vife_at(code).text,
         _ => listed_name(table, code),
     }
 }
