@@ -21,10 +21,11 @@ abbrev pub fixed_unit_text : Option FixedUnit → List ℕ
 fixed_unit_text None = []
 fixed_unit_text (Some u) = u.unit
 
--- the names of lists and of VIFEs, by their tables
+-- the names of media of fixed data, of lists and of VIFEs, by their tables
 unfoldable pub listed_name : ℕ → ℕ → List ℕ
 listed_name table place =
-    if table == 7 then name_in (map (λ s. s.now) READING_NAMES) place
+    if table == 3 then medium_of place
+    else if table == 7 then name_in (map (λ s. s.now) READING_NAMES) place
     else if table == 8 then name_in (map (λ s. s.now) TYPE_NAMES) place
     else if table == 9 then name_in (map (λ s. s.now) ERROR_NAMES) place
     else if table == 12 then (vife_at place).name
@@ -33,17 +34,21 @@ listed_name table place =
     else if table == 15 then name_in (map (λ s. s.now) BODY_FAULT_NAMES) place
     else []
 
+-- the names of states, security modes and functions, and of what lists have
+unfoldable pub coded_name : ℕ → ℕ → List ℕ
+coded_name table code =
+    if table == 4 then application_name code
+    else if table == 5 then security_name code
+    else if table == 6 then function_name code
+    else listed_name table code
+
 -- the names of numbers below 256, by their tables
 unfoldable pub byte_name : ℕ → ℕ → List ℕ
 byte_name table code =
     if table == 0 then control_name code
     else if table == 1 then ci_name code
     else if table == 2 then medium_name code
-    else if table == 3 then medium_of code
-    else if table == 4 then application_name code
-    else if table == 5 then security_name code
-    else if table == 6 then function_name code
-    else listed_name table code
+    else coded_name table code
 
 -- The codes of quantities and units have two bytes, and those of fixed data come after them; the VIFEs of record errors come after the
 -- other reasons for no value.

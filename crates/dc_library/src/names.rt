@@ -1,7 +1,7 @@
 //! Names by their numbers.
 
 ghost use Rattle.std.specs.Prelude.{◌≡◌, map};
-ghost use Rattle.dc_library.specs.Names.{byte_name, listed_name, name_in, name_of};
+ghost use Rattle.dc_library.specs.Names.{byte_name, coded_name, listed_name, name_in, name_of};
 
 use dc_reading::content::{fixed_unit, medium_of, security_name};
 use dc_reading::{code_at, vife_at};
@@ -106,12 +106,13 @@ fn name_in(mut names: &[&'static str], place: u8) -> &'static str
     ""
 }
 
-// The name at a place of one of the lists, or of a VIFE.
+// The name of a medium of fixed data, at a place of one of the lists, or of a VIFE.
 #[tactic(auto, unfolding(crate::specs::Names::listed_name))]
 fn listed_name(table: u64, place: u8) -> &'static str
     ensures { result.now ≡ listed_name table place }
 {
     match table {
+        FIXED_MEDIA => medium_of(place),
         READINGS => name_in(&READING_NAMES, place),
         TYPES => name_in(&TYPE_NAMES, place),
         ERRORS => name_in(&ERROR_NAMES, place),
@@ -123,21 +124,34 @@ fn listed_name(table: u64, place: u8) -> &'static str
     }
 }
 
-// The name of a code of one byte.
-#[tactic(auto, unfolding(crate::specs::Names::byte_name))]
-fn byte_name(table: u64, code: u8) -> &'static str
-    ensures { result.now ≡ byte_name table code }
+// The name of a state, a security mode or a function, or of what lists have.
+#[tactic(auto, unfolding(crate::specs::Names::coded_name))]
+fn coded_name(table: u64, code: u8) -> &'static str
+    ensures { result.now ≡ coded_name table code }
 {
     match table {
-        CONTROLS => control_name(code),
-        CI_BYTES => ci_name(code),
-        MEDIA => medium_name(code),
-        FIXED_MEDIA => medium_of(code),
         STATES => application_name(code),
         SECURITY => security_name(code),
         FUNCTIONS => function_name(code),
         _ => listed_name(table, code),
     }
+}
+
+// The name of a code of one byte.
+#[tactic(auto, unfolding(crate::specs::Names::byte_name))]
+fn byte_name(table: u64, code: u8) -> &'static str
+    ensures { result.now ≡ byte_name table code }
+{
+    if table == CONTROLS {
+        return control_name(code);
+    }
+    if table == CI_BYTES {
+        return ci_name(code);
+    }
+    if table == MEDIA {
+        return medium_name(code);
+    }
+    coded_name(table, code)
 }
 
 /// The name with this number in a table; empty where there is none.
