@@ -356,6 +356,8 @@ class Audit:
 
     def take_fact(self, kind: str, fields: List[str]) -> None:
         key = (kind, *fields[:-1])
+        if kind in ("price", "average"):
+            self.quantity_of(fields[0], fields[1])
         self.known(int(fields[-2]))
         if key in self.facts:
             raise AtFault(FACT)
@@ -529,14 +531,19 @@ class Audit:
 
     def ratio(self, use: str, unit: str, span: int, weight: Fraction) -> Fraction:
         """What an amount of the smallest unit is in a unit."""
-        quantity = self.uses[use]
-        units = {"energy": ("kWh",), "volume": ("m3", "kWh"), "units": ("HCA", "count", "kWh")}[quantity]
-        if unit not in (*units, "smallest"):
-            raise AtFault(UNIT)
+        quantity = self.quantity_of(use, unit)
         if unit == "smallest":
             return Fraction(1)
         of_unit = Fraction(1, RATIOS[quantity]) * (weight if quantity == "units" and unit != "count" else 1)
         return of_unit * self.fact("factor", use, str(span)) if unit == "kWh" and quantity != "energy" else of_unit
+
+    def quantity_of(self, use: str, unit: str) -> str:
+        """The quantity of a use, which has to have the unit."""
+        quantity = self.uses[use]
+        units = {"energy": ("kWh",), "volume": ("m3", "kWh"), "units": ("HCA", "count", "kWh")}[quantity]
+        if unit not in (*units, "smallest"):
+            raise AtFault(UNIT)
+        return quantity
 
     def fact(self, *key: str) -> Fraction:
         if key not in self.facts:
