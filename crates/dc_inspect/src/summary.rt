@@ -1,11 +1,12 @@
 //! The summary of a state.
 
-ghost use Rattle.std.specs.Prelude.{◌≡◌, option_copied, option_map};
+ghost use Rattle.std.specs.Prelude.{◌≡◌, ◌-◌, length, option_copied, option_map, slice_get};
 ghost use Rattle.dc_inspect.specs.Text.{summary_of};
 
 use dc_office::table::register_rows;
 use dc_register::{House, Reading};
 use std::alloc::Allocator;
+use std::collections::VecDeque;
 
 /// The numbers that sum up a state.
 #[derive(Clone, Copy)]
@@ -38,6 +39,27 @@ fn serial_of<A: Allocator>(reading: Option<&Reading<A>>) -> Option<u64>
     }
 }
 
+// The number of readings.
+fn count_of<A: Allocator>(readings: &VecDeque<Reading<A>, A>) -> usize
+    ensures { result ≡ length readings.now.items }
+{
+    readings.len()
+}
+
+// The first reading.
+fn first_of<A: Allocator>(readings: &VecDeque<Reading<A>, A>) -> Option<&Reading<A>>
+    ensures { option_copied result ≡ slice_get readings.now.items 0 }
+{
+    readings.front()
+}
+
+// The last reading.
+fn last_of<A: Allocator>(readings: &VecDeque<Reading<A>, A>) -> Option<&Reading<A>>
+    ensures { option_copied result ≡ slice_get readings.now.items (length readings.now.items - 1) }
+{
+    readings.back()
+}
+
 /// Sums up a house.
 pub(crate) fn summary_of<A: Allocator + Copy>(house: &House<A>) -> Summary
     ensures { result ≡ summary_of house.now.budget house.now.state }
@@ -47,9 +69,9 @@ pub(crate) fn summary_of<A: Allocator + Copy>(house: &House<A>) -> Summary
         size: house.size(),
         budget: house.budget(),
         meters: register_rows(house),
-        readings: readings.len(),
-        first: serial_of(readings.front()),
-        last: serial_of(readings.back()),
+        readings: count_of(readings),
+        first: serial_of(first_of(readings)),
+        last: serial_of(last_of(readings)),
         confirmed: house.confirmed(),
         command: house.last_number(),
     }
