@@ -3,9 +3,10 @@
 import datetime
 from typing import Any, Dict, Iterable, List, NamedTuple, Optional, Tuple
 
+from consumption import Line
 from database import Cursor
 from periods import later_month
-from supply import Line, seconds
+from supply import seconds
 
 NONE = "-"
 CHARTED = 13  # months
@@ -31,21 +32,18 @@ class Printed(NamedTuple):
 Numbers = Dict[str, Printed]
 
 
-def use_key(flat: str, use: str, what: str, unit: str = "") -> str:
+def use_key(flat: str, use: Any, what: object, unit: Optional[str] = None) -> str:
     """The key of a number of a user's use."""
-    return f"{flat} {use} {what} {unit}".rstrip(" ")
-
-
-def month_key(flat: str, use: Any, month: datetime.date) -> str:
-    return use_key(flat, use.use, f"{month:%Y-%m}", use.unit)
+    shown = f"{what:%Y-%m}" if isinstance(what, datetime.date) else what
+    return f"{flat} {use.use} {shown}{'' if unit == '' else f' {unit or use.unit}'}"
 
 
 def chart_key(flat: str, use: Any, month: datetime.date) -> str:
-    return use_key(flat, use.use, f"{month:%Y-%m} chart", use.unit)
+    return use_key(flat, use, f"{month:%Y-%m} chart")
 
 
 def place_key(flat: str, use: Any, place: Any) -> str:
-    return use_key(flat, use.use, f"{place.number} {seconds(place.amount.begins)} {seconds(place.amount.ends)}", use.unit)
+    return use_key(flat, use, f"{place.number} {seconds(place.amount.begins)} {seconds(place.amount.ends)}")
 
 
 def reading_key(entry: Line) -> str:
