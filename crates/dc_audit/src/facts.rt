@@ -1,15 +1,9 @@
 //! What a file declares before its places.
 
-ghost use Rattle.std.specs.Prelude.{◌≡◌, Some, None, true, IfOk, MatchResult, OnOk, length};
-ghost use Rattle.dc_audit.specs.Facts.{declared, flat_at, is_key, nothing_declared};
-ghost use Rattle.dc_audit.specs.Facts.{area_with, span_at, used, user_at, with_fact, with_flat};
-ghost use Rattle.dc_audit.specs.Facts.{is_use_word, is_user_after, last_user, use_at, with_span, with_use, with_user};
-
 use crate::fault::{AuditFault, Stop};
 use crate::uses::{Counted, Unit};
 use std::alloc::Allocator;
 use std::collections::BTreeMap;
-use std::marker::Model;
 
 /// From the end of a day to the end of a day.
 #[derive(Clone, Copy)]
@@ -32,24 +26,6 @@ pub enum Key {
     Price(u64, Unit),
     /// Units of a square metre.
     Average(u64, Unit),
-}
-
-impl Key {
-    // Whether the two are the same.
-    fn is(self, other: Key) -> bool
-        ensures { result ≡ is_key self other }
-    {
-        match (self, other) {
-            (Key::Factor(one), Key::Factor(other)) => one == other,
-            (Key::Carbon(one), Key::Carbon(other)) => one == other,
-            (Key::Degrees, Key::Degrees) => true,
-            (Key::Price(one, unit), Key::Price(other, others)) => one == other && unit.is(others),
-            (Key::Average(one, unit), Key::Average(other, others)) => {
-                one == other && unit.is(others)
-            }
-            _ => false,
-        }
-    }
 }
 
 /// A ratio that is declared of a span, times 10^6.
@@ -102,36 +78,14 @@ pub(crate) struct Facts<A: Allocator + Copy> {
 }
 
 // Whether a word may be a use's.
-fn is_use_word(word: &[u8]) -> bool
-    ensures { result ≡ is_use_word word.now }
-{
+fn is_use_word(word: &[u8]) -> bool {
     !word.is_empty()
         && word.len() <= LONGEST_USE
-        && word
-            .iter()
-            .all(|byte| matches!(*byte, b'a'..=b'z' | b'0'..=b'9' | b' ' | b'-'))
-}
-
-impl<A: Allocator + Copy> Model for Facts<A> {
-    ghost use Rattle.std.specs.Prelude.{map};
-    ghost use Rattle.dc_audit.specs.Facts.{Declared};
-
-    ghost Value = { Declared };
-
-    ghost view = { λ f. record {
-        spans = f.spans.items;
-        uses = map (λ u. record { word = u.word.items; counted = u.counted }) f.uses.items;
-        facts = f.facts.items;
-        users = f.users.entries;
-        flats = map (λ e. (e.0.items, e.1)) f.flats.entries;
-        areas = f.areas.items;
-    } };
+        && word.iter().all(|byte| matches!(*byte, b'a'..=b'z' | b'0'..=b'9' | b' ' | b'-'))
 }
 
 impl<A: Allocator + Copy> Facts<A> {
-    pub fn new(alloc: A) -> Self
-        ensures { result ≡ nothing_declared }
-    {
+    pub fn new(alloc: A) -> Self {
         Facts {
             spans: Vec::new(alloc),
             uses: Vec::new(alloc),
@@ -143,9 +97,7 @@ impl<A: Allocator + Copy> Facts<A> {
     }
 
     /// Adds a span; their numbers rise.
-    pub fn add_span(&mut self, span: Span) -> Result<(), Stop>
-        ensures { OnOk result (with_span span self.old ≡ Some self.new) }
-    {
+    pub fn add_span(&mut self, span: Span) -> Result<(), Stop> {
         let is_next = match self.spans.last() {
             Some(last) => last.number < span.number,
             None => true,
@@ -161,16 +113,12 @@ impl<A: Allocator + Copy> Facts<A> {
     }
 
     /// All spans.
-    pub fn spans(&self) -> &[Span]
-        ensures { result.now ≡ self.now.spans }
-    {
+    pub fn spans(&self) -> &[Span] {
         self.spans.as_slice()
     }
 
     /// The span with this number.
-    pub fn span(&self, number: u64) -> Result<Span, AuditFault>
-        ensures { IfOk result (λ s. span_at number self.now ≡ Some s) }
-    {
+    pub fn span(&self, number: u64) -> Result<Span, AuditFault> {
         self.spans
             .iter()
             .copied()
@@ -179,9 +127,7 @@ impl<A: Allocator + Copy> Facts<A> {
     }
 
     /// Adds a use.
-    pub fn add_use(&mut self, alloc: A, word: &[u8], counted: Counted) -> Result<(), Stop>
-        ensures { OnOk result (with_use word.now counted self.old ≡ Some self.new) }
-    {
+    pub fn add_use(&mut self, alloc: A, word: &[u8], counted: Counted) -> Result<(), Stop> {
         if !is_use_word(word) {
             return Err(Stop::Fault(AuditFault::Row));
         }
@@ -197,16 +143,12 @@ impl<A: Allocator + Copy> Facts<A> {
     }
 
     /// Number of uses.
-    pub fn uses(&self) -> u64
-        ensures { result ≡ length self.now.uses }
-    {
+    pub fn uses(&self) -> u64 {
         self.uses.len() as u64
     }
 
     /// The number of a use by its word, from 0, and what its meters count.
-    pub fn used(&self, word: &[u8]) -> Result<(u64, Counted), AuditFault>
-        ensures { IfOk result (λ u. used word.now self.now ≡ Some u) }
-    {
+    pub fn used(&self, word: &[u8]) -> Result<(u64, Counted), AuditFault> {
         let place = self.use_at(word).ok_or(AuditFault::Fact)?;
         match self.uses.get(place) {
             Some(one) => Ok((place as u64, one.counted)),
@@ -214,12 +156,8 @@ impl<A: Allocator + Copy> Facts<A> {
         }
     }
 
-    fn use_at(&self, word: &[u8]) -> Option<usize>
-        ensures { result ≡ use_at word.now self.now }
-    {
-        self.uses
-            .iter()
-            .position(|one| one.word.as_slice() == word)
+    fn use_at(&self, word: &[u8]) -> Option<usize> {
+        self.uses.iter().position(|one| one.word.as_slice() == word)
     }
 
     /// The word of a use by its number.
@@ -231,27 +169,21 @@ impl<A: Allocator + Copy> Facts<A> {
     }
 
     /// The ratio that is declared, if it is.
-    pub fn declared(&self, key: Key, span: u64) -> Option<u64>
-        ensures { result ≡ declared key span self.now }
-    {
+    pub fn declared(&self, key: Key, span: u64) -> Option<u64> {
         self.facts
             .iter()
             .copied()
-            .find(|fact| fact.key.is(key) && fact.span == span)
+            .find(|fact| fact.key == key && fact.span == span)
             .map(|fact| fact.ratio)
     }
 
     /// The ratio that has to be declared.
-    pub fn ratio(&self, key: Key, span: u64) -> Result<u64, AuditFault>
-        ensures { IfOk result (λ n. declared key span self.now ≡ Some n) }
-    {
+    pub fn ratio(&self, key: Key, span: u64) -> Result<u64, AuditFault> {
         self.declared(key, span).ok_or(AuditFault::Fact)
     }
 
     /// Adds a fact of a span.
-    pub fn add_fact(&mut self, fact: Fact) -> Result<(), Stop>
-        ensures { OnOk result (with_fact fact self.old ≡ Some self.new) }
-    {
+    pub fn add_fact(&mut self, fact: Fact) -> Result<(), Stop> {
         self.span(fact.span)?;
         if self.declared(fact.key, fact.span).is_some() {
             return Err(Stop::Fault(AuditFault::Fact));
@@ -264,9 +196,7 @@ impl<A: Allocator + Copy> Facts<A> {
     }
 
     /// The number of a flat by its name, which counts from 0 in the order in which they are named.
-    pub fn flat(&mut self, alloc: A, name: &[u8]) -> Result<u64, Stop>
-        ensures { IfOk result (λ n. with_flat name.now self.old ≡ Some (n, self.new)) }
-    {
+    pub fn flat(&mut self, alloc: A, name: &[u8]) -> Result<u64, Stop> {
         if name.is_empty() {
             return Err(Stop::Fault(AuditFault::Row));
         }
@@ -283,31 +213,22 @@ impl<A: Allocator + Copy> Facts<A> {
     }
 
     /// The number of a flat that was named before.
-    pub fn known_flat(&self, name: &[u8]) -> Result<u64, AuditFault>
-        ensures { MatchResult result (λ n. flat_at name.now self.now ≡ Some n)
-            (λ _. flat_at name.now self.now ≡ None) }
-    {
+    pub fn known_flat(&self, name: &[u8]) -> Result<u64, AuditFault> {
         self.flats.get(name).copied().ok_or(AuditFault::Fact)
     }
 
     /// The areas of the flats by number: of each that of the first of its users that has one.
-    pub fn areas(&self) -> &[Option<u64>]
-        ensures { result.now ≡ self.now.areas }
-    {
+    pub fn areas(&self) -> &[Option<u64>] {
         self.areas.as_slice()
     }
 
     /// The user with this number.
-    pub fn user(&self, number: u64) -> Result<User, AuditFault>
-        ensures { IfOk result (λ u. user_at number self.now ≡ Some u) }
-    {
+    pub fn user(&self, number: u64) -> Result<User, AuditFault> {
         self.users.get(&number).copied().ok_or(AuditFault::Fact)
     }
 
     // Whether a number is greater than the last user's.
-    fn is_after_last(&self, number: u64) -> bool
-        ensures { result ≡ true → is_user_after (last_user self.now.users) number ≡ true }
-    {
+    fn is_after_last(&self, number: u64) -> bool {
         match self.users.last_key_value() {
             Some((last, _)) => *last < number,
             None => true,
@@ -315,9 +236,7 @@ impl<A: Allocator + Copy> Facts<A> {
     }
 
     /// Adds a user; their numbers rise, and the users of a flat have one area.
-    pub fn add_user(&mut self, user: User) -> Result<(), Stop>
-        ensures { OnOk result (with_user user self.old ≡ Some self.new) }
-    {
+    pub fn add_user(&mut self, user: User) -> Result<(), Stop> {
         if !self.is_after_last(user.number) {
             return Err(Stop::Fault(AuditFault::Fact));
         }
@@ -333,9 +252,7 @@ impl<A: Allocator + Copy> Facts<A> {
 }
 
 // The area of a flat, of which the users that have one agree.
-fn area_with(known: Option<u64>, area: Option<u64>) -> Result<Option<u64>, AuditFault>
-    ensures { IfOk result (λ a. area_with known area ≡ Some a) }
-{
+fn area_with(known: Option<u64>, area: Option<u64>) -> Result<Option<u64>, AuditFault> {
     match (known, area) {
         (_, None) => Ok(known),
         (None, Some(_)) => Ok(area),
