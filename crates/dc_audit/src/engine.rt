@@ -165,8 +165,8 @@ pub fn audit<A: Allocator + Copy, R: Source, W: Sink>(
     check_file(Audit::new(alloc, false), reader, writer, &mut nowhere)
 }
 
-/// Writes the file that is left in the reader to `filled`, with what holds in the place of each `?`, and to `writer` which
-/// of the given numbers aren't what the telegrams give. Returns whether all are.
+/// Writes the file that is left in the reader to `filled`, with what holds in the place of each `?`, and to `writer`
+/// which of the given numbers aren't what the telegrams give. Returns whether all are.
 ///
 /// # Errors
 /// As of [`audit`].

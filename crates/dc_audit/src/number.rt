@@ -29,7 +29,8 @@ pub fn needs_factor(counted: Counted, unit: Unit) -> bool
     )
 }
 
-/// Smallest units of one of these, times 10^6 for each ratio that is in its numerator; `None` of a unit that isn't the use's.
+/// Smallest units of one of these, times 10^6 for each ratio that is in its numerator; `None` of a unit that isn't the
+/// use's.
 pub fn denominator(counted: Counted, unit: Unit) -> Option<u128>
     ensures value { result ≡ denominator counted unit }
     ensures some { IfSome result (λ den. 0 < den) }
@@ -152,7 +153,8 @@ impl Signed {
     }
 }
 
-/// The change from the second number to the first in per cent, for numbers of one denominator; `None` where the second is 0.
+/// The change from the second number to the first in per cent, for numbers of one denominator; `None` where the second
+/// is 0.
 pub fn change(here: Exact, there: Exact) -> Result<Option<Signed>, AuditFault>
     ensures { result ≡ change here there }
 {

@@ -20,8 +20,8 @@ pub struct Key {
     pub holder: u64,
 }
 
-/// An amount in the smallest unit, the same times its place's weight times 10^6, and how reliable it is; both are 0 where
-/// there is no number.
+/// An amount in the smallest unit, the same times its place's weight times 10^6, and how reliable it is; both are 0
+/// where there is no number.
 #[derive(Clone, Copy, Debug, PartialEq, Eq)]
 pub struct Share {
     pub plain: u128,

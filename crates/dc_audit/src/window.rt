@@ -337,7 +337,8 @@ impl Window<'_> {
         is_at(last, moment) || is_close(last, self.entries.get(passed))
     }
 
-    // Whether a value around a moment was put so: the last one at it or before it and, where that is before it, the next.
+    // Whether a value around a moment was put so: the last one at it or before it and, where that is before it, the
+    // next.
     fn is_put_around(&self, moment: u64, how: How) -> bool
         ensures { result ≡ is_put_around moment how self.now.entries.now self.now.sources.now }
     {
@@ -378,7 +379,8 @@ impl Window<'_> {
             && has_first(self.entries, self.sources, meter + 1)
     }
 
-    // Number of exchanges of a period from a run on, the number of which is `meter`; none where one of them isn't whole.
+    // Number of exchanges of a period from a run on, the number of which is `meter`; none where one of them isn't
+    // whole.
     fn declared_from(
         &self,
         old: &Run,

@@ -48,8 +48,9 @@ pub enum Done {
     Addressed(Addressing),
 }
 
-/// Does the work on a bus, prints it line by line, and says on standard error what is to be known of it. Returns how the
-/// command ends. A search may be listed in another form. One that hears noise alone is given up: after 16 answers, none of which is a frame.
+/// Does the work on a bus, prints it line by line, and says on standard error what is to be known of it. Returns how
+/// the command ends. A search may be listed in another form. One that hears noise alone is given up: after 16 answers,
+/// none of which is a frame.
 pub fn run_over<'a, R, B, O>(
     alloc: Global,
     work: Work,
@@ -92,9 +93,9 @@ where
     Ending::Faulty
 }
 
-/// Does the work on a bus, and prints it. Returns how the command ends: a search is at fault where bytes came that nothing
-/// on the bus could have sent, for it may have missed a meter; a readout where it failed; and an address where the meter
-/// doesn't answer at the new one.
+/// Does the work on a bus, and prints it. Returns how the command ends: a search is at fault where bytes came that
+/// nothing on the bus could have sent, for it may have missed a meter; a readout where it failed; and an address where
+/// the meter doesn't answer at the new one.
 pub fn work_over<'a, R, B, W>(
     alloc: Global,
     work: Work,

@@ -2,8 +2,8 @@
 //! and a new primary address for one.
 //!
 //! [`work_over`] does the [`Work`] on a bus that the caller has connected, prints to a [`Printer`], and returns how the
-//! command ends. [`put_remark`] writes what standard error says of it, and [`Progress`] shows a terminal how far a search
-//! is. Nothing here opens a file or a socket.
+//! command ends. [`put_remark`] writes what standard error says of it, and [`Progress`] shows a terminal how far a
+//! search is. Nothing here opens a file or a socket.
 #![tactic(auto)]
 
 mod command;

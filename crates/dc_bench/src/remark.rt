@@ -11,8 +11,8 @@ use dc_readout::misses::{Owner, put_reason};
 use dc_words::MeterName;
 
 /// Writes what is to be known of a command besides its text: after a search how many answers can't be read, and to a
-/// person what to do where nothing was found, and with numbers that several meters have; after a readout that failed what
-/// its failed tries brought.
+/// person what to do where nothing was found, and with numbers that several meters have; after a readout that failed
+/// what its failed tries brought.
 pub fn put_remark<W: Sink>(
     work: &Work,
     done: &Done,

@@ -2,8 +2,8 @@
 //!
 //! A [`Bus`] takes a request and returns its answer, at most 300 bytes ([`AnswerBuf`]); a lost one
 //! is silent. [`search_over`] searches one, and [`search_windows`] one on which several meters may
-//! answer a request: it repeats what is silent, and reads each telegram twice. A [`HalfBus`] sends a request first, and its answer is
-//! taken once it is complete, so that one thread can serve several. [`Both`] makes one bus of the
+//! answer a request: it repeats what is silent, and reads each telegram twice. A [`HalfBus`] sends a request first, and
+//! its answer is taken once it is complete, so that one thread can serve several. [`Both`] makes one bus of the
 //! halves.
 //!
 //! Nothing here waits, and an answer uses no heap memory.

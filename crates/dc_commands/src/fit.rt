@@ -21,8 +21,8 @@ use std::io::{LineWriter, Write};
 use std::marker::Brand;
 
 /// Looks at the image, adds the meters of a list to its register or does one command, prints what comes of it, and says
-/// how that ended. The commands that were done are noted; no clause names the notes, since all that is promised here holds
-/// whatever becomes of them.
+/// how that ended. The commands that were done are noted; no clause names the notes, since all that is promised here
+/// holds whatever becomes of them.
 pub fn fit_over<'a, D, O, N>(
     alloc: Global,
     disk: D,

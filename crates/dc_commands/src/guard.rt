@@ -9,8 +9,8 @@ use dc_log::{OpenFault, settled_ahead};
 use dc_register::House;
 use std::alloc::Global;
 
-/// Makes what the image reads as durable, and looks at it: what each command that writes an image begins with. Nothing is
-/// written.
+/// Makes what the image reads as durable, and looks at it: what each command that writes an image begins with. Nothing
+/// is written.
 ///
 /// # Errors
 /// The ending of the command: the image reads as no state, or a sector is ahead of the state that it reads as.

@@ -42,8 +42,8 @@ pub struct Printing {
 }
 
 /// Looks at the image, reads the meters of the plan, prints their events line by line, and says how that ended. Where
-/// they can't be printed, the poll goes on without. The journal takes each event, too; no clause names it, since all that
-/// is promised here holds whatever becomes of it.
+/// they can't be printed, the poll goes on without. The journal takes each event, too; no clause names it, since all
+/// that is promised here holds whatever becomes of it.
 pub fn poll_over<'h, 'a, D, B, W, R, O, J>(
     alloc: Global,
     rt: &'h R,

@@ -48,7 +48,8 @@ fn open_ending<'a>(fault: OpenFault) -> Ending<'a> {
     }
 }
 
-/// Writes what was rescued: the part of the image that the state is read from, and how many groups after it left a trace.
+/// Writes what was rescued: the part of the image that the state is read from, and how many groups after it left a
+/// trace.
 #[tactic(auto, using(dc_io::proofs::Pieces::written), unfolding(crate::specs::Rescue::rescued_text))]
 pub fn put_rescued<W: Sink>(rescued: &Rescued<House<Global>>, out: &mut W) -> Result<(), IoFault>
     ensures { Wrote W.Sink result out.old out.new (rescued_text rescued.now.source

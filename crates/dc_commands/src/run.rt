@@ -25,9 +25,9 @@ use std::io::{LineWriter, Read, Write};
 use std::marker::Brand;
 
 /// Looks at the image, runs the lines of a file over it, with the buses of the bus lines, and says how that ended. Each
-/// line of text is printed as it is whole: a readout takes seconds, and what was committed is printed also where the run
-/// is killed later. Each command that is done is noted; no clause names the notes, since all that is promised here holds
-/// whatever becomes of them.
+/// line of text is printed as it is whole: a readout takes seconds, and what was committed is printed also where the
+/// run is killed later. Each command that is done is noted; no clause names the notes, since all that is promised here
+/// holds whatever becomes of them.
 pub fn run_over<'a, D, F, O, B, N>(
     alloc: Global,
     why: &Why,

@@ -3,15 +3,17 @@
 //! A place is a flat's supply point: heat, warm water, cold water or electricity. Its entries, each
 //! a moment, a meter and a value, are in order of moment. From one entry to the next the place
 //! consumed the difference of the values, if both are of one meter that didn't run backwards, or its
-//! size and that where the meter turned over, and nothing else. An exchange of the meter is two entries at one moment, the old meter's last value
-//! and the new one's first. Between two entries consumption is taken as even, and rounded down.
+//! size and that where the meter turned over, and nothing else. An exchange of the meter is two entries at one moment,
+//! the old meter's last value and the new one's first. Between two entries consumption is taken as even, and rounded
+//! down.
 //!
 //! Of several entries of one meter at one moment the last counts: [`counted`] drops the others.
 //! [`at`] is the place's curve: all that it consumed from its first entry up to a moment.
 //! [`consumption`] is what it consumed in a period, a difference of the curve. [`periods`] makes
 //! many periods, with their marks: [`backwards`] counts the steps of a period that are doubtful (the
 //! meter ran backwards, or rose by more than it can have counted), and those before and after such a
-//! step, since it doesn't say which of its two values is false; [`exchanges`] counts the steps between different meters.
+//! step, since it doesn't say which of its two values is false; [`exchanges`] counts the steps between different
+//! meters.
 //!
 //! Proved: each result is its definition, and an amount is a fault only where it is 2^64 or more.
 //! Theorems: the functions of `laws`.

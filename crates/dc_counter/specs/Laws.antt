@@ -6,7 +6,8 @@ use Rattle.byteorder.specs.Endian.{little_bytes, little_number}
 use Rattle.byteorder.specs.Numbers.{length-bytes_low_first, little_number-reads_back}
 use Rattle.dc_counter.specs.Counting.{SpellsNumber, SpellsStep, counted, zeros}
 
-pub one_number : (budget : ℕ) (bytes : List ℕ) (s t : ℕ) → budget < 2 ^ 32 → SpellsNumber budget bytes s → SpellsNumber budget bytes t → s ≡ t
+pub one_number : (budget : ℕ) (bytes : List ℕ) (s t : ℕ) → budget < 2 ^ 32 →
+    SpellsNumber budget bytes s → SpellsNumber budget bytes t → s ≡ t
 one_number budget bytes s t small a b = a.number ∙ sym b.number
 
 pub one_step : (bytes : List ℕ) (cs ds : List ℕ) → SpellsStep bytes cs → SpellsStep bytes ds → cs ≡ ds

@@ -104,8 +104,8 @@ pub extern "C" fn mbdc_next_record(ci: u64, body: &[u8], at: u64, out: &mut Plai
     next_record_into(ci, body, at, out)
 }
 
-/// Writes the text of a record's value to the front of `out`, and returns its number of bytes; `usize::MAX` if it has more than
-/// `out`.
+/// Writes the text of a record's value to the front of `out`, and returns its number of bytes; `usize::MAX` if it has
+/// more than `out`.
 #[unsafe(no_mangle)]
 pub extern "C" fn mbdc_value_text(record: &PlainRecord, body: &[u8], out: &mut [u8]) -> usize
     ensures text { result ≢ 2 ^ 64 - 1 → take result out.new ≡ value_text_at «record».now body.now }
@@ -116,8 +116,8 @@ pub extern "C" fn mbdc_value_text(record: &PlainRecord, body: &[u8], out: &mut [
     value_text_into(record, body, out)
 }
 
-/// Writes the name with this number in a table to the front of `out`, and returns its number of bytes; `usize::MAX` if it has
-/// more than `out`.
+/// Writes the name with this number in a table to the front of `out`, and returns its number of bytes; `usize::MAX` if
+/// it has more than `out`.
 #[unsafe(no_mangle)]
 pub extern "C" fn mbdc_name(table: u64, number: u64, out: &mut [u8]) -> usize
     ensures text { result ≢ 2 ^ 64 - 1 → take result out.new ≡ names.name_of table number }

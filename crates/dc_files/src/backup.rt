@@ -18,7 +18,8 @@ use std::rt::Files;
 // Number of bytes of a sector.
 const SECTOR: u64 = 512;
 
-/// Copies the image in that file, as [`copy_image`] does, to a new file, which gets its name once it is whole and durable.
+/// Copies the image in that file, as [`copy_image`] does, to a new file, which gets its name once it is whole and
+/// durable.
 pub fn back_up<'a, R: Files<File = File> + AllocGlobal>(
     host: &Host<'_, R>,
     image: &'a str,

@@ -19,7 +19,7 @@ use std::rt::Files;
 use std::{fs, io};
 
 /// The file of an image, as long as its name leads to it: a sync fails once another file has the name, or none. So
-/// nothing is told to be on the disk that no name leads to.
+/// nothing counts as being on the disk that no name leads to.
 #[derive(Drop)]
 pub struct ImageFile<'h, 'n, R> {
     file: Noted<'h, File>,

@@ -21,8 +21,8 @@ const FULL: u64 = 8 * 1024 * 1024;
 // Readable and writable only by its owner: readings are personal data.
 const MODE: u32 = 0o600;
 
-/// The journal of an image, to which lines are appended. The first failure is named on standard error, and nothing more is
-/// written then.
+/// The journal of an image, to which lines are appended. The first failure is named on standard error, and nothing more
+/// is written then.
 #[derive(Drop)]
 pub struct Journal<'h, R> {
     rt: &'h R,
@@ -125,8 +125,8 @@ fn named(alloc: Global, image: &str, end: &str) -> Result<String, AllocError> {
 // The most bytes of a file that are read: the last ones.
 const MOST: u64 = 2 * FULL;
 
-/// The lines of an image's journal, first those of the file that was put aside; none where there is no such file, or none
-/// that can be read. Of each file the last 16 MiB are read.
+/// The lines of an image's journal, first those of the file that was put aside; none where there is no such file, or
+/// none that can be read. Of each file the last 16 MiB are read.
 ///
 /// # Errors
 /// Out of memory.

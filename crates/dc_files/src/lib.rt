@@ -1,10 +1,11 @@
 //! The files of images, as the commands open and make them, and what failed on the way.
 //!
-//! [`open_image`] opens an image for one program that changes it; its first read goes to the drive. [`open_disk`] makes a
-//! disk of it, which fails once the file has lost its name. [`LookedAt`] is an image that is looked at, also while a
-//! program changes it: what a look reads is of one instant ([`LookDisk`]); [`copy_image`] copies all of it ([`Copied`]).
-//! [`format_image`] makes an image in a file of its own ([`HalfMade`]), which gets the name once it is whole; no file that
-//! holds anything but zeros is touched. [`hold`] gives each closed standard stream to `/dev/null`, so that no image gets its number.
+//! [`open_image`] opens an image for one program that changes it; its first read goes to the drive. [`open_disk`] makes
+//! a disk of it, which fails once the file has lost its name. [`LookedAt`] is an image that is looked at, also while a
+//! program changes it: what a look reads is of one instant ([`LookDisk`]); [`copy_image`] copies all of it
+//! ([`Copied`]). [`format_image`] makes an image in a file of its own ([`HalfMade`]), which gets the name once it is
+//! whole; no file that holds anything but zeros is touched. [`hold`] gives each closed standard stream to `/dev/null`,
+//! so that no image gets its number.
 //!
 //! [`Journal`] appends lines to the file beside an image, whose failures change nothing of a command.
 //!

@@ -85,11 +85,12 @@ impl<'h> LookedAt<'h> {
         }
     }
 
-    /// Whether what was read stood in the file at one instant, and is durable. If it doesn't, waits, so that the look may begin anew.
+    /// Whether what was read stood in the file at one instant, and is durable. If it doesn't, waits, so that the look
+    /// may begin anew.
     ///
     /// # Errors
-    /// The ending of the command: a call of the file failed, out of memory, or the file changed within each look for two
-    /// seconds.
+    /// The ending of the command: a call of the file failed, out of memory, or the file changed within each look for
+    /// two seconds.
     pub fn stands<'a>(&self, sample: LookDisk<'h>, name: &'a str) -> Result<bool, Ending<'a>>
         ensures { IfErr result (λ ending. IsOfCopy ending name.now) }
     {

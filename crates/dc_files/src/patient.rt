@@ -24,8 +24,8 @@ const OUTPUT_FILE: &str = "/proc/self/fd/1";
 
 const SEEK_CUR: i32 = 1;
 
-/// Standard output, which is given up once nobody takes it for five seconds, or once its file is as long as the limit of
-/// files (`ulimit -f`): a write would stop the command, or end it by a signal.
+/// Standard output, which is given up once nobody takes it for five seconds, or once its file is as long as the limit
+/// of files (`ulimit -f`): a write would stop the command, or end it by a signal.
 #[derive(Drop)]
 pub struct Patient<'h, W: Write + Drop, R> {
     inner: Noted<'h, W>,

@@ -1,5 +1,5 @@
-//! A list of meters, or one command that is given at the box, as commands of the billing office: what `mbdc fit`, `swap`,
-//! `move` and `out` do.
+//! A list of meters, or one command that is given at the box, as commands of the billing office: what `mbdc fit`,
+//! `swap`, `move` and `out` do.
 
 mod order;
 mod plan;

@@ -94,7 +94,7 @@ fn put_maybe_flag<W: Sink>(out: &mut TokenWriter<'_, W>, flag: Option<bool>)
     }
 }
 
-// Writes what is read of a record: by which table, its value and unit, the type of the value, and why there is none.
+// Writes what is read of a record: by which table, its value and unit, the type of the value, or why it has none.
 fn put_value_fields<W: Sink>(
     out: &mut TokenWriter<'_, W>,
     found: &Record<'_>,

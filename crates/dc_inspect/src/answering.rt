@@ -220,8 +220,8 @@ fn answer_image<A: Allocator + Copy, D: Disk>(
 
 /// Reads both halves of an image once, in no memory, and returns the greatest session and sequence that their sectors
 /// carry: what [`answer`] and [`register_of`](crate::register_of) compare the state with that they read. While a store
-/// writes the image, a scan before the look finds each sector that is ahead of what the look reads: a store that opened an
-/// image that stands writes none.
+/// writes the image, a scan before the look finds each sector that is ahead of what the look reads: a store that opened
+/// an image that stands writes none.
 ///
 /// # Errors
 /// `Open(Device)` if a read of the disk failed.
@@ -243,8 +243,8 @@ pub fn scan<D: Disk>(disk: &mut D) -> Result<Greatest, ProgramFault>
 }
 
 /// Looks at an image: reads the root slots and the state that the image reads as, each sector of the chain once, and
-/// returns the text of what is asked; of the status with what the journal says. Nothing is written to the disk and nothing is synced, not even the next root. Of an
-/// image that can't be read the text says why, or is empty.
+/// returns the text of what is asked; of the status with what the journal says. Nothing is written to the disk and
+/// nothing is synced, not even the next root. Of an image that can't be read the text says why, or is empty.
 ///
 /// # Errors
 /// `Open(Device)` if a read of the disk failed, and [`ProgramFault::NoMemory`] if memory ran out.

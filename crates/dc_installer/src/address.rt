@@ -50,13 +50,13 @@ pub enum Addressing {
     Unconfirmed(Identity),
 }
 
-/// Sets the primary address of a meter to `to`, by SND_UD with the record `01 7A to` (EN 13757-3, bus address), and reads
-/// it there.
+/// Sets the primary address of a meter to `to`, by SND_UD with the record `01 7A to` (EN 13757-3, bus address), and
+/// reads it there.
 ///
-/// Nothing goes to the meter unless `to` is silent: a reset and a request are met by silence three times each. The change
-/// goes out only where one meter acknowledges, and its telegram comes twice; at a primary address the telegram names that
-/// address, and a meter that was selected is that very one. Whether the change is acknowledged doesn't count; the telegram
-/// at `to` decides, which names that address and the meter.
+/// Nothing goes to the meter unless `to` is silent: a reset and a request are met by silence three times each. The
+/// change goes out only where one meter acknowledges, and its telegram comes twice; at a primary address the telegram
+/// names that address, and a meter that was selected is that very one. Whether the change is acknowledged doesn't
+/// count; the telegram at `to` decides, which names that address and the meter.
 pub fn set_address<B: Bus>(bus: &mut B, target: &Target, to: u8) -> Addressing
     ensures { IsAddressed B.asks B.asks_all target.now to bus.old result bus.new }
 {

@@ -4,7 +4,8 @@
 //! Nothing is stored. [`read`] prints each telegram before the meter is asked for the next one. [`scan`] is the
 //! wildcard search, and [`scan_primary`] asks each primary address; [`Course`] follows how far they are, and
 //! [`put_unread`] says how many of their answers can't be read.
-//! [`set_address`] changes an address only where the new one is silent and one meter answers, at its old one or selected.
+//! [`set_address`] changes an address only where the new one is silent and one meter answers, at its old one or
+//! selected.
 #![tactic(auto)]
 
 mod address;

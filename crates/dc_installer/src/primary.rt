@@ -49,8 +49,8 @@ pub fn scan_primary<B: Bus, W: Sink>(bus: &mut B, out: &mut W) -> Result<(), IoF
     scan_range(1, GREATEST, bus, out)
 }
 
-/// Identifies the meter at a primary address, or at 0, which a meter has that got none. The meter repeats its telegram to
-/// the next readout.
+/// Identifies the meter at a primary address, or at 0, which a meter has that got none. The meter repeats its telegram
+/// to the next readout.
 ///
 /// # Errors
 /// No telegram of one meter came from that address. The try that failed is counted by what it brought.

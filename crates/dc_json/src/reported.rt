@@ -47,7 +47,7 @@ pub(crate) fn put_received<W: Sink>(out: &mut TokenWriter<'_, W>, moment: u64, s
     );
 }
 
-/// Writes what is told of the records of a telegram that isn't kept, and of parts, of a meter of this device type.
+/// Writes the records of a telegram that isn't kept, and parts, of a meter of this device type.
 pub(crate) fn put_told<A: Allocator, W: Sink>(
     out: &mut TokenWriter<'_, W>,
     kind: u8,

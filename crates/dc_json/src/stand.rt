@@ -1,4 +1,4 @@
-//! What is told of a reading: its headline, and its current records.
+//! What is shown of a reading: its headline, and its current records.
 
 ghost use Rattle.std.specs.Prelude.{◌≡◌, None, option_map};
 ghost use Rattle.std.specs.Iterator.{YieldsFirstBy};

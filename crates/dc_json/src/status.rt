@@ -6,7 +6,7 @@
 //! [`put_status_objects`] writes the same as JSON objects, [`put_metrics`] as metrics for Prometheus. [`any_silent`]
 //! says whether a meter is silent.
 //!
-//! What is told of a meter is one row (`specs/Row.antt`), which each form writes.
+//! What is shown of a meter is one row (`specs/Row.antt`), which each form writes.
 //!
 //! Proved: each text is exactly the one that `specs/` defines of the state and the clock. What its rows mean is a law:
 //! [`rows_mean_what_they_say`].

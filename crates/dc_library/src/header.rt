@@ -99,8 +99,8 @@ fn variable_header(variable: &Variable<'_>) -> PlainHeader
 
 /// Writes to `out` what stands before the records of a body after this CI byte.
 ///
-/// Returns `DONE`, also where a fault stands there, which [`next_record_into`](crate::next_record_into) returns; or `OTHER`
-/// after another CI byte than 72, 73, 78 and 7A.
+/// Returns `DONE`, also at a fault, which [`next_record_into`](crate::next_record_into) returns; or
+/// `OTHER` after another CI byte than 72, 73, 78 and 7A.
 #[tactic(auto, using(crate::proofs::Bodies::narrow, crate::proofs::Bodies::all_left))]
 pub fn header_into(ci: u64, body: &[u8], out: &mut PlainHeader) -> u64
     ensures header { (content : read.Content) → content_of ci body.now ≡ Some content

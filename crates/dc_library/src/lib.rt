@@ -3,9 +3,9 @@
 //! **As text.** [`decode_text_into`] writes the text that `decode` prints for an input to the front of a slice,
 //! [`decode_json_into`] the lines of `decode --json`, and [`decode_body_into`] the JSON line of a body without a frame.
 //!
-//! **As numbers.** [`next_frame_into`] goes over the link frames of bytes, [`header_into`] writes what stands before the records
-//! of a body, and [`next_record_into`] goes over its records with what dc_reading reads of each: names by the numbers that
-//! [`name_of`] has a name for, parts by their places. [`value_text_into`] writes a value as text.
+//! **As numbers.** [`next_frame_into`] goes over the link frames of bytes, [`header_into`] writes what stands before
+//! the records of a body, and [`next_record_into`] goes over its records with what dc_reading reads of each: names by
+//! the numbers that [`name_of`] has a name for, parts by their places. [`value_text_into`] writes a value as text.
 //!
 //! They take no memory and keep no state, so they run where there is no host: dc_exports makes a static library and a
 //! WebAssembly module of them.

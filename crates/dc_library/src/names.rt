@@ -91,7 +91,7 @@ pub const BODY_FAULT_NAMES: [&str; 10] = [
     "Cut",
 ];
 
-// The name at a place of a list; empty where there is none.
+// The name at a place of a list; empty where the list ends before it.
 fn name_in(mut names: &[&'static str], place: u8) -> &'static str
     ensures { result.now ≡ name_in (map (λ s. s.now) names.entry.now) place }
 {
@@ -154,7 +154,7 @@ fn byte_name(table: u64, code: u8) -> &'static str
     coded_name(table, code)
 }
 
-/// The name with this number in a table; empty where there is none.
+/// The name with this number in a table; empty where the table has no such number.
 #[tactic(auto, unfolding(crate::specs::Names::name_of))]
 pub fn name_of(table: u64, number: u64) -> &'static str
     ensures { result.now ≡ name_of table number }

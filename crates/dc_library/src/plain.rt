@@ -37,7 +37,7 @@ pub struct Places {
     /// The data.
     pub data_at: u64,
     pub data_size: u64,
-    /// The text of a unit in plain text; at 0 where there is none.
+    /// The text of a unit in plain text; at 0 of a unit without one.
     pub label_at: u64,
     pub label_size: u64,
     /// The VIFEs that have names.
@@ -139,8 +139,8 @@ const NO_VALUE: PlainValue = PlainValue {
     flags: 0,
 };
 
-// The value that stands in a record; all numbers are 0 where there is none, and of digits, texts and identities, which are
-// their bytes.
+// The value that stands in a record; all numbers are 0 of a record without a value, and of digits, texts and identities, which
+// are their bytes.
 fn plain_value(found: &Found) -> PlainValue
     ensures { result ≡ plain_value found.now }
 {

@@ -1,12 +1,12 @@
 //! What the calls that go on from place to place return.
 
-/// Something stands there.
+/// One was found.
 pub const DONE: u64 = 0;
 
-/// Nothing more stands there.
+/// No more follow.
 pub const END: u64 = 1;
 
-/// Nothing more stands there, and more records follow in the next telegram.
+/// No more follow here, but more records in the next telegram.
 pub const MORE: u64 = 2;
 
 /// A body after this CI byte isn't read.

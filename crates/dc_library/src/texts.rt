@@ -25,8 +25,8 @@ pub fn text_into(text: &[u8], out: &mut [u8]) -> usize
     text.len()
 }
 
-/// Writes the text of a record's value to the front of `out`, and returns its number of bytes; `usize::MAX` if it has more than
-/// `out`. The text of a record without a value is empty.
+/// Writes the text of a record's value to the front of `out`, and returns its number of bytes; `usize::MAX` if it has
+/// more than `out`. The text of a record without a value is empty.
 #[tactic(auto, using(std::proofs::lemmas::List::drop_min), unfolding(dc_reading::specs::Content::content_of))]
 pub fn value_text_into(record: &PlainRecord, body: &[u8], out: &mut [u8]) -> usize
     ensures text { result ≢ 2 ^ 64 - 1 → take result out.new ≡ value_text_at «record».now body.now }

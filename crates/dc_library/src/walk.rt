@@ -141,8 +141,9 @@ fn next_counter(counters: &FixedData<'_>, body: &[u8], at: u64, out: &mut PlainR
 
 /// Writes to `out` the record that comes next from a place of a body on, after this CI byte, and what is read of it.
 ///
-/// Returns `DONE`; else `END`, `MORE`, or `FAULT` and the number of the body's fault, where no record comes; or `OTHER` after
-/// another CI byte than 72, 73, 78 and 7A. From the place in its header on, place by place, these are all records of the body.
+/// Returns `DONE`; else `END`, `MORE`, or `FAULT` and the number of the body's fault, where no record comes; or `OTHER`
+/// after another CI byte than 72, 73, 78 and 7A. From the place in its header on, place by place, these are all records
+/// of the body.
 #[tactic(auto, using(crate::proofs::Bodies::narrow, crate::proofs::Bodies::fixed_there, crate::proofs::Bodies::sent_is_next, crate::proofs::Bodies::counter_is_next, crate::proofs::Bodies::none_is_left))]
 pub fn next_record_into(ci: u64, body: &[u8], at: u64, out: &mut PlainRecord) -> u64
     ensures next { result ≡ DONE → IsNext ci body.now at out.new }

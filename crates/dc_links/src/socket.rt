@@ -22,7 +22,7 @@ const WRITING: i32 = 5_000;
 // Time limit for opening a stream again, in seconds. The other lines wait as long.
 const OPENING: u64 = 2;
 
-// A link is opened again for so many requests in a row at most, if no byte comes behind one of them:
+// Maximum number of requests in a row for which a link is opened again, while no byte comes after one:
 // the tries of a readout. At the next one it is lost.
 const MOST_OPENED: u8 = 3;
 
@@ -39,7 +39,7 @@ pub struct Socket<C> {
     place: SocketAddr,
     // None where it is closed.
     stream: Cell<Option<TcpStream>>,
-    // Number of requests before which it was to be opened again, since a byte came behind one.
+    // Number of requests before which it was to be opened again, since a byte came after one.
     opened: Cell<u8>,
     // Whether a request went out on the stream. ser2net says why it closes before one comes.
     is_asked: Cell<bool>,

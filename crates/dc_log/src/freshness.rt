@@ -77,7 +77,8 @@ pub fn first_ahead<K: Kept, D: Disk>(
 ) -> Result<Option<u32>, OpenFault>
     ensures small { D.sectors disk.old < fewest_sectors → result ≡ Err NotImage }
 
-    // None exactly where the image stands for a state; else it reads as one, and this is the first sector that is ahead.
+    // None exactly where the image stands for a state; else it reads as one, and this is the first sector that is
+    // ahead.
     ensures told { D.keeps disk.new → IfOk result (λ ahead.
         IsBehindAt K.Language (half_of D.Disk disk.old) ahead (D.reads disk.old)) }
     ensures none { (state : K.State) → Stands K.Language (half_of D.Disk disk.old) state (D.reads disk.old)

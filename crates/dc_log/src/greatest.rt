@@ -99,8 +99,8 @@ fn stamp_at<D: Disk>(disk: &mut D, n: u32) -> Result<Option<Stamp>, Failed>
     }
 }
 
-/// Reads both halves, each sector once, and returns the greatest session and the greatest sequence that they carry. It uses
-/// no memory.
+/// Reads both halves, each sector once, and returns the greatest session and the greatest sequence that they carry. It
+/// uses no memory.
 pub fn greatest_of<D: Disk>(disk: &mut D, half_len: u32) -> Result<Greatest, Failed>
     requires most { half_len ≤ longest_half }
     requires fits { 3 + 2 * half_len ≤ D.sectors disk.old }

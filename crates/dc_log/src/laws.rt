@@ -27,8 +27,8 @@ pub fn an_unread_image_is_not_read<K: Kept>()
     ensures { UnreadIsNotRead K.Language }
 {}
 
-/// An image that stands for a state has no sector that is ahead, as each image that a crash leaves; another has one first
-/// sector that is.
+/// An image that stands for a state has no sector that is ahead, as each image that a crash leaves; another has one
+/// first sector that is.
 pub fn one_first_ahead<K: Kept>()
     ensures { OneBehind K.Language }
 {}

@@ -20,7 +20,8 @@
 //! last group looks like one that a crash kept from its sync.
 //!
 //! An append is a group and one sync. A compaction is the whole state as a base group in the other half, a
-//! sync, the next root and a sync. An open reads each sector that it needs once; a look before it also reads both halves.
+//! sync, the next root and a sync. An open reads each sector that it needs once; a look before it also reads both
+//! halves.
 #![tactic(auto)]
 
 mod appending;

@@ -217,8 +217,8 @@ pub fn read_chain<K: Kept, D: Disk>(
     Ok(found)
 }
 
-/// Reads the image: from the root in force to the state, and then every sector of both halves. With the state it returns
-/// the first sector that is ahead of it, if one is.
+/// Reads the image: from the root in force to the state, and then every sector of both halves. With the state it
+/// returns the first sector that is ahead of it, if one is.
 pub fn read_image<K: Kept, D: Disk>(
     alloc: K::Alloc,
     disk: &mut D,

@@ -44,7 +44,7 @@ pub struct Pace {
     /// How long a byte takes at most; `None` before the first telegram.
     pub byte: Option<u64>,
     /// How long a byte takes at least, where a telegram begins no later than the slowest
-    /// acknowledgement; `None` before the first telegram behind one.
+    /// acknowledgement; `None` before the first telegram after one.
     pub least_byte: Option<u64>,
     // Whether an acknowledgement is due, of which the delay is taken.
     acks: bool,

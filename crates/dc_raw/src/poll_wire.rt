@@ -74,8 +74,8 @@ pub enum Until {
 /// After a request the time-out is the patience. After the reset of all selected meters it is as long
 /// as an acknowledgement takes, by the [`Pace`] of the line; after a request that several meters may
 /// answer, as long as one of them may take to begin. Bytes that begin no frame are dropped where no
-/// answer has begun and one meter alone may answer, and time goes on as if they hadn't come. A line on which bytes keep coming for
-/// ten patiences, or 15 s where that is longer, without a request or silence between them, fails. So
+/// answer has begun and one meter alone may answer, and time goes on as if they hadn't come. A line on which bytes keep
+/// coming for ten patiences, or 15 s where that is longer, without a request or silence between them, fails. So
 /// does one on which requests met silence for 120 s, and no byte came since it was connected.
 #[derive(Drop)]
 pub struct PollWire<R: Read + AsRawFd + Drop, W: Write + Link + Drop, C: Clock + Drop> {
@@ -91,7 +91,7 @@ pub struct PollWire<R: Read + AsRawFd + Drop, W: Write + Link + Drop, C: Clock +
     asked: Instant,
     // The time at which the request was sent, the last byte came, or the last silence was returned.
     since: Instant,
-    // The time at which the wire was looked at last.
+    // The time of the last look at the wire.
     at: Instant,
     // Whether a byte came since, and no gap after it was returned.
     begun: bool,
@@ -380,7 +380,7 @@ fn until_by(resets: bool, many: bool) -> Until
     if many { Until::Paused } else { Until::Still }
 }
 
-// The patience after so many times at which bytes came late.
+// The patience after bytes have come late this often.
 fn patience_after(stated: u64, late: u64) -> u64
     ensures { result ≡ patience_after late stated }
 {

@@ -22,7 +22,7 @@ const SHORT_START: u8 = 0x10;
 
 const ACKNOWLEDGED: u8 = 0xE5;
 
-// Maximum number of bytes read at once: as many as an answer has room for.
+// Maximum number of bytes read at once: what an answer has room for.
 const MOST_READ: usize = 300;
 
 // Maximum number of polls repeated because a signal interrupted a poll or a read.

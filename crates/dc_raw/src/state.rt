@@ -36,7 +36,7 @@ pub enum Kind {
 }
 
 /// Whether a request may go out, which several meters may answer or not: on a quiet line any, and
-/// behind an answer one that differs from the request that it answered.
+/// after an answer one that differs from the request that it answered.
 pub fn may_go(state: State, last: &FrameBuf, request: &FrameBuf, many: bool) -> bool
     ensures { result ≡ may_go state last.now request.now many }
 {

@@ -1,5 +1,6 @@
 -- What a meter stands at (this product): of its device type's quantity the total, else the first value of each tariff.
-use Rattle.std.specs.Prelude.{ℕ, zero, suc, ◌%◌, ◌==◌, ◌&&◌, ◌||◌, not, Bool, true, false, nat_le, nat_lt, if◌then◌else◌, List, [], ◌∷◌, fold, length, Option, Some, None, is_some}
+use Rattle.std.specs.Prelude.{ℕ, zero, suc, ◌%◌, ◌==◌, ◌&&◌, ◌||◌, not, Bool, true, false, nat_le, nat_lt}
+use Rattle.std.specs.Prelude.{if◌then◌else◌, List, [], ◌∷◌, fold, length, Option, Some, None, is_some}
 use Rattle.std.specs.List.{list_all, list_any}
 use Rattle.dc_record.specs.declared.value.value.Value.TheVariants as value
 use Rattle.dc_reading.specs.declared.form.DataType.TheVariants as typed
@@ -24,7 +25,8 @@ is_energy_meter kind = (kind == 2) || (within 4 5 kind || within 0x0A 0x0D kind)
 
 abbrev pub is_volume_meter : ℕ → Bool
 is_volume_meter kind =
-    (kind == 1) || ((kind == 3) || (within 6 7 kind || ((kind == 9) || ((kind == 0x10) || ((kind == 0x13) || (within 0x15 0x17 kind || (kind == 0x28)))))))
+    (kind == 1) || ((kind == 3) || (within 6 7 kind || ((kind == 9) ||
+    ((kind == 0x10) || ((kind == 0x13) || (within 0x15 0x17 kind || (kind == 0x28)))))))
 
 -- electricity, heat and cooling have an energy, media a volume, heat cost allocators their units
 abbrev pub main_of : ℕ → Option Main
@@ -44,7 +46,9 @@ is_of Allocation number = number == 0x6E
 
 -- no error, uncorrected, at base conditions, corrections, and forward flow only: the value is still the meter's
 abbrev pub keeps : ℕ → Bool
-keeps vife = (vife % 128 == 0) || ((vife % 128 == 0x3A) || ((vife % 128 == 0x3B) || ((vife % 128 == 0x3E) || (within 0x70 0x77 (vife % 128) || (vife % 128 == 0x7D)))))
+keeps vife =
+    (vife % 128 == 0) || ((vife % 128 == 0x3A) || ((vife % 128 == 0x3B) ||
+    ((vife % 128 == 0x3E) || (within 0x70 0x77 (vife % 128) || (vife % 128 == 0x7D)))))
 
 abbrev pub is_number : Found → Bool
 is_number (found.Value typed.Number (datum.Known (value.Number d))) = true

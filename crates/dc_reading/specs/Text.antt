@@ -1,5 +1,6 @@
 -- The texts of readings (this product).
-use Rattle.std.specs.Prelude.{ℕ, ◌+◌, ◌/◌, ◌%◌, ◌==◌, nat_lt, if◌then◌else◌, List, [], ◌∷◌, ◌++◌, length, codes, Option, Some, None, Bool, true, false, slice_range}
+use Rattle.std.specs.Prelude.{ℕ, ◌+◌, ◌/◌, ◌%◌, ◌==◌, nat_lt, if◌then◌else◌, List, [], ◌∷◌, ◌++◌, length, codes}
+use Rattle.std.specs.Prelude.{Option, Some, None, Bool, true, false, slice_range}
 use Rattle.std.specs.Option.{option_map}
 use Rattle.dc_address.specs.Text.{text_of}
 use Rattle.dc_record.specs.Date.{Day}

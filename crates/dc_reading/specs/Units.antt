@@ -1,5 +1,6 @@
 -- The units of fixed data (EN 13757-3, fixed data structure).
-use Rattle.std.specs.Prelude.{◌≡◌, ℕ, ◌+◌, ◌-◌, ◌&&◌, Bool, true, nat_le, if◌then◌else◌, List, [], ◌∷◌, map, Option, Some, None, ℤ, pos, ◌+ℤ◌, int_le}
+use Rattle.std.specs.Prelude.{◌≡◌, ℕ, ◌+◌, ◌-◌, ◌&&◌, Bool, true, nat_le, if◌then◌else◌, List, [], ◌∷◌, map, Option}
+use Rattle.std.specs.Prelude.{Some, None, ℤ, pos, ◌+ℤ◌, int_le}
 use Rattle.std.specs.List.{list_all}
 use Rattle.dc_reading.specs.declared.content.units.FixedUnit as written
 use Rattle.dc_reading.specs.declared.content.units.TheConstants.{FIXED_UNITS}
@@ -21,7 +22,8 @@ pub record Row : Type 0 where
   pub unit : FixedUnit
 
 abbrev pub row_of : ℕ → ℕ → List ℕ → List ℕ → ℤ → Row
-row_of first last name unit exponent = record { first = first; last = last; unit = record { name = name; unit = unit; exponent = exponent } }
+row_of first last name unit exponent =
+    record { first = first; last = last; unit = record { name = name; unit = unit; exponent = exponent } }
 
 unfoldable pub unit_in : List Row → ℕ → Option FixedUnit
 unit_in [] code = None

@@ -18,7 +18,8 @@ use Rattle.dc_reading.specs.declared.form.Form.TheVariants as form
 use Rattle.dc_reading.specs.declared.form.DataType.{DataType}
 use Rattle.dc_reading.specs.declared.form.DataType.TheVariants as typed
 use Rattle.dc_reading.specs.declared.value.NoValue.{NoValue}
-use Rattle.dc_reading.specs.declared.value.NoValue.TheVariants.{Invalid, Digit, NotANumber, Infinite, Sign, NoTime, NoDate, NoLetters, OutOfRange}
+use Rattle.dc_reading.specs.declared.value.NoValue.TheVariants.{Invalid, Digit, NotANumber, Infinite, Sign, NoTime}
+use Rattle.dc_reading.specs.declared.value.NoValue.TheVariants.{NoDate, NoLetters, OutOfRange}
 use Rattle.dc_reading.specs.declared.value.Datum.{Datum}
 use Rattle.dc_reading.specs.declared.value.Datum.TheVariants as datum
 use Rattle.dc_reading.specs.Meaning.{fitting}

@@ -1,7 +1,8 @@
 //! Codes of value information fields.
 
 ghost use Rattle.std.specs.Prelude.{◌≡◌, ◌≤◌, length, map};
-ghost use Rattle.dc_reading.specs.Codes.{AreNarrow, code_in, code_at, code_view, table_code, row_of, number_of, listed_at};
+ghost use Rattle.dc_reading.specs.Codes.{AreNarrow, code_in, code_at, code_view, table_code, row_of, number_of};
+ghost use Rattle.dc_reading.specs.Codes.{listed_at};
 ghost use Rattle.dc_reading.specs.Codes.{kind_of};
 
 use dc_record::value::Quantity;
@@ -38,8 +39,9 @@ pub struct Code {
 }
 
 /// Codes without bit 7 (EN 13757-3, tables of primary VIF codes and of both extensions), those after FB from FB00 on,
-/// those after FD from FD00 on: the first and the last code of a row, its name, its unit, the power of ten of the first,
-/// and its kind. Each further code stands for the next power of ten. The due-date table has the units of listed ones.
+/// those after FD from FD00 on: the first and the last code of a row, its name, its unit, the power of ten of the
+/// first, and its kind. Each further code stands for the next power of ten. The due-date table has the units of listed
+/// ones.
 pub const CODES: [(u16, u16, &str, &str, i8, Kind); 150] = [
     (0x00, 0x0F, "energy", "", 0, Kind::Listed),
     (0x10, 0x17, "volume", "", 0, Kind::Listed),

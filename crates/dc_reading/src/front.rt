@@ -152,7 +152,8 @@ fn text_record(bytes: &[u8]) -> Result<(Record<'_>, &[u8]), BodyFault>
     Ok((record, rest))
 }
 
-/// What stands at the front of a body's rest: an end, a filler or a record, one whose VIF is FC too, or the first fault.
+/// What stands at the front of a body's rest: an end, a filler or a record, one whose VIF is FC too, or the first
+/// fault.
 #[tactic(auto, unfolding(crate::specs::Front::wide_front_at))]
 pub(crate) fn wide_front(bytes: &[u8]) -> Result<Front<'_>, BodyFault>
     ensures { Gives front result (wide_front_at bytes.now) }

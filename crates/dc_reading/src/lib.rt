@@ -1,12 +1,12 @@
 //! A second reading of records, for what the due-date table leaves as other (EN 13757-3).
 //!
-//! **Codes and VIFEs** stand in two tables, [`CODES`] and [`VIFES`], with their names, units, powers of ten and effects.
-//! What a block says is its code, changed by its VIFEs from left to right; a VIFE whose meaning isn't certain leaves the
-//! record unread, and a manufacturer's VIFE ends what is interpreted.
+//! **Codes and VIFEs** stand in two tables, [`CODES`] and [`VIFES`], with their names, units, powers of ten and
+//! effects. What a block says is its code, changed by its VIFEs from left to right; a VIFE whose meaning isn't certain
+//! leaves the record unread, and a manufacturer's VIFE ends what is interpreted.
 //!
-//! **Values.** A record that the due-date table has is read as its point. Else its data are read as its code's kind says,
-//! where their form has one: a number, flags, digits, a text, a date or a time, an identity; or there is none, with a
-//! reason.
+//! **Values.** A record that the due-date table has is read as its point. Else its data are read as its code's kind
+//! says, where their form has one: a number, flags, digits, a text, a date or a time, an identity; else
+//! there is a reason why not.
 //!
 //! Nothing here takes memory.
 #![tactic(auto)]

@@ -7,8 +7,8 @@ ghost use Rattle.dc_reading.specs.Meaning.{begun, is_extension, meaning_of, numb
 use crate::codes::{Kind, code_at};
 use crate::vifes::{Effect, vife_at};
 
-/// What a block says: the power of ten and the kind of its data, the numbers of the VIFEs of its unit, of a record error,
-/// of a direction and of a phase, and whether a VIFE replaced the code's kind.
+/// What a block says: the power of ten and the kind of its data, the numbers of the VIFEs of its unit, of a record
+/// error, of a direction and of a phase, and whether a VIFE replaced the code's kind.
 #[derive(Clone, Copy)]
 pub struct Meaning {
     pub exponent: i8,

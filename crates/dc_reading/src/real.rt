@@ -1,12 +1,13 @@
 //! REAL data (EN 13757-3, type H: IEEE 754 binary32) as decimals.
 //!
 //! The decimal is the first that reads back, of those with one digit, with two digits and so on: for each count of
-//! digits the nearest decimal, then its neighbour on the number's other side. That it reads back is proved. That none with
-//! fewer digits does is tested.
+//! digits the nearest decimal, then its neighbour on the number's other side. That it reads back is proved. That none
+//! with fewer digits does is tested.
 
 ghost use Rattle.std.specs.Prelude.{◌≡◌, ◌≢◌, ◌+◌, ◌%◌, ◌^◌, ◌<◌, ◌≤◌, IfSome, IsTrue, length, pos, neg_ℤ, ◌≤ℤ◌, ◌+ℤ◌};
 ghost use Rattle.std.specs.List.{list_all};
-ghost use Rattle.dc_reading.specs.Real.{real_of, reads_back, scaled, halved, doubled, rounds_up, candidate, tried, first_of, is_cut};
+ghost use Rattle.dc_reading.specs.Real.{real_of, reads_back, scaled, halved, doubled, rounds_up, candidate, tried};
+ghost use Rattle.dc_reading.specs.Real.{first_of, is_cut};
 
 use dc_record::value::{Decimal, TEXT_ROOM, Value};
 
@@ -90,7 +91,7 @@ fn halved(count: u32, digits: u64, places: u16) -> (u64, u16)
     }
 }
 
-// A number with this many zeros behind it, doubled this often.
+// A number with this many zeros after it, doubled this often.
 #[tactic(auto, unfolding(crate::specs::Real::doubled))]
 fn doubled(count: u32, digits: u64, zeros: u16) -> (u64, u16)
     requires digits { digits ≤ 10 ^ 17 }
@@ -149,7 +150,7 @@ fn reads_back(bits: u32, decimal: &Decimal) -> bool
     }
 }
 
-// The decimal of these digits without those behind a cut, where it reads back: the nearest, or its neighbour.
+// The decimal of these digits without those after a cut, where it reads back: the nearest, or its neighbour.
 #[tactic(auto, unfolding(crate::specs::Real::tried))]
 fn tried(cut: u64, power: i16, digits: u64, bits: u32) -> Option<Decimal>
     requires { (0 < cut) × (digits ≤ 10 ^ 17) }
@@ -195,6 +196,3 @@ fn first_of(cuts: &[u64], power: i16, digits: u64, bits: u32) -> Option<Decimal>
         None => first_of(others, power - 1, digits, bits),
     }
 }
-
-#[cfg(test)]
-mod tests;

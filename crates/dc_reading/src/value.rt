@@ -2,7 +2,8 @@
 
 ghost use Rattle.std.specs.Prelude.{◌≡◌, ◌≤◌, length, IsTrue, option_map};
 ghost use Rattle.dc_reading.specs.Form.{fits};
-ghost use Rattle.dc_reading.specs.Value.{real_in, whole, magnitude, number_in, scaled_by, clock_fault, day_in, minute_in};
+ghost use Rattle.dc_reading.specs.Value.{real_in, whole, magnitude, number_in, scaled_by, clock_fault, day_in};
+ghost use Rattle.dc_reading.specs.Value.{minute_in};
 ghost use Rattle.dc_reading.specs.Value.{second_in, time_in, identity_at, identity_in, letters_in, digits_in, value_of};
 
 use crate::form::{DataType, Form};
@@ -61,7 +62,7 @@ fn real_in(content: &[u8]) -> Result<Decimal, NoValue>
     }
 }
 
-// A whole number, or why there is none.
+// A whole number, or why it isn't one.
 fn whole(number: Option<i64>, fault: NoValue) -> Result<Decimal, NoValue>
     ensures { result ≡ whole number fault }
 {

@@ -29,8 +29,8 @@ pub struct Vife {
     pub text: &'static str,
 }
 
-/// Combinable VIFEs without bit 7 (EN 13757-3, tables of combinable VIFE codes and of the codes for record errors), those
-/// after FC from 80 on: rows in rising order, each of the codes up to its last one that no earlier row has.
+/// Combinable VIFEs without bit 7 (EN 13757-3, tables of combinable VIFE codes and of the codes for record errors),
+/// those after FC from 80 on: rows in rising order, each of the codes up to its last one that no earlier row has.
 pub const VIFES: [(u8, &str, Effect, &str); 140] = [
     (0x00, "no error", Effect::Nothing, ""),
     (0x01, "too many DIFEs", Effect::Failure, ""),

@@ -48,7 +48,8 @@ spelled = refl
 pub empty_register : SpellsState 15616 empty_text empty_state
 empty_register = record { spelled = spelled; is_state = IsState-empty 15616 (omega arith) }
 
-pub one_register : (budget : ℕ) (bytes : List ℕ) (s t : State) → budget < 2 ^ 32 → SpellsState budget bytes s → SpellsState budget bytes t → s ≡ t
+pub one_register : (budget : ℕ) (bytes : List ℕ) (s t : State) → budget < 2 ^ 32 →
+    SpellsState budget bytes s → SpellsState budget bytes t → s ≡ t
 one_register budget bytes s t small a b = spelled_once budget budget bytes s t small small a b
 
 pub one_history : (bytes : List ℕ) (cs ds : List Change) → SpellsChanges bytes cs → SpellsChanges bytes ds → cs ≡ ds

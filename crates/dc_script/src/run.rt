@@ -46,8 +46,8 @@ use std::alloc::Allocator;
 /// meter whose answer is lost or late isn't found. For a line without a bus `SEARCH` writes `NO
 /// GATEWAY`.
 ///
-/// The whole script is read before the image is opened. The disk is returned in every case. Each command that is done is
-/// noted once it is on the disk, whether its answer is written or not.
+/// The whole script is read before the image is opened. The disk is returned in every case. Each command that is done
+/// is noted once it is on the disk, whether its answer is written or not.
 ///
 /// # Errors
 /// [`ProgramFault::Read`], [`ProgramFault::TooLong`] over 1 MiB and [`ProgramFault::NoMemory`],

@@ -16,9 +16,9 @@ const QUOTE: u8 = b'"';
 // What each line of text may begin with or end in.
 const MARK: char = '\u{feff}';
 
-/// The list with the columns of the engine: a line for each of its lines. A column that isn't known is named once on standard
-/// error; a number alone is the registered meter that has it. A list without all columns, or that is no text, stays as it
-/// is: the engine says what is wrong with it.
+/// The list with the columns of the engine: a line for each of its lines. A column that isn't known is named once on
+/// standard error; a number alone is the registered meter that has it. A list without all columns, or that is no text,
+/// stays as it is: the engine says what is wrong with it.
 pub fn in_order<R: Eprint + AllocGlobal>(
     rt: &R,
     list: Vec<u8>,

@@ -132,8 +132,8 @@ pub fn told_disk(rt: &HostRuntime, ending: &Ending, why: &Why) {
     }
 }
 
-// Writes the line of the reason: the system's message without its error number, and the next step. Of a file that another
-// process has locked it names that process, where the system shows it.
+// Writes the line of the reason: the system's message without its error number, and the next step. Of a file that
+// another process has locked it names that process, where the system shows it.
 fn put_reason<W: Sink>(
     rt: &HostRuntime,
     ending: &Ending,

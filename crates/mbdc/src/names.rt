@@ -19,8 +19,8 @@ pub const ONLY: &str = "--only ";
 /// where it reads.
 ///
 /// # Errors
-/// The ending of the command: where a meter is named, the image doesn't open, or a number names no meter or several, which
-/// the mistake lists.
+/// The ending of the command: where a meter is named, the image doesn't open, or a number names no meter or several,
+/// which the mistake lists.
 pub fn meters_of<'a, R: AllocGlobal, D: Disk>(
     host: &Host<'_, R>,
     disk: &mut D,

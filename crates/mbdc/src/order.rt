@@ -17,7 +17,7 @@ use std::fs::File;
 use std::rt::{Clock, Files};
 use std::str;
 
-/// Does one command on the image in that file. A terminal is told first what will be done.
+/// Does one command on the image in that file. A terminal first shows what will be done.
 pub fn order_on_image<'a, R>(host: &Host<'_, R>, task: &OrderTask<'a>) -> Ending<'a>
 where
     R: Files<File = File> + Clock + Print + Eprint + AllocGlobal,

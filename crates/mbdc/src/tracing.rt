@@ -64,7 +64,7 @@ pub fn tracer_of<'t, 'h, R: Clock + Eprint>(
     }
 }
 
-/// What writes the traces of so many bus lines.
+/// What writes the traces of this many bus lines.
 ///
 /// # Errors
 /// The ending of the command: memory ran out.

@@ -65,9 +65,9 @@ pub fn write_waiting<D: Disk + Drop, A: Allocator + Copy>(
     store.compact(house)
 }
 
-/// Writes changes after the existing groups as one group, however many they are, or, if that doesn't fit in the half, the
-/// register's whole state into the other half. Either takes effect by one sector, so a crash leaves all of the changes or
-/// none. It uses no memory.
+/// Writes changes after the existing groups as one group, however many they are, or, if that doesn't fit in the half,
+/// the register's whole state into the other half. Either takes effect by one sector, so a crash leaves all of the
+/// changes or none. It uses no memory.
 ///
 /// # Errors
 /// Those of the store: [`StoreFault`].

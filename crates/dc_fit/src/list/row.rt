@@ -1,6 +1,7 @@
 //! The rows of a list of meters.
 
-ghost use Rattle.std.specs.Prelude.{◌≡◌, ℕ, List, Option, Some, None, IfSome, IfOk, IfErr, MatchOption, map, filter, not};
+ghost use Rattle.std.specs.Prelude.{◌≡◌, ℕ, List, Option, Some, None, IfSome, IfOk, IfErr, MatchOption, map, filter};
+ghost use Rattle.std.specs.Prelude.{not};
 ghost use Rattle.std.specs.List.{list_all};
 ghost use Rattle.std.specs.Fmt.{decimal};
 ghost use Rattle.dc_address.specs.Primary.{IsPrimary};

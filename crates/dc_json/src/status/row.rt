@@ -1,4 +1,4 @@
-//! What is told of a registered meter.
+//! What is shown of a registered meter.
 
 ghost use Rattle.std.specs.Prelude.{◌≡◌, ◌≤◌, Some, None, IfSome, if◌then◌else◌, option_copied, option_map};
 ghost use Rattle.dc_change.specs.Fields.{last_moment};
@@ -14,7 +14,7 @@ use dc_change::{Flat, LAST_MOMENT};
 use dc_register::{House, Part, Place};
 use std::alloc::Allocator;
 
-/// What is told of a registered meter, in any form.
+/// What is shown of a registered meter, in any form.
 #[derive(Clone, Copy)]
 pub(crate) struct Row {
     /// Its flat.

@@ -15,8 +15,8 @@ pub trait Notes {
     fn note(&mut self, event: &Event<'_>);
 }
 
-/// Writes the journal's line of an event with this object ([`put_object`](crate::events::put_object)), at this second since
-/// 1970, of a meter in this flat; an empty flat is left out.
+/// Writes the journal's line of an event with this object ([`put_object`](crate::events::put_object)), at this second
+/// since 1970, of a meter in this flat; an empty flat is left out.
 #[tactic(auto, unfolding(crate::specs::Note::note_of))]
 pub fn put_note<'t, W: Sink>(
     out: &mut W,

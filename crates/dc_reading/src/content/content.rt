@@ -46,8 +46,8 @@ pub struct Head {
     pub config: u16,
 }
 
-/// A variable data structure: its meter and its header where they are whole, and the bytes after the header, or why they
-/// aren't read.
+/// A variable data structure: its meter and its header where they are whole, and the bytes after the header, or why
+/// they aren't read.
 #[derive(Clone, Copy)]
 pub struct Variable<'a> {
     pub structure: Structure,

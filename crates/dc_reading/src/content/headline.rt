@@ -20,7 +20,7 @@ pub enum Main {
     Allocation,
 }
 
-/// By what values of one quantity are told apart: whether the value is that of forward flow only, the subunit and the
+/// By what values of one quantity differ: whether the value is that of forward flow only, the subunit and the
 /// tariff.
 #[derive(Clone, Copy)]
 pub struct Key {
@@ -90,7 +90,7 @@ fn is_candidate(main: Main, sent: &Sent<'_>) -> bool
         && is_number(&reading_of(record, sent.len).found)
 }
 
-/// By what a record is told apart.
+/// What a record differs by from others of its quantity.
 pub fn key_of(sent: &Sent<'_>) -> Key
     ensures { result ≡ key_of (sent_view sent.now) }
 {

@@ -7,7 +7,7 @@ ghost use Rattle.dc_record.specs.declared.header.Header.{Header};
 ghost use Rattle.dc_reading.specs.Content.{IsAsRead, content_of, long_header, sents_of, variable};
 
 /// What a body after CI 72 says: what the register reads, where it reads it; else the fault for which it refuses it, or
-/// what stands there but for a unit in plain text with VIFEs. An encrypted body has no records.
+/// what it holds but for a unit in plain text with VIFEs. An encrypted body has no records.
 #[tactic(auto, using(crate::proofs::Register::as_read, crate::proofs::Register::none_encrypted), unfolding(crate::specs::Content::content_of))]
 pub fn as_the_register_reads()
     ensures content { (body : List ℕ) → content_of 0x72 body ≡ Some (variable (long_header body)) }

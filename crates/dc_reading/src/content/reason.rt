@@ -2,7 +2,8 @@
 
 ghost use Rattle.std.specs.Prelude.{◌≡◌, ◌+◌, ◌≤◌, ◌++◌, codes, drop, length};
 ghost use Rattle.dc_reading.specs.Content.{content_view, fault_of, variable_view};
-ghost use Rattle.dc_reading.specs.Reason.{encrypted_text, head_mode, mode_text, reason_of, reason_text, variable_reason};
+ghost use Rattle.dc_reading.specs.Reason.{encrypted_text, head_mode, mode_text, reason_of, reason_text};
+ghost use Rattle.dc_reading.specs.Reason.{variable_reason};
 
 use crate::content::content::{Content, Head, Structure, Variable};
 use crate::content::security::{Security, security_name};
