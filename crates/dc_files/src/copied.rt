@@ -1,13 +1,16 @@
-//! A copy of an image in memory, as it is at one instant.
+//! A copy of an image as it is at one instant: in memory, and by the command `copy` in a new file.
 
-ghost use Rattle.std.specs.Prelude.{IfErr};
+ghost use Rattle.std.specs.Prelude.{◌⊎◌, IfErr};
 ghost use Rattle.dc_files.specs.Copied.{IsOfCopy};
+ghost use Rattle.dc_files.specs.Formatted.{IsOfFormat};
 
+use crate::half_made::{begin_image, end_image};
 use crate::host::Host;
 use crate::looking::{LookedAt, ROUNDS, ending_of_sample};
 use dc_disk::snapshot::SampleFault;
 use dc_disk::{Disk, FileDisk, ReadFault, Sector};
 use dc_ending::Ending;
+use dc_log::OpenFault;
 use libc::EIO;
 use std::alloc::Global;
 use std::cell::Cell;
@@ -48,7 +51,14 @@ pub fn copy_image<'a, R: Files<File = File> + AllocGlobal>(
             Err(fault) => return Err(ending_of_sample(fault)),
         };
         if looked.stands(sample, name)? {
-            return looked.copied(sectors, name);
+            match looked.file.metadata() {
+                Ok(facts) => return Ok(Copied {
+                    sectors,
+                    facts,
+                    fd: looked.file.as_raw_fd(),
+                }),
+                Err(error) => return Err(host.why.file(name, error)),
+            }
         }
     }
     Err(looked.busy(name))
@@ -90,40 +100,51 @@ fn read_all<D: Disk>(
     Ok(cells)
 }
 
-impl LookedAt<'_> {
-    // The copy, of these sectors.
-    fn copied<'a>(
-        &self,
-        sectors: Vec<Cell<Sector>, Global>,
-        name: &'a str,
-    ) -> Result<Copied, Ending<'a>>
-        ensures { IfErr result (λ ending. IsOfCopy ending name.now) }
-    {
-        match self.file.metadata() {
-            Ok(facts) => Ok(Copied {
-                sectors,
-                facts,
-                fd: self.file.as_raw_fd(),
-            }),
-            Err(error) => Err(self.why.file(name, error)),
+/// Copies the image in that file, as [`copy_image`] does, to a new file, which gets its name once it is whole and
+/// durable.
+pub fn back_up<'a, R: Files<File = File> + AllocGlobal>(
+    host: &Host<'_, R>,
+    image: &'a str,
+    name: &'a str,
+) -> Ending<'a>
+    ensures { IsOfCopy result image.now ⊎ IsOfFormat result name.now }
+{
+    let copy = match copy_image(host, image) {
+        Ok(copy) => copy,
+        Err(ending) => return ending,
+    };
+    // A copy can't hold what the drive can't read.
+    if host.why.has_unreadable() {
+        return Ending::Open(OpenFault::Device);
+    }
+    let length = SECTOR.saturating_mul(copy.sectors.len() as u64);
+    let half_made = match begin_image(host, name, length) {
+        Ok(half_made) => half_made,
+        Err(ending) => return ending,
+    };
+    match write_out(&copy, &half_made.file) {
+        Ok(()) => end_image(host, half_made, name),
+        Err(error) => {
+            half_made.unlink(host.rt);
+            host.why.file(name, error)
         }
     }
 }
 
-impl Copied {
-    /// Number of its sectors.
-    pub fn count(&self) -> u32 {
-        u32::try_from(self.sectors.len()).unwrap_or(u32::MAX)
+// Writes the copy to the file, and makes it durable.
+fn write_out(copy: &Copied, file: &File) -> io::Result<()> {
+    for (n, cell) in copy.sectors.iter().enumerate() {
+        match cell.get() {
+            Sector::Bytes(bytes) => file.write_all_at(&bytes, SECTOR.saturating_mul(n as u64))?,
+            Sector::Unreadable => return Err(io::Error::from_raw_os_error(EIO)),
+        }
     }
-
-    fn at(&self, place: u64) -> Option<&Cell<Sector>> {
-        self.sectors.get((place / SECTOR) as usize)
-    }
+    file.sync_all()
 }
 
 impl FileExt for Copied {
     fn read_at(&self, room: &mut [u8], place: u64) -> io::Result<usize> {
-        let Some(cell) = self.at(place) else {
+        let Some(cell) = self.sectors.get((place / SECTOR) as usize) else {
             return Ok(0);
         };
         match cell.get() {
@@ -137,7 +158,7 @@ impl FileExt for Copied {
     }
 
     fn write_at(&self, bytes: &[u8], place: u64) -> io::Result<usize> {
-        let Some(cell) = self.at(place) else {
+        let Some(cell) = self.sectors.get((place / SECTOR) as usize) else {
             return Ok(0);
         };
         let mut written = [0; 512];

@@ -2,9 +2,9 @@
 
 ghost use Rattle.dc_files.specs.Formatted.{IsOfFormat};
 
-use crate::half_made::{HalfMade, begin_image, end_image, is_same_file};
+use crate::half_made::{begin_image, end_image, is_same_file};
 use crate::host::Host;
-use crate::image::{no_file, open_image, within_limit};
+use crate::image::{NO_FILE, open_image, refused, within_limit};
 use crate::why::{Noted, Why};
 use dc_disk::{Disk, FileDisk};
 use dc_ending::Ending;
@@ -17,6 +17,11 @@ use std::io::ErrorKind;
 use std::os::unix::fs::FileExt;
 use std::rt::Files;
 use std::{fs, io};
+
+// Why a file isn't formatted.
+const OTHER_CONTENT: &str = "it holds other bytes than zeros";
+
+const OTHER_LENGTH: &str = "it has another length";
 
 /// Formats an image of that many sectors in the file of that name.
 ///
@@ -35,30 +40,26 @@ pub fn format_image<'a, R: Files<File = File> + AllocGlobal>(
         return host.why.file(name, error);
     }
     match fs::symlink_metadata(host.rt, name) {
-        Ok(seen) => format_in_place(host, name, &seen, length),
+        Ok(seen) => formatted_as(host.why, name, format_seen(host, name, &seen, length)),
         Err(error) if error.kind() == ErrorKind::NotFound => make_image(host, name, length),
         Err(error) => host.why.file(name, error),
     }
 }
 
-fn format_in_place<'a, R: Files<File = File>>(
-    host: &Host<'_, R>,
-    name: &'a str,
-    seen: &Metadata,
-    length: u64,
-) -> Ending<'a>
-    ensures { IsOfFormat result name.now }
-{
-    formatted_as(host.why, name, format_seen(host, name, seen, length))
-}
-
+// Formats the regular file that was found under the name. Another one may have replaced it since.
 fn format_seen<R: Files<File = File>>(
     host: &Host<'_, R>,
     name: &str,
     seen: &Metadata,
     length: u64,
 ) -> io::Result<Option<FormatFault>> {
-    let file = open_seen(host.rt, name, seen)?;
+    if !seen.is_file() {
+        return Err(refused(NO_FILE));
+    }
+    let file = open_image(host.rt, name)?;
+    if !is_same_file(&file.metadata()?, seen) {
+        return Err(io::Error::new(ErrorKind::NotFound, "another file came under that name"));
+    }
     format_blank(host.why, file, length)
 }
 
@@ -85,27 +86,19 @@ fn format_blank(why: &Why, file: File, length: u64) -> io::Result<Option<FormatF
     }
     let mut disk = FileDisk::new(Noted::new(file, why))?;
     if disk.count() <= 2 {
-        return Err(other_content());
+        return Err(refused(OTHER_CONTENT));
     }
     match choose(&mut disk) {
         Ok(_) => Ok(Some(FormatFault::AlreadyFormatted)),
         Err(RootFault::Device) => Ok(Some(FormatFault::Device)),
-        Err(RootFault::NoRoot(_) | RootFault::Worn) => Err(other_content()),
+        Err(RootFault::NoRoot(_) | RootFault::Worn) => Err(refused(OTHER_CONTENT)),
     }
-}
-
-fn other_content() -> io::Error {
-    io::Error::new(ErrorKind::InvalidInput, "it holds other bytes than zeros")
-}
-
-fn other_length() -> io::Error {
-    io::Error::new(ErrorKind::InvalidInput, "it has another length")
 }
 
 // Whether a file of that length holds only zeros, as `truncate` makes it.
 fn is_blank(file: &File, length: u64) -> io::Result<bool> {
     if file.metadata()?.len() != length {
-        return Err(other_length());
+        return Err(refused(OTHER_LENGTH));
     }
     for place in 0..length / 512 {
         let mut sector = [1; 512];
@@ -115,18 +108,6 @@ fn is_blank(file: &File, length: u64) -> io::Result<bool> {
         }
     }
     Ok(true)
-}
-
-// Opens the regular file that was found under the name. Another one may have replaced it since.
-fn open_seen<R: Files<File = File>>(rt: &R, name: &str, seen: &Metadata) -> io::Result<File> {
-    if !seen.is_file() {
-        return Err(no_file());
-    }
-    let file = open_image(rt, name)?;
-    if !is_same_file(&file.metadata()?, seen) {
-        return Err(io::Error::new(ErrorKind::NotFound, "another file came under that name"));
-    }
-    Ok(file)
 }
 
 fn make_image<'a, R: Files<File = File> + AllocGlobal>(
@@ -140,7 +121,11 @@ fn make_image<'a, R: Files<File = File> + AllocGlobal>(
         Ok(half_made) => half_made,
         Err(ending) => return ending,
     };
-    match format_half_made(host.why, &half_made, length) {
+    let formatted = match half_made.file.try_clone() {
+        Ok(file) => format_file(host.why, file, length),
+        Err(error) => Err(error),
+    };
+    match formatted {
         Ok(None) => end_image(host, half_made, name),
         other => {
             half_made.unlink(host.rt);
@@ -149,18 +134,10 @@ fn make_image<'a, R: Files<File = File> + AllocGlobal>(
     }
 }
 
-fn format_half_made(
-    why: &Why,
-    half_made: &HalfMade,
-    length: u64,
-) -> io::Result<Option<FormatFault>> {
-    format_file(why, half_made.file.try_clone()?, length)
-}
-
 // Formats a file of that length.
 fn format_file(why: &Why, file: File, length: u64) -> io::Result<Option<FormatFault>> {
     if file.metadata()?.len() != length {
-        return Err(other_length());
+        return Err(refused(OTHER_LENGTH));
     }
     match Store::format::<House<Global>>(FileDisk::new(Noted::new(file, why))?) {
         Ok(_) => Ok(None),

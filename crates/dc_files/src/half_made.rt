@@ -1,6 +1,7 @@
 //! The file in which an image is built, until it is whole.
 
-ghost use Rattle.std.specs.Prelude.{IfErr};
+ghost use Rattle.std.specs.Prelude.{[], IfErr, IfOk};
+ghost use Rattle.dc_disk.specs.File.{IsOpened};
 ghost use Rattle.dc_files.specs.Formatted.{IsOfFormat};
 
 use crate::host::Host;
@@ -8,7 +9,6 @@ use crate::image::lock;
 use crate::why::{Noted, Why};
 use dc_disk::FileDisk;
 use dc_ending::Ending;
-use std::alloc::{AllocError, Global};
 use std::fs::{File, Metadata, OpenOptions};
 use std::io::ErrorKind;
 use std::os::unix::fs::{MetadataExt, OpenOptionsExt};
@@ -35,15 +35,19 @@ pub struct HalfMade {
 }
 
 impl HalfMade {
-    /// Creates an empty file beside `image`, under a name that nothing else has.
-    ///
-    /// # Errors
-    /// No file can be created there, or out of memory.
-    pub fn create<R: Files<File = File> + AllocGlobal>(rt: &R, image: &str) -> io::Result<Self> {
+    // Creates an empty file beside `image`, `FOLDER/IMAGE.N.half-made`, under a name that nothing else has.
+    fn create<R: Files<File = File> + AllocGlobal>(rt: &R, image: &str) -> io::Result<Self> {
         let mut options = OpenOptions::new();
         options.read(true).write(true).create_new(true).mode(MODE);
+        let (folder, slash, file) = match image.rsplit_once('/') {
+            Some((folder, file)) => (folder, "/", file),
+            None => ("", "", image),
+        };
+        let file = file
+            .get(..file.floor_char_boundary(LONGEST))
+            .unwrap_or(file);
         for n in 0..NAMES {
-            let name = half_made_name(rt.alloc(), image, n)?;
+            let name = format!(in rt.alloc(); "{folder}{slash}{file}.{n}.half-made")?;
             match options.open(rt, name.as_str()) {
                 Ok(file) => return Ok(HalfMade { file, name }),
                 Err(error) if error.kind() == ErrorKind::AlreadyExists => {}
@@ -57,26 +61,25 @@ impl HalfMade {
     ///
     /// # Errors
     /// A call of the file failed.
-    pub fn disk<'w>(&self, why: &'w Why) -> io::Result<FileDisk<Noted<'w, File>>> {
+    pub fn disk<'w>(&self, why: &'w Why) -> io::Result<FileDisk<Noted<'w, File>>>
+        ensures { IfOk result (λ disk. IsOpened [] disk) }
+    {
         FileDisk::new(Noted::new(self.file.try_clone()?, why))
     }
 
-    // Locks the file, and gives it a length.
-    fn prepare(&self, length: u64) -> io::Result<()> {
-        lock(&self.file)?;
-        self.file.set_len(length)
-    }
-
-    /// Gives the file the name `image` as well, and makes that durable.
-    ///
-    /// # Errors
-    /// Something has that name, the file system has no hard links, or a call of it failed.
-    pub fn link<R: Files<File = File>>(&self, rt: &R, image: &str) -> io::Result<()> {
+    // Gives the file the name `image` as well, and makes that durable: a name is once its folder is synced. Something
+    // may have that name, and the file system may have no hard links.
+    fn link<R: Files<File = File>>(&self, rt: &R, image: &str) -> io::Result<()> {
         if !self.is_named(rt) {
             return Err(io::Error::from(ErrorKind::NotFound));
         }
         fs::hard_link(rt, self.name.as_str(), image)?;
-        sync_folder(rt, image)
+        let folder = match image.rsplit_once('/') {
+            Some(("", _)) => "/",
+            Some((folder, _)) => folder,
+            None => ".",
+        };
+        fs::open(rt, folder)?.sync_all()
     }
 
     /// Removes the name under which the file was created, unless another file has it now.
@@ -126,7 +129,11 @@ pub fn begin_image<'a, R: Files<File = File> + AllocGlobal>(
         Err(error) if error.kind() == ErrorKind::OutOfMemory => return Err(Ending::Memory),
         Err(error) => return Err(host.why.file(name, error)),
     };
-    match half_made.prepare(length) {
+    let prepared = match lock(&half_made.file) {
+        Ok(()) => half_made.file.set_len(length),
+        Err(error) => Err(error),
+    };
+    match prepared {
         Ok(()) => Ok(half_made),
         Err(error) => {
             half_made.unlink(host.rt);
@@ -155,27 +162,4 @@ pub fn end_image<'a, R: Files<File = File>>(
 /// function has no contract.
 pub fn is_same_file(one: &Metadata, other: &Metadata) -> bool {
     one.dev() == other.dev() && one.ino() == other.ino()
-}
-
-// `FOLDER/IMAGE.N.half-made`.
-fn half_made_name(alloc: Global, image: &str, n: u32) -> Result<String, AllocError> {
-    match image.rsplit_once('/') {
-        Some((folder, file)) => format!(in alloc; "{folder}/{}.{n}.half-made", shortened(file)),
-        None => format!(in alloc; "{}.{n}.half-made", shortened(image)),
-    }
-}
-
-fn shortened(name: &str) -> &str {
-    name.get(..name.floor_char_boundary(LONGEST))
-        .unwrap_or(name)
-}
-
-// A name is durable once its folder is synced.
-fn sync_folder<R: Files<File = File>>(rt: &R, name: &str) -> io::Result<()> {
-    let folder = match name.rsplit_once('/') {
-        Some(("", _)) => "/",
-        Some((folder, _)) => folder,
-        None => ".",
-    };
-    fs::open(rt, folder)?.sync_all()
 }

@@ -19,8 +19,17 @@ const READS: usize = 64;
 /// that shows its files under another device than its locks hides it, and so does another process namespace.
 pub fn holder_of<R: Files<File = File>>(rt: &R, name: &str) -> Option<u32> {
     let about = fs::metadata(rt, name).ok()?;
+    let mut file = fs::open(rt, LOCKS).ok()?;
     let mut room = [0; ROOM];
-    let count = read_locks(rt, &mut room)?;
+    let mut count: usize = 0;
+    // As far as there is room.
+    for _ in 0..READS {
+        let at = count.min(ROOM);
+        match file.read(&mut room[at..]) {
+            Ok(0) | Err(_) => break,
+            Ok(more) => count = count.saturating_add(more),
+        }
+    }
     let text = str::from_utf8(&room[..count.min(ROOM)]).ok()?;
     holder_in(text, about.dev(), about.ino())
 }
@@ -38,20 +47,6 @@ pub fn holder_in(locks: &str, device: u64, inode: u64) -> Option<u32> {
     None
 }
 
-// Reads what the system shows, as far as there is room.
-fn read_locks<R: Files<File = File>>(rt: &R, room: &mut [u8]) -> Option<usize> {
-    let mut file = fs::open(rt, LOCKS).ok()?;
-    let mut count: usize = 0;
-    for _ in 0..READS {
-        let at = count.min(room.len());
-        match file.read(&mut room[at..]) {
-            Ok(0) | Err(_) => break,
-            Ok(more) => count = count.saturating_add(more),
-        }
-    }
-    Some(count)
-}
-
 // The process of a line, if it holds a lock of this file. A line of one that waits has `->` before the kind.
 fn process_in(line: &str, device: u64, inode: u64) -> Option<u32> {
     let mut words = line.split_whitespace().skip(1);
@@ -64,16 +59,12 @@ fn process_in(line: &str, device: u64, inode: u64) -> Option<u32> {
     let major = u64::from_str_radix(place.next()?, 16).ok()?;
     let minor = u64::from_str_radix(place.next()?, 16).ok()?;
     let number = place.next()?.parse::<u64>().ok()?;
-    if process > 0 && number == inode && (major, minor) == parts_of(device) {
+    // The two numbers of a device, as the C library splits them.
+    let is_of_device = major == ((device >> 8) & 0xFFF) | ((device >> 32) & 0xFFFF_F000)
+        && minor == (device & 0xFF) | ((device >> 12) & 0xFFFF_FF00);
+    if process > 0 && number == inode && is_of_device {
         Some(process)
     } else {
         None
     }
-}
-
-// The two numbers of a device, as the C library splits them.
-fn parts_of(device: u64) -> (u64, u64) {
-    let major = ((device >> 8) & 0xFFF) | ((device >> 32) & 0xFFFF_F000);
-    let minor = (device & 0xFF) | ((device >> 12) & 0xFFFF_FF00);
-    (major, minor)
 }

@@ -17,6 +17,9 @@ const TRIES: u32 = 100;
 
 const PAUSE: i32 = 20;
 
+/// Why a folder, a pipe or a device is refused.
+pub const NO_FILE: &str = "it is no regular file";
+
 // The limit of a file's length, of Linux.
 const RLIMIT_FSIZE: i32 = 1;
 
@@ -70,11 +73,11 @@ fn open_regular<R: Files<File = File>>(
     name: &str,
 ) -> io::Result<File> {
     if !fs::metadata(rt, name)?.is_file() {
-        return Err(no_file());
+        return Err(refused(NO_FILE));
     }
     let file = options.open(rt, name)?;
     if !file.metadata()?.is_file() {
-        return Err(no_file());
+        return Err(refused(NO_FILE));
     }
     Ok(file)
 }
@@ -88,10 +91,7 @@ pub fn within_limit(length: u64) -> io::Result<()>
     ensures { IfErr result (λ error. error_kind error ≡ ErrorKind.InvalidInput) }
 {
     if file_limit() < length {
-        return Err(io::Error::new(
-            ErrorKind::InvalidInput,
-            "it is longer than the limit of files (ulimit -f)",
-        ));
+        return Err(refused("it is longer than the limit of files (ulimit -f)"));
     }
     Ok(())
 }
@@ -109,11 +109,11 @@ pub(crate) fn file_limit() -> u64 {
     }
 }
 
-/// The refusal of a folder, a pipe or a device.
-pub fn no_file() -> io::Error
+/// The refusal of a file, in these words.
+pub fn refused(words: &'static str) -> io::Error
     ensures { error_kind result ≡ ErrorKind.InvalidInput }
 {
-    io::Error::new(ErrorKind::InvalidInput, "it is no regular file")
+    io::Error::new(ErrorKind::InvalidInput, words)
 }
 
 /// Locks a file that is open: an exclusive advisory lock on the whole file (`flock` of Linux),
@@ -122,27 +122,18 @@ pub fn no_file() -> io::Error
 /// # Errors
 /// Another program holds a lock of it for two seconds.
 pub fn lock(file: &File) -> io::Result<()> {
-    for _ in 0..TRIES {
+    for tried in 0..=TRIES {
         match file.try_lock() {
-            Err(TryLockError::WouldBlock) => wait(),
-            tried => return locked(tried),
+            Ok(()) => return Ok(()),
+            Err(TryLockError::WouldBlock) if tried < TRIES => wait(),
+            Err(TryLockError::WouldBlock) => {}
+            Err(TryLockError::Error(error)) => return Err(error),
         }
     }
-    locked(file.try_lock())
+    Err(io::Error::new(ErrorKind::WouldBlock, "it is open in another mbdc"))
 }
 
 /// Waits for the time between two tries.
 pub fn wait() {
     poll(&mut [], PAUSE);
-}
-
-fn locked(tried: Result<(), TryLockError>) -> io::Result<()> {
-    match tried {
-        Ok(()) => Ok(()),
-        Err(TryLockError::WouldBlock) => Err(io::Error::new(
-            ErrorKind::WouldBlock,
-            "it is open in another mbdc",
-        )),
-        Err(TryLockError::Error(error)) => Err(error),
-    }
 }

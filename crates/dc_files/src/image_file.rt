@@ -64,16 +64,12 @@ impl<R: Files<File = File>> ImageFile<'_, '_, R> {
         answer?;
         match (self.file.metadata(), fs::metadata(self.rt, self.name)) {
             (Ok(own), Ok(seen)) if is_same_file(&own, &seen) => Ok(()),
-            _ => self.file.noted(Err(moved())),
+            _ => self.file.noted(Err(io::Error::new(
+                ErrorKind::NotFound,
+                "its name leads to another file now, or to none",
+            ))),
         }
     }
-}
-
-fn moved() -> io::Error {
-    io::Error::new(
-        ErrorKind::NotFound,
-        "its name leads to another file now, or to none",
-    )
 }
 
 impl<R: Files<File = File>> FileExt for ImageFile<'_, '_, R> {

@@ -1,6 +1,6 @@
 //! The file of an image's journal. What fails here costs a view, and nothing else.
 
-use crate::image::{file_limit, no_file};
+use crate::image::{NO_FILE, file_limit, refused};
 use crate::why::without_number;
 use std::alloc::{AllocError, Global};
 use std::fs::{File, OpenOptions};
@@ -53,7 +53,7 @@ impl<'h, R: Files<File = File> + Eprint + AllocGlobal> Journal<'h, R> {
         // Opening a device or a pipe may do something.
         if let Ok(about) = fs::metadata(self.rt, name) {
             if !about.is_file() {
-                return Err(no_file());
+                return Err(refused(NO_FILE));
             }
             if about.len() >= FULL {
                 let earlier = named(self.rt.alloc(), image, EARLIER)?;

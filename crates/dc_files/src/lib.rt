@@ -16,7 +16,6 @@
 //! [`format_image`] and [`copy_image`] may end, the kind of this crate's own refusals, and what a [`Noted`] wraps.
 #![tactic(auto)]
 
-mod backup;
 mod copied;
 mod format;
 mod half_made;
@@ -30,13 +29,12 @@ mod patient;
 mod streams;
 mod why;
 
-pub use backup::back_up;
-pub use copied::{Copied, copy_disk, copy_image};
+pub use copied::{Copied, back_up, copy_disk, copy_image};
 pub use format::format_image;
-pub use half_made::{HalfMade, begin_image, end_image, is_same_file};
+pub use half_made::{HalfMade, begin_image, end_image};
 pub use holder::{holder_in, holder_of};
 pub use host::Host;
-pub use image::{lock, no_file, open_image, open_to_look, within_limit};
+pub use image::{open_image, open_to_look};
 pub use image_file::{ImageFile, open_disk};
 pub use journal::{Journal, journal_lines};
 pub use looking::{LookDisk, LookedAt, ROUNDS};

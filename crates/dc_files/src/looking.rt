@@ -59,29 +59,36 @@ impl<'h> LookedAt<'h> {
         }
     }
 
-    /// The file as a disk. What is written meanwhile may be read or not.
+    /// The file as a disk, each read of which comes from the drive, after a sync. What is written meanwhile may be read
+    /// or not.
     ///
     /// # Errors
     /// The ending of the command: a call of the file failed.
     pub fn disk<'a>(&self, name: &'a str) -> Result<FileDisk<Noted<'h, File>>, Ending<'a>>
-        ensures { IfErr result (λ ending. IsOfFile ending name.now) }
+        ensures opened { IfOk result (λ disk. IsOpened [] disk) }
+        ensures failed { IfErr result (λ ending. IsOfFile ending name.now) }
     {
-        match self.opened_anew() {
+        read_anew(&self.file);
+        let file = match self.file.try_clone() {
+            Ok(file) => file,
+            Err(error) => return Err(self.why.file(name, error)),
+        };
+        match FileDisk::new(Noted::look(file, self.why)) {
             Ok(disk) => Ok(disk),
             Err(error) => Err(self.why.file(name, error)),
         }
     }
 
-    /// The file as a disk that keeps what is read of it. Each read comes from the drive, after a sync.
+    /// The same as a disk that keeps what is read of it.
     ///
     /// # Errors
     /// The ending of the command: a call of the file failed.
     pub fn sample<'a>(&self, alloc: Global, name: &'a str) -> Result<LookDisk<'h>, Ending<'a>>
         ensures { IfErr result (λ ending. IsOfFile ending name.now) }
     {
-        match self.opened_anew() {
+        match self.disk(name) {
             Ok(disk) => Ok(Sample::new(alloc, disk)),
-            Err(error) => Err(self.why.file(name, error)),
+            Err(ending) => Err(ending),
         }
     }
 
@@ -119,13 +126,6 @@ impl<'h> LookedAt<'h> {
             Ok(()) => true,
             Err(error) => error.kind() == ErrorKind::InvalidInput,
         }
-    }
-
-    fn opened_anew(&self) -> io::Result<FileDisk<Noted<'h, File>>>
-        ensures { IfOk result (λ disk. IsOpened [] disk) }
-    {
-        read_anew(&self.file);
-        FileDisk::new(Noted::look(self.file.try_clone()?, self.why))
     }
 }
 

@@ -1,5 +1,7 @@
 //! Standard output of a command that goes on without it.
 
+ghost use Rattle.std.specs.Prelude.{◌≡◌, false};
+
 use crate::host::Host;
 use crate::image::file_limit;
 use crate::why::{Noted, Why};
@@ -36,7 +38,9 @@ pub struct Patient<'h, W: Write + Drop, R> {
 
 impl<'h, W: Write + Drop, R: Files<File = File>> Patient<'h, W, R> {
     /// Wraps standard output; its failed calls are noted.
-    pub fn new(output: W, host: &Host<'h, R>) -> Self {
+    pub fn new(output: W, host: &Host<'h, R>) -> Self
+        ensures { result.has_given_up ≡ false }
+    {
         Patient {
             inner: Noted::new(output, host.why),
             rt: host.rt,
@@ -56,7 +60,13 @@ impl<'h, W: Write + Drop, R: Files<File = File>> Patient<'h, W, R> {
 
 impl<W: Write + Drop, R: Files<File = File>> Write for Patient<'_, W, R> {
     fn write(&mut self, bytes: &[u8]) -> io::Result<usize> {
-        if self.has_given_up || !is_taken() {
+        let mut output = [pollfd {
+            fd: OUTPUT,
+            events: POLLOUT,
+            revents: 0,
+        }];
+        // One that takes bytes takes a piece within the time.
+        if self.has_given_up || poll(&mut output, PATIENCE) == 0 {
             return Err(self.give_up(ErrorKind::TimedOut, "nothing takes it for five seconds"));
         }
         if is_full(self.rt) {
@@ -70,16 +80,6 @@ impl<W: Write + Drop, R: Files<File = File>> Write for Patient<'_, W, R> {
     fn flush(&mut self) -> io::Result<()> {
         self.inner.flush()
     }
-}
-
-// Whether the output takes a piece within the time.
-fn is_taken() -> bool {
-    let mut output = [pollfd {
-        fd: OUTPUT,
-        events: POLLOUT,
-        revents: 0,
-    }];
-    poll(&mut output, PATIENCE) != 0
 }
 
 // Whether the output is a file that has the greatest length that this process may write.

@@ -19,7 +19,18 @@ const LAST: i32 = 2;
 /// # Errors
 /// A stream is closed, and `/dev/null` can't be opened. Then the next file may get the number of a stream.
 pub fn hold<R: Files<File = File>>(rt: &R) -> io::Result<()> {
-    if are_open() {
+    let input = pollfd {
+        fd: 0,
+        events: 0,
+        revents: 0,
+    };
+    let mut streams = [
+        input,
+        pollfd { fd: 1, ..input },
+        pollfd { fd: LAST, ..input },
+    ];
+    // Each is open, for reading or for writing.
+    if poll(&mut streams, 0) >= 0 && streams.iter().all(|it| it.revents & POLLNVAL == 0) {
         return Ok(());
     }
     let mut options = OpenOptions::new();
@@ -33,18 +44,4 @@ pub fn hold<R: Files<File = File>>(rt: &R) -> io::Result<()> {
         let _ = file.into_raw_fd();
     }
     Ok(())
-}
-
-// Whether each of the three streams is open, for reading or for writing.
-fn are_open() -> bool {
-    let mut streams = [of(0), of(1), of(LAST)];
-    poll(&mut streams, 0) >= 0 && streams.iter().all(|it| it.revents & POLLNVAL == 0)
-}
-
-fn of(fd: i32) -> pollfd {
-    pollfd {
-        fd,
-        events: 0,
-        revents: 0,
-    }
 }
