@@ -2,11 +2,9 @@
 
 use clap::Error;
 use std::alloc::{AllocError, AllocFailed};
-use thiserror::Error;
 
 /// The mistake in the word of a link.
-#[derive(Clone, Copy, Debug, PartialEq, Eq, Error)]
-#[error("{}", self.text())]
+#[derive(Clone, Copy, Debug, PartialEq, Eq)]
 pub enum LinkFault {
     /// No bus line before a `=`.
     NoLine,

@@ -30,13 +30,6 @@ impl<'a> Links<'a> {
         }
     }
 
-    /// The links by line: the first is that of line 1.
-    pub fn by_line(&self) -> &[Option<LinkName<'a>>; LINES]
-        ensures { result.now ≡ self.now.links }
-    {
-        &self.links
-    }
-
     /// Whether no line has a link.
     pub fn is_empty(&self) -> bool
         ensures { IsTrue result ↔ All (λ link. link ≡ None) self.now.links }

@@ -42,7 +42,7 @@ where
     R: Files<File = File> + Net<Stream = TcpStream> + Clock + Copy + Eprint + AllocGlobal,
 {
     let mut linker = Linker { rt: host.rt };
-    let peers = reach_all(host.rt.alloc(), links.by_line(), &mut linker);
+    let peers = reach_all(host.rt.alloc(), &links.links, &mut linker);
     links_of(host.why, peers)
 }
 

@@ -31,7 +31,7 @@ where
         Err(ending) => return ending,
     };
     let mut links = [false; LINES];
-    for (has_link, link) in links.iter_mut().zip(task.links.by_line()) {
+    for (has_link, link) in links.iter_mut().zip(&task.links.links) {
         *has_link = link.is_some();
     }
     let dry = Dry {

@@ -33,7 +33,7 @@ where
         Ok(lines) => Noted::new(lines, host.why),
         Err(error) => return host.why.file(task.script, error),
     };
-    let peers = match connected(host, task.links.by_line()) {
+    let peers = match connected(host, &task.links.links) {
         Ok(peers) => peers,
         Err(ending) => return ending,
     };
