@@ -105,3 +105,6 @@ pub none_is_left : (ci : ℕ) (body : List ℕ) (at result : ℕ) (c : Option Co
     → (left ci body at ≡ []) × (result ≡ left_result ci body at)
 none_is_left ci body at result c is none e =
     (ap (λ (d : Option Content). content_left d body at) is ∙ none, e ∙ sym (ap (λ (d : Option Content). content_result d body at) is))
+
+-- the record that comes next, or none
+pub ruleset next_record = (narrow, fixed_there, sent_is_next, counter_is_next, none_is_left)

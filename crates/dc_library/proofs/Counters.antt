@@ -76,3 +76,6 @@ second_next f body at p is shown late early e =
     let vib : slice_range body 7 8 ≡ f.second.entry.vib = sym (second_vib (slice_range body 7 8) (slice_range body 12 16) (slice_index body 5) (slice_index body 6) (slice_index body 7)) ∙ ap (λ (h : Fixed). h.second.entry.vib) g in
     let content : slice_range body 12 16 ≡ f.second.entry.content = sym (second_content (slice_range body 7 8) (slice_range body 12 16) (slice_index body 5) (slice_index body 6) (slice_index body 7)) ∙ ap (λ (h : Fixed). h.second.entry.content) g in
     subst (IsNextCounter f body at) (sym e) (second_item f body, walk_by f body at 16 (second_item f body) shown from, (refl, vib, content), refl)
+
+-- the counter that comes next
+pub ruleset next_counter = (first_next, second_next)

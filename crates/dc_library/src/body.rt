@@ -12,7 +12,8 @@ use dc_io::SliceSink;
 ///
 /// The line is defined by `body_json` of dc_frame_json: the fields of the telegram (EN 13757-3), as
 /// in a line of `decode --json`, or the body's bytes and its fault.
-pub fn decode_body_into(body: &[u8], out: &mut [u8]) -> usize
+#[unsafe(no_mangle)]
+pub extern "C" fn mbdc_decode_body(body: &[u8], out: &mut [u8]) -> usize
     ensures text { result ≢ 2 ^ 64 - 1 → take result out.new ≡ value_line (body_json body.now) }
     // A text that is longer than `out` is the only reason.
     ensures full { result ≡ 2 ^ 64 - 1 →

@@ -35,7 +35,8 @@ pub struct PlainFrame {
 ///
 /// Returns `DONE`, `END` from the last byte on, or `FAULT` and the number of the frame's fault.
 #[tactic(auto, using(crate::proofs::Cuts::cut, crate::proofs::Cuts::told))]
-pub fn next_frame_into(bytes: &[u8], at: u64, out: &mut PlainFrame) -> u64
+#[unsafe(no_mangle)]
+pub extern "C" fn mbdc_next_frame(bytes: &[u8], at: u64, out: &mut PlainFrame) -> u64
     // The bytes from there to the next place are the next text that is read as a frame.
     ensures text { at < length bytes.now → frames_of (drop at bytes.now)
         ≡ between bytes.now at out.new.next ∷ frames_of (drop out.new.next bytes.now) }

@@ -99,10 +99,11 @@ fn variable_header(variable: &Variable<'_>) -> PlainHeader
 
 /// Writes to `out` what stands before the records of a body after this CI byte.
 ///
-/// Returns `DONE`, also at a fault, which [`next_record_into`](crate::next_record_into) returns; or
+/// Returns `DONE`, also at a fault, which [`mbdc_next_record`](crate::mbdc_next_record) returns; or
 /// `OTHER` after another CI byte than 72, 73, 78 and 7A.
 #[tactic(auto, using(crate::proofs::Bodies::narrow, crate::proofs::Bodies::all_left))]
-pub fn header_into(ci: u64, body: &[u8], out: &mut PlainHeader) -> u64
+#[unsafe(no_mangle)]
+pub extern "C" fn mbdc_header(ci: u64, body: &[u8], out: &mut PlainHeader) -> u64
     ensures header { (content : read.Content) → content_of ci body.now ≡ Some content
         → (result ≡ DONE) × (out.new ≡ header_of content) }
     // From there on, place by place, come all records.

@@ -11,7 +11,8 @@ use dc_io::{LONGEST, SliceSink};
 ///
 /// The text is defined by `specs/Text.antt` of dc_frame_json: an object for each link frame (EN
 /// 13757-2) and each fault, with the telegram (EN 13757-3) of a frame with CI 72h.
-pub fn decode_json_into(input: &[u8], out: &mut [u8]) -> usize
+#[unsafe(no_mangle)]
+pub extern "C" fn mbdc_decode_json(input: &[u8], out: &mut [u8]) -> usize
     ensures text { result ≢ 2 ^ 64 - 1 → take result out.new ≡ json_text input.now }
     // A text that is longer than `out` is the only reason.
     ensures full { result ≡ 2 ^ 64 - 1 → length out.old < length (json_text input.now) }

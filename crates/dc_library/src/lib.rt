@@ -1,17 +1,19 @@
-//! The decoder over two slices, for programs of other languages and for web pages.
+//! The decoder over two slices, and the check of dc_consumption, under the names by which C and WebAssembly know them.
 //!
-//! **As text.** [`decode_text_into`] writes the text that `decode` prints for an input to the front of a slice,
-//! [`decode_json_into`] the lines of `decode --json`, and [`decode_body_into`] the JSON line of a body without a frame.
+//! **As text.** [`mbdc_decode_text`] writes the text that `decode` prints for an input to the front of a slice,
+//! [`mbdc_decode_json`] the lines of `decode --json`, and [`mbdc_decode_body`] the JSON line of a body without a frame.
 //!
-//! **As numbers.** [`next_frame_into`] goes over the link frames of bytes, [`header_into`] writes what stands before
-//! the records of a body, and [`next_record_into`] goes over its records with what dc_reading reads of each: names by
-//! the numbers that [`name_of`] has a name for, parts by their places. [`value_text_into`] writes a value as text.
+//! **As numbers.** [`mbdc_next_frame`] goes over the link frames of bytes, [`mbdc_header`] writes what stands before
+//! the records of a body, and [`mbdc_next_record`] goes over its records with what dc_reading reads of each: names by
+//! the numbers that [`mbdc_name`] has a name for, parts by their places. [`mbdc_value_text`] writes a value as text,
+//! and [`mbdc_consumption`] what a place consumed.
 //!
-//! They take no memory and keep no state, so they run where there is no host: dc_exports makes a static library and a
-//! WebAssembly module of them.
+//! A slice is two arguments in C, its address and its length. Nothing here takes memory or keeps a state, so it runs
+//! where there is no host: `tools/library` makes libmbdc of it, and a module for web pages.
 #![tactic(auto)]
 
 mod body;
+mod consumption;
 mod frames;
 mod header;
 mod json;
@@ -22,13 +24,14 @@ mod text;
 mod texts;
 mod walk;
 
-pub use body::decode_body_into;
-pub use frames::{PlainFrame, next_frame_into};
-pub use header::{PlainHeader, header_into};
-pub use json::decode_json_into;
-pub use names::name_of;
+pub use body::mbdc_decode_body;
+pub use consumption::mbdc_consumption;
+pub use frames::{PlainFrame, mbdc_next_frame};
+pub use header::{PlainHeader, mbdc_header};
+pub use json::mbdc_decode_json;
+pub use names::mbdc_name;
 pub use plain::{Places, PlainHead, PlainReading, PlainRecord, PlainValue};
 pub use results::{DONE, END, FAULT, MORE, OTHER};
-pub use text::decode_text_into;
-pub use texts::{text_into, value_text_into};
-pub use walk::next_record_into;
+pub use text::mbdc_decode_text;
+pub use texts::mbdc_value_text;
+pub use walk::mbdc_next_record;

@@ -1,8 +1,9 @@
 //! Names by their numbers.
 
-ghost use Rattle.std.specs.Prelude.{◌≡◌, map};
+ghost use Rattle.std.specs.Prelude.{◌≡◌, ◌≢◌, ◌-◌, ◌^◌, ◌<◌, ◌≤◌, length, map, take};
 ghost use Rattle.dc_library.specs.Names.{byte_name, coded_name, listed_name, name_in, name_of};
 
+use crate::texts::text_into;
 use dc_reading::content::{fixed_unit, medium_of, security_name};
 use dc_reading::{code_at, vife_at};
 use dc_record::names::{application_name, ci_name, control_name, function_name, medium_name};
@@ -154,9 +155,20 @@ fn byte_name(table: u64, code: u8) -> &'static str
     coded_name(table, code)
 }
 
-/// The name with this number in a table; empty where the table has no such number.
+/// Writes the name with this number in a table to the front of `out`, and returns its number of bytes; `usize::MAX` if
+/// it has more than `out`. The name is empty where the table has no such number.
+#[unsafe(no_mangle)]
+pub extern "C" fn mbdc_name(table: u64, number: u64, out: &mut [u8]) -> usize
+    ensures text { result ≢ 2 ^ 64 - 1 → take result out.new ≡ name_of table number }
+    ensures full { result ≡ 2 ^ 64 - 1 → length out.old < length (name_of table number) }
+    ensures fits { result ≢ 2 ^ 64 - 1 → result ≤ length out.old }
+{
+    text_into(name_of(table, number).as_bytes(), out)
+}
+
+// The name with this number in a table; empty where the table has no such number.
 #[tactic(auto, unfolding(crate::specs::Names::name_of))]
-pub fn name_of(table: u64, number: u64) -> &'static str
+fn name_of(table: u64, number: u64) -> &'static str
     ensures { result.now ≡ name_of table number }
 {
     let (page, code) = (number / PAGES, (number % PAGES) as u8);

@@ -139,8 +139,8 @@ const NO_VALUE: PlainValue = PlainValue {
     flags: 0,
 };
 
-// The value that stands in a record; all numbers are 0 of a record without a value, and of digits, texts and identities, which
-// are their bytes.
+// The value that stands in a record; all numbers are 0 of a record without a value, and of digits, texts and
+// identities, which are their bytes.
 fn plain_value(found: &Found) -> PlainValue
     ensures { result ≡ plain_value found.now }
 {

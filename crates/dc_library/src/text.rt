@@ -11,7 +11,8 @@ use dc_io::{LONGEST, SliceSink};
 ///
 /// The text is defined by `specs/Text.antt` of dc_decode: each line of the input is read as link
 /// frames (EN 13757-2), and a frame with CI 72h as a telegram (EN 13757-3).
-pub fn decode_text_into(input: &[u8], out: &mut [u8]) -> usize
+#[unsafe(no_mangle)]
+pub extern "C" fn mbdc_decode_text(input: &[u8], out: &mut [u8]) -> usize
     ensures text { result ≢ 2 ^ 64 - 1 → take result out.new ≡ text_of input.now }
     // A text that is longer than `out` is the only reason.
     ensures full { result ≡ 2 ^ 64 - 1 → length out.old < length (text_of input.now) }

@@ -12,7 +12,7 @@ use dc_reading::{READING_ROOM, Sent, SentRecords, reading_of, value_text};
 const FIXED_DATA: u8 = 0x73;
 
 /// Writes a text to the front of `out`, and returns its number of bytes; `usize::MAX` if it has more than `out`.
-pub fn text_into(text: &[u8], out: &mut [u8]) -> usize
+pub(crate) fn text_into(text: &[u8], out: &mut [u8]) -> usize
     ensures text { result ≢ 2 ^ 64 - 1 → take result out.new ≡ text.now }
     ensures full { result ≡ 2 ^ 64 - 1 → length out.old < length text.now }
     ensures fits { result ≢ 2 ^ 64 - 1 → result ≤ length out.old }
@@ -28,7 +28,8 @@ pub fn text_into(text: &[u8], out: &mut [u8]) -> usize
 /// Writes the text of a record's value to the front of `out`, and returns its number of bytes; `usize::MAX` if it has
 /// more than `out`. The text of a record without a value is empty.
 #[tactic(auto, using(std::proofs::lemmas::List::drop_min), unfolding(dc_reading::specs::Content::content_of))]
-pub fn value_text_into(record: &PlainRecord, body: &[u8], out: &mut [u8]) -> usize
+#[unsafe(no_mangle)]
+pub extern "C" fn mbdc_value_text(record: &PlainRecord, body: &[u8], out: &mut [u8]) -> usize
     ensures text { result ≢ 2 ^ 64 - 1 → take result out.new ≡ value_text_at «record».now body.now }
     ensures full { result ≡ 2 ^ 64 - 1 →
         length out.old < length (value_text_at «record».now body.now) }

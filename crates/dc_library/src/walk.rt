@@ -73,7 +73,7 @@ fn next_sent(variable: &Variable<'_>, body: &[u8], at: u64, out: &mut PlainRecor
 }
 
 // Writes the counter of fixed data that comes next from a place on.
-#[tactic(auto, using(crate::proofs::Counters::first_next, crate::proofs::Counters::second_next), unfolding(dc_reading::specs::Fixed::fixed_at))]
+#[tactic(auto, using(crate::proofs::Counters::next_counter), unfolding(dc_reading::specs::Fixed::fixed_at))]
 fn next_counter(counters: &FixedData<'_>, body: &[u8], at: u64, out: &mut PlainRecord) -> u64
     requires { fixed_at body.now ≡ Some (fixed_view counters.now) }
     ensures next { result ≡ DONE → IsNextCounter (fixed_view counters.now) body.now at out.new }
@@ -144,8 +144,9 @@ fn next_counter(counters: &FixedData<'_>, body: &[u8], at: u64, out: &mut PlainR
 /// Returns `DONE`; else `END`, `MORE`, or `FAULT` and the number of the body's fault, where no record comes; or `OTHER`
 /// after another CI byte than 72, 73, 78 and 7A. From the place in its header on, place by place, these are all records
 /// of the body.
-#[tactic(auto, using(crate::proofs::Bodies::narrow, crate::proofs::Bodies::fixed_there, crate::proofs::Bodies::sent_is_next, crate::proofs::Bodies::counter_is_next, crate::proofs::Bodies::none_is_left))]
-pub fn next_record_into(ci: u64, body: &[u8], at: u64, out: &mut PlainRecord) -> u64
+#[tactic(auto, using(crate::proofs::Bodies::next_record))]
+#[unsafe(no_mangle)]
+pub extern "C" fn mbdc_next_record(ci: u64, body: &[u8], at: u64, out: &mut PlainRecord) -> u64
     ensures next { result ≡ DONE → IsNext ci body.now at out.new }
     ensures end { result ≢ DONE → (left ci body.now at ≡ []) × (result ≡ left_result ci body.now at) }
     ensures untouched { result ≢ DONE → out.new ≡ out.old }

@@ -6,7 +6,7 @@ use Rattle.dc_library.specs.declared.header.PlainHeader.{PlainHeader}
 use Rattle.dc_library.specs.Header.{first_of}
 use Rattle.dc_library.specs.Walk.{content_left, items_of, left}
 use Rattle.dc_library.proofs.Bodies.{all_left, narrow}
-use Rattle.dc_library.proofs.header.header_into.Goals as goal
+use Rattle.dc_library.proofs.header.mbdc_header.Goals as goal
 
 is_same : (x y : Content) → Some x ≡ Some y → x ≡ y
 is_same x y e = cc

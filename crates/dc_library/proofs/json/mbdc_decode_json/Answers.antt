@@ -1,15 +1,14 @@
 use Rattle.std.proofs.Common.{◌<◌, length, ap, arith}
-use Rattle.dc_frame_json.specs.Frame.{body_json}
-use Rattle.dc_frame_json.specs.Text.{value_line}
+use Rattle.dc_frame_json.specs.Text.{json_text}
 use Rattle.dc_library.proofs.Filled.{is_longer}
-use Rattle.dc_library.proofs.body.decode_body_into.Goals as goal
+use Rattle.dc_library.proofs.json.mbdc_decode_json.Goals as goal
 
 pub returns-in-Err-clause-full : goal.returns-in-Err-clause-full
 returns-in-Err-clause-full c = λ _.
     let s = c.new-sink.result in
-    let t = c.put_body_line.new.out in
+    let t = c.put_json_lines.new.out in
     let risen = c.in-Err.ensures.wrote.3 in
     let failed : 0 < t.failures = omega (arith, c.new-sink.ensures.well) in
-    let longer = is_longer s.room.ghost_name t.room.ghost_name s.room.now t.room.now (value_line (body_json c.args.body.now)) s.len t.len s.failures t.failures
+    let longer = is_longer s.room.ghost_name t.room.ghost_name s.room.now t.room.now (json_text c.args.input.now) s.len t.len s.failures t.failures
     s.past t.past c.new-sink.ensures.empty c.new-sink.ensures.well failed (t.full failed) c.in-Err.ensures.wrote.2 in
     omega (arith, ap length c.new-sink.ensures.room)

@@ -2,7 +2,7 @@ use Rattle.std.proofs.Common.{◌≡◌, ℕ, Some, sym, ap, ◌∙◌, arith}
 use Rattle.dc_reading.specs.declared.content.content.Content.{Content}
 use Rattle.dc_reading.specs.Content.{content_of, content_view, variable, variable_view}
 use Rattle.dc_library.proofs.Bodies.{narrow, sent_is_next}
-use Rattle.dc_library.proofs.walk.next_record_into.Goals as goal
+use Rattle.dc_library.proofs.walk.mbdc_next_record.Goals as goal
 
 pub returns-in-Some-Variable-clause-next : goal.returns-in-Some-Variable-clause-next
 returns-in-Some-Variable-clause-next c = λ done.
