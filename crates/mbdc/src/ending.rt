@@ -68,16 +68,17 @@ pub fn told(rt: &HostRuntime, ending: &Ending) -> ExitCode
     ensures { exit_status result ≡ status_of ending.now }
 {
     // The status is returned even if the line can't be written: no other channel is left.
-    let _ = put_line(rt, ending);
+    match Buffered::new(rt.alloc(), LINE, WriteSink::new(rt.stderr())) {
+        Ok(mut out) => {
+            if ending.put_line(&mut out).is_ok() {
+                let _ = out.flush();
+            }
+        }
+        Err(_) => {
+            let _ = ending.put_line(&mut WriteSink::new(rt.stderr()));
+        }
+    }
     ExitCode::from(ending.status())
-}
-
-fn put_line(rt: &HostRuntime, ending: &Ending) -> Result<(), IoFault> {
-    let Ok(mut out) = Buffered::new(rt.alloc(), LINE, WriteSink::new(rt.stderr())) else {
-        return ending.put_line(&mut WriteSink::new(rt.stderr()));
-    };
-    ending.put_line(&mut out)?;
-    out.flush()
 }
 
 /// Whether the reader of standard output has gone away.
@@ -168,27 +169,23 @@ fn put_reason<W: Sink>(
     out.put(b"\n")
 }
 
-// What a person does next.
+// What a person does next, also after this kind of message of the system.
 fn step_of(ending: &Ending, reason: &Option<Reason>) -> &'static str {
     match ending {
         Ending::Open(OpenFault::NotImage) =>
-            "is it this file? mbdc inspect shows what it holds, mbdc format makes an image",
-        Ending::Open(OpenFault::Damaged(_)) => RESCUE,
-        Ending::Open(OpenFault::Version) => "a later mbdc wrote it: install that one",
-        Ending::Open(OpenFault::Worn) | Ending::Disk(CommitFault::Worn) => RENEW,
-        Ending::Open(OpenFault::Device) | Ending::Disk(_) => "look at the drive: dmesg",
+            return "is it this file? mbdc inspect shows what it holds, mbdc format makes an image",
+        Ending::Open(OpenFault::Damaged(_)) => return RESCUE,
+        Ending::Open(OpenFault::Version) => return "a later mbdc wrote it: install that one",
+        Ending::Open(OpenFault::Worn) | Ending::Disk(CommitFault::Worn) => return RENEW,
+        Ending::Open(OpenFault::Device) | Ending::Disk(_) => return "look at the drive: dmesg",
         Ending::Format(FormatFault::AlreadyFormatted) =>
-            "it holds an image already: mbdc inspect shows it",
-        _ => match reason {
-            Some(reason) => step_by(ending, reason.error.kind()),
-            None => "",
-        },
+            return "it holds an image already: mbdc inspect shows it",
+        _ => {}
     }
-}
-
-// What a person does next after this kind of message of the system.
-fn step_by(ending: &Ending, kind: io::ErrorKind) -> &'static str {
-    match (ending, kind) {
+    let Some(reason) = reason else {
+        return "";
+    };
+    match (ending, reason.error.kind()) {
         (Ending::Gateway, io::ErrorKind::ConnectionRefused) => {
             "Is the converter in TCP server mode, at this port?"
         }
@@ -264,8 +261,10 @@ fn mistake(alloc: Global, error: &Error, words: &[String]) -> Result<String, All
         }
         what.push_str(line.trim().trim_start_matches("error: "))?;
     }
+    // Words that begin with - are options.
     if error.kind() == ErrorKind::InvalidSubcommand
-        && let Some(command) = meant(words)
+        && let Some(word) = words.iter().skip(1).find(|word| !word.starts_with('-'))
+        && let Some(command) = nearest(word)
     {
         what.push_str("; did you mean ")?;
         what.push_str(command)?;
@@ -273,14 +272,4 @@ fn mistake(alloc: Global, error: &Error, words: &[String]) -> Result<String, All
     }
     what.push_str("; try mbdc --help")?;
     Ok(what)
-}
-
-// The command that the first word is nearly. Words that begin with - are options.
-fn meant(words: &[String]) -> Option<&'static str> {
-    for word in words.iter().skip(1) {
-        if !word.starts_with('-') {
-            return nearest(word);
-        }
-    }
-    None
 }

@@ -8,10 +8,10 @@ use dc_ending::{Ending, ProgramFault};
 use dc_files::{Host, Noted, open_disk};
 use dc_fit::list::Wish;
 use dc_inspect::register_of;
-use dc_io::{CHUNK, MOST, ReadSource, read_input, room};
+use dc_io::{CHUNK, MOST, ReadSource, Source, read_input, room};
 use dc_log::Greatest;
+use std::alloc::Global;
 use std::fs::{File, OpenFile};
-use std::io::Read;
 use std::os::unix::fs::FileExt;
 use std::rt::{Clock, Files};
 use std::{fs, io};
@@ -29,7 +29,7 @@ where
         Ok(disk) => disk,
         Err(ending) => return ending,
     };
-    let rows = match read_list(host, rows) {
+    let rows = match read_whole(host.rt.alloc(), &mut ReadSource::new(rows)) {
         Ok(rows) => rows,
         Err(fault) => return host.why.ended(Err(fault), list),
     };
@@ -62,16 +62,12 @@ where
     ending
 }
 
-// The whole list, of at most 1 MiB.
-fn read_list<F: Read + Drop, R: AllocGlobal>(
-    host: &Host<'_, R>,
-    rows: F,
-) -> Result<Vec<u8>, ProgramFault> {
-    let alloc = host.rt.alloc();
+/// The whole of an input, of at most 1 MiB.
+pub fn read_whole<S: Source>(alloc: Global, input: &mut S) -> Result<Vec<u8>, ProgramFault> {
     let mut chunk = room(alloc, CHUNK)?;
-    let list = read_input(alloc, &mut ReadSource::new(rows), chunk.as_mut_slice())?;
-    if list.len() > MOST {
+    let whole = read_input(alloc, input, chunk.as_mut_slice())?;
+    if whole.len() > MOST {
         return Err(ProgramFault::TooLong);
     }
-    Ok(list)
+    Ok(whole)
 }

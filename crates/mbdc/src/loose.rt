@@ -1,9 +1,10 @@
 //! `decode --loose`: the frames of a pasted text.
 
+use crate::fit::read_whole;
 use crate::tasks::decoded;
 use dc_ending::ProgramFault;
 use dc_files::Host;
-use dc_io::{CHUNK, FixedSink, MOST, Sink, Source, read_input, room};
+use dc_io::{FixedSink, Sink, Source};
 use dc_paste::{clean, put_dropped};
 use dc_words::Form;
 use std::str;
@@ -24,11 +25,7 @@ where
     W: Sink,
 {
     let alloc = host.rt.alloc();
-    let mut chunk = room(alloc, CHUNK)?;
-    let pasted = read_input(alloc, reader, chunk.as_mut_slice())?;
-    if pasted.len() > MOST {
-        return Err(ProgramFault::TooLong);
-    }
+    let pasted = read_whole(alloc, reader)?;
     let mut cleaned = clean(alloc, pasted.as_slice())?;
     let mut dropped = FixedSink::<ROOM>::new();
     if put_dropped(&mut dropped, pasted.as_slice(), cleaned.as_slice()).is_ok()
