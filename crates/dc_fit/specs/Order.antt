@@ -49,7 +49,7 @@ verdict_for budget order s =
 
 -- ---- its text
 
-unfoldable pub unknown_words : Identity → List ℕ
+abbrev pub unknown_words : Identity → List ℕ
 unknown_words meter = text_of meter ++ codes " isn't registered"
 
 abbrev pub taken_on : Option MeterRow → Option ℕ → State → List ℕ

@@ -182,7 +182,7 @@ unfoldable pub taken_words : ℕ → Option ℕ → State → List ℕ
 taken_words line address s = mark_words AnAddress ++ (address_text address
     ++ (mark_words IsThatOf ++ holder_words (holder_in line address s.meters)))
 
-unfoldable pub full_words : List ℕ
+abbrev pub full_words : List ℕ
 full_words = codes "the image is full"
 
 unfoldable pub refusal_words : ChangeFault → Row → State → List ℕ
@@ -192,10 +192,10 @@ refusal_words AddressTaken row s = taken_words row.line row.address s
 refusal_words Beyond row s = []
 refusal_words Full row s = full_words
 
-unfoldable pub stands_words : Row → List ℕ
+abbrev pub stands_words : Row → List ℕ
 stands_words row = text_of row.meter ++ codes " stands already"
 
-unfoldable pub spent_words : List ℕ
+abbrev pub spent_words : List ℕ
 spent_words = codes "no number is left for a command"
 
 unfoldable pub verdict_words : Verdict → Row → State → List ℕ

@@ -5,12 +5,12 @@ ghost use Rattle.dc_io.specs.Written.{Wrote};
 ghost use Rattle.dc_change.specs.Accepts.{Accepts};
 ghost use Rattle.dc_change.specs.Valid.{IsChange};
 ghost use Rattle.dc_fit.specs.Order.{IsOrdered, IsOrderedBy, address_of, command_for, newcomer_of};
-ghost use Rattle.dc_fit.specs.Order.{order_refusal, order_text, subject_of, taken_by, unknown_words};
+ghost use Rattle.dc_fit.specs.Order.{order_refusal, order_text, subject_of, taken_by};
 ghost use Rattle.dc_fit.specs.Order.{verdict_for};
 ghost use Rattle.dc_fit.specs.Plan.{IsOneGroup, numbered};
 
 use crate::list::plan::{Plan, kept};
-use crate::list::verdict::{Verdict, put_full, put_is_at, put_spent, put_taken};
+use crate::list::verdict::{Verdict, put_is_at, put_taken};
 use dc_address::{Identity, Primary};
 use dc_change::{Change, ChangeFault, Command, END_OF_NUMBERS, Flat};
 use dc_io::{IoFault, NoMemory, Sink};
@@ -106,15 +106,6 @@ fn verdict_for<A: Allocator + Copy>(order: &Order, house: &House<A>) -> Verdict
     }
 }
 
-// Writes that a meter isn't registered.
-#[tactic(auto, using(dc_io::proofs::Pieces::written), unfolding(crate::specs::Order::unknown_words))]
-fn put_unknown<W: Sink>(out: &mut W, meter: &Identity) -> Result<(), IoFault>
-    ensures { Wrote W.Sink result out.old out.new (unknown_words meter.now) }
-{
-    out.put(&meter.text())?;
-    out.put(b" isn't registered")
-}
-
 // Writes which meter has the primary address that an order asks for, on the bus line of its meter.
 #[tactic(auto, unfolding(crate::specs::Order::taken_by))]
 fn put_taken_by<A: Allocator + Copy, W: Sink>(
@@ -131,7 +122,7 @@ fn put_taken_by<A: Allocator + Copy, W: Sink>(
 }
 
 // Writes why an order is refused.
-#[tactic(auto, unfolding(crate::specs::Order::order_refusal))]
+#[tactic(auto, using(dc_io::proofs::Pieces::written), unfolding(crate::specs::Order::order_refusal))]
 fn put_refusal<A: Allocator + Copy, W: Sink>(
     out: &mut W,
     fault: ChangeFault,
@@ -141,10 +132,13 @@ fn put_refusal<A: Allocator + Copy, W: Sink>(
     ensures { Wrote W.Sink result out.old out.new (order_refusal fault order.now house.now.state) }
 {
     match fault {
-        ChangeFault::Unknown => put_unknown(out, &order.subject()),
+        ChangeFault::Unknown => {
+            out.put(&order.subject().text())?;
+            out.put(b" isn't registered")
+        }
         ChangeFault::Known => put_is_at(out, &order.newcomer(), house),
         ChangeFault::AddressTaken => put_taken_by(out, order, house),
-        ChangeFault::Full => put_full(out),
+        ChangeFault::Full => out.put(b"the image is full"),
         ChangeFault::Beyond => Ok(()),
     }
 }
@@ -166,7 +160,7 @@ fn put_order<A: Allocator + Copy, W: Sink>(
             out.put(line.as_slice())
         }
         Verdict::Stands => Ok(()),
-        Verdict::Spent => put_spent(out),
+        Verdict::Spent => out.put(b"no number is left for a command"),
         Verdict::Refused(fault) => put_refusal(out, fault, order, house),
     }
 }

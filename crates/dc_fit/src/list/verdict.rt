@@ -9,8 +9,7 @@ ghost use Rattle.dc_fit.specs.Rows.{IsRow};
 ghost use Rattle.dc_fit.specs.Plan.{address_text, change_of, command_of, fault_words, holder_in, holder_words};
 ghost use Rattle.dc_fit.specs.Plan.{is_at_place, known_words, mark_words, place_words};
 ghost use Rattle.dc_fit.specs.Plan.{refusal_words, said, same_address, stands, verdict_on};
-ghost use Rattle.dc_fit.specs.Plan.{full_words, is_at_words, taken_words};
-ghost use Rattle.dc_fit.specs.Plan.{spent_words, stands_words, verdict_words};
+ghost use Rattle.dc_fit.specs.Plan.{is_at_words, taken_words, verdict_words};
 
 use crate::list::row::{Row, RowFault};
 use dc_address::{Identity, Primary};
@@ -251,14 +250,6 @@ pub(crate) fn put_taken<A: Allocator + Copy, W: Sink>(
     put_holder(out, holder(house, line, address))
 }
 
-// Writes that there is no room.
-#[tactic(auto, unfolding(crate::specs::Plan::full_words))]
-pub(crate) fn put_full<W: Sink>(out: &mut W) -> Result<(), IoFault>
-    ensures { Wrote W.Sink result out.old out.new full_words }
-{
-    out.put(b"the image is full")
-}
-
 // Writes why a row is refused.
 #[tactic(auto, unfolding(crate::specs::Plan::refusal_words))]
 fn put_refusal<A: Allocator + Copy, W: Sink>(
@@ -272,30 +263,13 @@ fn put_refusal<A: Allocator + Copy, W: Sink>(
     match fault {
         ChangeFault::Known => put_is_at(out, &row.meter, house),
         ChangeFault::AddressTaken => put_taken(out, row.line, &row.address, house),
-        ChangeFault::Full => put_full(out),
+        ChangeFault::Full => out.put(b"the image is full"),
         ChangeFault::Unknown | ChangeFault::Beyond => Ok(()),
     }
 }
 
-// Writes that a meter is where the row has it.
-#[tactic(auto, using(dc_io::proofs::Pieces::written), unfolding(crate::specs::Plan::stands_words))]
-fn put_stands<W: Sink>(out: &mut W, row: &Row) -> Result<(), IoFault>
-    ensures { Wrote W.Sink result out.old out.new (stands_words row.now) }
-{
-    out.put(&row.meter.text())?;
-    out.put(b" stands already")
-}
-
-// Writes that no command can be numbered.
-#[tactic(auto, unfolding(crate::specs::Plan::spent_words))]
-pub(crate) fn put_spent<W: Sink>(out: &mut W) -> Result<(), IoFault>
-    ensures { Wrote W.Sink result out.old out.new spent_words }
-{
-    out.put(b"no number is left for a command")
-}
-
 // Writes what is said of a row.
-#[tactic(auto, unfolding(crate::specs::Plan::verdict_words))]
+#[tactic(auto, using(dc_io::proofs::Pieces::written), unfolding(crate::specs::Plan::verdict_words))]
 pub(crate) fn put_verdict<A: Allocator + Copy, W: Sink>(
     out: &mut W,
     verdict: Verdict,
@@ -310,8 +284,11 @@ pub(crate) fn put_verdict<A: Allocator + Copy, W: Sink>(
             let line = command_of(row).line(house.last_number() + 1);
             out.put(line.as_slice())
         }
-        Verdict::Stands => put_stands(out, row),
-        Verdict::Spent => put_spent(out),
+        Verdict::Stands => {
+            out.put(&row.meter.text())?;
+            out.put(b" stands already")
+        }
+        Verdict::Spent => out.put(b"no number is left for a command"),
         Verdict::Refused(fault) => put_refusal(out, fault, row, house),
     }
 }
