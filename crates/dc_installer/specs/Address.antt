@@ -104,10 +104,10 @@ pub data IsAddressed {B : Type 0} (asks asks_all : B → List ℕ → List ℕ �
 
 -- ---- the text
 
-unfoldable pub address_word : ℕ → List ℕ
+abbrev pub address_word : ℕ → List ℕ
 address_word address = codes "address" ++ number_word address
 
-unfoldable pub elsewhere : Identity → List ℕ
+abbrev pub elsewhere : Identity → List ℕ
 elsewhere meter = text_of meter ++ codes " doesn't answer there\n"
 
 -- how a meter is reached

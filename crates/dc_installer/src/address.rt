@@ -15,8 +15,9 @@ use dc_address::{Identity, Mask};
 use dc_bus::{AnswerBuf, Bus, TRIES, insist};
 use dc_frame::control::{SELECTED, SND_UD, write_request, write_reset, write_selection};
 use dc_frame::{FrameBuf, write_long};
-use dc_io::{IoFault, Sink, put_number_word};
+use dc_io::{IoFault, Sink};
 use dc_search::meter_of;
+use dc_tokens::{Piece, put_pieces};
 
 // CI of data that a meter is to take, in records.
 const DATA: u8 = 0x51;
@@ -205,46 +206,35 @@ pub fn put_addressing<W: Sink>(
     }
 }
 
-#[tactic(auto, using(dc_io::proofs::Pieces::written))]
+// Writes how a meter is reached, and a text.
 fn put_sentence<W: Sink>(target: &Target, text: &[u8], out: &mut W) -> Result<(), IoFault>
     ensures { Wrote W.Sink result out.old out.new (target_word target.now ++ text.now) }
 {
-    put_target(target, out)?;
-    out.put(text)
-}
-
-// Writes how a meter is reached.
-fn put_target<W: Sink>(target: &Target, out: &mut W) -> Result<(), IoFault>
-    ensures { Wrote W.Sink result out.old out.new (target_word target.now) }
-{
     match *target {
-        Target::Address(address) => put_address_word(address, out),
-        Target::Meter(meter) => out.put(&meter.text()),
+        Target::Address(address) => put_pieces(
+            out,
+            &[
+                Piece::Text(b"address"),
+                Piece::Word(u64::from(address)),
+                Piece::Text(text),
+            ],
+        ),
+        Target::Meter(meter) => put_pieces(out, &[Piece::Text(&meter.text()), Piece::Text(text)]),
     }
 }
 
-#[tactic(auto, using(dc_io::proofs::Pieces::written))]
 fn put_unconfirmed<W: Sink>(address: u8, meter: &Identity, out: &mut W) -> Result<(), IoFault>
     ensures { Wrote W.Sink result out.old out.new
         (address_word address ++ (codes ": " ++ elsewhere meter.now)) }
 {
-    put_address_word(address, out)?;
-    out.put(b": ")?;
-    put_elsewhere(meter, out)
-}
-
-#[tactic(auto, using(dc_io::proofs::Pieces::written), unfolding(crate::specs::Address::elsewhere))]
-fn put_elsewhere<W: Sink>(meter: &Identity, out: &mut W) -> Result<(), IoFault>
-    ensures { Wrote W.Sink result out.old out.new (elsewhere meter.now) }
-{
-    out.put(&meter.text())?;
-    out.put(b" doesn't answer there\n")
-}
-
-#[tactic(auto, using(dc_io::proofs::Pieces::joined), unfolding(crate::specs::Address::address_word))]
-fn put_address_word<W: Sink>(address: u8, out: &mut W) -> Result<(), IoFault>
-    ensures { Wrote W.Sink result out.old out.new (address_word address) }
-{
-    out.put(b"address")?;
-    put_number_word(out, address as u64)
+    put_pieces(
+        out,
+        &[
+            Piece::Text(b"address"),
+            Piece::Word(u64::from(address)),
+            Piece::Text(b": "),
+            Piece::Text(&meter.text()),
+            Piece::Text(b" doesn't answer there\n"),
+        ],
+    )
 }

@@ -1,9 +1,9 @@
 //! Finds the one meter with an identification number.
 
-ghost use Rattle.std.specs.Prelude.{◌≡◌, ◌≤◌, ◌+◌, ◌&&◌, ◌++◌, Some, length, map};
+ghost use Rattle.std.specs.Prelude.{◌≡◌, ◌≤◌, ◌+◌, ◌&&◌, ◌++◌, length, map};
 ghost use Rattle.dc_frame.specs.Frame.{spelling};
-ghost use Rattle.dc_installer.specs.Number.{IsFound, Tries, digit_of, ending, has_number, having};
-ghost use Rattle.dc_installer.specs.Number.{between, selection_to, unfound_text, with_number};
+ghost use Rattle.dc_installer.specs.Number.{IsFound, Tries, digit_of, ending};
+ghost use Rattle.dc_installer.specs.Number.{selection_to, unfound_text, with_number};
 ghost use Rattle.dc_io.specs.Written.{Wrote};
 ghost use Rattle.dc_readout.specs.Misses.{and_missed, is_noise, is_silent};
 ghost use Rattle.dc_search.specs.Prefix.{mask_of_digits};
@@ -16,6 +16,7 @@ use dc_frame::control::{SELECTED, write_selection};
 use dc_io::{IoFault, Sink};
 use dc_readout::misses::{Misses, is_noise};
 use dc_search::{Branch, meter_of};
+use dc_tokens::{Piece, put_pieces};
 
 // Number of tries.
 const TRIES: u8 = 3;
@@ -146,50 +147,29 @@ fn digit_of(code: u8) -> u8
 fn with_number(telegram: &AnswerBuf, digits: &[u8; 8]) -> Option<Identity>
     ensures { result ≡ with_number digits.now telegram.now }
 {
-    match meter_of(telegram.as_slice()) {
-        Some(meter) => having(&meter, digits),
-        None => None,
-    }
-}
-
-fn having(meter: &Identity, digits: &[u8; 8]) -> Option<Identity>
-    ensures { result ≡ having digits.now (Some meter.now) }
-{
-    if has_number(meter, digits) {
-        Some(*meter)
+    let meter = meter_of(telegram.as_slice())?;
+    if meter.text().starts_with(digits) {
+        Some(meter)
     } else {
         None
     }
 }
 
-fn has_number(meter: &Identity, digits: &[u8; 8]) -> bool
-    ensures { result ≡ has_number digits.now meter.now }
-{
-    meter.text().starts_with(digits)
-}
-
 /// Prints that a number names no one meter: `SHARED 12345678`, or `FAILED 1 NoAnswer`.
+#[tactic(auto, unfolding(crate::specs::Number::between))]
 pub fn put_unfound<W: Sink>(digits: &[u8; 8], is_shared: bool, out: &mut W) -> Result<(), IoFault>
     ensures { Wrote W.Sink result out.old out.new (unfound_text digits.now is_shared) }
 {
     if is_shared {
-        put_between(b"SHARED ", digits, b"\n", out)
+        put_pieces(
+            out,
+            &[
+                Piece::Text(b"SHARED "),
+                Piece::Text(digits),
+                Piece::Text(b"\n"),
+            ],
+        )
     } else {
         out.put(b"FAILED 1 NoAnswer\n")
     }
-}
-
-// Writes a text between two others.
-#[tactic(auto, using(dc_io::proofs::Pieces::written), unfolding(crate::specs::Number::between))]
-fn put_between<W: Sink>(
-    before: &[u8],
-    text: &[u8],
-    after: &[u8],
-    out: &mut W,
-) -> Result<(), IoFault>
-    ensures { Wrote W.Sink result out.old out.new (between before.now text.now after.now) }
-{
-    out.put(before)?;
-    out.put(text)?;
-    out.put(after)
 }

@@ -11,16 +11,17 @@ ghost use Rattle.dc_io.specs.Failures.{HasRisen};
 ghost use Rattle.dc_io.specs.Written.{PutsInto, Wrote};
 ghost use Rattle.dc_readout.specs.Misses.{misses_of};
 ghost use Rattle.dc_installer.specs.Scan.{AsksEach, AsksOne, Identifies, IsAsked, IsCalled, address_line};
-ghost use Rattle.dc_installer.specs.Scan.{greatest, identified, identity_word, is_ack, is_sent_from};
+ghost use Rattle.dc_installer.specs.Scan.{greatest, identified, is_ack, is_sent_from};
 ghost use Rattle.dc_installer.specs.Scan.{is_there, line_of, sender_at};
 
 use dc_address::Identity;
 use dc_bus::{AnswerBuf, Bus, TRIES, insist, read_twice};
 use dc_frame::control::{write_request, write_reset};
 use dc_frame::{Frame, FrameBuf, parse};
-use dc_io::{IoFault, Sink, put_number_word};
+use dc_io::{IoFault, Sink};
 use dc_readout::misses::Misses;
 use dc_search::meter_of;
+use dc_tokens::{Piece, put_pieces};
 
 /// The greatest primary address (EN 13757-2).
 pub const GREATEST: u8 = 250;
@@ -207,7 +208,7 @@ fn is_sent_from(address: u8, telegram: &AnswerBuf) -> bool
     }
 }
 
-#[tactic(auto, using(dc_io::proofs::Pieces::joined))]
+/// Writes an address, and the meter that answers there, if one alone does.
 pub(crate) fn put_address<W: Sink>(
     address: u8,
     meter: Option<Identity>,
@@ -215,21 +216,25 @@ pub(crate) fn put_address<W: Sink>(
 ) -> Result<(), IoFault>
     ensures { Wrote W.Sink result out.old out.new (address_line address meter) }
 {
-    out.put(b"ADDRESS")?;
-    put_number_word(out, address as u64)?;
-    put_identity(meter, out)?;
-    out.put(b"\n")
-}
-
-#[tactic(auto, using(dc_io::proofs::Pieces::written))]
-fn put_identity<W: Sink>(meter: Option<Identity>, out: &mut W) -> Result<(), IoFault>
-    ensures { Wrote W.Sink result out.old out.new (identity_word meter) }
-{
+    let number = u64::from(address);
     match meter {
-        Some(meter) => {
-            out.put(b" ")?;
-            out.put(&meter.text())
-        }
-        None => Ok(()),
+        Some(meter) => put_pieces(
+            out,
+            &[
+                Piece::Text(b"ADDRESS"),
+                Piece::Word(number),
+                Piece::Text(b" "),
+                Piece::Text(&meter.text()),
+                Piece::Text(b"\n"),
+            ],
+        ),
+        None => put_pieces(
+            out,
+            &[
+                Piece::Text(b"ADDRESS"),
+                Piece::Word(number),
+                Piece::Text(b"\n"),
+            ],
+        ),
     }
 }

@@ -4,7 +4,7 @@ ghost use Rattle.std.specs.Prelude.{◌≡◌, IfOk, IsErrOf, OnOk};
 ghost use Rattle.dc_io.specs.Failures.{HasRisen};
 ghost use Rattle.dc_io.specs.Written.{PutsInto};
 ghost use Rattle.dc_search.specs.Found.{search_text};
-ghost use Rattle.dc_installer.specs.Scan.{Counts, IsLook, Scanned};
+ghost use Rattle.dc_installer.specs.Scan.{Counts, Scanned};
 
 use dc_bus::{Bus, search_windows};
 use dc_io::{IoFault, NoMemory, Sink};
@@ -51,21 +51,10 @@ pub fn scan<A: Allocator + Copy, B: Bus, W: Sink>(
     ensures well { OnOk result (W.put_failures out.new ≡ W.put_failures out.old) }
     ensures unwritten { IsErrOf result ScanFault.NoMemory → out.new ≡ out.old }
 {
-    match look(alloc, budget, bus) {
+    match search_windows(alloc, budget, bus) {
         Ok(search) => print(&search, out),
         Err(NoMemory) => Err(ScanFault::NoMemory),
     }
-}
-
-fn look<A: Allocator + Copy, B: Bus>(
-    alloc: A,
-    budget: u32,
-    bus: &mut B,
-) -> Result<Search<A>, NoMemory>
-    ensures { IfOk result (λ search.
-        IsLook B.asks_all B.meters budget bus.old bus.new search) }
-{
-    search_windows(alloc, budget, bus)
 }
 
 fn print<A: Allocator + Copy, W: Sink>(search: &Search<A>, out: &mut W) -> Result<Count, ScanFault>
@@ -77,17 +66,10 @@ fn print<A: Allocator + Copy, W: Sink>(search: &Search<A>, out: &mut W) -> Resul
     ensures only { IsErrOf result ScanFault.NoMemory → ⊥ }
 {
     match put_search(search, out) {
-        Ok(()) => Ok(count_of(search)),
+        Ok(()) => Ok(Count {
+            meters: search.found().len(),
+            shared: search.shared().len(),
+        }),
         Err(IoFault) => Err(ScanFault::Write),
-    }
-}
-
-// How much a search found.
-fn count_of<A: Allocator + Copy>(search: &Search<A>) -> Count
-    ensures { Counts result search.now }
-{
-    Count {
-        meters: search.found().len(),
-        shared: search.shared().len(),
     }
 }
