@@ -13,7 +13,7 @@ use Rattle.dc_office.specs.RegisterTable.{register_text}
 use Rattle.dc_json.specs.Journal.{Notes}
 use Rattle.dc_json.specs.Report.{due_lines, register_lines}
 use Rattle.dc_json.specs.Values.{values_lines}
-use Rattle.dc_json.specs.LatestValues.{values_text}
+use Rattle.dc_json.specs.Latest.{values_text}
 use Rattle.dc_json.specs.Metrics.{metrics_text}
 use Rattle.dc_json.specs.Object.{status_objects}
 use Rattle.dc_json.specs.Status.{any_silent, status_text}
@@ -35,9 +35,9 @@ abbrev pub report_word : Report → List ℕ
 report_word Register = codes "register"
 report_word (Due date) = day_text date
 
-abbrev pub values_in : Form → State → List ℕ
-values_in Text state = values_text state
-values_in Json state = values_lines state
+abbrev pub values_in : Form → Notes → State → List ℕ
+values_in Text journal state = values_text journal state
+values_in Json journal state = values_lines journal state
 
 abbrev pub status_in : StatusForm → Clock → Notes → Held → List ℕ
 status_in Lines clock journal house = status_text clock.patience clock.now journal house
@@ -53,7 +53,7 @@ table_text Json (Due date) state = due_lines date state
 -- what is printed of the register of a state, beside a journal
 abbrev pub house_text : Asked → Notes → Held → List ℕ
 house_text Contents journal house = []
-house_text (Values form) journal house = values_in form house.state
+house_text (Values form) journal house = values_in form journal house.state
 house_text (Status form clock) journal house = status_in form clock journal house
 house_text (Table report form) journal house = table_text form report house.state
 

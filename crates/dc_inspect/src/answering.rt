@@ -107,8 +107,8 @@ fn add_house<A: Allocator + Copy>(
 {
     match asked {
         Asked::Contents => Ok(()),
-        Asked::Values(Form::Text) => kept(put_values(text, house)),
-        Asked::Values(Form::Json) => kept(put_value_objects(text, house)),
+        Asked::Values(Form::Text) => kept(put_values(text, house, journal)),
+        Asked::Values(Form::Json) => kept(put_value_objects(text, house, journal)),
         Asked::Status(form, clock) => kept(put_status_in(text, *form, *clock, journal, house)),
         Asked::Table(report, form) => add_table(alloc, house, *report, *form, text),
     }
@@ -243,7 +243,7 @@ pub fn scan<D: Disk>(disk: &mut D) -> Result<Greatest, ProgramFault>
 }
 
 /// Looks at an image: reads the root slots and the state that the image reads as, each sector of the chain once, and
-/// returns the text of what is asked; of the status with what the journal says. Nothing is written to the disk and
+/// returns the text of what is asked; of values and status with what the journal says. Nothing is written to the disk and
 /// nothing is synced, not even the next root. Of an image that can't be read the text says why, or is empty.
 ///
 /// # Errors

@@ -10,6 +10,8 @@ mod Rows
 mod Names
 -- a prefix of one piece of a text
 mod Fronts
+-- the items of a list in JSON
+mod Items
 -- of the module `latest`
 
 -- the days after 1 January 1970 are those of the calendar

@@ -16,7 +16,6 @@ use Rattle.dc_record.specs.Fields.{application_name}
 use Rattle.dc_record.specs.Media.{medium_name}
 use Rattle.dc_change.specs.State.{State, ReadingRow, PartRow}
 use Rattle.dc_register.specs.Orders.{reading_of, serials_of}
-use Rattle.dc_register.specs.Places.{by_flat}
 use Rattle.dc_register.specs.Points.{points_of}
 use Rattle.dc_register.specs.declared.place.Place.{Place}
 use Rattle.dc_decode.specs.Seen.{point_text}
@@ -169,10 +168,3 @@ held_words (Some r) = reading_words r
 unfoldable pub place_words : Place → List ℕ
 place_words place = codes "METER " ++ (place.flat ++ (codes " " ++ (text_of place.meter
     ++ (codes " " ++ medium_name place.meter.kind))))
-
-unfoldable pub meter_text : State → Place → List ℕ
-meter_text s place = place_words place ++ held_words (last_reading place.meter s)
-
--- each registered meter, by flat and then by identity
-unfoldable pub values_text : State → List ℕ
-values_text s = flat_map (meter_text s) (by_flat s.meters)

@@ -12,8 +12,12 @@ pub mod Reported
 
 -- the day and the minute of a time stamp
 pub mod Utc
--- the lines of `values`
+-- the lines of `values` of a reading that the image holds
 pub mod LatestValues
+-- those of a reading of the journal
+pub mod Said
+-- of both the later one
+pub mod Latest
 -- of the module `status`
 
 -- when a meter was last heard

@@ -2,6 +2,9 @@
 use Rattle.std.specs.Prelude.{ℕ, List, [], ◌∷◌, ◌++◌, codes, map, Option, None, Some, Result, Ok, Err}
 use Rattle.std.specs.List.{flat_map}
 use Rattle.json.specs.Json.{Json, string, null}
+use Rattle.json.specs.Print.{print}
+use Rattle.json.specs.Token as Token
+use Rattle.dc_address.specs.declared.identity.Identity.{Identity}
 use Rattle.dc_record.specs.declared.fault.BodyFault.{BodyFault}
 use Rattle.dc_record.specs.Telegram.{Parsed, telegram_at}
 use Rattle.dc_change.specs.State.{State, ReadingRow, PartRow}
@@ -10,10 +13,12 @@ use Rattle.dc_reading.specs.Sent.{Sent}
 use Rattle.dc_register.specs.Places.{by_flat}
 use Rattle.dc_register.specs.declared.place.Place.{Place}
 use Rattle.dc_json.specs.Utc.{minute_of}
+use Rattle.dc_json.specs.Journal.{Notes}
+use Rattle.dc_json.specs.Latest.{noted_text}
 use Rattle.dc_json.specs.LatestValues.{last_part, last_reading}
 use Rattle.dc_json.specs.Stand.{listed, parts_sent}
 use Rattle.dc_json.specs.declared.stand.Current.TheVariants.{Values, Also}
-use Rattle.dc_tokens.specs.Object.{Field, object_of, array_of, count}
+use Rattle.dc_tokens.specs.Object.{Field, object_of, array_of, count, fields_tokens}
 use Rattle.dc_frame_json.specs.Meter.{identity_fields, status_fields}
 use Rattle.dc_frame_json.specs.Record.{record_json, value_json}
 use Rattle.dc_frame_json.specs.Text.{value_line}
@@ -67,9 +72,24 @@ stands_json s place = object_of (
     ∷ (codes "reading", held_json (last_reading place.meter s))
     ∷ [])
 
-abbrev pub stands_line : State → Place → List ℕ
-stands_line s place = value_line (stands_json s place)
+-- a registered meter whose reading is the event of a line of the journal, which is an object in JSON
+abbrev pub noted_tokens : List ℕ → Identity → List Token.Token
+noted_tokens flat meter = Token.begin_object ∷ (fields_tokens (
+    (codes "flat", string flat)
+    ∷ (codes "meter", object_of (identity_fields meter))
+    ∷ (codes "from", string (codes "journal"))
+    ∷ []) ++ (Token.key (codes "reading") ∷ []))
 
--- each registered meter, by flat and then by identity
-unfoldable pub values_lines : State → List ℕ
-values_lines s = flat_map (stands_line s) (by_flat s.meters)
+unfoldable pub noted_line : Place → List ℕ → List ℕ
+noted_line place event = print (noted_tokens place.flat place.meter) ++ (event ++ codes "}\n")
+
+abbrev pub line_by : Option (List ℕ) → State → Place → List ℕ
+line_by None s place = value_line (stands_json s place)
+line_by (Some event) s place = noted_line place event
+
+abbrev pub stands_line : Notes → State → Place → List ℕ
+stands_line journal s place = line_by (noted_text journal place.meter (last_reading place.meter s)) s place
+
+-- THE LINES of each registered meter, by flat and then by identity
+unfoldable pub values_lines : Notes → State → List ℕ
+values_lines journal s = flat_map (stands_line journal s) (by_flat s.meters)

@@ -2,19 +2,24 @@
 //!
 //! [`put_values`] writes, for each registered meter by flat, the moment of the last reading that the register holds (in
 //! UTC), the status that the meter reported in it, and its current values with their units (EN 13757-3: storage number
-//! 0, instantaneous). A reading that the billing office has confirmed is no longer held.
+//! 0, instantaneous). A reading that the billing office has confirmed is no longer held: where the journal's is later than
+//! what is held, it writes that.
 //!
-//! Proved: the text is exactly the one that `specs/Values.antt` defines of the register's state. The days of
+//! Proved: the text is exactly the one that `specs/Latest.antt` defines of the register's state and the journal. The days of
 //! `specs/Utc.antt` are those of the calendar ([`minute`] finds them by the kit's dates).
 
 mod lines;
+mod noted;
 mod reading;
+mod said;
 mod status;
 mod utc;
 
 pub(crate) use lines::put_names;
 pub use lines::put_values;
+pub(crate) use noted::noted_text;
 pub use reading::last_reading;
 pub(crate) use reading::{last_of, part_in};
+pub(crate) use said::put_said;
 pub(crate) use status::put_byte_words;
 pub use utc::minute;

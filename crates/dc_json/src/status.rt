@@ -23,4 +23,6 @@ pub use laws::rows_mean_what_they_say;
 pub use lines::{put_room_left, put_status};
 pub use metrics::put_metrics;
 pub use object::put_status_objects;
+pub(crate) use row::{is_later, taken_at};
+pub(crate) use silence::moment_of;
 pub use silence::{Clock, any_silent};

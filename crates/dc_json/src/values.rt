@@ -1,14 +1,16 @@
 //! What the meters of a house stand at, as JSON Lines.
 
-ghost use Rattle.std.specs.Prelude.{◌≡◌, ◌∷◌, [], option_copied};
+ghost use Rattle.std.specs.Prelude.{◌≡◌, ◌++◌, codes, option_copied, option_map};
 ghost use Rattle.json.specs.Tree.{json_tokens};
 ghost use Rattle.dc_record.specs.Telegram.{telegram_at};
 ghost use Rattle.dc_io.specs.Written.{Wrote};
 ghost use Rattle.dc_tokens.specs.Writing.{Added};
-ghost use Rattle.dc_json.specs.Values.{byte_in, held_json, reading_json, stands_json, stands_line};
-ghost use Rattle.dc_json.specs.Values.{values_lines};
+ghost use Rattle.dc_frame_json.specs.Text.{value_line};
+ghost use Rattle.dc_json.specs.Values.{byte_in, held_json, noted_line, noted_tokens, reading_json};
+ghost use Rattle.dc_json.specs.Values.{stands_json, stands_line, values_lines};
 
-use crate::latest::{last_reading, part_in};
+use crate::journal::Journal;
+use crate::latest::{last_reading, noted_text, part_in};
 use crate::reported::{put_received, put_told};
 use dc_frame_json::{Cell, put_row};
 use dc_io::{IoFault, Sink};
@@ -77,7 +79,8 @@ fn put_place_line<A: Allocator + Copy, W: Sink>(
     house: &House<A>,
     place: &Place,
 ) -> Result<(), IoFault>
-    ensures { Wrote W.Sink result out.old out.new (stands_line house.now.state place.now) }
+    ensures { Wrote W.Sink result out.old out.new
+        (value_line (stands_json house.now.state place.now)) }
 {
     let mut tokens = TokenWriter::new(out);
     put_place_json(&mut tokens, house, place);
@@ -85,17 +88,72 @@ fn put_place_line<A: Allocator + Copy, W: Sink>(
     out.put(b"\n")
 }
 
+// Begins the object of a registered meter whose reading is the journal's.
+fn put_noted<W: Sink>(out: &mut TokenWriter<'_, W>, place: &Place)
+    ensures { Added W.Sink out.old out.new (noted_tokens place.now.flat place.now.meter) }
+{
+    out.begin_object();
+    put_row(
+        out,
+        &[
+            Cell::Text("flat", place.flat.as_slice()),
+            Cell::Meter("meter", place.meter),
+            Cell::Text("from", b"journal"),
+        ],
+    );
+    out.put_name("reading");
+}
+
+// Writes an event, and the end of the object.
+#[tactic(auto, using(dc_io::proofs::Pieces::written))]
+fn put_event<W: Sink>(out: &mut W, event: &[u8]) -> Result<(), IoFault>
+    ensures { Wrote W.Sink result out.old out.new (event.now ++ codes "}\n") }
+{
+    out.put(event)?;
+    out.put(b"}\n")
+}
+
+// Writes the line of a registered meter whose reading is an event of the journal.
+#[tactic(auto, using(dc_tokens::proofs::Adding::whole, dc_io::proofs::Pieces::written), unfolding(crate::specs::Values::noted_line))]
+fn put_noted_line<W: Sink>(out: &mut W, place: &Place, event: &[u8]) -> Result<(), IoFault>
+    ensures { Wrote W.Sink result out.old out.new (noted_line place.now event.now) }
+{
+    let mut tokens = TokenWriter::new(out);
+    put_noted(&mut tokens, place);
+    tokens.outcome()?;
+    put_event(out, event)
+}
+
+// Writes the line of a registered meter, whose reading is the journal's where that is later.
+fn put_stands_line<A: Allocator + Copy, W: Sink>(
+    out: &mut W,
+    house: &House<A>,
+    journal: &Journal<A>,
+    place: &Place,
+) -> Result<(), IoFault>
+    ensures { Wrote W.Sink result out.old out.new
+        (stands_line journal.now house.now.state place.now) }
+{
+    let held = last_reading(house, &place.meter);
+    match noted_text(journal, &place.meter, held) {
+        Some(event) => put_noted_line(out, place, event),
+        None => put_place_line(out, house, place),
+    }
+}
+
 /// Writes what the registered meters stand at as JSON Lines (RFC 8259): an object for each, by flat and
-/// then by identity, as [`put_values`](crate::latest::put_values) writes it in words.
+/// then by identity, as [`put_values`](crate::latest::put_values) writes it in words, beside a journal that keeps each
+/// [`Line`](crate::journal::Keeps::Line).
 #[tactic(auto, using(dc_io::proofs::Pieces::written), unfolding(crate::specs::Values::values_lines))]
 pub fn put_value_objects<A: Allocator + Copy, W: Sink>(
     out: &mut W,
     house: &House<A>,
+    journal: &Journal<A>,
 ) -> Result<(), IoFault>
-    ensures { Wrote W.Sink result out.old out.new (values_lines house.now.state) }
+    ensures { Wrote W.Sink result out.old out.new (values_lines journal.now house.now.state) }
 {
     for place in house.meters_by_flat() {
-        put_place_line(out, house, place)?;
+        put_stands_line(out, house, journal, place)?;
     }
     Ok(())
 }

@@ -6,7 +6,7 @@ use dc_ending::{Ending, ProgramFault, STREAM, ending_of};
 use dc_files::{Host, LookedAt, Noted, ROUNDS, journal_lines};
 use dc_inspect::{Asked, Form, Report, Shown, StatusForm, answer, scan};
 use dc_io::NoMemory;
-use dc_json::journal::{Journal, read_journal};
+use dc_json::journal::{Journal, Keeps, read_journal};
 use dc_log::Greatest;
 use std::alloc::Global;
 use std::fs::File;
@@ -21,7 +21,7 @@ const NO_TABLE: &str =
 /// Prints what is asked of the image in that file, as it stands at one instant; another program may write it.
 pub fn look_into<'a, R>(host: &Host<'_, R>, asked: Asked, image: &'a str) -> Ending<'a>
 where
-    R: Files<File = File> + Print + AllocGlobal,
+    R: Files<File = File> + Clock + Print + AllocGlobal,
 {
     let journal = match journal_for(host, &asked, image) {
         Ok(journal) => journal,
@@ -39,17 +39,20 @@ where
 }
 
 // What the journal beside the image says, where it is asked for.
-fn journal_for<'a, R: Files<File = File> + AllocGlobal>(
+fn journal_for<'a, R: Files<File = File> + Clock + AllocGlobal>(
     host: &Host<'_, R>,
     asked: &Asked,
     image: &str,
 ) -> Result<Journal<Global>, Ending<'a>> {
     let alloc = host.rt.alloc();
-    let Asked::Status(_, clock) = asked else {
-        return Ok(Journal::none(alloc));
+    let (now, keeps) = match (asked, clock::moment(host.rt)) {
+        (Asked::Status(_, clock), _) => (clock.now, Keeps::Nothing),
+        (Asked::Values(Form::Text), Some(moment)) => (moment.seconds, Keeps::Lines),
+        (Asked::Values(Form::Json), Some(moment)) => (moment.seconds, Keeps::Line),
+        _ => return Ok(Journal::none(alloc)),
     };
     match journal_lines(host.rt, image) {
-        Ok(Some(lines)) => match read_journal(alloc, lines.as_slice(), clock.now) {
+        Ok(Some(lines)) => match read_journal(alloc, lines.as_slice(), now, keeps) {
             Ok(journal) => Ok(journal),
             Err(NoMemory) => Err(Ending::Memory),
         },
@@ -112,7 +115,7 @@ pub fn report_on_image<'a, R>(
     is_json: bool,
 ) -> Ending<'a>
 where
-    R: Files<File = File> + Print + AllocGlobal,
+    R: Files<File = File> + Clock + Print + AllocGlobal,
 {
     let Some(report) = Report::parse(table.as_bytes()) else {
         return Ending::Words(NO_TABLE);

@@ -7,13 +7,16 @@ ghost use Rattle.dc_address.specs.declared.identity.Identity.{Identity as Meter}
 ghost use Rattle.dc_change.specs.Fields.{IsOfBytes, end_of_numbers};
 ghost use Rattle.dc_json.specs.Entry.{HasFailure, HasNumber, HasReading, IsEntry, IsFailedIn, IsLine};
 ghost use Rattle.dc_json.specs.Entry.{IsReadIn, IsSaid, NamesMeter, text_in};
-ghost use Rattle.dc_json.specs.declared.journal.entry.Entry.{Entry as Line};
+ghost use Rattle.dc_json.specs.Journal.{IsKept, entry_in};
+ghost use Rattle.json.specs.Json.{document};
+ghost use Rattle.dc_json.specs.declared.journal.entry.Entry.{Entry as Noted};
 ghost use Rattle.dc_json.specs.declared.journal.entry.Said.{Said as Event};
 ghost use Rattle.json.specs.Value.{value_view};
 
+use crate::journal::kept::{Keeps, kept_of};
 use dc_address::Identity;
 use dc_change::parse_number;
-use dc_io::NoMemory;
+use dc_io::{Bytes, NoMemory};
 use json::{Error, Scratch, Value};
 use std::alloc::Allocator;
 
@@ -45,25 +48,56 @@ pub struct Entry {
     pub said: Said,
 }
 
-/// Reads a line, given without its line feed: the entry that it is, if it is one.
-pub fn read_entry<A: Allocator + Copy>(
+/// A line of a meter, and what is kept of it.
+#[derive(Drop)]
+pub struct Line<A: Allocator> {
+    /// What it says.
+    pub entry: Entry,
+    /// What is kept of it, if anything.
+    pub text: Option<Bytes<A>>,
+}
+
+/// Reads a line, given without its line feed: the entry that it is, if it is one, and what is kept of it.
+pub fn read_line<A: Allocator + Copy>(
     alloc: A,
+    keeps: Keeps,
     line: &[u8],
     scratch: &mut Scratch<A>,
-) -> Result<Option<Entry>, NoMemory>
-    ensures { IfOk result (IsLine line.now) }
+) -> Result<Option<Line<A>>, NoMemory>
+    ensures line { IfOk result (λ found. IsLine line.now (entry_in found)) }
+    ensures text { IfOk result (IsKept keeps line.now (document line.now)) }
 {
     match Value::from_slice(alloc, line, scratch) {
-        Ok(json) => Ok(entry_of(&json)),
+        Ok(json) => line_of(alloc, keeps, line, &json),
         Err(Error::OutOfMemory) => Err(NoMemory),
         Err(_) => Ok(None),
     }
 }
 
+// A line that is this object.
+fn line_of<A: Allocator + Copy>(
+    alloc: A,
+    keeps: Keeps,
+    line: &[u8],
+    json: &Value<'_, A>,
+) -> Result<Option<Line<A>>, NoMemory>
+    ensures found { IfOk result (λ found. IfSome found (λ l.
+        IsEntry (value_view json.now) l.entry)) }
+    ensures only { IfOk result (λ found. (entry : Noted) → IsEntry (value_view json.now) entry
+        → entry_in found ≡ Some entry) }
+    ensures text { IfOk result (IsKept keeps line.now (Some (value_view json.now))) }
+{
+    let Some(entry) = entry_of(json) else {
+        return Ok(None);
+    };
+    let text = kept_of(alloc, keeps, line, entry.said, json)?;
+    Ok(Some(Line { entry, text }))
+}
+
 // The entry that an object is.
 fn entry_of<A: Allocator>(json: &Value<'_, A>) -> Option<Entry>
     ensures found { IfSome result (λ entry. IsEntry (value_view json.now) entry) }
-    ensures only { (entry : Line) → IsEntry (value_view json.now) entry → result ≡ Some entry }
+    ensures only { (entry : Noted) → IsEntry (value_view json.now) entry → result ≡ Some entry }
 {
     let meter = meter_in(json)?;
     let said = said_in(json)?;

@@ -2,16 +2,19 @@
 
 ghost use Rattle.std.specs.Prelude.{◌≡◌, [], false, map, option_copied, option_map};
 ghost use Rattle.dc_io.specs.Written.{Wrote};
-ghost use Rattle.dc_json.specs.LatestValues.{current_line, held_words, last_part, meter_text};
+ghost use Rattle.dc_json.specs.Latest.{meter_text, shown_words, values_text};
+ghost use Rattle.dc_json.specs.LatestValues.{current_line, held_words, last_part};
 ghost use Rattle.dc_json.specs.LatestValues.{moment_words, part_words, place_words, reading_words};
 ghost use Rattle.dc_json.specs.LatestValues.{also_line, also_lines, counted, headline_line, headline_lines};
 ghost use Rattle.dc_json.specs.LatestValues.{name_words, names_words, other_lines, sent_words, shown, shown_word};
 ghost use Rattle.dc_json.specs.LatestValues.{told_lines};
-ghost use Rattle.dc_json.specs.LatestValues.{unread_line, value_line, value_lines, value_word, values_text};
+ghost use Rattle.dc_json.specs.LatestValues.{unread_line, value_line, value_lines, value_word};
 ghost use Rattle.dc_json.specs.Stand.{all_sent};
 ghost use Rattle.dc_reading.specs.Sent.{sent_view};
 ghost use Rattle.dc_reading.specs.Vifes.{vife_at};
 
+use crate::journal::Journal;
+use crate::latest::noted::noted_text;
 use crate::latest::reading::last_reading;
 use crate::latest::status::put_status;
 use crate::latest::utc::minute;
@@ -28,31 +31,51 @@ use dc_register::{House, Part, Place, Points, Reading};
 use dc_tokens::{Piece, put_pieces};
 use std::alloc::Allocator;
 
-/// Writes what each registered meter stands at, by flat and then by identity.
-#[tactic(auto, using(dc_io::proofs::Pieces::written), unfolding(crate::specs::LatestValues::values_text))]
+/// Writes what each registered meter stands at, by flat and then by identity, beside a journal that keeps
+/// [`Lines`](crate::journal::Keeps::Lines).
+#[tactic(auto, using(dc_io::proofs::Pieces::written), unfolding(crate::specs::Latest::values_text))]
 pub fn put_values<A: Allocator + Copy, W: Sink>(
     out: &mut W,
     house: &House<A>,
+    journal: &Journal<A>,
 ) -> Result<(), IoFault>
-    ensures { Wrote W.Sink result out.old out.new (values_text house.now.state) }
+    ensures { Wrote W.Sink result out.old out.new (values_text journal.now house.now.state) }
 {
     for place in house.meters_by_flat() {
-        put_meter(out, house, place)?;
+        put_meter(out, house, journal, place)?;
     }
     Ok(())
 }
 
 // Writes the lines of a meter.
-#[tactic(auto, using(dc_io::proofs::Pieces::written), unfolding(crate::specs::LatestValues::meter_text))]
+#[tactic(auto, using(dc_io::proofs::Pieces::written), unfolding(crate::specs::Latest::meter_text))]
 fn put_meter<A: Allocator + Copy, W: Sink>(
     out: &mut W,
     house: &House<A>,
+    journal: &Journal<A>,
     place: &Place,
 ) -> Result<(), IoFault>
-    ensures { Wrote W.Sink result out.old out.new (meter_text house.now.state place.now) }
+    ensures { Wrote W.Sink result out.old out.new
+        (meter_text journal.now house.now.state place.now) }
 {
+    let held = last_reading(house, &place.meter);
     put_place(out, place)?;
-    put_held(out, last_reading(house, &place.meter))
+    put_shown_reading(out, noted_text(journal, &place.meter, held), held)
+}
+
+// Writes the lines of the journal's reading, or those of the one that is held.
+fn put_shown_reading<A: Allocator, W: Sink>(
+    out: &mut W,
+    noted: Option<&[u8]>,
+    held: Option<&Reading<A>>,
+) -> Result<(), IoFault>
+    ensures { Wrote W.Sink result out.old out.new
+        (shown_words (option_map (λ s. s.now) noted.entry) (option_copied held.entry)) }
+{
+    match noted {
+        Some(text) => out.put(text),
+        None => put_held(out, held),
+    }
 }
 
 // Writes the flat, the meter and its medium.
@@ -171,8 +194,8 @@ fn put_sent<W: Sink>(out: &mut W, word: &'static [u8], sent: &Sent<'_>) -> Resul
     put_word(out, unit_text(&reading, record.vib, &mut room))
 }
 
-// Writes a value as one word.
-fn put_value_word<W: Sink>(out: &mut W, text: Option<&[u8]>) -> Result<(), IoFault>
+/// Writes a value as one word.
+pub(crate) fn put_value_word<W: Sink>(out: &mut W, text: Option<&[u8]>) -> Result<(), IoFault>
     ensures { Wrote W.Sink result out.old out.new (value_word (option_map (λ s. s.now) text.entry)) }
 {
     match text {
@@ -200,7 +223,8 @@ fn put_shown<W: Sink>(out: &mut W, text: &[u8]) -> Result<(), IoFault>
     Ok(())
 }
 
-fn shown(byte: u8) -> u8
+/// A byte of a word, or a point.
+pub(crate) fn shown(byte: u8) -> u8
     ensures { result ≡ shown byte }
 {
     match byte {

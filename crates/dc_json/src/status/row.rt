@@ -93,7 +93,8 @@ fn within(moment: u64) -> Option<u64>
     }
 }
 
-fn taken_at(taken: Option<Taken>) -> Option<u64>
+/// When a reading was taken, where that is a time stamp.
+pub(crate) fn taken_at(taken: Option<Taken>) -> Option<u64>
     ensures at { result ≡ taken_at taken }
     ensures fits { IfSome result (λ moment. moment ≤ last_moment) }
 {
@@ -121,8 +122,8 @@ fn failing_since(failing: Option<Failing>) -> Option<u64>
     }
 }
 
-// Whether the journal's reading is later than what the image holds.
-fn is_later(noted: Option<u64>, held: Option<u64>) -> bool
+/// Whether the journal's reading is later than what the image holds.
+pub(crate) fn is_later(noted: Option<u64>, held: Option<u64>) -> bool
     ensures { result ≡ is_later noted held }
 {
     match (noted, held) {

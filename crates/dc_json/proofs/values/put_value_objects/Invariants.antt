@@ -9,6 +9,6 @@ abbrev pub invariant-loop-place : goal.invariant-loop-place
 invariant-loop-place g l = record {
   can : (goal.iterator-loop-place g).can_next l.place-iterator;
   ends : (goal.iterator-loop-place g).is_finite l.place-iterator;
-  text : append_known (g.W.Sink.written l.out) (flat_map (stands_line l.house.state) l.place-iterator) ≡ append_known (g.W.Sink.written l.initial.out) (flat_map (stands_line l.house.state) l.initial.place-iterator);
+  text : append_known (g.W.Sink.written l.out) (flat_map (stands_line l.journal l.house.state) l.place-iterator) ≡ append_known (g.W.Sink.written l.initial.out) (flat_map (stands_line l.journal l.house.state) l.initial.place-iterator);
   well : g.W.Sink.put_failures l.out ≡ g.W.Sink.put_failures l.initial.out;
 }
