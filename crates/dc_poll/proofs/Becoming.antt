@@ -15,8 +15,7 @@ use Rattle.dc_readout.specs.declared.why.Why.TheVariants.{NoAnswer}
 use Rattle.dc_poll.specs.Happening.{Happening, does}
 use Rattle.dc_poll.specs.Queue.{Part, part, most_asks, Goes, stays, passes_on, starts_it, is_refused, asks_it, has_no_request, is_given_up, goes_on, is_accepted, is_put_off, fails_at_last, is_faulty}
 use Rattle.dc_poll.specs.Talking.{Talk, Talks, rests, begins, has_none, sends_it, waits_it, takes_it, hears_it}
-use Rattle.dc_readout.specs.Misses.{misses_of}
-use Rattle.dc_poll.specs.Missed.{misses_heard}
+use Rattle.dc_poll.specs.Missed.{and_heard, nothing_brought}
 use Rattle.dc_poll.specs.Round.{LineGoes}
 use Rattle.dc_poll.specs.Station.{IsPass, IsSoundIn, IsSound, is_answered, taken_of, IsAfter, Listens, Next, part_of, talk_of, rounds_in, rounds_of, rounds_a_start, rounds_by_phase, ended, next_pass, put_off, after_answer, after_failure}
 use Rattle.dc_poll.specs.declared.end.End.{End}
@@ -28,7 +27,7 @@ use Rattle.dc_poll.specs.declared.phase.Request.{Request}
 use Rattle.dc_poll.specs.declared.phase.Request.TheVariants.{Quiet, Sent, Answered}
 use Rattle.dc_poll.specs.declared.station.Station.{Station}
 use Rattle.dc_poll.proofs.Idling.{fewer_silent}
-use Rattle.dc_poll.proofs.Missing.{counts_same, counts_turn}
+use Rattle.dc_poll.proofs.Missing.{brings_same, brings_turn}
 use Rattle.dc_poll.proofs.Counting.{pass_less, pass_put_off, start_count, refuse_count, ask_count, end_count, free_count, pass_count}
 use Rattle.dc_poll.proofs.Queues.{line_by, line_stays, part_is, part_first, talk_is, of_after, from_phase}
 
@@ -123,7 +122,7 @@ module _ {B : Type 0} (g : Bus B) where
   -- ---- the next pass
 
   pub line_passed : (tries line : ℕ) (old new : Station B) → old.phase ≡ Free → 0 < length old.left.now → IsSound g tries old
-      → IsAfter (next_pass old.left.now old.due old.pass old.phase) old.bus old.request old.said new → new.misses ≡ old.misses → LineGoes g tries line old new []
+      → IsAfter (next_pass old.left.now old.due old.pass old.phase) old.bus old.request old.said new → new.brought ≡ old.brought → LineGoes g tries line old new []
   line_passed tries line old new free some sound after kept = by_due old.due refl
     where
       by_left : (xs : List Identity) → 0 < length xs → old.pass < tries → Goes tries line (part [] xs old.pass Free) [] (part xs [] (old.pass + 1) Free)
@@ -137,12 +136,12 @@ module _ {B : Type 0} (g : Bus B) where
           line_by tries line old new (part [] old.left.now old.pass Free) (part old.left.now [] (old.pass + 1) Free) (talk_of old) (talk_of old) []
           (part_is old old.left.now 0 old.pass Free refl none refl free) (part_is new old.left.now (length old.left.now) (old.pass + 1) Free is.left is.due is.pass (is.phase ∙ free)
           ∙ ap (λ (xs : List Identity). part xs (drop (length old.left.now) old.left.now) (old.pass + 1) Free) (take_whole old.left.now) ∙ ap (λ (xs : List Identity). part old.left.now xs (old.pass + 1) Free) (drop_whole old.left.now))
-          refl (talk_is new old.bus old.request old.said is.bus is.request is.said) (by_left old.left.now some (pass.3 (omega (arith, none, some)))) rests (counts_same line old.misses new.misses kept)
+          refl (talk_is new old.bus old.request old.said is.bus is.request is.said) (by_left old.left.now some (pass.3 (omega (arith, none, some)))) rests (brings_same line old.brought new.brought kept)
       by_due (suc n) more =
           let is = subst (λ (d : ℕ). IsAfter (next_pass old.left.now d old.pass old.phase) old.bus old.request old.said new) more after in
           line_by tries line old new (part_of old) (part_of old) (talk_of old) (talk_of old) []
           refl (part_is new old.left.now old.due old.pass old.phase is.left (is.due ∙ sym more) is.pass is.phase)
-          refl (talk_is new old.bus old.request old.said is.bus is.request is.said) stays rests (counts_same line old.misses new.misses kept)
+          refl (talk_is new old.bus old.request old.said is.bus is.request is.said) stays rests (brings_same line old.brought new.brought kept)
 
   pub sound_passed : (tries : ℕ) (old new : Station B) → old.phase ≡ Free → 0 < length old.left.now → IsSound g tries old
       → IsAfter (next_pass old.left.now old.due old.pass old.phase) old.bus old.request old.said new → IsSound g tries new × (0 < new.due)
@@ -214,15 +213,15 @@ module _ {B : Type 0} (g : Bus B) where
   pub line_started : (tries line : ℕ) (meter : Identity) (answer : Result (Unit {0}) StartFault) (old new : Station B) → old.phase ≡ Free → old.request ≡ Quiet → old.left.now ≡ meter ∷ drop 1 old.left.now → 0 < old.due → old.pass ≤ tries
       → OnOk answer (IsAfter (record { left = old.left.now; due = old.due; pass = old.pass; phase = Busy most_asks }) old.bus old.request old.said new)
       → IfErr answer (λ fault. IsAfter (ended old.left.now old.due old.pass (Refused meter (Start fault))) old.bus old.request old.said new)
-      → new.misses ≡ misses_of [] → LineGoes g tries line old new (does (starts line meter, started answer) ∷ [])
+      → new.brought ≡ nothing_brought → LineGoes g tries line old new (does (starts line meter, started answer) ∷ [])
   line_started tries line meter (Ok tt) old new free silent first some few ok err anew =
       line_by tries line old new _ _ (record { bus = old.bus; request = Quiet; said = old.said }) (record { bus = old.bus; request = Quiet; said = old.said }) _
       (part_first old meter Free first some free) (part_kept old new meter (Busy most_asks) _ _ _ first some ok) (talk_is old _ _ _ refl silent refl) (talk_is new _ _ _ ok.bus (ok.request ∙ silent) ok.said)
-      (starts_it few stays) (begins rests) (counts_turn line old.misses new.misses (starts line meter, started (Ok tt)) anew)
+      (starts_it few stays) (begins rests) (brings_turn line old.brought new.brought (starts line meter, started (Ok tt)) anew)
   line_started tries line meter (Err fault) old new free silent first some few ok err anew =
       line_by tries line old new _ _ (record { bus = old.bus; request = Quiet; said = old.said }) (record { bus = old.bus; request = Quiet; said = old.said }) _
       (part_first old meter Free first some free) (part_left old new _ _ _ _ err) (talk_is old _ _ _ refl silent refl) (talk_is new _ _ _ err.bus (err.request ∙ silent) err.said)
-      (is_refused few stays) (begins rests) (counts_turn line old.misses new.misses (starts line meter, started (Err fault)) anew)
+      (is_refused few stays) (begins rests) (brings_turn line old.brought new.brought (starts line meter, started (Err fault)) anew)
 
   pub sound_started : (tries : ℕ) (meter : Identity) (answer : Result (Unit {0}) StartFault) (old new : Station B) → old.phase ≡ Free → 0 < old.due → IsSound g tries old
       → OnOk answer (IsAfter (record { left = old.left.now; due = old.due; pass = old.pass; phase = Busy most_asks }) old.bus old.request old.said new)
@@ -258,25 +257,25 @@ module _ {B : Type 0} (g : Bus B) where
   pub line_asked : (tries line room : ℕ) (meter : Identity) (request : Option (List ℕ)) (old new : Station B) → old.phase ≡ Busy room → 0 < room → old.request ≡ Quiet → old.left.now ≡ meter ∷ drop 1 old.left.now → IsSound g tries old
       → IfSome request (λ bytes. g.sends old.bus bytes new.bus × (g.waits_left new.bus ≤ most_waits) × IsAfter (record { left = old.left.now; due = old.due; pass = old.pass; phase = Busy (room - 1) }) new.bus Sent old.said new)
       → IfNone request (IsAfter (ended old.left.now old.due old.pass (Read meter)) old.bus old.request old.said new)
-      → new.misses ≡ old.misses → LineGoes g tries line old new (does (asks line, asked request) ∷ [])
+      → new.brought ≡ old.brought → LineGoes g tries line old new (does (asks line, asked request) ∷ [])
   line_asked tries line zero meter request old new busy more silent first sound sent over kept = absurd (omega (arith, more))
   line_asked tries line (suc n) meter (Some bytes) old new busy more silent first sound sent over kept =
       let due = (busy_due tries (suc n) old busy sound).0 in
       line_by tries line old new _ (part (meter ∷ take (old.due - 1) (drop 1 old.left.now)) (drop (old.due - 1) (drop 1 old.left.now)) old.pass (Busy n)) (record { bus = old.bus; request = Quiet; said = old.said }) (record { bus = new.bus; request = Sent; said = old.said }) _
       (part_first old meter (Busy (suc n)) first due busy) (part_kept old new meter (Busy (suc n - 1)) _ _ _ first due sent.2 ∙ ap (λ (k : ℕ). part (meter ∷ take (old.due - 1) (drop 1 old.left.now)) (drop (old.due - 1) (drop 1 old.left.now)) old.pass (Busy k)) (less_one n)) (talk_is old _ _ _ refl silent refl) (talk_is new _ _ _ sent.2.bus sent.2.request sent.2.said)
-      (asks_it stays) (sends_it sent.0 rests) (counts_turn line old.misses new.misses (asks line, asked (Some bytes)) kept)
+      (asks_it stays) (sends_it sent.0 rests) (brings_turn line old.brought new.brought (asks line, asked (Some bytes)) kept)
   line_asked tries line (suc n) meter None old new busy more silent first sound sent over kept =
       line_by tries line old new _ _ (record { bus = old.bus; request = Quiet; said = old.said }) (record { bus = old.bus; request = Quiet; said = old.said }) _
       (part_first old meter (Busy (suc n)) first (busy_due tries (suc n) old busy sound).0 busy) (part_left old new _ _ _ _ over) (talk_is old _ _ _ refl silent refl) (talk_is new _ _ _ over.bus (over.request ∙ silent) over.said)
-      (has_no_request stays) (has_none rests) (counts_turn line old.misses new.misses (asks line, asked None) kept)
+      (has_no_request stays) (has_none rests) (brings_turn line old.brought new.brought (asks line, asked None) kept)
 
   -- or was asked as often as no readout room
   pub line_given_up : (tries line : ℕ) (meter : Identity) (old new : Station B) → old.phase ≡ Busy 0 → old.request ≡ Quiet → old.left.now ≡ meter ∷ drop 1 old.left.now → IsSound g tries old
-      → IsAfter (ended old.left.now old.due old.pass (Failed meter NoAnswer)) old.bus old.request old.said new → new.misses ≡ old.misses → LineGoes g tries line old new []
+      → IsAfter (ended old.left.now old.due old.pass (Failed meter NoAnswer)) old.bus old.request old.said new → new.brought ≡ old.brought → LineGoes g tries line old new []
   line_given_up tries line meter old new busy silent first sound over kept =
       line_by tries line old new _ _ (record { bus = old.bus; request = Quiet; said = old.said }) (record { bus = old.bus; request = Quiet; said = old.said }) _
       (part_first old meter (Busy zero) first (busy_due tries 0 old busy sound).0 busy) (part_left old new _ _ _ _ over) (talk_is old _ _ _ refl silent refl) (talk_is new _ _ _ over.bus (over.request ∙ silent) over.said)
-      (is_given_up stays) rests (counts_same line old.misses new.misses kept)
+      (is_given_up stays) rests (brings_same line old.brought new.brought kept)
 
   -- the present meter is done with
   pub sound_ended : (tries room : ℕ) (end : End) (request : Request) (old new : Station B) → old.phase ≡ Busy room → request ≡ Quiet → IsSound g tries old → IsAfter (ended old.left.now old.due old.pass end) old.bus request old.said new → IsSound g tries new
@@ -344,11 +343,11 @@ module _ {B : Type 0} (g : Bus B) where
       let at : B = new.bus in
       let bytes : List ℕ = took.0 in
       subst (λ (s : Station B). LineGoes g tries line old s []) (sym took.2)
-      (record { queue = stays; talk = subst (λ (rq : Request). Talks g line (record { bus = old.bus; request = rq; said = old.said }) [] (record { bus = at; request = Answered bytes; said = old.said })) (sym out) (takes_it took.1 rests); misses = counts_same line old.misses old.misses refl })
+      (record { queue = stays; talk = subst (λ (rq : Request). Talks g line (record { bus = old.bus; request = rq; said = old.said }) [] (record { bus = at; request = Answered bytes; said = old.said })) (sym out) (takes_it took.1 rests); brought = brings_same line old.brought old.brought refl })
   line_listens tries line old new out (inr waited) =
       let at : B = new.bus in
       subst (λ (s : Station B). LineGoes g tries line old s []) (sym waited.2)
-      (record { queue = stays; talk = subst (λ (rq : Request). Talks g line (record { bus = old.bus; request = rq; said = old.said }) [] (record { bus = at; request = rq; said = old.said })) (sym out) (waits_it waited.0 rests); misses = counts_same line old.misses old.misses refl })
+      (record { queue = stays; talk = subst (λ (rq : Request). Talks g line (record { bus = old.bus; request = rq; said = old.said }) [] (record { bus = at; request = rq; said = old.said })) (sym out) (waits_it waited.0 rests); brought = brings_same line old.brought old.brought refl })
 
   heard_sound : (tries count due pass waits waits' : ℕ) (phase : Phase) (request : Request) → (request ≡ Sent → waits' ≤ most_waits) → IsSoundIn tries count due pass phase Sent waits → IsSoundIn tries count due pass phase request waits'
   heard_sound tries count due pass waits waits' Free request few sound = absurd (let not = sound.1 in cc)
@@ -452,9 +451,9 @@ module _ {B : Type 0} (g : Bus B) where
 
   pub line_judged : (tries line moment room : ℕ) (meter : Identity) (bytes : List ℕ) (answer : Result LineHeard HearFault) (old new : Station B) → old.phase ≡ Busy room → old.request ≡ Answered bytes → old.left.now ≡ meter ∷ drop 1 old.left.now → IsSound g tries old
       → IsAfter (after_answer (nat_lt old.pass tries) old.left.now old.due old.pass room meter answer) old.bus Quiet old.said new
-      → new.misses ≡ misses_heard bytes answer old.misses → LineGoes g tries line old new (does (hears line moment bytes, heard answer) ∷ [])
+      → new.brought ≡ and_heard bytes answer old.brought → LineGoes g tries line old new (does (hears line moment bytes, heard answer) ∷ [])
   line_judged tries line moment room meter bytes answer old new busy took first sound after counted =
-      record { queue = by_answer answer after; talk = talks; misses = counts_turn line old.misses new.misses (hears line moment bytes, heard answer) counted }
+      record { queue = by_answer answer after; talk = talks; brought = brings_turn line old.brought new.brought (hears line moment bytes, heard answer) counted }
     where
       was : IsSoundIn tries (length old.left.now) old.due old.pass (Busy room) old.request (g.waits_left old.bus)
       was = busy_sound tries room old busy sound

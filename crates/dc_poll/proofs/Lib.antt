@@ -4,7 +4,7 @@ pub mod Happenings
 pub mod Running
 -- how many tries of a readout fail at most
 pub mod Few
--- what the failed tries of a line's readout brought
+-- what the tries of a line's readout brought
 pub mod Missing
 -- how the queue of a line goes on, and the talk on its bus
 pub mod Queues

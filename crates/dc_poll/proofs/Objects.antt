@@ -20,13 +20,21 @@ of_meter name meter text tokens rest is same =
     ∙ ap (λ (ts : List Token.Token). fields_tokens (event_field name ∷ meter_field meter ∷ []) ++ ts) same
     ∙ sym (fields-append (event_field name ∷ meter_field meter ∷ []) rest)
 
-pub three : (a given b c : List Field) → given ≡ a → fields_tokens given ++ (fields_tokens b ++ fields_tokens c) ≡ fields_tokens (a ++ (b ++ c))
-three a given b c is =
-    ap (λ (f : List Field). fields_tokens f ++ (fields_tokens b ++ fields_tokens c)) is
-    ∙ sym (fields-append a (b ++ c) ∙ ap (λ (ts : List Token.Token). fields_tokens a ++ ts) (fields-append b c))
+pub four : (a given b c d last : List Field) → given ≡ a → last ≡ d
+    → fields_tokens given ++ (fields_tokens b ++ (fields_tokens c ++ fields_tokens last)) ≡ fields_tokens (a ++ (b ++ (c ++ d)))
+four a given b c d last is same =
+    ap (λ (f : List Field). fields_tokens f ++ (fields_tokens b ++ (fields_tokens c ++ fields_tokens last))) is
+    ∙ ap (λ (f : List Field). fields_tokens a ++ (fields_tokens b ++ (fields_tokens c ++ fields_tokens f))) same
+    ∙ sym (fields-append a (b ++ (c ++ d)) ∙ ap (λ (ts : List Token.Token). fields_tokens a ++ ts)
+    (fields-append b (c ++ d) ∙ ap (λ (ts : List Token.Token). fields_tokens b ++ ts) (fields-append c d)))
 
 pub fault_is : {n m : ℕ} {s t : List ℕ} → n ≡ m → s ≡ t → fault_fields n s ≡ fault_fields m t
 fault_is {n} {m} {s} {t} number name = ap (λ (k : ℕ). fault_fields k s) number ∙ ap (λ (x : List ℕ). fault_fields m x) name
+
+-- a value after its name
+pub named : (name : List ℕ) (json : Json) → (Token.key name ∷ []) ++ (json_tokens json ++ []) ≡ fields_tokens ((name, json) ∷ [])
+unfolding fields_tokens
+named name json = refl
 
 -- an object after its name
 pub object_is : (name : List ℕ) (fields : List Field) → (Token.key name ∷ []) ++ ((Token.begin_object ∷ []) ++ (fields_tokens fields ++ (Token.end_object ∷ []))) ≡ fields_tokens ((name, object_with fields) ∷ [])

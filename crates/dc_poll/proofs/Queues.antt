@@ -11,14 +11,14 @@ use Rattle.dc_poll.specs.declared.event.Event.{Event as Told}
 use Rattle.dc_poll.specs.Happening.{Happening, does, tells, is_on, kept_on, happened_on, happened_turns}
 use Rattle.dc_poll.specs.Queue.{Part, part, Goes, stays, passes_on, starts_it, is_refused, asks_it, has_no_request, is_given_up, goes_on, is_accepted, is_put_off, fails_at_last, is_faulty, is_stored, is_unstored, stands_by, is_told, loses_it}
 use Rattle.dc_poll.specs.Talking.{Talk, Talks, rests, begins, has_none, sends_it, waits_it, takes_it, hears_it, stands_by as talk_stands_by, tells_it, loses_it as talk_loses_it}
-use Rattle.dc_poll.specs.Missed.{CountsMisses}
+use Rattle.dc_poll.specs.Missed.{Brings}
 use Rattle.dc_poll.specs.Round.{LineGoes, Moves, Steps, AreTurns}
 use Rattle.dc_poll.specs.Station.{part_of, talk_of, Next, IsAfter}
 use Rattle.dc_poll.specs.declared.phase.Phase.{Phase}
 use Rattle.dc_poll.specs.declared.phase.Request.{Request}
 use Rattle.dc_poll.specs.declared.station.Station.{Station}
 use Rattle.dc_poll.proofs.Happenings.{on_append, turns_append}
-use Rattle.dc_poll.proofs.Missing.{counts_both, counts_same}
+use Rattle.dc_poll.proofs.Missing.{brings_both, brings_same}
 
 -- ---- one thing after the other
 
@@ -88,18 +88,18 @@ all_both such first more a b = subst (λ (ts : List Turn). All such ts) (sym (tu
 
 module _ {B : Type 0} {g : Bus B} where
   pub line_stays : (tries line : ℕ) (station : Station B) → LineGoes g tries line station station []
-  line_stays tries line station = record { queue = stays; talk = rests; misses = counts_same line station.misses station.misses refl }
+  line_stays tries line station = record { queue = stays; talk = rests; brought = brings_same line station.brought station.brought refl }
 
   pub line_both : {tries line : ℕ} {old mid new : Station B} {front back : List Happening} → LineGoes g tries line old mid front → LineGoes g tries line mid new back → LineGoes g tries line old new (front ++ back)
-  line_both a b = record { queue = goes_both a.queue b.queue; talk = talks_both a.talk b.talk; misses = counts_both a.misses b.misses }
+  line_both a b = record { queue = goes_both a.queue b.queue; talk = talks_both a.talk b.talk; brought = brings_both a.brought b.brought }
 
   -- by how its parts are found before and afterwards
   pub line_by : (tries line : ℕ) (old new : Station B) (first last : Part) (was is : Talk B) (happened : List Happening)
-      → part_of old ≡ first → part_of new ≡ last → talk_of old ≡ was → talk_of new ≡ is → Goes tries line first happened last → Talks g line was happened is → CountsMisses line old.misses happened new.misses → LineGoes g tries line old new happened
+      → part_of old ≡ first → part_of new ≡ last → talk_of old ≡ was → talk_of new ≡ is → Goes tries line first happened last → Talks g line was happened is → Brings line old.brought happened new.brought → LineGoes g tries line old new happened
   line_by tries line old new first last was is happened f l w i goes talks counts = record {
     queue = subst (λ (x : Part). Goes tries line x happened (part_of new)) (sym f) (subst (λ (x : Part). Goes tries line first happened x) (sym l) goes);
     talk = subst (λ (x : Talk B). Talks g line x happened (talk_of new)) (sym w) (subst (λ (x : Talk B). Talks g line was happened x) (sym i) talks);
-    misses = counts;
+    brought = counts;
   }
 
   pub steps_none : (tries line : ℕ) (such : Turn → Type 0) (old new : Station B) → LineGoes g tries line old new [] → Steps g tries line such old new []

@@ -21,7 +21,7 @@ use Rattle.dc_poll.specs.declared.phase.Request.{Request}
 use Rattle.dc_poll.specs.declared.phase.Request.TheVariants.{Quiet}
 use Rattle.dc_poll.specs.declared.station.Station.{Station}
 use Rattle.dc_poll.proofs.Counting.{left_count, pass_less}
-use Rattle.dc_poll.proofs.Missing.{counts_turn}
+use Rattle.dc_poll.proofs.Missing.{brings_turn}
 use Rattle.dc_poll.proofs.Queues.{part_after, talk_is, of_after}
 
 -- the part that such a next is
@@ -71,7 +71,7 @@ module _ {B : Type 0} (g : Bus B) where
   line_stored tries line stored old new sound is = record {
     queue = subst (λ (x : Part). Goes tries line (part_of old) (does (commits, committed stored) ∷ []) x) (sym (part_after _ old.bus old.request old.said new is.0)) (goes_stored tries line old.left.now old.due old.pass old.phase old.request (g.waits_left old.bus) stored sound);
     talk = subst (λ (x : Talk B). Talks g line (talk_of old) (does (commits, committed stored) ∷ []) x) (sym (talk_is new old.bus old.request old.said is.0.bus is.0.request is.0.said)) (talk_stands_by rests);
-    misses = counts_turn line old.misses new.misses (commits, committed stored) is.1;
+    brought = brings_turn line old.brought new.brought (commits, committed stored) is.1;
   }
 
   pub sound_stored : (tries : ℕ) (stored : Result ℕ CommitFault) (old new : Station B) → IsSound g tries old → IsStored stored old new → IsSound g tries new

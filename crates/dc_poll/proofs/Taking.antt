@@ -12,10 +12,10 @@ use Rattle.dc_poll.specs.declared.event.Event.TheVariants.{Lost as is_lost}
 use Rattle.dc_poll.specs.Keeping.{Store, IsNewest, AreTrue}
 use Rattle.dc_poll.specs.Queue.{part, Goes, IsToldAs, stays, is_told, loses_it}
 use Rattle.dc_poll.specs.Talking.{Talks, rests, tells_it, loses_it as talk_loses_it}
-use Rattle.dc_readout.specs.declared.misses.misses.Misses.{Misses}
-use Rattle.dc_poll.specs.Missed.{HasMisses}
+use Rattle.dc_poll.specs.Missed.{HasBrought}
 use Rattle.dc_poll.specs.Round.{LineGoes, Moves, AreTold, told_of, counted}
 use Rattle.dc_poll.specs.Station.{IsSoundIn, IsSound, rounds_in, rounds_of}
+use Rattle.dc_poll.specs.declared.brought.Brought.{Brought}
 use Rattle.dc_poll.specs.declared.end.End.{End}
 use Rattle.dc_poll.specs.declared.end.End.TheVariants.{Read, Failed, Refused}
 use Rattle.dc_poll.specs.declared.outcome.Counts.{Counts}
@@ -23,41 +23,41 @@ use Rattle.dc_poll.specs.declared.phase.Phase.{Phase}
 use Rattle.dc_poll.specs.declared.phase.Phase.TheVariants.{Free, Busy, Pending, Over}
 use Rattle.dc_poll.specs.declared.phase.Request.{Request}
 use Rattle.dc_poll.specs.declared.station.Station.{Station}
-use Rattle.dc_poll.proofs.Missing.{counts_told}
+use Rattle.dc_poll.proofs.Missing.{brings_told}
 use Rattle.dc_poll.proofs.Happenings.{turns_append, events_append, reads_append, failures_append}
 use Rattle.dc_poll.proofs.Queues.{line_stays, told_on, told_off}
 
 -- ---- an end
 
-told_as : (state : State) (line : ℕ) (misses : Misses) (end : End) → IsToldAs end (told_of state line misses end)
-told_as state line misses (Read meter) = (_, _, _, refl)
-told_as state line misses (Failed meter why) = (_, _, refl)
-told_as state line misses (Refused meter refusal) = refl
+told_as : (state : State) (line : ℕ) (brought : Brought) (end : End) → IsToldAs end (told_of state line brought end)
+told_as state line brought (Read meter) = (_, _, _, refl)
+told_as state line brought (Failed meter why) = (_, _, refl)
+told_as state line brought (Refused meter refusal) = refl
 
-has_misses : (state : State) (line : ℕ) (misses : Misses) (end : End) → HasMisses line misses (told_of state line misses end)
-has_misses state line misses (Read meter) = tt
-has_misses state line misses (Failed meter why) = (refl, refl)
-has_misses state line misses (Refused meter refusal) = tt
+has_brought : (state : State) (line : ℕ) (brought : Brought) (end : End) → HasBrought line brought (told_of state line brought end)
+has_brought state line brought (Read meter) = tt
+has_brought state line brought (Failed meter why) = (refl, refl)
+has_brought state line brought (Refused meter refusal) = tt
 
-newest_told : (state : State) (line : ℕ) (misses : Misses) (end : End) → IsNewest state (told_of state line misses end)
-newest_told state line misses (Read meter) = (refl, refl, refl)
-newest_told state line misses (Failed meter why) = tt
-newest_told state line misses (Refused meter refusal) = tt
+newest_told : (state : State) (line : ℕ) (brought : Brought) (end : End) → IsNewest state (told_of state line brought end)
+newest_told state line brought (Read meter) = (refl, refl, refl)
+newest_told state line brought (Failed meter why) = tt
+newest_told state line brought (Refused meter refusal) = tt
 
-no_loss : (state : State) (line : ℕ) (misses : Misses) (end : End) → told_of state line misses end ≢ is_lost line
-no_loss state line misses (Read meter) e = absurd cc
-no_loss state line misses (Failed meter why) e = absurd cc
-no_loss state line misses (Refused meter refusal) e = absurd cc
+no_loss : (state : State) (line : ℕ) (brought : Brought) (end : End) → told_of state line brought end ≢ is_lost line
+no_loss state line brought (Read meter) e = absurd cc
+no_loss state line brought (Failed meter why) e = absurd cc
+no_loss state line brought (Refused meter refusal) e = absurd cc
 
-read_counted : (state : State) (line : ℕ) (misses : Misses) (end : End) (was : Counts) → (counted end was).read ≡ was.read + reads_in (tells line (told_of state line misses end) ∷ [])
-read_counted state line misses (Read meter) was = omega arith
-read_counted state line misses (Failed meter why) was = omega arith
-read_counted state line misses (Refused meter refusal) was = omega arith
+read_counted : (state : State) (line : ℕ) (brought : Brought) (end : End) (was : Counts) → (counted end was).read ≡ was.read + reads_in (tells line (told_of state line brought end) ∷ [])
+read_counted state line brought (Read meter) was = omega arith
+read_counted state line brought (Failed meter why) was = omega arith
+read_counted state line brought (Refused meter refusal) was = omega arith
 
-failed_counted : (state : State) (line : ℕ) (misses : Misses) (end : End) (was : Counts) → (counted end was).failed ≡ was.failed + failures_in (tells line (told_of state line misses end) ∷ [])
-failed_counted state line misses (Read meter) was = omega arith
-failed_counted state line misses (Failed meter why) was = omega arith
-failed_counted state line misses (Refused meter refusal) was = omega arith
+failed_counted : (state : State) (line : ℕ) (brought : Brought) (end : End) (was : Counts) → (counted end was).failed ≡ was.failed + failures_in (tells line (told_of state line brought end) ∷ [])
+failed_counted state line brought (Read meter) was = omega arith
+failed_counted state line brought (Failed meter why) was = omega arith
+failed_counted state line brought (Refused meter refusal) was = omega arith
 
 pub few_counted : (end : End) (was : Counts) → (counted end was).read + (counted end was).failed ≤ was.read + was.failed + 1
 few_counted (Read meter) was = omega arith
@@ -111,11 +111,11 @@ module _ {N : Type 0} (takes : N → Told → N → Type 0) where
     failed = failed;
   }
 
-  pub told_end : (old new : N) (line : ℕ) (misses : Misses) (end : End) (was now : Counts) (core : Core) (state : State) → state ≡ present core → takes old (told_of state line misses end) new → now ≡ counted end was
-      → AreTold (TakesAll takes old new) was now core (tells line (told_of state line misses end) ∷ [])
-  told_end old new line misses end was now core state is put same =
-      told_one old new line (told_of state line misses end) was now core put (subst (λ (x : State). IsNewest x (told_of state line misses end)) is (newest_told state line misses end))
-      (ap (λ (o : Counts). o.read) same ∙ read_counted state line misses end was) (ap (λ (o : Counts). o.failed) same ∙ failed_counted state line misses end was)
+  pub told_end : (old new : N) (line : ℕ) (brought : Brought) (end : End) (was now : Counts) (core : Core) (state : State) → state ≡ present core → takes old (told_of state line brought end) new → now ≡ counted end was
+      → AreTold (TakesAll takes old new) was now core (tells line (told_of state line brought end) ∷ [])
+  told_end old new line brought end was now core state is put same =
+      told_one old new line (told_of state line brought end) was now core put (subst (λ (x : State). IsNewest x (told_of state line brought end)) is (newest_told state line brought end))
+      (ap (λ (o : Counts). o.read) same ∙ read_counted state line brought end was) (ap (λ (o : Counts). o.failed) same ∙ failed_counted state line brought end was)
 
   pub told_loss : (old new : N) (line : ℕ) (was : Counts) (core : Core) → takes old (is_lost line) new → AreTold (TakesAll takes old new) was was core (tells line (is_lost line) ∷ [])
   told_loss old new line was core put = told_one old new line (is_lost line) was was core put tt (omega arith) (omega arith)
@@ -130,13 +130,13 @@ module _ {B : Type 0} (g : Bus B) where
     alone = λ other not. told_off line other told not;
   }
 
-  pub moves_end : (tries line : ℕ) (state : State) (end : End) (old new : Station B) → old.phase ≡ Over end → new ≡ record old { phase = Free } → Moves g tries line old new (tells line (told_of state line old.misses end) ∷ [])
+  pub moves_end : (tries line : ℕ) (state : State) (end : End) (old new : Station B) → old.phase ≡ Over end → new ≡ record old { phase = Free } → Moves g tries line old new (tells line (told_of state line old.brought end) ∷ [])
   moves_end tries line state end old new over kept =
-      subst (λ (s : Station B). Moves g tries line old s (tells line (told_of state line old.misses end) ∷ [])) (sym kept)
-      (moves_told tries line (told_of state line old.misses end) old (record old { phase = Free }) (record {
-        queue = subst (λ (p : Phase). Goes tries line (part (take old.due old.left.now) (drop old.due old.left.now) old.pass p) (tells line (told_of state line old.misses end) ∷ []) (part (take old.due old.left.now) (drop old.due old.left.now) old.pass Free)) (sym over) (is_told (told_as state line old.misses end) stays);
-        talk = tells_it (no_loss state line old.misses end) rests;
-        misses = counts_told line old.misses (told_of state line old.misses end) (has_misses state line old.misses end);
+      subst (λ (s : Station B). Moves g tries line old s (tells line (told_of state line old.brought end) ∷ [])) (sym kept)
+      (moves_told tries line (told_of state line old.brought end) old (record old { phase = Free }) (record {
+        queue = subst (λ (p : Phase). Goes tries line (part (take old.due old.left.now) (drop old.due old.left.now) old.pass p) (tells line (told_of state line old.brought end) ∷ []) (part (take old.due old.left.now) (drop old.due old.left.now) old.pass Free)) (sym over) (is_told (told_as state line old.brought end) stays);
+        talk = tells_it (no_loss state line old.brought end) rests;
+        brought = brings_told line old.brought (told_of state line old.brought end) (has_brought state line old.brought end);
       }))
 
   pub moves_loss : (tries line : ℕ) (old new : Station B) → old.said ≡ false → g.lost old.bus ≡ true → new ≡ record old { said = true } → Moves g tries line old new (tells line (is_lost line) ∷ [])
@@ -145,7 +145,7 @@ module _ {B : Type 0} (g : Bus B) where
       (moves_told tries line (is_lost line) old (record old { said = true }) (record {
         queue = loses_it stays;
         talk = subst (λ (b : Bool). Talks g line (record { bus = old.bus; request = old.request; said = b }) (tells line (is_lost line) ∷ []) (record { bus = old.bus; request = old.request; said = true })) (sym not) (talk_loses_it lost rests);
-        misses = counts_told line old.misses (is_lost line) tt;
+        brought = brings_told line old.brought (is_lost line) tt;
       }))
 
   pub sound_told : (tries : ℕ) (end : End) (old new : Station B) → old.phase ≡ Over end → new ≡ record old { phase = Free } → IsSound g tries old → IsSound g tries new

@@ -54,7 +54,7 @@ happened_on line happened = flat_map (kept_on line) happened
 abbrev pub counts_read : Happening → ℕ
 counts_read (does turn) = 0
 counts_read (tells line (was_read meter serial parts last)) = 1
-counts_read (tells line (has_failed at meter why misses)) = 0
+counts_read (tells line (has_failed at meter why brought)) = 0
 counts_read (tells line (was_refused meter refusal)) = 0
 counts_read (tells line (is_lost lost)) = 0
 counts_read (tells line (came_late late answers)) = 0
@@ -63,7 +63,7 @@ counts_read (tells line (has_ended read failed)) = 0
 abbrev pub counts_failed : Happening → ℕ
 counts_failed (does turn) = 0
 counts_failed (tells line (was_read meter serial parts last)) = 0
-counts_failed (tells line (has_failed at meter why misses)) = 1
+counts_failed (tells line (has_failed at meter why brought)) = 1
 counts_failed (tells line (was_refused meter refusal)) = 1
 counts_failed (tells line (is_lost lost)) = 0
 counts_failed (tells line (came_late late answers)) = 0

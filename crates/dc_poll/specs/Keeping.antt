@@ -139,7 +139,7 @@ abbrev pub IsNewest : State → Told → Type 0
 IsNewest state (was_read meter serial parts last) =
     (serial ≡ newest_serial meter state) × (parts ≡ newest_parts meter state)
     × (last ≡ newest_last meter state)
-IsNewest state (has_failed at meter why misses) = Unit {0}
+IsNewest state (has_failed at meter why brought) = Unit {0}
 IsNewest state (was_refused meter refusal) = Unit {0}
 IsNewest state (is_lost line) = Unit {0}
 IsNewest state (came_late line answers) = Unit {0}

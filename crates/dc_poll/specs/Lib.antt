@@ -12,7 +12,7 @@ pub mod Queue
 pub mod Talking
 -- what a round commits
 pub mod Keeping
--- what the failed tries of a readout brought
+-- what the tries of a readout brought
 pub mod Missed
 -- a line's part of the readout
 pub mod Station
@@ -38,6 +38,8 @@ pub mod PendingRoom
 
 -- the fault of a call that refused
 pub mod Refusal
+-- what an answer says that the register doesn't take
+pub mod Content
 -- the events of a poll as text
 pub mod Text
 -- what the last part of a reading reports

@@ -1,4 +1,4 @@
--- What the failed tries of a readout brought, and its event (this product).
+-- What the tries of a readout brought, and its event (this product).
 use Rattle.std.specs.Prelude.{◌≡◌, ◌≤◌, ℕ, Bool, true, false, List, [], ◌∷◌, ◌++◌, flat_map, length}
 use Rattle.std.specs.Prelude.{if◌then◌else◌, Result, Ok, Err}
 use Rattle.dc_address.specs.declared.identity.Identity.{Identity}
@@ -12,6 +12,7 @@ use Rattle.dc_readout.specs.Missing.{is_missing}
 use Rattle.dc_readout.specs.declared.misses.misses.Misses.{Misses}
 use Rattle.dc_poll.specs.Happening.{Happening, does, tells}
 use Rattle.dc_poll.specs.Queue.{most_asks, starts_in}
+use Rattle.dc_poll.specs.declared.brought.Brought.{Brought}
 use Rattle.dc_poll.specs.declared.event.Event.{Event as Told}
 use Rattle.dc_poll.specs.declared.event.Event.TheVariants.{Read as was_read, Failed as has_failed}
 use Rattle.dc_poll.specs.declared.event.Event.TheVariants.{Refused as was_refused, Lost as is_lost}
@@ -42,17 +43,28 @@ missed_in happened = flat_map missed_of happened
 
 -- ---- a failed readout
 
--- WHAT IS TOLD OF A FAILED READOUT: its line, and how many of its failed tries brought what. The readout is what
--- happened on its line since its start, which is the last one there. It has fewer than 255 tries, so the counts are
--- whole.
+-- the answer that was heard last among these, after this one
+abbrev pub last_by : Event → Answer → List ℕ → List ℕ
+last_by (hears line moment bytes) (heard answer) before = bytes
+last_by event answer before = before
+
+abbrev pub last_heard : List ℕ → List Happening → List ℕ
+last_heard before [] = before
+last_heard before (does turn ∷ more) = last_heard (last_by turn.0 turn.1 before) more
+last_heard before (tells line told ∷ more) = last_heard before more
+
+-- WHAT IS TOLD OF A FAILED READOUT: its line, how many of its failed tries brought what, and its last answer. The
+-- readout is what happened on its line since its start, which is the last one there. It has fewer than 255 tries, so the
+-- counts are whole.
 pub record TellsReadout (line : ℕ) (meter : Identity) (front : List Happening) (at : ℕ)
-    (misses : Misses) : Type 0 where
+    (brought : Brought) : Type 0 where
   pub before : List Happening
   pub readout : List Happening
   pub parts : front ≡ before ++ does (starts line meter, started (Ok tt)) ∷ readout
   pub last_one : starts_in readout ≡ []
   pub on_line : at ≡ line
-  pub misses_are : misses ≡ misses_of (missed_in readout)
+  pub misses_are : brought.misses ≡ misses_of (missed_in readout)
+  pub last_is : brought.last ≡ last_heard [] readout
   pub few : length (missed_in readout) ≤ most_asks
 
 -- ---- turn by turn
@@ -61,36 +73,44 @@ pub record TellsReadout (line : ℕ) (meter : Identity) (front : List Happening)
 abbrev pub misses_heard : List ℕ → Result LineHeard HearFault → Misses → Misses
 misses_heard bytes answer misses = if is_miss answer then and_missed bytes misses else misses
 
--- a start begins with none
-abbrev pub misses_by : Event → Answer → Misses → Misses
-misses_by (starts line meter) answer misses = misses_of []
-misses_by (hears line moment bytes) (heard answer) misses = misses_heard bytes answer misses
-misses_by event answer misses = misses
+-- before the first answer
+abbrev pub nothing_brought : Brought
+nothing_brought = record { misses = misses_of []; last = [] }
 
-abbrev pub misses_after : Misses → List Happening → Misses
-misses_after misses [] = misses
-misses_after misses (does turn ∷ more) = misses_after (misses_by turn.0 turn.1 misses) more
-misses_after misses (tells line told ∷ more) = misses_after misses more
+abbrev pub and_heard : List ℕ → Result LineHeard HearFault → Brought → Brought
+and_heard bytes answer brought =
+    record { misses = misses_heard bytes answer brought.misses; last = bytes }
 
--- an event of a failed readout has its line and these misses
-abbrev pub HasMisses : ℕ → Misses → Told → Type 0
-HasMisses line misses (was_read meter serial parts last) = Unit {0}
-HasMisses line misses (has_failed at meter why counts) = (at ≡ line) × (counts ≡ misses)
-HasMisses line misses (was_refused meter refusal) = Unit {0}
-HasMisses line misses (is_lost lost) = Unit {0}
-HasMisses line misses (came_late late answers) = Unit {0}
-HasMisses line misses (has_ended read failed) = Unit {0}
+-- a start begins with nothing
+abbrev pub brought_by : Event → Answer → Brought → Brought
+brought_by (starts line meter) answer brought = nothing_brought
+brought_by (hears line moment bytes) (heard answer) brought = and_heard bytes answer brought
+brought_by event answer brought = brought
 
--- each such event has those up to there
-abbrev pub TellMisses : ℕ → Misses → List Happening → Type 0
-TellMisses line misses [] = Unit {0}
-TellMisses line misses (does turn ∷ more) =
-    TellMisses line (misses_by turn.0 turn.1 misses) more
-TellMisses line misses (tells other told ∷ more) =
-    HasMisses line misses told × TellMisses line misses more
+abbrev pub brought_after : Brought → List Happening → Brought
+brought_after brought [] = brought
+brought_after brought (does turn ∷ more) = brought_after (brought_by turn.0 turn.1 brought) more
+brought_after brought (tells line told ∷ more) = brought_after brought more
 
--- THE MISSES OF A LINE, by what happens on it.
-pub record CountsMisses (line : ℕ) (old : Misses) (happened : List Happening) (new : Misses)
+-- an event of a failed readout has its line and what was brought
+abbrev pub HasBrought : ℕ → Brought → Told → Type 0
+HasBrought line brought (was_read meter serial parts last) = Unit {0}
+HasBrought line brought (has_failed at meter why told) = (at ≡ line) × (told ≡ brought)
+HasBrought line brought (was_refused meter refusal) = Unit {0}
+HasBrought line brought (is_lost lost) = Unit {0}
+HasBrought line brought (came_late late answers) = Unit {0}
+HasBrought line brought (has_ended read failed) = Unit {0}
+
+-- each such event has what was brought up to there
+abbrev pub TellBrought : ℕ → Brought → List Happening → Type 0
+TellBrought line brought [] = Unit {0}
+TellBrought line brought (does turn ∷ more) =
+    TellBrought line (brought_by turn.0 turn.1 brought) more
+TellBrought line brought (tells other told ∷ more) =
+    HasBrought line brought told × TellBrought line brought more
+
+-- WHAT THE TRIES OF A LINE BROUGHT, by what happens on it.
+pub record Brings (line : ℕ) (old : Brought) (happened : List Happening) (new : Brought)
     : Type 0 where
-  pub told : TellMisses line old happened
-  pub after : new ≡ misses_after old happened
+  pub told : TellBrought line old happened
+  pub after : new ≡ brought_after old happened

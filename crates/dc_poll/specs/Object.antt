@@ -3,6 +3,7 @@ use Rattle.std.specs.Prelude.{ℕ, List, [], ◌∷◌, ◌++◌, codes, flat_ma
 use Rattle.json.specs.Json.{Json, string}
 use Rattle.dc_address.specs.Text.{text_of}
 use Rattle.dc_address.specs.declared.identity.Identity.{Identity}
+use Rattle.dc_frame_json.specs.Content.{content_field}
 use Rattle.dc_frame_json.specs.Text.{value_line}
 use Rattle.dc_readout.specs.declared.misses.misses.Misses.{Misses}
 use Rattle.dc_readout.specs.declared.why.Why.{Why}
@@ -12,8 +13,11 @@ use Rattle.dc_readout.specs.declared.why.Why.TheVariants.{TooManyParts}
 use Rattle.dc_readout.specs.Why.{number_of as why_number, name_of as why_name}
 use Rattle.dc_record.specs.Fault.{number_of as content_number, name_of as content_name}
 use Rattle.dc_tokens.specs.Object.{Field, object_of as object_with, count}
+use Rattle.dc_poll.specs.Content.{untaken}
 use Rattle.dc_poll.specs.Read.{last_fields}
 use Rattle.dc_poll.specs.Refusal.{refusal_number, refusal_name}
+use Rattle.dc_poll.specs.declared.brought.Brought.{Brought}
+use Rattle.dc_poll.specs.declared.end.Refusal.{Refusal}
 use Rattle.dc_poll.specs.declared.event.Event.{Event}
 use Rattle.dc_poll.specs.declared.event.Event.TheVariants.{Read, Failed, Refused, Lost, Late, End}
 
@@ -57,10 +61,16 @@ heard_fields line misses = count_field (codes "line") line
     )
     ∷ []
 
-unfoldable pub failed_fields : ℕ → Identity → Why → Misses → List Field
-failed_fields line meter why misses =
+-- also what the last answer says where the register doesn't take it
+unfoldable pub failed_fields : ℕ → Identity → Why → Brought → List Field
+failed_fields line meter why brought =
     (event_field (codes "failed") ∷ meter_field meter ∷ [])
-    ++ (fault_fields (why_number why) (why_name why) ++ (body_fields why ++ heard_fields line misses))
+    ++ (fault_fields (why_number why) (why_name why)
+    ++ (body_fields why ++ (heard_fields line brought.misses ++ content_field (untaken brought.last))))
+
+unfoldable pub refused_fields : Identity → Refusal → List Field
+refused_fields meter refusal = (event_field (codes "refused") ∷ meter_field meter ∷ [])
+    ++ fault_fields (refusal_number refusal) (refusal_name refusal)
 
 -- what was read, the reading's serial and number of parts, and what the last part reports
 unfoldable pub read_fields : Identity → ℕ → ℕ → List Field → List Field
@@ -71,9 +81,8 @@ read_fields meter serial parts last =
 -- THE FIELDS OF AN EVENT.
 abbrev pub fields_of : Event → List Field
 fields_of (Read meter serial parts last) = read_fields meter serial parts (last_fields last)
-fields_of (Failed line meter why misses) = failed_fields line meter why misses
-fields_of (Refused meter refusal) = (event_field (codes "refused") ∷ meter_field meter ∷ [])
-    ++ fault_fields (refusal_number refusal) (refusal_name refusal)
+fields_of (Failed line meter why brought) = failed_fields line meter why brought
+fields_of (Refused meter refusal) = refused_fields meter refusal
 fields_of (Lost line) = event_field (codes "lost") ∷ count_field (codes "line") line ∷ []
 fields_of (Late line answers) = event_field (codes "late") ∷ count_field (codes "line") line
     ∷ count_field (codes "answers") answers ∷ []

@@ -12,10 +12,10 @@ use Rattle.dc_concentrator.specs.declared.fault.StartFault.{StartFault}
 use Rattle.dc_concentrator.specs.declared.line_heard.LineHeard.{LineHeard}
 use Rattle.dc_concentrator.specs.declared.line_heard.LineHeard.TheVariants.{Again, Ready, Accepted}
 use Rattle.dc_concentrator.specs.declared.line_heard.LineHeard.TheVariants.{Failed as HasFailed}
-use Rattle.dc_readout.specs.declared.misses.misses.Misses.{Misses}
 use Rattle.dc_readout.specs.declared.why.Why.{Why}
 use Rattle.dc_readout.specs.declared.why.Why.TheVariants.{NoAnswer}
 use Rattle.dc_poll.specs.Happening.{Happening, does, tells}
+use Rattle.dc_poll.specs.declared.brought.Brought.{Brought}
 use Rattle.dc_poll.specs.declared.event.Event.{Event as Told}
 use Rattle.dc_poll.specs.declared.event.Event.TheVariants.{Read as was_read, Failed as has_failed}
 use Rattle.dc_poll.specs.declared.event.Event.TheVariants.{Refused as was_refused, Lost as is_lost}
@@ -54,7 +54,7 @@ abbrev pub IsToldAs : End → Told → Type 0
 IsToldAs (Read meter) told =
     (serial parts : ℕ) × (last : Option PartRow) × (told ≡ was_read meter serial parts last)
 IsToldAs (Failed meter why) told =
-    (at : ℕ) × (misses : Misses) × (told ≡ has_failed at meter why misses)
+    (at : ℕ) × (brought : Brought) × (told ≡ has_failed at meter why brought)
 IsToldAs (Refused meter refusal) told = told ≡ was_refused meter refusal
 
 -- THE QUEUE OF A LINE GOES ON by what happens on that line, IN PASSES. The present meter is started, asked and heard.
@@ -224,7 +224,7 @@ IsWell (replied reply) = Unit {0}
 
 abbrev pub IsWellTold : Told → Type 0
 IsWellTold (was_read meter serial parts last) = Unit {0}
-IsWellTold (has_failed at meter why misses) = ⊥
+IsWellTold (has_failed at meter why brought) = ⊥
 IsWellTold (was_refused meter refusal) = ⊥
 IsWellTold (is_lost line) = Unit {0}
 IsWellTold (came_late line answers) = Unit {0}
@@ -237,7 +237,7 @@ GoesWell (tells line told) = IsWellTold told
 -- the meters whose event says that they were read
 abbrev pub read_by : Told → List Identity
 read_by (was_read meter serial parts last) = meter ∷ []
-read_by (has_failed at meter why misses) = []
+read_by (has_failed at meter why brought) = []
 read_by (was_refused meter refusal) = []
 read_by (is_lost line) = []
 read_by (came_late line answers) = []

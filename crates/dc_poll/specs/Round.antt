@@ -8,12 +8,12 @@ use Rattle.dc_concentrator.specs.Event.{commits, committed}
 use Rattle.dc_concentrator.specs.declared.fault.CommitFault.{CommitFault}
 use Rattle.dc_concentrator.specs.Images.{Machine}
 use Rattle.dc_concentrator.specs.Transcript.{Turn, leads}
-use Rattle.dc_readout.specs.declared.misses.misses.Misses.{Misses}
 use Rattle.dc_poll.specs.Bus.{Bus}
 use Rattle.dc_concentrator.specs.Went.{BehindAnyRun, Went}
 use Rattle.dc_poll.specs.Happening.{Happening, does, tells, happened_on, happened_events}
 use Rattle.dc_poll.specs.Happening.{happened_turns, reads_in}
 use Rattle.dc_poll.specs.Happening.{failures_in, newest_serial, newest_parts, newest_last}
+use Rattle.dc_poll.specs.declared.brought.Brought.{Brought}
 use Rattle.dc_poll.specs.declared.end.End.{End}
 use Rattle.dc_poll.specs.declared.end.End.TheVariants.{Read, Failed, Refused}
 use Rattle.dc_poll.specs.declared.outcome.Counts.{Counts}
@@ -24,7 +24,7 @@ use Rattle.dc_poll.specs.declared.event.Event.TheVariants.{Late as came_late}
 use Rattle.dc_disk.specs.declared.device.Disk.{Ghosts}
 use Rattle.dc_poll.specs.Keeping.{AllFindRoom, AreHeard, AreTrue, IsHearing, IsSettled, Store}
 use Rattle.dc_poll.specs.Keeping.{most_pending}
-use Rattle.dc_poll.specs.Missed.{CountsMisses}
+use Rattle.dc_poll.specs.Missed.{Brings}
 use Rattle.dc_poll.specs.Queue.{Goes}
 use Rattle.dc_poll.specs.Talking.{Talks}
 use Rattle.dc_poll.specs.Station.{IsAfter, part_of, stored_by, talk_of}
@@ -47,12 +47,12 @@ Runs g such first new = BehindAnyRun g first
 
 -- ---- one line's part
 
--- A LINE GOES ON by what happens on it: its queue does, this is the talk on its bus, and its failed tries are counted.
+-- A LINE GOES ON by what happens on it: its queue does, this is the talk on its bus, and what its tries brought.
 pub record LineGoes {B : Type 0} (g : Bus B) (tries line : ℕ)
     (old new : Station B) (happened : List Happening) : Type 0 where
   pub queue : Goes tries line (part_of old) happened (part_of new)
   pub talk : Talks g line (talk_of old) happened (talk_of new)
-  pub misses : CountsMisses line old.misses happened new.misses
+  pub brought : Brings line old.brought happened new.brought
 
 -- this happens on this line alone, which goes on by it
 pub record Moves {B : Type 0} (g : Bus B) (tries line : ℕ)
@@ -138,7 +138,7 @@ AreHeardAs moment (Err fault) turns = EndsInCommit moment (Err fault) turns
 abbrev pub IsStored : {B : Type 0} → Result ℕ CommitFault → Station B → Station B → Type 0
 IsStored stored old new =
     IsAfter (stored_by old.left.now old.due old.pass old.phase stored) old.bus old.request old.said
-    new × (new.misses ≡ old.misses)
+    new × (new.brought ≡ old.brought)
 
 -- what becomes of each line by a commit
 pub record AreStored {B : Type 0} (stored : Result ℕ CommitFault)
@@ -181,12 +181,12 @@ meters_left {B} stations = sum (map (λ (s : Station B). length s.left.now) stat
 
 -- ---- the events
 
--- the event of an end on this line, by the register and the misses of the readout
-abbrev pub told_of : State → ℕ → Misses → End → Told
-told_of state line misses (Read meter) =
+-- the event of an end on this line, by the register and what the tries of the readout brought
+abbrev pub told_of : State → ℕ → Brought → End → Told
+told_of state line brought (Read meter) =
     was_read meter (newest_serial meter state) (newest_parts meter state) (newest_last meter state)
-told_of state line misses (Failed meter why) = has_failed line meter why misses
-told_of state line misses (Refused meter refusal) = was_refused meter refusal
+told_of state line brought (Failed meter why) = has_failed line meter why brought
+told_of state line brought (Refused meter refusal) = was_refused meter refusal
 
 abbrev pub counted : End → Counts → Counts
 counted (Read meter) outcome = record outcome { read = outcome.read + 1 }

@@ -15,7 +15,7 @@ not_read tally = record { done = one_more tally.done; failed = one_more tally.fa
 abbrev pub tallied : Event → Tally → Tally
 tallied (Read meter serial parts last) tally =
     record { done = one_more tally.done; failed = tally.failed }
-tallied (Failed line meter why misses) tally = not_read tally
+tallied (Failed line meter why brought) tally = not_read tally
 tallied (Refused meter refusal) tally = not_read tally
 tallied (Lost line) tally = tally
 tallied (Late line answers) tally = tally

@@ -40,7 +40,7 @@ refused_line meter refusal = codes "REFUSED " ++ (text_of meter
 abbrev pub line_of : Event → List ℕ
 line_of (Read meter serial parts last) = codes "READ " ++ (text_of meter
     ++ (number_word serial ++ (number_word parts ++ codes "\n")))
-line_of (Failed line meter why misses) = failed_line meter why
+line_of (Failed line meter why brought) = failed_line meter why
 line_of (Refused meter refusal) = refused_line meter refusal
 line_of (Lost line) = codes "LINE" ++ (number_word line ++ codes " LOST\n")
 line_of (Late line answers) =

@@ -1,10 +1,10 @@
 //! The events of a poll.
 
+use crate::brought::Brought;
 use crate::end::Refusal;
 use crate::last_part::LastPart;
 use dc_address::Identity;
 use dc_readout::Why;
-use dc_readout::misses::Misses;
 
 /// An event of a poll.
 #[derive(Drop)]
@@ -28,8 +28,8 @@ pub enum Event<'a> {
         meter: Identity,
         /// Why that readout failed.
         why: Why,
-        /// What its failed tries brought.
-        misses: Misses,
+        /// What its tries brought.
+        brought: Brought,
     },
     /// The readout of a meter was refused.
     Refused {

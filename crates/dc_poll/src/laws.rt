@@ -11,7 +11,7 @@ ghost use Rattle.dc_change.specs.State.{State};
 ghost use Rattle.dc_concentrator.specs.Core.{Core};
 ghost use Rattle.dc_concentrator.specs.Transcript.{Turn, IsChain, leads};
 ghost use Rattle.dc_poll.specs.Committed.{IsCommittedWhereNoneIsAsked};
-ghost use Rattle.dc_poll.specs.Failures.{MissesAreTold};
+ghost use Rattle.dc_poll.specs.Failures.{BroughtIsTold};
 ghost use Rattle.dc_poll.specs.Happening.{Happening, happened_turns, tells};
 ghost use Rattle.dc_poll.specs.Keeping.{AreTrue, IsSettled, Store, all_kept, store_behind};
 ghost use Rattle.dc_poll.specs.PendingRoom.{AnswersFindRoom};
@@ -56,9 +56,9 @@ pub fn what_is_read_is_not_begun_again()
         Lacks (meter_of end) (starts_in back) }
 {}
 
-/// The event of a failed readout has its line, and says how many of its failed tries brought what.
-pub fn the_misses_of_a_failed_readout_are_told<B: HalfBus + Drop>()
-    ensures { MissesAreTold B.HalfBus }
+/// The event of a failed readout has its line and its last answer, and says how many of its failed tries brought what.
+pub fn what_a_failed_readout_brought_is_told<B: HalfBus + Drop>()
+    ensures { BroughtIsTold B.HalfBus }
 {}
 
 /// The queues of a plan have each meter once, where those of the register ascend.

@@ -8,6 +8,7 @@
 //! Events go to a [`Teller`]. [`events`] has tellers that print them as text and as JSON.
 #![tactic(auto)]
 
+mod brought;
 mod calls;
 mod clock;
 pub mod dry;
@@ -29,13 +30,14 @@ mod telling;
 mod timer;
 mod waiting;
 
+pub use brought::Brought;
 pub use end::{End, Refusal};
 pub use event::Event;
 pub use image::{Plan, poll_image};
 pub use last_part::LastPart;
 pub use laws::{
     a_queue_comes_to_its_end, every_meter_of_a_queue_is_started, the_meters_of_a_queue_are_apart,
-    the_misses_of_a_failed_readout_are_told, what_is_committed_waits_no_more,
+    what_a_failed_readout_brought_is_told, what_is_committed_waits_no_more,
     what_is_read_is_committed, what_is_read_is_not_begun_again,
     where_nothing_fails_every_meter_is_read,
 };

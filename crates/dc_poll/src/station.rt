@@ -4,8 +4,7 @@ ghost use Rattle.std.specs.Prelude.{◌≡◌, ◌⊎◌, ◌<◌, ◌≤◌, �
 ghost use Rattle.std.specs.Prelude.{IfErr, length, nat_lt, slice_get, true, false};
 ghost use Rattle.dc_concentrator.specs.Step.{longest_request};
 ghost use Rattle.dc_bus.specs.Halves.{most_waits};
-ghost use Rattle.dc_readout.specs.Misses.{misses_of};
-ghost use Rattle.dc_poll.specs.Missed.{is_miss, misses_heard};
+ghost use Rattle.dc_poll.specs.Missed.{and_heard, nothing_brought};
 ghost use Rattle.dc_poll.specs.Queue.{most_asks};
 ghost use Rattle.dc_poll.specs.Station.{IsAfter, Listens, after_answer, ended, is_answered};
 ghost use Rattle.dc_poll.specs.Station.{lost_by, next_pass, put_off, stored_by, taken_of};
@@ -14,13 +13,13 @@ ghost use Rattle.dc_poll.specs.declared.end.Refusal.TheVariants.{Start};
 ghost use Rattle.dc_poll.specs.declared.phase.Phase.TheVariants.{Free, Busy};
 ghost use Rattle.dc_poll.specs.declared.phase.Request.TheVariants.{Quiet, Sent};
 
+use crate::brought::Brought;
 use crate::end::{End, Refusal};
 use crate::phase::{Phase, Request};
 use dc_address::Identity;
-use dc_bus::HalfBus;
+use dc_bus::{AnswerBuf, HalfBus};
 use dc_concentrator::{CommitFault, HearFault, LineHeard, StartFault};
 use dc_frame::FrameBuf;
-use dc_readout::misses::{Misses, is_missing};
 use std::mem;
 
 // No readout asks more often: three tries at a reset, a selection and each of 32 parts, and once more where nothing
@@ -46,8 +45,8 @@ pub struct Station<'a, B: HalfBus + Drop> {
     pub request: Request,
     /// Whether the event of its loss went out.
     pub said: bool,
-    /// What the failed tries of its readout brought.
-    pub misses: Misses,
+    /// What the tries of its readout brought.
+    pub brought: Brought,
 }
 
 impl<'a, B: HalfBus + Drop> Station<'a, B> {
@@ -56,7 +55,7 @@ impl<'a, B: HalfBus + Drop> Station<'a, B> {
         ensures fresh { IsAfter
             (record { left = meters.old; due = length meters.old; pass = 1; phase = Free }) bus Quiet
             false result }
-        ensures misses { result.misses ≡ misses_of [] }
+        ensures brought { result.brought ≡ nothing_brought }
     {
         let due = meters.len();
         Station {
@@ -67,7 +66,7 @@ impl<'a, B: HalfBus + Drop> Station<'a, B> {
             phase: Phase::Free,
             request: Request::Quiet,
             said: false,
-            misses: Misses::none(),
+            brought: Brought::nothing(),
         }
     }
 
@@ -84,7 +83,7 @@ impl<'a, B: HalfBus + Drop> Station<'a, B> {
         ensures after { IsAfter
             (next_pass self.old.left.now self.old.due self.old.pass self.old.phase)
             self.old.bus self.old.request self.old.said self.new }
-        ensures misses { self.new.misses ≡ self.old.misses }
+        ensures brought { self.new.brought ≡ self.old.brought }
     {
         if self.due == 0 {
             self.due = self.left.len();
@@ -103,9 +102,9 @@ impl<'a, B: HalfBus + Drop> Station<'a, B> {
         ensures err { IfErr answer (λ fault. IsAfter
             (ended self.old.left.now self.old.due self.old.pass (Refused meter (Start fault)))
             self.old.bus self.old.request self.old.said self.new) }
-        ensures misses { self.new.misses ≡ misses_of [] }
+        ensures brought { self.new.brought ≡ nothing_brought }
     {
-        self.misses = Misses::none();
+        self.brought = Brought::nothing();
         match answer {
             Ok(()) => self.phase = Phase::Busy(MOST_ASKS),
             Err(fault) => self.leave(End::Refused(meter, Refusal::Start(fault))),
@@ -126,7 +125,7 @@ impl<'a, B: HalfBus + Drop> Station<'a, B> {
         ensures over { IfNone request (IsAfter
             (ended self.old.left.now self.old.due self.old.pass (Read meter))
             self.old.bus self.old.request self.old.said self.new) }
-        ensures misses { self.new.misses ≡ self.old.misses }
+        ensures brought { self.new.brought ≡ self.old.brought }
     {
         match request {
             Some(request) => {
@@ -171,11 +170,10 @@ impl<'a, B: HalfBus + Drop> Station<'a, B> {
         ensures after { IsAfter (after_answer (nat_lt self.old.pass tries)
             self.old.left.now self.old.due self.old.pass asks meter answer)
             self.old.bus Quiet self.old.said self.new }
-        ensures misses { self.new.misses
-            ≡ misses_heard (taken_of self.old.request) answer self.old.misses }
+        ensures brought { self.new.brought
+            ≡ and_heard (taken_of self.old.request) answer self.old.brought }
     {
-        self.count_miss(&answer);
-        self.request = Request::Quiet;
+        self.take_answer(&answer);
         match answer {
             Ok(LineHeard::Again) | Ok(LineHeard::Ready) => {}
             Ok(LineHeard::Accepted { .. }) => self.phase = Phase::Pending(asks),
@@ -190,15 +188,18 @@ impl<'a, B: HalfBus + Drop> Station<'a, B> {
         }
     }
 
-    // Where the try failed, what it brought is counted.
-    fn count_miss(&mut self, answer: &Result<LineHeard, HearFault>)
+    // What was heard of the request is what it brought.
+    fn take_answer(&mut self, answer: &Result<LineHeard, HearFault>)
         ensures { self.new ≡ record self.old {
-          misses = misses_heard (taken_of self.old.request) answer.now self.old.misses;
+          request = Quiet;
+          brought = and_heard (taken_of self.old.request) answer.now self.old.brought;
         } }
     {
-        if is_miss(answer) {
-            self.misses.count(taken_of(&self.request));
-        }
+        let bytes = match mem::replace(&mut self.request, Request::Quiet) {
+            Request::Answered(bytes) => bytes,
+            Request::Quiet | Request::Sent => AnswerBuf::new(),
+        };
+        self.brought.hear(bytes, answer);
     }
 
     // What becomes of it by a commit.
@@ -206,7 +207,7 @@ impl<'a, B: HalfBus + Drop> Station<'a, B> {
         ensures after { IsAfter (stored_by
             self.old.left.now self.old.due self.old.pass self.old.phase stored.now)
             self.old.bus self.old.request self.old.said self.new }
-        ensures misses { self.new.misses ≡ self.old.misses }
+        ensures brought { self.new.brought ≡ self.old.brought }
     {
         if let Phase::Pending(asks) = self.phase {
             match stored {
@@ -221,7 +222,7 @@ impl<'a, B: HalfBus + Drop> Station<'a, B> {
         ensures after { IsAfter (lost_by
             self.old.left.now self.old.due self.old.pass self.old.phase fault)
             self.old.bus self.old.request self.old.said self.new }
-        ensures misses { self.new.misses ≡ self.old.misses }
+        ensures brought { self.new.brought ≡ self.old.brought }
     {
         if let Some(meter) = self.present() {
             self.leave(End::Refused(meter, Refusal::Commit(fault)));
@@ -233,7 +234,7 @@ impl<'a, B: HalfBus + Drop> Station<'a, B> {
         requires { (0 < self.old.due) × (self.old.due ≤ length self.old.left.now) }
         ensures after { IsAfter (put_off self.old.left.now self.old.due self.old.pass)
             self.old.bus self.old.request self.old.said self.new }
-        ensures misses { self.new.misses ≡ self.old.misses }
+        ensures brought { self.new.brought ≡ self.old.brought }
     {
         self.left.rotate_left(1);
         self.due -= 1;
@@ -244,7 +245,7 @@ impl<'a, B: HalfBus + Drop> Station<'a, B> {
     pub(crate) fn leave(&mut self, end: End)
         ensures after { IsAfter (ended self.old.left.now self.old.due self.old.pass end)
             self.old.bus self.old.request self.old.said self.new }
-        ensures misses { self.new.misses ≡ self.old.misses }
+        ensures brought { self.new.brought ≡ self.old.brought }
     {
         let left = mem::replace(&mut self.left, &mut []);
         if let Some((_, more)) = left.split_first_mut() {
@@ -262,16 +263,5 @@ pub(crate) fn taken_of(request: &Request) -> &[u8]
     match request {
         Request::Answered(bytes) => bytes.as_slice(),
         _ => &[],
-    }
-}
-
-// Whether the try failed.
-fn is_miss(answer: &Result<LineHeard, HearFault>) -> bool
-    ensures { result ≡ is_miss answer.now }
-{
-    match answer {
-        Ok(LineHeard::Again) => true,
-        Ok(LineHeard::Failed(why)) => is_missing(why),
-        Ok(LineHeard::Ready) | Ok(LineHeard::Accepted { .. }) | Err(_) => false,
     }
 }

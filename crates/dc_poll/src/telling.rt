@@ -8,6 +8,7 @@ ghost use Rattle.dc_poll.specs.Station.{IsSound, rounds_of};
 ghost use Rattle.dc_poll.specs.Telling.{CountsFailures, HasTold, TakesAll};
 ghost use Rattle.dc_poll.specs.declared.outcome.Counts.{Counts as Counted};
 
+use crate::brought::Brought;
 use crate::end::End;
 use crate::event::Event;
 use crate::lines::line_at;
@@ -20,7 +21,6 @@ use dc_bus::HalfBus;
 use dc_concentrator::Concentrator;
 use dc_disk::Disk;
 use dc_io::IoFault;
-use dc_readout::misses::Misses;
 use dc_register::House;
 use std::alloc::Allocator;
 
@@ -31,14 +31,14 @@ pub(crate) fn tell_one<N: Teller>(event: &Event<'_>, teller: &mut N) -> Result<(
     teller.tell(event)
 }
 
-// The event of an end on a line, where these were the misses of the readout.
+// The event of an end on a line, where this is what the tries of the readout brought.
 fn told_of<'a, A: Allocator + Copy>(
     house: &'a House<A>,
     line: u8,
-    misses: Misses,
+    brought: &Brought,
     end: &End,
 ) -> Event<'a>
-    ensures { result ≡ told_of house.now.state line misses end.now }
+    ensures { result ≡ told_of house.now.state line brought.now end.now }
 {
     match *end {
         End::Read(meter) => newest_reading(house, meter),
@@ -46,7 +46,7 @@ fn told_of<'a, A: Allocator + Copy>(
             line,
             meter,
             why,
-            misses,
+            brought: brought.copied(),
         },
         End::Refused(meter, refusal) => Event::Refused { meter, refusal },
     }
@@ -89,7 +89,7 @@ fn tell_end<D: Disk + Drop, A: Allocator + Copy, B: HalfBus + Drop, N: Teller>(
     };
     station.phase = Phase::Free;
     count(&end, outcome);
-    let told = told_of(concentrator.house(), line, station.misses, &end);
+    let told = told_of(concentrator.house(), line, &station.brought, &end);
     teller.tell(&told)
 }
 

@@ -222,7 +222,7 @@ module _ (budget line : ℕ) (state : State) (wire : Wire) (all : List Turn) (ch
   told_fact : (x : Identity) (idle : Bool) (told : Told) (before more : List Turn) (now : Line) → all ≡ before ++ more → Since x before now → (idle ≡ true → session_of (core_at before) line ≡ None) → IsSettled (store_behind some_wait before) → IsNewest (present (core_at before)) told → TellFact New (Some x) idle told
   told_fact x false told before more now is s free kept newest = tt
   told_fact x true (told_read m serial parts last) before more now is s free kept newest = new_at x m serial parts last before more now is s (free refl) kept newest
-  told_fact x true (has_failed at m why misses) before more now is s free kept newest = tt
+  told_fact x true (has_failed at m why brought) before more now is s free kept newest = tt
   told_fact x true (was_refused m refusal) before more now is s free kept newest = tt
   told_fact x true (is_lost lost) before more now is s free kept newest = tt
   told_fact x true (came_late late answers) before more now is s free kept newest = tt

@@ -86,7 +86,7 @@ turn_none line turn = by (is_on line turn.0)
 
 told_counts : (line : ℕ) (told : Told) → length (read_by told ++ []) ≡ counts_read (tells line told)
 told_counts line (was_read meter serial parts last) = refl
-told_counts line (has_failed at meter why misses) = refl
+told_counts line (has_failed at meter why brought) = refl
 told_counts line (was_refused meter refusal) = refl
 told_counts line (is_lost lost) = refl
 told_counts line (came_late late answers) = refl

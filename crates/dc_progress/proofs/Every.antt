@@ -144,7 +144,7 @@ module _ (budget : ℕ) (state : State) (happened : List Happening) (chain : IsC
   new_of : (line : ℕ) (wire : Wire) → AreApart (starts_on line (happened_turns happened)) → (h : Happening) → IsNew (Was line wire) (New line wire) h → IsOfNew state now wire h
   new_of line wire once (does turn) new = tt
   new_of line wire once (tells other (told_read m serial parts last)) new = (is_read budget line state wire (happened_turns happened) chain of once m new.was none_last, new.serial_is)
-  new_of line wire once (tells other (has_failed at m why misses)) new = tt
+  new_of line wire once (tells other (has_failed at m why brought)) new = tt
   new_of line wire once (tells other (was_refused m refusal)) new = tt
   new_of line wire once (tells other (is_lost lost)) new = tt
   new_of line wire once (tells other (came_late late answers)) new = tt

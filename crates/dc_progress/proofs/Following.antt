@@ -112,7 +112,7 @@ module _ (was_read : Identity → Type 0) (new : Identity → ℕ → Type 0) wh
       let same : told_read x serial parts last ≡ told_read meter is.0 is.1 is.2 = is.3 in
       let meters : x ≡ meter = cc in
       subst (λ (m : Identity). new m serial) (sym meters) (fact meters)
-  told_new meter (has_failed at x why misses) line is fact = tt
+  told_new meter (has_failed at x why brought) line is fact = tt
   told_new meter (was_refused x refusal) line is fact = tt
   told_new meter (is_lost lost) line is fact = tt
   told_new meter (came_late late answers) line is fact = tt

@@ -14,7 +14,7 @@ use Rattle.dc_progress.specs.Beside.{Bus as Line, bus_after, bus_at_first}
 use Rattle.dc_poll.specs.Happening.{Happening, does, tells, happened_on}
 use Rattle.dc_poll.specs.ImagePoll.{ImageTurned}
 use Rattle.dc_poll.specs.Keeping.{AreTrue, InRounds, IsAsking, IsHearing, IsNewest, IsRound, at_first, and_round, some_wait}
-use Rattle.dc_poll.specs.Missed.{CountsMisses}
+use Rattle.dc_poll.specs.Missed.{Brings, brought_after}
 use Rattle.dc_poll.specs.Planned.{IsPlanned}
 use Rattle.dc_poll.specs.Queue as queue
 use Rattle.dc_poll.specs.Queue.{Goes}
@@ -47,10 +47,10 @@ abbrev happened : List Happening
 happened = does commits_none ∷ does starts_it ∷ does resets_it ∷ does hears_ack ∷ does commits_none ∷ does requests_it ∷ does hears_it ∷ does commits_it ∷ does asks_none ∷ does commits_none ∷ tells 1 told ∷ []
 
 abbrev first : Station (Unit {0})
-first = record { bus = tt; left = record { ref_ptr = (0, 0); ghost_name = 0; now = one ∷ [] }; due = 1; pass = 1; phase = Free; request = Quiet; said = false; misses = record { silent = 0; noise = 0; others = 0 } }
+first = record { bus = tt; left = record { ref_ptr = (0, 0); ghost_name = 0; now = one ∷ [] }; due = 1; pass = 1; phase = Free; request = Quiet; said = false; brought = record { misses = record { silent = 0; noise = 0; others = 0 }; last = [] } }
 
 abbrev last : Station (Unit {0})
-last = record first { left = record first.left { now = [] }; due = 0 }
+last = record first { left = record first.left { now = [] }; due = 0; brought = brought_after first.brought happened }
 
 -- ---- the line
 
@@ -63,11 +63,11 @@ not_lost e = absurd cc
 abbrev talk : Talks any_bus 1 (talk_of first) happened (talk_of last)
 talk = talking.stands_by (talking.begins (talking.sends_it {next = tt} tt (talking.takes_it {next = tt} tt (talking.hears_it (talking.stands_by (talking.sends_it {next = tt} tt (talking.takes_it {next = tt} tt (talking.hears_it (talking.stands_by (talking.has_none (talking.stands_by (talking.tells_it not_lost talking.rests))))))))))))
 
-counts : CountsMisses 1 first.misses happened last.misses
+counts : Brings 1 first.brought happened last.brought
 counts = record { told = (tt, tt); after = refl }
 
 abbrev goes : (k : ℕ) (d : Station (Unit {0})) → k < length (first ∷ []) → LineGoes any_bus 1 (k + 1) (slice_index_or (first ∷ []) k d) (slice_index_or (last ∷ []) k d) (happened_on (k + 1) happened)
-goes zero d low = record { queue = goes_it; talk = talk; misses = counts }
+goes zero d low = record { queue = goes_it; talk = talk; brought = counts }
 goes (suc k) d low = absurd (omega (arith, low))
 
 -- what happens on a line that is this one, or isn't

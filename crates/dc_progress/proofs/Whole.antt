@@ -71,7 +71,7 @@ all_well budget core (tells line told ∷ happened) of chain well each =
 
 none_counted : (line : ℕ) (told : Told) → IsWellTold told → counts_failed (tells line told) ≡ 0
 none_counted line (was_read meter serial parts last) well = refl
-none_counted line (has_failed at meter why misses) well = absurd well
+none_counted line (has_failed at meter why brought) well = absurd well
 none_counted line (was_refused meter refusal) well = absurd well
 none_counted line (is_lost lost) well = refl
 none_counted line (came_late late answers) well = refl

@@ -194,9 +194,13 @@ pub const VALUES: &str = "Example:
 
 Printed, for each registered meter by flat: METER flat ident medium, and NONE
   where no reading of it is held, else the serial and the minute (UTC) of the
-  last one; STATUS hex words, the status byte that it sent; and VALUE tariff
-  subunit value unit for each of its current values. With --json an object a
-  meter
+  last one; STATUS hex words, the status byte that it sent. Of its current
+  records (storage number 0, instantaneous):
+  HEADLINE tariff subunit value unit  what the meter stands at, a line a tariff
+  VALUE tariff subunit value unit     each that the due-date table has
+  ALSO tariff subunit value unit quantity, qualifier ..  each other that is read
+  n records not read                  where there are any
+  With --json an object a meter
 A reading that the office has confirmed isn't held any more. Nothing is written,
 and the image may be open in another mbdc.
 Faults: mbdc: open: 1 NotImage, 2 Damaged sector, 3 Version, 4 Worn, 5 Device;

@@ -2,16 +2,20 @@
 
 ghost use Rattle.json.specs.Tree.{json_tokens};
 ghost use Rattle.dc_io.specs.Written.{Wrote};
+ghost use Rattle.dc_frame_json.specs.Content.{content_field};
 ghost use Rattle.dc_frame_json.specs.Text.{value_line};
 ghost use Rattle.dc_tokens.specs.Object.{fields_tokens};
 ghost use Rattle.dc_tokens.specs.Writing.{Added};
+ghost use Rattle.dc_poll.specs.Content.{untaken};
 ghost use Rattle.dc_poll.specs.Object.{body_fields, failed_fields, fault_fields, fields_of, heard_fields};
-ghost use Rattle.dc_poll.specs.Object.{json_of, object_of, read_fields};
+ghost use Rattle.dc_poll.specs.Object.{json_of, object_of, read_fields, refused_fields};
 ghost use Rattle.dc_poll.specs.Read.{last_fields};
 
-use crate::{Event, LastPart, Teller};
+use crate::events::content::untaken;
+use crate::{Brought, Event, LastPart, Refusal, Teller};
 use dc_address::Identity;
-use dc_frame_json::{Cell, put_row};
+use dc_frame_json::Cell::{Number, Text};
+use dc_frame_json::{put_content, put_row};
 use dc_io::{IoFault, Sink};
 use dc_json::put_reported;
 use dc_readout::Why;
@@ -73,40 +77,27 @@ fn put_fields<W: Sink>(out: &mut TokenWriter<'_, W>, event: &Event<'_>)
             line,
             meter,
             why,
-            misses,
-        } => put_failed(out, *line, meter, *why, misses),
-        Event::Refused { meter, refusal } => {
-            let (number, name) = refusal.code();
-            put_row(
-                out,
-                &[
-                    Cell::Text("event", b"refused"),
-                    Cell::Text("meter", &meter.text()),
-                ],
-            );
-            put_code(out, number, name);
-        }
+            brought,
+        } => put_failed(out, *line, meter, *why, brought),
+        Event::Refused { meter, refusal } => put_refused(out, meter, *refusal),
         Event::Lost { line } => put_row(
             out,
-            &[
-                Cell::Text("event", b"lost"),
-                Cell::Number("line", u64::from(*line)),
-            ],
+            &[Text("event", b"lost"), Number("line", u64::from(*line))],
         ),
         Event::Late { line, answers } => put_row(
             out,
             &[
-                Cell::Text("event", b"late"),
-                Cell::Number("line", u64::from(*line)),
-                Cell::Number("answers", *answers),
+                Text("event", b"late"),
+                Number("line", u64::from(*line)),
+                Number("answers", *answers),
             ],
         ),
         Event::End { read, failed } => put_row(
             out,
             &[
-                Cell::Text("event", b"end"),
-                Cell::Number("read", *read),
-                Cell::Number("failed", *failed),
+                Text("event", b"end"),
+                Number("read", *read),
+                Number("failed", *failed),
             ],
         ),
     }
@@ -126,10 +117,10 @@ fn put_read<W: Sink>(
     put_row(
         out,
         &[
-            Cell::Text("event", b"read"),
-            Cell::Text("meter", &meter.text()),
-            Cell::Number("serial", serial),
-            Cell::Number("parts", parts),
+            Text("event", b"read"),
+            Text("meter", &meter.text()),
+            Number("serial", serial),
+            Number("parts", parts),
         ],
     );
     put_last(out, last);
@@ -143,27 +134,37 @@ fn put_last<W: Sink>(out: &mut TokenWriter<'_, W>, last: &Option<LastPart<'_>>)
     }
 }
 
-// Writes the fields of a failed readout, and how many of its failed tries brought what.
+// Writes the fields of a failed readout, and what its tries brought.
 fn put_failed<W: Sink>(
     out: &mut TokenWriter<'_, W>,
     line: u8,
     meter: &Identity,
     why: Why,
-    misses: &Misses,
+    brought: &Brought,
 )
     ensures { Added W.Sink out.old out.new
-        (fields_tokens (failed_fields line meter.now why misses.now)) }
+        (fields_tokens (failed_fields line meter.now why brought.now)) }
 {
     put_row(
         out,
-        &[
-            Cell::Text("event", b"failed"),
-            Cell::Text("meter", &meter.text()),
-        ],
+        &[Text("event", b"failed"), Text("meter", &meter.text())],
     );
     put_code(out, why.number(), why.name());
     put_body_fault(out, why);
-    put_heard(out, line, misses);
+    put_heard(out, line, &brought.misses);
+    put_untaken(out, brought.last.as_slice());
+}
+
+// Writes the fields of a meter whose readout was refused.
+fn put_refused<W: Sink>(out: &mut TokenWriter<'_, W>, meter: &Identity, refusal: Refusal)
+    ensures { Added W.Sink out.old out.new (fields_tokens (refused_fields meter.now refusal)) }
+{
+    let (number, name) = refusal.code();
+    put_row(
+        out,
+        &[Text("event", b"refused"), Text("meter", &meter.text())],
+    );
+    put_code(out, number, name);
 }
 
 // Writes the number and the name of a fault.
@@ -174,8 +175,8 @@ fn put_code<W: Sink>(out: &mut TokenWriter<'_, W>, number: u8, name: &'static st
     put_row(
         out,
         &[
-            Cell::Number("number", u64::from(number)),
-            Cell::Text("name", name.as_bytes()),
+            Number("number", u64::from(number)),
+            Text("name", name.as_bytes()),
         ],
     );
 }
@@ -201,9 +202,20 @@ fn put_heard<W: Sink>(out: &mut TokenWriter<'_, W>, line: u8, misses: &Misses)
     dc_frame_json::put_object(
         out,
         &[
-            Cell::Number("silent", u64::from(misses.silent)),
-            Cell::Number("noise", u64::from(misses.noise)),
-            Cell::Number("others", u64::from(misses.others)),
+            Number("silent", u64::from(misses.silent)),
+            Number("noise", u64::from(misses.noise)),
+            Number("others", u64::from(misses.others)),
         ],
     );
+}
+
+// Writes what the last answer says where the register doesn't take it.
+fn put_untaken<W: Sink>(out: &mut TokenWriter<'_, W>, answer: &[u8])
+    ensures { Added W.Sink out.old out.new
+        (fields_tokens (content_field (untaken answer.now))) }
+{
+    if let Some(content) = untaken(answer) {
+        out.put_name("content");
+        put_content(out, &content);
+    }
 }

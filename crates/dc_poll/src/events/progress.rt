@@ -82,10 +82,10 @@ impl<'h, R: Clock + Eprint> Progress<'h, R> {
     }
 }
 
-// Room for the longest line of a failed readout.
-const LONGEST_REASON: usize = 160;
+// Room for the longest lines of a failed readout.
+const LONGEST_REASON: usize = 320;
 
-// Says on standard error what the failed tries of a readout brought, where the event is of one.
+// Says on standard error what the tries of a failed readout brought, where the event is of one.
 fn explain<R: Eprint>(rt: &R, event: &Event<'_>) {
     let mut reason: FixedSink<LONGEST_REASON> = FixedSink::new();
     if put_reason(&mut reason, event).is_ok()
@@ -105,7 +105,7 @@ pub struct Shown<'p, 'h, R, N: Teller + Drop, J: Notes + Drop> {
     pub notes: J,
     /// The progress.
     pub progress: &'p Progress<'h, R>,
-    /// Whether standard error says what the failed tries of a readout brought.
+    /// Whether standard error says what the tries of a failed readout brought.
     pub explains: bool,
 }
 

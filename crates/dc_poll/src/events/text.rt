@@ -7,7 +7,8 @@ use crate::{Event, Refusal, Teller};
 use dc_address::Identity;
 use dc_io::{IoFault, Sink};
 use dc_readout::Why;
-use dc_tokens::{Piece, put_pieces};
+use dc_tokens::Piece::{Text, Word};
+use dc_tokens::put_pieces;
 
 /// Prints a line of text for each event.
 #[derive(Drop)]
@@ -52,40 +53,31 @@ pub fn put_line<W: Sink>(out: &mut W, event: &Event<'_>) -> Result<(), IoFault>
         } => put_pieces(
             out,
             &[
-                Piece::Text(b"READ "),
-                Piece::Text(&meter.text()),
-                Piece::Word(*serial),
-                Piece::Word(*parts),
-                Piece::Text(b"\n"),
+                Text(b"READ "),
+                Text(&meter.text()),
+                Word(*serial),
+                Word(*parts),
+                Text(b"\n"),
             ],
         ),
         Event::Failed { meter, why, .. } => put_failed(out, meter, *why),
         Event::Refused { meter, refusal } => put_refused(out, meter, *refusal),
         Event::Lost { line } => put_pieces(
             out,
-            &[
-                Piece::Text(b"LINE"),
-                Piece::Word(u64::from(*line)),
-                Piece::Text(b" LOST\n"),
-            ],
+            &[Text(b"LINE"), Word(u64::from(*line)), Text(b" LOST\n")],
         ),
         Event::Late { line, answers } => put_pieces(
             out,
             &[
-                Piece::Text(b"LATE"),
-                Piece::Word(u64::from(*line)),
-                Piece::Word(*answers),
-                Piece::Text(b"\n"),
+                Text(b"LATE"),
+                Word(u64::from(*line)),
+                Word(*answers),
+                Text(b"\n"),
             ],
         ),
         Event::End { read, failed } => put_pieces(
             out,
-            &[
-                Piece::Text(b"END"),
-                Piece::Word(*read),
-                Piece::Word(*failed),
-                Piece::Text(b"\n"),
-            ],
+            &[Text(b"END"), Word(*read), Word(*failed), Text(b"\n")],
         ),
     }
 }
@@ -98,10 +90,10 @@ fn put_failed<W: Sink>(out: &mut W, meter: &Identity, why: Why) -> Result<(), Io
     put_pieces(
         out,
         &[
-            Piece::Text(b"FAILED "),
-            Piece::Text(&meter.text()),
-            Piece::Word(u64::from(why.number())),
-            Piece::Text(b" "),
+            Text(b"FAILED "),
+            Text(&meter.text()),
+            Word(u64::from(why.number())),
+            Text(b" "),
         ],
     )?;
     put_why_end(out, why)
@@ -117,14 +109,14 @@ fn put_why_end<W: Sink>(out: &mut W, why: Why) -> Result<(), IoFault>
         Why::Content(fault) => put_pieces(
             out,
             &[
-                Piece::Text(name),
-                Piece::Word(u64::from(fault.number())),
-                Piece::Text(b" "),
-                Piece::Text(fault.name().as_bytes()),
-                Piece::Text(b"\n"),
+                Text(name),
+                Word(u64::from(fault.number())),
+                Text(b" "),
+                Text(fault.name().as_bytes()),
+                Text(b"\n"),
             ],
         ),
-        _ => put_pieces(out, &[Piece::Text(name), Piece::Text(b"\n")]),
+        _ => put_pieces(out, &[Text(name), Text(b"\n")]),
     }
 }
 
@@ -137,11 +129,11 @@ fn put_refused<W: Sink>(out: &mut W, meter: &Identity, refusal: Refusal) -> Resu
     put_pieces(
         out,
         &[
-            Piece::Text(b"REFUSED "),
-            Piece::Text(&meter.text()),
-            Piece::Word(u64::from(number)),
-            Piece::Text(b" "),
+            Text(b"REFUSED "),
+            Text(&meter.text()),
+            Word(u64::from(number)),
+            Text(b" "),
         ],
     )?;
-    put_pieces(out, &[Piece::Text(name.as_bytes()), Piece::Text(b"\n")])
+    put_pieces(out, &[Text(name.as_bytes()), Text(b"\n")])
 }

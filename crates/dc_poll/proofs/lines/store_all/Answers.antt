@@ -17,7 +17,7 @@ lines-preserved g c =
     record {
       count = length-set mids at new ∙ c.lines.invariant.count;
       becomes = becomes_step _ at c.args.stations.now mids new within c.lines.invariant.becomes
-          (λ d. subst (λ (s : Station g.row.B.Denot). IsStored c.args.stored.now s new) (get_or_any mids at result d within) (c.stored.ensures.after, c.stored.ensures.misses));
+          (λ d. subst (λ (s : Station g.row.B.Denot). IsStored c.args.stored.now s new) (get_or_any mids at result d within) (c.stored.ensures.after, c.stored.ensures.brought));
     }
 
 pub returns : goal.returns

@@ -13,7 +13,7 @@ returns-clause-went g c =
     runs_as g.D.Disk _ _ c.args.concentrator.now c.prepare.new.concentrator c.prepare.ensures.went
     (λ core happened b. steps_both c.args.tries c.args.line IsAsking c.args.station.now c.pass_on.new.self c.prepare.new.station [] happened
     (steps_none c.args.tries c.args.line IsAsking c.args.station.now c.pass_on.new.self
-    (line_passed g.B.HalfBus c.args.tries c.args.line c.args.station.now c.pass_on.new.self c.requires.free some c.requires.sound c.pass_on.ensures.after c.pass_on.ensures.misses)) b)
+    (line_passed g.B.HalfBus c.args.tries c.args.line c.args.station.now c.pass_on.new.self c.requires.free some c.requires.sound c.pass_on.ensures.after c.pass_on.ensures.brought)) b)
 
 pub returns-clause-fewer : goal.returns-clause-fewer
 returns-clause-fewer g c =

@@ -1,5 +1,5 @@
 use Rattle.std.proofs.Common.{◌≡◌, ℕ, List, ◌∷◌, drop, ap, sym, ◌∙◌}
-use Rattle.dc_poll.specs.Missed.{misses_heard}
+use Rattle.dc_poll.specs.Missed.{and_heard}
 use Rattle.dc_poll.specs.declared.phase.Request.TheVariants.{Answered}
 use Rattle.dc_poll.proofs.Becoming.{busy_due, first_of, taken_is, line_judged}
 use Rattle.dc_poll.proofs.Hearing.{hears_one}
@@ -15,7 +15,7 @@ returns-clause-went g c =
     let took : old.request ≡ Answered bytes = taken_is old.request c.requires.answered ∙ ap Answered (sym c.taken_of.ensures) in
     runs_as g.D.Disk _ _ c.args.concentrator.now c.hear-answer.new.concentrator c.hear-answer.ensures.went
     (λ core happened is. hears_one c.args.tries c.args.line c.args.moment.seconds bytes c.hear-answer.result c.is_accepted.result old c.judged.new.self happened is c.is_accepted.ensures
-    (line_judged b c.args.tries c.args.line c.args.moment.seconds c.in-Busy.asks c.in-Some.meter bytes c.hear-answer.result old c.judged.new.self c.in-Busy.is took first c.requires.sound c.judged.ensures.after (c.judged.ensures.misses ∙ ap (λ (xs : List ℕ). misses_heard xs c.hear-answer.result old.misses) (sym c.taken_of.ensures))))
+    (line_judged b c.args.tries c.args.line c.args.moment.seconds c.in-Busy.asks c.in-Some.meter bytes c.hear-answer.result old c.judged.new.self c.in-Busy.is took first c.requires.sound c.judged.ensures.after (c.judged.ensures.brought ∙ ap (λ (xs : List ℕ). and_heard xs c.hear-answer.result old.brought) (sym c.taken_of.ensures))))
 
 pub judged-requires-clause-due : goal.judged-requires-clause-due
 judged-requires-clause-due g c = busy_due g.B.HalfBus c.args.tries c.in-Busy.asks c.args.station.now c.in-Busy.is c.requires.sound

@@ -11,7 +11,7 @@ returns-clause-went g c =
     let silent = free_quiet g.B.HalfBus c.args.tries old c.requires.free c.requires.sound in
     runs_as g.D.Disk _ _ c.args.concentrator.now c.start-answer.new.concentrator c.start-answer.ensures.went
     (λ core happened is. steps_one c.args.tries c.args.line IsAsking old c.started.new.self (starts c.args.line c.args.meter) (started c.start-answer.result) happened is (on_line c.args.line) (λ other not. off_line c.args.line other not) tt
-    (line_started g.B.HalfBus c.args.tries c.args.line c.args.meter c.start-answer.result old c.started.new.self c.requires.free silent c.requires.first c.requires.due (free_pass g.B.HalfBus c.args.tries old c.requires.free c.requires.sound).1 c.started.ensures.ok c.started.ensures.err c.started.ensures.misses))
+    (line_started g.B.HalfBus c.args.tries c.args.line c.args.meter c.start-answer.result old c.started.new.self c.requires.free silent c.requires.first c.requires.due (free_pass g.B.HalfBus c.args.tries old c.requires.free c.requires.sound).1 c.started.ensures.ok c.started.ensures.err c.started.ensures.brought))
 
 pub returns-clause-fewer : goal.returns-clause-fewer
 returns-clause-fewer g c =

@@ -15,10 +15,10 @@ pub returns-clause-went : goal.returns-clause-went
 returns-clause-went g c =
     let state = c.house.result.now.state in
     runs_still g.D.Disk _ c.args.concentrator.now (λ image left. g.met.D.Disk.only_now c.args.concentrator.now.store.disk image left)
-    (tells c.args.line (told_of state c.args.line c.args.station.now.misses c.in-Over.end) ∷ []) refl
+    (tells c.args.line (told_of state c.args.line c.args.station.now.brought c.in-Over.end) ∷ []) refl
     (λ known core at. on_ok c.tell.result _ _ (λ took. record {
       moves = λ tries. moves_end g.B.HalfBus tries c.args.line state c.in-Over.end c.args.station.now _ c.in-Over.is refl;
-      told = told_end g.N.Teller.takes c.args.teller.now c.tell.new.self c.args.line c.args.station.now.misses c.in-Over.end c.args.outcome.now c.count.new.outcome core state (ap (λ h. h.state) c.house.ensures ∙ at.house_is)
+      told = told_end g.N.Teller.takes c.args.teller.now c.tell.new.self c.args.line c.args.station.now.brought c.in-Over.end c.args.outcome.now c.count.new.outcome core state (ap (λ h. h.state) c.house.ensures ∙ at.house_is)
           (subst (λ (e : Told). g.N.Teller.takes c.args.teller.now e c.tell.new.self) c.told_of-told.ensures took) c.count.ensures;
     }) c.tell.ensures.taken)
 

@@ -1,21 +1,13 @@
-use Rattle.std.proofs.Common.{◌++◌, ℕ, List, [], ◌∷◌, codes, ap, sym, ◌∙◌}
+use Rattle.std.proofs.Common.{ℕ, [], ◌∷◌, codes, ap, sym, ◌∙◌}
 use Rattle.dc_tokens.specs.Object.{fields_tokens}
-use Rattle.dc_tokens.proofs.Adding.{◌>>◌, said}
-use Rattle.dc_poll.specs.Object.{count_field, event_field, fault_fields, fields_of}
-use Rattle.dc_poll.specs.Refusal.{refusal_number, refusal_name}
+use Rattle.dc_tokens.proofs.Adding.{said}
+use Rattle.dc_poll.specs.Object.{count_field, event_field, fields_of}
 use Rattle.dc_poll.specs.declared.event.Event.{Event}
-use Rattle.dc_poll.proofs.Objects.{fault_is, of_meter}
 use Rattle.dc_poll.proofs.events.objects.put_fields.Goals as goal
-
-pub returns-in-Refused : goal.returns-in-Refused
-returns-in-Refused g c =
-    said (fields_tokens (fields_of c.args.event.now)) (c.put_row.ensures >> c.put_code.ensures)
-    (of_meter (codes "refused") _ _ _ _ c.text.ensures (ap (λ f. fields_tokens f) (fault_is c.code-number.ensures.number c.code-number.ensures.name))
-    ∙ ap (λ (event : Event). fields_tokens (fields_of event)) (sym c.in-Refused.is))
 
 pub returns-in-Lost : goal.returns-in-Lost
 returns-in-Lost g c =
-    said (fields_tokens (fields_of c.args.event.now)) c.put_row-in-Lost.ensures
+    said (fields_tokens (fields_of c.args.event.now)) c.put_row.ensures
     (ap (λ (n : ℕ). fields_tokens (event_field (codes "lost") ∷ count_field (codes "line") n ∷ [])) c.from.ensures
     ∙ ap (λ (event : Event). fields_tokens (fields_of event)) (sym c.in-Lost.is))
 
