@@ -28,6 +28,14 @@ unit_name Allocated = codes "HCA"
 unit_name Count = codes "count"
 unit_name Smallest = codes "smallest"
 
+abbrev pub is_unit : Unit → Unit → Bool
+is_unit Kwh Kwh = true
+is_unit CubicMetre CubicMetre = true
+is_unit Allocated Allocated = true
+is_unit Count Count = true
+is_unit Smallest Smallest = true
+is_unit _ _ = false
+
 -- the unit that a word names
 abbrev pub unit_named : List ℕ → Option Unit
 unit_named word =

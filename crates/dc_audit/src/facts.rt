@@ -1,9 +1,17 @@
 //! What a file declares before its places.
 
+ghost use Rattle.std.specs.Prelude.{◌≡◌, ◌==◌, ◌&&◌, Some, None, IfOk, OnOk, find, length, map};
+ghost use Rattle.std.specs.Prelude.{true};
+ghost use Rattle.std.specs.List.{list_all};
+ghost use Rattle.dc_audit.specs.Facts.{area_with, declared, is_key, is_use_byte, is_user_after};
+ghost use Rattle.dc_audit.specs.Facts.{last_user, nothing_declared, place_of, span_at, used};
+ghost use Rattle.dc_audit.specs.Facts.{user_at, with_fact, with_flat, with_span, with_use, with_user};
+
 use crate::fault::{AuditFault, Stop};
 use crate::uses::{Counted, Unit};
 use std::alloc::Allocator;
 use std::collections::BTreeMap;
+use std::marker::Model;
 
 /// From the end of a day to the end of a day.
 #[derive(Clone, Copy)]
@@ -28,6 +36,24 @@ pub enum Key {
     Average(u64, Unit),
 }
 
+impl Key {
+    // Whether the two are the same.
+    fn is(self, other: Key) -> bool
+        ensures { result ≡ is_key self other }
+    {
+        match (self, other) {
+            (Key::Factor(one), Key::Factor(other)) => one == other,
+            (Key::Carbon(one), Key::Carbon(other)) => one == other,
+            (Key::Degrees, Key::Degrees) => true,
+            (Key::Price(one, unit), Key::Price(other, others)) => one == other && unit.is(others),
+            (Key::Average(one, unit), Key::Average(other, others)) => {
+                one == other && unit.is(others)
+            }
+            _ => false,
+        }
+    }
+}
+
 /// A ratio that is declared of a span, times 10^6.
 #[derive(Clone, Copy)]
 pub struct Fact {
@@ -42,13 +68,6 @@ pub struct User {
     pub number: u64,
     pub flat: u64,
     pub area: Option<u64>,
-}
-
-/// What places are supplied with: its word, and what its meters count.
-#[derive(Drop)]
-struct Use<A: Allocator> {
-    word: Vec<u8, A>,
-    counted: Counted,
 }
 
 // Limits of a file.
@@ -69,35 +88,107 @@ const LONGEST_USE: usize = 32;
 #[derive(Drop)]
 pub(crate) struct Facts<A: Allocator + Copy> {
     spans: Vec<Span, A>,
-    uses: Vec<Use<A>, A>,
+    // The words of the uses, which are their numbers from 0, and what the meters of each count.
+    uses: Vec<Vec<u8, A>, A>,
+    counted: Vec<Counted, A>,
     facts: Vec<Fact, A>,
     users: BTreeMap<u64, User, A>,
-    // The numbers of the flats by name, which count from 0, and their areas by number.
-    flats: BTreeMap<Vec<u8, A>, u64, A>,
+    // The names of the flats, which are their numbers from 0, and their areas.
+    flats: Vec<Vec<u8, A>, A>,
     areas: Vec<Option<u64>, A>,
 }
 
-// Whether a word may be a use's.
-fn is_use_word(word: &[u8]) -> bool {
-    !word.is_empty()
-        && word.len() <= LONGEST_USE
-        && word.iter().all(|byte| matches!(*byte, b'a'..=b'z' | b'0'..=b'9' | b' ' | b'-'))
+// Whether a byte may be in a use's word.
+fn is_use_byte(byte: u8) -> bool
+    ensures { result ≡ is_use_byte byte }
+{
+    (97 <= byte && byte <= 122) || (48 <= byte && byte <= 57) || byte == 32 || byte == 45
+}
+
+// Whether all bytes may be in a use's word.
+fn are_use_bytes(word: &[u8]) -> bool
+    ensures { result ≡ list_all is_use_byte word.now }
+{
+    'bytes: for byte in word {
+        if !is_use_byte(*byte) {
+            return false;
+        }
+    }
+    true
+}
+
+// The place of a name among names.
+fn place_of<A: Allocator>(names: &[Vec<u8, A>], name: &[u8]) -> Option<usize>
+    ensures { result ≡ place_of name.now (map (λ n. n.items) names.now) }
+{
+    'names: for at in 0..names.len() {
+        if names[at].as_slice() == name {
+            return Some(at);
+        }
+    }
+    None
+}
+
+// The span with this number.
+fn span_at(spans: &[Span], number: u64) -> Option<Span>
+    ensures { result ≡ find (λ s. s.number == number) spans.now }
+{
+    'spans: for span in spans {
+        if span.number == number {
+            return Some(*span);
+        }
+    }
+    None
+}
+
+// The fact of a span that has this key.
+fn fact_at(facts: &[Fact], key: Key, span: u64) -> Option<Fact>
+    ensures { result ≡ find (λ f. is_key f.key key && (f.span == span)) facts.now }
+{
+    'facts: for fact in facts {
+        if fact.key.is(key) && fact.span == span {
+            return Some(*fact);
+        }
+    }
+    None
+}
+
+impl<A: Allocator + Copy> Model for Facts<A> {
+    ghost use Rattle.std.specs.Prelude.{map};
+    ghost use Rattle.dc_audit.specs.Facts.{Declared};
+
+    ghost Value = { Declared };
+
+    ghost view = { λ f. record {
+      spans = f.spans.items;
+      uses = map (λ n. n.items) f.uses.items;
+      counted = f.counted.items;
+      facts = f.facts.items;
+      users = f.users.entries;
+      flats = map (λ n. n.items) f.flats.items;
+      areas = f.areas.items;
+    } };
 }
 
 impl<A: Allocator + Copy> Facts<A> {
-    pub fn new(alloc: A) -> Self {
+    pub fn new(alloc: A) -> Self
+        ensures { result ≡ nothing_declared }
+    {
         Facts {
             spans: Vec::new(alloc),
             uses: Vec::new(alloc),
+            counted: Vec::new(alloc),
             facts: Vec::new(alloc),
             users: BTreeMap::new(alloc),
-            flats: BTreeMap::new(alloc),
+            flats: Vec::new(alloc),
             areas: Vec::new(alloc),
         }
     }
 
     /// Adds a span; their numbers rise.
-    pub fn add_span(&mut self, span: Span) -> Result<(), Stop> {
+    pub fn add_span(&mut self, span: Span) -> Result<(), Stop>
+        ensures { OnOk result (with_span span self.old ≡ Some self.new) }
+    {
         let is_next = match self.spans.last() {
             Some(last) => last.number < span.number,
             None => true,
@@ -113,77 +204,89 @@ impl<A: Allocator + Copy> Facts<A> {
     }
 
     /// All spans.
-    pub fn spans(&self) -> &[Span] {
+    pub fn spans(&self) -> &[Span]
+        ensures { result.now ≡ self.now.spans }
+    {
         self.spans.as_slice()
     }
 
     /// The span with this number.
-    pub fn span(&self, number: u64) -> Result<Span, AuditFault> {
-        self.spans
-            .iter()
-            .copied()
-            .find(|span| span.number == number)
-            .ok_or(AuditFault::Fact)
+    pub fn span(&self, number: u64) -> Result<Span, AuditFault>
+        ensures { IfOk result (λ s. span_at number self.now ≡ Some s) }
+    {
+        match span_at(self.spans.as_slice(), number) {
+            Some(span) => Ok(span),
+            None => Err(AuditFault::Fact),
+        }
     }
 
     /// Adds a use.
-    pub fn add_use(&mut self, alloc: A, word: &[u8], counted: Counted) -> Result<(), Stop> {
-        if !is_use_word(word) {
+    pub fn add_use(&mut self, alloc: A, word: &[u8], counted: Counted) -> Result<(), Stop>
+        ensures { OnOk result (with_use word.now counted self.old ≡ Some self.new) }
+    {
+        if word.is_empty() || word.len() > LONGEST_USE || !are_use_bytes(word) {
             return Err(Stop::Fault(AuditFault::Row));
         }
-        if self.use_at(word).is_some() {
+        if place_of(self.uses.as_slice(), word).is_some() {
             return Err(Stop::Fault(AuditFault::Fact));
         }
         if self.uses.len() >= MOST_USES {
             return Err(Stop::Fault(AuditFault::TooMany));
         }
-        let word = Vec::from_slice(alloc, word)?;
-        self.uses.push(Use { word, counted })?;
+        self.uses.push(Vec::from_slice(alloc, word)?)?;
+        self.counted.push(counted)?;
         Ok(())
     }
 
-    /// Number of uses.
-    pub fn uses(&self) -> u64 {
-        self.uses.len() as u64
+    /// What the meters of each use count.
+    pub fn counted(&self) -> &[Counted]
+        ensures { result.now ≡ self.now.counted }
+    {
+        self.counted.as_slice()
     }
 
     /// The number of a use by its word, from 0, and what its meters count.
-    pub fn used(&self, word: &[u8]) -> Result<(u64, Counted), AuditFault> {
-        let place = self.use_at(word).ok_or(AuditFault::Fact)?;
-        match self.uses.get(place) {
-            Some(one) => Ok((place as u64, one.counted)),
+    pub fn used(&self, word: &[u8]) -> Result<(u64, Counted), AuditFault>
+        ensures { IfOk result (λ u. used word.now self.now ≡ Some u) }
+    {
+        let Some(number) = place_of(self.uses.as_slice(), word) else {
+            return Err(AuditFault::Fact);
+        };
+        match self.counted.get(number) {
+            Some(counted) => Ok((number as u64, *counted)),
             None => Err(AuditFault::Fact),
         }
-    }
-
-    fn use_at(&self, word: &[u8]) -> Option<usize> {
-        self.uses.iter().position(|one| one.word.as_slice() == word)
     }
 
     /// The word of a use by its number.
     pub fn word(&self, used: u64) -> &[u8] {
         match self.uses.get(used as usize) {
-            Some(one) => one.word.as_slice(),
+            Some(word) => word.as_slice(),
             None => &[],
         }
     }
 
     /// The ratio that is declared, if it is.
-    pub fn declared(&self, key: Key, span: u64) -> Option<u64> {
-        self.facts
-            .iter()
-            .copied()
-            .find(|fact| fact.key == key && fact.span == span)
-            .map(|fact| fact.ratio)
+    pub fn declared(&self, key: Key, span: u64) -> Option<u64>
+        ensures { result ≡ declared key span self.now }
+    {
+        match fact_at(self.facts.as_slice(), key, span) {
+            Some(fact) => Some(fact.ratio),
+            None => None,
+        }
     }
 
     /// The ratio that has to be declared.
-    pub fn ratio(&self, key: Key, span: u64) -> Result<u64, AuditFault> {
+    pub fn ratio(&self, key: Key, span: u64) -> Result<u64, AuditFault>
+        ensures { IfOk result (λ n. declared key span self.now ≡ Some n) }
+    {
         self.declared(key, span).ok_or(AuditFault::Fact)
     }
 
     /// Adds a fact of a span.
-    pub fn add_fact(&mut self, fact: Fact) -> Result<(), Stop> {
+    pub fn add_fact(&mut self, fact: Fact) -> Result<(), Stop>
+        ensures { OnOk result (with_fact fact self.old ≡ Some self.new) }
+    {
         self.span(fact.span)?;
         if self.declared(fact.key, fact.span).is_some() {
             return Err(Stop::Fault(AuditFault::Fact));
@@ -196,39 +299,52 @@ impl<A: Allocator + Copy> Facts<A> {
     }
 
     /// The number of a flat by its name, which counts from 0 in the order in which they are named.
-    pub fn flat(&mut self, alloc: A, name: &[u8]) -> Result<u64, Stop> {
+    pub fn flat(&mut self, alloc: A, name: &[u8]) -> Result<u64, Stop>
+        ensures { IfOk result (λ n. with_flat name.now self.old ≡ Some (n, self.new)) }
+    {
         if name.is_empty() {
             return Err(Stop::Fault(AuditFault::Row));
         }
-        if let Ok(number) = self.known_flat(name) {
-            return Ok(number);
+        if let Some(number) = place_of(self.flats.as_slice(), name) {
+            return Ok(number as u64);
         }
-        if self.areas.len() >= MOST_FLATS {
+        let number = self.flats.len();
+        if number >= MOST_FLATS {
             return Err(Stop::Fault(AuditFault::TooMany));
         }
-        let number = self.areas.len() as u64;
-        let _ = self.flats.insert(Vec::from_slice(alloc, name)?, number)?;
+        self.flats.push(Vec::from_slice(alloc, name)?)?;
         self.areas.push(None)?;
-        Ok(number)
+        Ok(number as u64)
     }
 
     /// The number of a flat that was named before.
-    pub fn known_flat(&self, name: &[u8]) -> Result<u64, AuditFault> {
-        self.flats.get(name).copied().ok_or(AuditFault::Fact)
+    pub fn known_flat(&self, name: &[u8]) -> Result<u64, AuditFault>
+        ensures { IfOk result (λ n. place_of name.now self.now.flats ≡ Some n) }
+    {
+        match place_of(self.flats.as_slice(), name) {
+            Some(number) => Ok(number as u64),
+            None => Err(AuditFault::Fact),
+        }
     }
 
     /// The areas of the flats by number: of each that of the first of its users that has one.
-    pub fn areas(&self) -> &[Option<u64>] {
+    pub fn areas(&self) -> &[Option<u64>]
+        ensures { result.now ≡ self.now.areas }
+    {
         self.areas.as_slice()
     }
 
     /// The user with this number.
-    pub fn user(&self, number: u64) -> Result<User, AuditFault> {
+    pub fn user(&self, number: u64) -> Result<User, AuditFault>
+        ensures { IfOk result (λ u. user_at number self.now ≡ Some u) }
+    {
         self.users.get(&number).copied().ok_or(AuditFault::Fact)
     }
 
     // Whether a number is greater than the last user's.
-    fn is_after_last(&self, number: u64) -> bool {
+    fn is_after_last(&self, number: u64) -> bool
+        ensures { result ≡ true → is_user_after (last_user self.now.users) number ≡ true }
+    {
         match self.users.last_key_value() {
             Some((last, _)) => *last < number,
             None => true,
@@ -236,7 +352,9 @@ impl<A: Allocator + Copy> Facts<A> {
     }
 
     /// Adds a user; their numbers rise, and the users of a flat have one area.
-    pub fn add_user(&mut self, user: User) -> Result<(), Stop> {
+    pub fn add_user(&mut self, user: User) -> Result<(), Stop>
+        ensures { OnOk result (with_user user self.old ≡ Some self.new) }
+    {
         if !self.is_after_last(user.number) {
             return Err(Stop::Fault(AuditFault::Fact));
         }
@@ -252,7 +370,9 @@ impl<A: Allocator + Copy> Facts<A> {
 }
 
 // The area of a flat, of which the users that have one agree.
-fn area_with(known: Option<u64>, area: Option<u64>) -> Result<Option<u64>, AuditFault> {
+fn area_with(known: Option<u64>, area: Option<u64>) -> Result<Option<u64>, AuditFault>
+    ensures { IfOk result (λ a. area_with known area ≡ Some a) }
+{
     match (known, area) {
         (_, None) => Ok(known),
         (None, Some(_)) => Ok(area),

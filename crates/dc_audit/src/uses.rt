@@ -2,7 +2,7 @@
 
 ghost use Rattle.std.specs.Prelude.{◌≡◌, ◌<◌, ◌≤◌, IfSome, find};
 ghost use Rattle.std.specs.Str.{bytes_eq};
-ghost use Rattle.dc_audit.specs.Uses.{counted_named, is_counted, size_named, size_of};
+ghost use Rattle.dc_audit.specs.Uses.{counted_named, is_counted, is_unit, size_named, size_of};
 ghost use Rattle.dc_audit.specs.Uses.{unit_name, unit_named};
 
 use crate::field::is_word;
@@ -88,6 +88,20 @@ impl Unit {
             Unit::Count => "count",
             Unit::Smallest => "smallest",
         }
+    }
+
+    /// Whether the two are the same.
+    pub fn is(self, other: Unit) -> bool
+        ensures { result ≡ is_unit self other }
+    {
+        matches!(
+            (self, other),
+            (Unit::Kwh, Unit::Kwh)
+                | (Unit::CubicMetre, Unit::CubicMetre)
+                | (Unit::Allocated, Unit::Allocated)
+                | (Unit::Count, Unit::Count)
+                | (Unit::Smallest, Unit::Smallest)
+        )
     }
 
     /// The unit that a word names.
