@@ -6,8 +6,6 @@ pub mod Fault
 pub mod Uses
 -- the fields of a line
 pub mod Field
--- what is declared
-pub mod Facts
 -- exact numbers, and what is printed of them
 pub mod Exact
 -- decimals, and whole numbers of the smallest unit
@@ -34,9 +32,5 @@ pub mod Sums
 pub mod Place
 -- what is counted
 pub mod Counts
--- what holds of each number
-pub mod Sum
--- what lines say, and when a file is right
-pub mod File
--- how its lines are read
-pub mod Reading
+-- what is declared
+pub mod Facts

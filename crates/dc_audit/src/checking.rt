@@ -1,18 +1,9 @@
 //! The check of a file, line by line: what is declared, places, their values and parts.
 
-ghost use Rattle.std.specs.Prelude.{◌≡◌, Some, ◌++◌, true, IfOk, OnOk, IsTrue, map, if◌then◌else◌};
-ghost use Rattle.std.specs.Str.{bytes_eq};
-ghost use Rattle.dc_address.specs.Text.{text_of};
-ghost use Rattle.dc_audit.specs.Window.{vib_bytes};
-ghost use Rattle.dc_io.specs.Hex.{bytes_of};
-ghost use Rattle.dc_audit.specs.Facts.{user_at};
-ghost use Rattle.dc_audit.specs.Field.{fields_of};
-ghost use Rattle.dc_audit.specs.File.{AddsMeter, Does, StepsAt, add_at_exchange, is_vib, read_meter};
-ghost use Rattle.dc_audit.specs.File.{add_ended, add_of_unit, add_part, add_put, add_ratio};
-ghost use Rattle.dc_audit.specs.File.{add_read, add_span, add_stored, add_struck, add_telegrams};
-ghost use Rattle.dc_audit.specs.File.{add_use, add_user, add_zero, begin_place, begin_totals};
-ghost use Rattle.dc_audit.specs.File.{bases_in, bodies_at, close_window, empty, is_header, is_user_of, open_window};
-ghost use Rattle.dc_audit.specs.File.{value_in};
+ghost use Rattle.std.specs.Prelude.{◌≡◌, Some, OnOk, true};
+ghost use Rattle.dc_audit.specs.Order.{is_in_window};
+ghost use Rattle.dc_audit.specs.Place.{closed};
+ghost use Rattle.dc_audit.specs.Total.{house_after};
 
 use crate::evidence::{Storage, is_same};
 use crate::facts::{Fact, Facts, Key as FactKey, Span, User};
@@ -29,7 +20,6 @@ use crate::word::{Stage, Word};
 use dc_address::Identity;
 use dc_io::{Sink, decode_hex, room};
 use std::alloc::Allocator;
-use std::marker::Model;
 
 /// The check of a file: what was declared, the open place, the sums, and what was counted.
 #[derive(Drop)]
@@ -50,30 +40,8 @@ pub(crate) struct Audit<A: Allocator + Copy> {
     pub answer: Option<Answer>,
 }
 
-impl<A: Allocator + Copy> Model for Audit<A> {
-    ghost use Rattle.dc_audit.specs.File.{State};
-
-    ghost Value = { State };
-
-    ghost view = { λ a. record {
-      may_ask = a.may_ask;
-      stage = a.stage;
-      house = record {
-        facts = a.facts;
-        of_users = a.of_users;
-        of_flats = a.of_flats;
-        of_house = a.of_house;
-        bases = a.bases.items;
-      };
-      place = a.here;
-      counts = a.counts;
-    } };
-}
-
 impl<A: Allocator + Copy> Audit<A> {
-    pub fn new(alloc: A, may_ask: bool) -> Self
-        ensures { result ≡ empty may_ask }
-    {
+    pub fn new(alloc: A, may_ask: bool) -> Self {
         Audit {
             alloc,
             may_ask,
@@ -91,9 +59,7 @@ impl<A: Allocator + Copy> Audit<A> {
     }
 
     /// Checks the next line, without its end.
-    pub fn step<W: Sink>(&mut self, line: &[u8], out: &mut W) -> Result<(), Stop>
-        ensures { OnOk result (StepsAt (fields_of line.now) self.old self.new) }
-    {
+    pub fn step<W: Sink>(&mut self, line: &[u8], out: &mut W) -> Result<(), Stop> {
         self.line = self.line.saturating_add(1);
         self.answer = None;
         let mut fields = Fields::of(line);
@@ -117,9 +83,12 @@ impl<A: Allocator + Copy> Audit<A> {
     }
 
     // Checks a line that may follow.
-    fn go<W: Sink>(&mut self, word: Word, fields: &mut Fields<'_>, out: &mut W) -> Result<(), Stop>
-        ensures { OnOk result (Does word fields.old self.old self.new) }
-    {
+    fn go<W: Sink>(
+        &mut self,
+        word: Word,
+        fields: &mut Fields<'_>,
+        out: &mut W,
+    ) -> Result<(), Stop> {
         match word {
             Word::Span => self.add_span(fields),
             Word::Use => self.add_use(fields),
@@ -157,10 +126,7 @@ impl<A: Allocator + Copy> Audit<A> {
         }
     }
 
-    #[tactic(auto, unfolding(crate::specs::File::add_span))]
-    fn add_span(&mut self, fields: &mut Fields<'_>) -> Result<(), Stop>
-        ensures { OnOk result (add_span fields.old self.old ≡ Some self.new) }
-    {
+    fn add_span(&mut self, fields: &mut Fields<'_>) -> Result<(), Stop> {
         let number = fields.number()?;
         let begin = fields.day_end()?;
         let end = fields.day_end()?;
@@ -172,20 +138,14 @@ impl<A: Allocator + Copy> Audit<A> {
         })
     }
 
-    #[tactic(auto, unfolding(crate::specs::File::add_use))]
-    fn add_use(&mut self, fields: &mut Fields<'_>) -> Result<(), Stop>
-        ensures { OnOk result (add_use fields.old self.old ≡ Some self.new) }
-    {
+    fn add_use(&mut self, fields: &mut Fields<'_>) -> Result<(), Stop> {
         let word = fields.field()?;
         let counted = Counted::named(fields.field()?).ok_or(AuditFault::Row)?;
         fields.end()?;
         self.facts.add_use(self.alloc, word, counted)
     }
 
-    #[tactic(auto, unfolding(crate::specs::File::add_ratio))]
-    fn add_ratio(&mut self, ratio: Ratio, fields: &mut Fields<'_>) -> Result<(), Stop>
-        ensures { OnOk result (add_ratio ratio fields.old self.old ≡ Some self.new) }
-    {
+    fn add_ratio(&mut self, ratio: Ratio, fields: &mut Fields<'_>) -> Result<(), Stop> {
         let name = fields.field()?;
         let (span, value) = (fields.number()?, fields.ratio()?);
         fields.end()?;
@@ -206,10 +166,7 @@ impl<A: Allocator + Copy> Audit<A> {
         })
     }
 
-    #[tactic(auto, unfolding(crate::specs::File::add_of_unit))]
-    fn add_of_unit(&mut self, is_price: bool, fields: &mut Fields<'_>) -> Result<(), Stop>
-        ensures { OnOk result (add_of_unit is_price fields.old self.old ≡ Some self.new) }
-    {
+    fn add_of_unit(&mut self, is_price: bool, fields: &mut Fields<'_>) -> Result<(), Stop> {
         let (name, unit) = (fields.field()?, fields.unit()?);
         let (span, ratio) = (fields.number()?, fields.ratio()?);
         fields.end()?;
@@ -223,10 +180,7 @@ impl<A: Allocator + Copy> Audit<A> {
         self.facts.add_fact(Fact { key, span, ratio })
     }
 
-    #[tactic(auto, unfolding(crate::specs::File::add_user))]
-    fn add_user(&mut self, fields: &mut Fields<'_>) -> Result<(), Stop>
-        ensures { OnOk result (add_user fields.old self.old ≡ Some self.new) }
-    {
+    fn add_user(&mut self, fields: &mut Fields<'_>) -> Result<(), Stop> {
         let (number, flat) = (fields.number()?, fields.field()?);
         let area = fields.ratio_or_none()?;
         fields.end()?;
@@ -237,10 +191,7 @@ impl<A: Allocator + Copy> Audit<A> {
         self.facts.add_user(User { number, flat, area })
     }
 
-    #[tactic(auto, unfolding(crate::specs::File::begin_place))]
-    fn begin_place(&mut self, fields: &mut Fields<'_>) -> Result<(), Stop>
-        ensures { OnOk result (begin_place fields.old self.old ≡ Some self.new) }
-    {
+    fn begin_place(&mut self, fields: &mut Fields<'_>) -> Result<(), Stop> {
         let (number, flat) = (fields.number()?, fields.field()?);
         let (name, weight) = (fields.field()?, fields.ratio()?);
         fields.end()?;
@@ -257,17 +208,27 @@ impl<A: Allocator + Copy> Audit<A> {
         Ok(())
     }
 
-    fn add_meter(&mut self, fields: &mut Fields<'_>) -> Result<(), Stop>
-        ensures { OnOk result (AddsMeter fields.old self.old self.new) }
-    {
-        let (number, run) = meter_in(fields)?;
+    fn add_meter(&mut self, fields: &mut Fields<'_>) -> Result<(), Stop> {
+        let number = fields.number()?;
+        let Ok(identity) = Identity::parse_text(fields.field()?) else {
+            return Err(Stop::Fault(AuditFault::Row));
+        };
+        let (begin, end) = (fields.number_or_none()?, fields.number_or_none()?);
+        let (most, size) = (fields.number_or_none()?, fields.number_or_none()?);
+        let vib = vib_in(fields.field()?)?;
+        fields.end()?;
+        let run = Run {
+            identity,
+            begin: begin.unwrap_or(0),
+            end,
+            most: most.unwrap_or(0),
+            size: size.unwrap_or(0),
+            vib,
+        };
         self.here.add_run(number, run)
     }
 
-    #[tactic(auto, unfolding(crate::specs::File::open_window))]
-    fn open_window(&mut self, fields: &mut Fields<'_>) -> Result<(), Stop>
-        ensures { OnOk result (open_window fields.old self.old ≡ Some self.new) }
-    {
+    fn open_window(&mut self, fields: &mut Fields<'_>) -> Result<(), Stop> {
         let number = fields.number()?;
         fields.end()?;
         self.close_window()?;
@@ -278,7 +239,11 @@ impl<A: Allocator + Copy> Audit<A> {
 
     // Adds the sum of the open window, if there is one, to that of the house.
     fn close_window(&mut self) -> Result<(), Stop>
-        ensures { OnOk result (close_window self.old ≡ Some self.new) }
+        ensures { OnOk result (is_in_window self.old.stage ≡ true → house_after (record {
+          span = self.old.here.span.number;
+          used = self.old.here.place.used;
+          holder = 0;
+        }) (closed self.old.here) self.old.of_house ≡ Some self.new.of_house) }
     {
         if !self.stage.is_in_window() {
             return Ok(());
@@ -295,8 +260,8 @@ impl<A: Allocator + Copy> Audit<A> {
     // What a sum of the open window is.
     fn key(&self, holder: u64) -> Key
         ensures { result ≡ record {
-          span = self.now.place.span.number;
-          used = self.now.place.place.used;
+          span = self.now.here.span.number;
+          used = self.now.here.place.used;
           holder = holder;
         } }
     {
@@ -307,24 +272,17 @@ impl<A: Allocator + Copy> Audit<A> {
         }
     }
 
-    #[tactic(auto, unfolding(crate::specs::File::add_read))]
-    fn add_read<W: Sink>(&mut self, fields: &mut Fields<'_>, out: &mut W) -> Result<(), Stop>
-        ensures { OnOk result (add_read fields.old self.old ≡ Some self.new) }
-    {
+    fn add_read<W: Sink>(&mut self, fields: &mut Fields<'_>, out: &mut W) -> Result<(), Stop> {
         let (run, moment) = (fields.number()?, fields.number()?);
         self.add_telegrams(run, moment, Storage::Current, Source::Telegram, fields, out)
     }
 
-    #[tactic(auto, unfolding(crate::specs::File::add_stored, crate::specs::File::add_ended))]
     fn add_stored<W: Sink>(
         &mut self,
         is_end: bool,
         fields: &mut Fields<'_>,
         out: &mut W,
-    ) -> Result<(), Stop>
-        ensures { OnOk result ((if is_end then add_ended fields.old self.old
-            else add_stored fields.old self.old) ≡ Some self.new) }
-    {
+    ) -> Result<(), Stop> {
         let run = fields.number()?;
         let DayEnd { day, moment } = fields.day_end()?;
         if !is_end {
@@ -337,7 +295,6 @@ impl<A: Allocator + Copy> Audit<A> {
     }
 
     // Adds the value of a readout, or prints why it has none.
-    #[tactic(auto, unfolding(crate::specs::File::add_telegrams))]
     fn add_telegrams<W: Sink>(
         &mut self,
         number: u64,
@@ -346,9 +303,7 @@ impl<A: Allocator + Copy> Audit<A> {
         source: Source,
         fields: &mut Fields<'_>,
         out: &mut W,
-    ) -> Result<(), Stop>
-        ensures { OnOk result (add_telegrams number moment meant source fields.old self.old ≡ Some self.new) }
-    {
+    ) -> Result<(), Stop> {
         let run = self.here.run(number)?;
         self.here.check_moment(moment)?;
         let bodies = bodies_in(self.alloc, fields)?;
@@ -366,9 +321,7 @@ impl<A: Allocator + Copy> Audit<A> {
     }
 
     // A value in a unit of what the place counts.
-    fn value_in(&self, value: &[u8], unit: &[u8]) -> Result<u64, AuditFault>
-        ensures { IfOk result (λ n. value_in value.now unit.now self.now ≡ Some n) }
-    {
+    fn value_in(&self, value: &[u8], unit: &[u8]) -> Result<u64, AuditFault> {
         let (counted, size) = size_named(unit).ok_or(AuditFault::Row)?;
         let spelled = decimal_in(value, MOST_VALUE_DECIMALS).ok_or(AuditFault::Row)?;
         if !counted.is(self.here.place.counted) {
@@ -377,10 +330,7 @@ impl<A: Allocator + Copy> Audit<A> {
         of_spelled(spelled, size).ok_or(AuditFault::Unit)
     }
 
-    #[tactic(auto, unfolding(crate::specs::File::add_put))]
-    fn add_put(&mut self, how: How, fields: &mut Fields<'_>) -> Result<(), Stop>
-        ensures { OnOk result (add_put how fields.old self.old ≡ Some self.new) }
-    {
+    fn add_put(&mut self, how: How, fields: &mut Fields<'_>) -> Result<(), Stop> {
         let (run, moment) = (fields.number()?, fields.number()?);
         let (value, unit) = (fields.field()?, fields.field()?);
         fields.end()?;
@@ -389,10 +339,7 @@ impl<A: Allocator + Copy> Audit<A> {
         self.here.add_value(run, moment, value, Source::Put(how))
     }
 
-    #[tactic(auto, unfolding(crate::specs::File::add_at_exchange))]
-    fn add_at_exchange(&mut self, is_first: bool, fields: &mut Fields<'_>) -> Result<(), Stop>
-        ensures { OnOk result (add_at_exchange is_first fields.old self.old ≡ Some self.new) }
-    {
+    fn add_at_exchange(&mut self, is_first: bool, fields: &mut Fields<'_>) -> Result<(), Stop> {
         let number = fields.number()?;
         let (value, unit) = (fields.field()?, fields.field()?);
         let how = fields.how()?;
@@ -409,10 +356,7 @@ impl<A: Allocator + Copy> Audit<A> {
         self.here.add_value(number, end, value, Source::Last(how))
     }
 
-    #[tactic(auto, unfolding(crate::specs::File::add_zero))]
-    fn add_zero(&mut self, fields: &mut Fields<'_>) -> Result<(), Stop>
-        ensures { OnOk result (add_zero fields.old self.old ≡ Some self.new) }
-    {
+    fn add_zero(&mut self, fields: &mut Fields<'_>) -> Result<(), Stop> {
         let number = fields.number()?;
         fields.end()?;
         let run = self.here.run(number)?;
@@ -423,10 +367,7 @@ impl<A: Allocator + Copy> Audit<A> {
         self.here.add_value(number, run.begin, 0, Source::Zero)
     }
 
-    #[tactic(auto, unfolding(crate::specs::File::add_struck))]
-    fn add_struck(&mut self, fields: &mut Fields<'_>) -> Result<(), Stop>
-        ensures { OnOk result (add_struck fields.old self.old ≡ Some self.new) }
-    {
+    fn add_struck(&mut self, fields: &mut Fields<'_>) -> Result<(), Stop> {
         let (run, _) = (fields.number()?, fields.number()?);
         let _why = fields.field()?;
         fields.end()?;
@@ -435,10 +376,7 @@ impl<A: Allocator + Copy> Audit<A> {
         Ok(())
     }
 
-    #[tactic(auto, unfolding(crate::specs::File::add_part))]
-    fn add_part(&mut self, fields: &mut Fields<'_>) -> Result<(), Stop>
-        ensures { OnOk result (add_part fields.old self.old ≡ Some self.new) }
-    {
+    fn add_part(&mut self, fields: &mut Fields<'_>) -> Result<(), Stop> {
         let (span, from) = (fields.number()?, fields.number()?);
         let (to, user) = (fields.number()?, fields.number_or_none()?);
         fields.end()?;
@@ -459,9 +397,7 @@ impl<A: Allocator + Copy> Audit<A> {
     }
 
     // A user is one of a flat.
-    fn check_user_of(&self, number: u64, flat: u64) -> Result<(), AuditFault>
-        ensures { OnOk result (is_user_of (user_at number self.now.house.facts) flat ≡ true) }
-    {
+    fn check_user_of(&self, number: u64, flat: u64) -> Result<(), AuditFault> {
         if self.facts.user(number)?.flat == flat {
             Ok(())
         } else {
@@ -470,10 +406,7 @@ impl<A: Allocator + Copy> Audit<A> {
     }
 
     // Closes the last window, and makes what the means of the sums need.
-    #[tactic(auto, unfolding(crate::specs::File::begin_totals))]
-    fn begin_totals(&mut self, fields: &mut Fields<'_>) -> Result<(), Stop>
-        ensures { OnOk result (begin_totals fields.old self.old ≡ Some self.new) }
-    {
+    fn begin_totals(&mut self, fields: &mut Fields<'_>) -> Result<(), Stop> {
         fields.end()?;
         self.close_window()?;
         let mut bases = Vec::new(self.alloc);
@@ -485,21 +418,17 @@ impl<A: Allocator + Copy> Audit<A> {
     }
 
     // Adds what the means of a span need.
-    fn add_bases(&self, span: u64, bases: &mut Vec<Basis, A>) -> Result<(), Stop>
-        ensures { OnOk result (bases.new.items ≡ bases.old.items ++ bases_in span self.now.house) }
-    {
-        let mut used = 0;
-        'uses: for _counted in self.facts.counted() {
+    fn add_bases(&self, span: u64, bases: &mut Vec<Basis, A>) -> Result<(), Stop> {
+        'uses: for used in 0..self.facts.uses() {
             let basis = self.of_flats.basis(span, used, self.facts.areas())?;
             bases.push(basis)?;
-            used += 1;
         }
         Ok(())
     }
 
     /// Whether the file is whole: its last line was `end`.
     pub fn is_whole(&self) -> bool
-        ensures { IsTrue result → self.now.stage ≡ Stage.Ended }
+        ensures { result ≡ true → self.now.stage ≡ Stage.Ended }
     {
         matches!(self.stage, Stage::Ended)
     }
@@ -514,9 +443,7 @@ pub(crate) enum Ratio {
 }
 
 // Whether these are the fields of the first line, which says what the file is.
-fn is_header(fields: &mut Fields<'_>) -> Result<bool, AuditFault>
-    ensures { IfOk result (λ found. found ≡ is_header fields.old) }
-{
+fn is_header(fields: &mut Fields<'_>) -> Result<bool, AuditFault> {
     let word = fields.field()?;
     let version = fields.field()?;
     let label = fields.field()?;
@@ -525,54 +452,15 @@ fn is_header(fields: &mut Fields<'_>) -> Result<bool, AuditFault>
 }
 
 // A block in hex digits, or `-` for nothing.
-fn vib_in(digits: &[u8]) -> Result<Vib, AuditFault>
-    ensures { IfOk result (λ v. is_vib digits.now (vib_bytes v) ≡ true) }
-{
+fn vib_in(digits: &[u8]) -> Result<Vib, AuditFault> {
     if is_word(digits, "-") {
         return Ok(Vib::NONE);
     }
-    match Vib::parse_hex(digits) {
-        Some(vib) => Ok(vib),
-        None => Err(AuditFault::Row),
-    }
-}
-
-// The identity that a field spells.
-fn identity_in(text: &[u8]) -> Result<Identity, AuditFault>
-    ensures { IfOk result (λ i. bytes_eq text.now (text_of i) ≡ true) }
-{
-    match Identity::parse_text(text) {
-        Ok(identity) => Ok(identity),
-        Err(_) => Err(AuditFault::Row),
-    }
-}
-
-// The number of a run, and the run.
-#[tactic(auto, unfolding(crate::specs::File::read_meter))]
-fn meter_in(fields: &mut Fields<'_>) -> Result<(u64, Run), AuditFault>
-    ensures { IfOk result (λ m. read_meter m.1 fields.old ≡ Some m) }
-{
-    let number = fields.number()?;
-    let identity = identity_in(fields.field()?)?;
-    let (begin, end) = (fields.number_or_none()?, fields.number_or_none()?);
-    let (most, size) = (fields.number_or_none()?, fields.number_or_none()?);
-    let vib = vib_in(fields.field()?)?;
-    fields.end()?;
-    let run = Run {
-        identity,
-        begin: begin.unwrap_or(0),
-        end,
-        most: most.unwrap_or(0),
-        size: size.unwrap_or(0),
-        vib,
-    };
-    Ok((number, run))
+    Vib::parse_hex(digits).ok_or(AuditFault::Row)
 }
 
 // A body in hex digits.
-fn body_in<A: Allocator + Copy>(alloc: A, digits: &[u8]) -> Result<Vec<u8, A>, Stop>
-    ensures { IfOk result (λ body. bytes_of digits.now ≡ Some body.items) }
-{
+fn body_in<A: Allocator + Copy>(alloc: A, digits: &[u8]) -> Result<Vec<u8, A>, Stop> {
     let mut body = room(alloc, digits.len() / 2 + 1)?;
     match decode_hex(digits, body.as_mut_slice()) {
         Some(count) => {
@@ -587,10 +475,7 @@ fn body_in<A: Allocator + Copy>(alloc: A, digits: &[u8]) -> Result<Vec<u8, A>, S
 fn bodies_in<A: Allocator + Copy>(
     alloc: A,
     fields: &mut Fields<'_>,
-) -> Result<Vec<Vec<u8, A>, A>, Stop>
-    ensures { IfOk result (λ bodies. bodies_at fields.old
-        ≡ Some (map (λ b. b.items) bodies.items)) }
-{
+) -> Result<Vec<Vec<u8, A>, A>, Stop> {
     let mut bodies = Vec::new(alloc);
     bodies.push(body_in(alloc, fields.field()?)?)?;
     'fields: while let Some(digits) = fields.next_if_any() {

@@ -238,11 +238,11 @@ impl<A: Allocator + Copy> Facts<A> {
         Ok(())
     }
 
-    /// What the meters of each use count.
-    pub fn counted(&self) -> &[Counted]
-        ensures { result.now ≡ self.now.counted }
+    /// Number of uses.
+    pub fn uses(&self) -> u64
+        ensures { result ≡ length self.now.uses }
     {
-        self.counted.as_slice()
+        self.uses.len() as u64
     }
 
     /// The number of a use by its word, from 0, and what its meters count.

