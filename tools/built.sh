@@ -52,7 +52,9 @@ keep_program() {
 
 # What a built program is: version and logic, as it says itself, and the commit that it was built of.
 version_and_commit() {
-    local of
-    of=$(cat -- "$1.commit" 2>/dev/null) || of=
-    printf '%s%s\n' "$("$1" --version)" "${of:+, commit $of}"
+    with_commit "$("$1" --version)" "$(cat -- "$1.commit" 2>/dev/null)"
+}
+
+with_commit() {
+    printf '%s%s\n' "$1" "${2:+, commit $2}"
 }
