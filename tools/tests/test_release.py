@@ -51,6 +51,28 @@ def test_symbols_and_versions_of_images(release: types.ModuleType) -> None:
     assert release.image_versions_in("| 4 | version: 2, or 1 of an earlier release |\n") == {"1", "2"}
 
 
+def test_what_came_of_steps_of_this_commit_counts(release: types.ModuleType, tmp_path: pathlib.Path,
+                                                   monkeypatch: pytest.MonkeyPatch) -> None:
+    monkeypatch.setattr(release, "KEPT", tmp_path / "steps.json")
+    assert release.kept(["gate"]) == {}
+    commit = release.said("git", "rev-parse", "HEAD").strip()
+    rows = {"gate": [True, 3600, "418 passed, 0 failed"], "lines": [True, 350, "23 passed, 0 failed"]}
+    for of, wanted in ((commit, ["gate"]), ("another", [])):
+        release.KEPT.write_text(release.json.dumps({"commit": of, "rows": rows}))
+        assert list(release.kept(["check", "gate"])) == wanted
+    assert release.shown("gate", release.Row(*rows["gate"])) == "gate         passed    3600 s  418 passed, 0 failed"
+
+
+def test_packages_that_differ(release: types.ModuleType) -> None:
+    assert release.differing({"a": b"1", "b": b"2"}, {"a": b"1", "b": b"3", "c": b""}) == ["b differs", "c differs"]
+
+
+def test_each_step_has_a_program(release: types.ModuleType) -> None:
+    for step, commands in release.STEPS.items():
+        assert bool(commands) != (step in release.OWN or step == "check")
+        assert all((release.ROOT / command.split()[0]).exists() for command in commands)
+
+
 def test_the_places_that_it_reads_are_there(release: types.ModuleType) -> None:
     root = release.ROOT
     assert release.symbols_in((root / release.EXPORTS).read_text())
