@@ -1,28 +1,26 @@
 """Bills: the rows of a house and a period, as they are computed now and as they went out."""
 
-import collections
 import datetime
-import decimal
 import zoneinfo
-from typing import Dict, Iterable, Iterator, List, NamedTuple, Optional, Tuple, Union
+from typing import Dict, Iterable, List, NamedTuple, Optional, Tuple
 
 from psycopg2.extras import DateRange
 
-from consumption import NotComputed
 from database import Cursor, Database, one
-from exporting import (File, Part, Readings, Window, Writer, bodies_of, evidence_at, plain_number, span_line, struck_of,
-                       use_lines, user_lines)
-from grading import PROVISIONAL, Graded, Period, around
-from months import Split, differences, graded_periods, kept_month, lock, splits_of
+from drafts import Published
+from exporting import Readings, Writer, bodies_of, span_line, struck_of, use_lines, user_lines
+from grading import PROVISIONAL, Period, around, graded
+from months import Split, differences, kept_month, lock, shown_line, splits_of, window_at
 from periods import begin_of, later_month
+from program import filled
+from published import NONE
 from supply import Entry, seconds
 
 HEADER = ("house", "flat", "use", "place", "tenancy", "user", "from", "to", "amount", "smallest_unit", "consumption", "unit",
           "meter", "first_at", "first_value", "last_at", "last_value", "value_unit", "serials", "grade", "estimated", "weight", "HCA")
 NAMES = ("flat", "use", "place", "from", "to")  # of a row
-# The smallest unit of a quantity, the unit that people read, and how many of the one are one of the other
-SHOWN = {"energy": ("mJ", "kWh", 3_600_000_000), "volume": ("ml", "m3", 1_000_000),
-         "allocation": ("0.001 units", "count", 1000)}
+# The smallest unit of a quantity, and the unit that people read
+SHOWN = {"energy": ("mJ", "kWh"), "volume": ("ml", "m3"), "allocation": ("0.001 units", "count")}
 DECIMALS = 3
 HELD = "held"
 PRINTED = """
@@ -58,24 +56,33 @@ class Held(NamedTuple):
     ends: datetime.datetime
 
 
-def rounded(amount: Union[int, decimal.Decimal], ratio: int) -> str:
-    """An amount in the unit that people read, rounded half up."""
-    exact = decimal.Decimal(amount) / ratio
-    return str(exact.quantize(decimal.Decimal(1).scaleb(-DECIMALS), rounding=decimal.ROUND_HALF_UP))
+class Asked(NamedTuple):
+    """A row whose amounts are asked for: its other cells, and by column the lines that ask."""
+    tenancy: Optional[int]
+    cells: Dict[str, str]
+    lines: Dict[str, str]
+
+    def row(self, lines: List[str]) -> Row:
+        """The row as the filled lines say. What is provisional or held is never in a bill."""
+        numbers = [line.split(",")[-2:] for line in lines]
+        grade = graded(*numbers[0]).grade if numbers else HELD
+        texts = {column: text for column, (text, _) in zip(self.lines, numbers) if text != NONE and grade != PROVISIONAL}
+        cells = {**self.cells, **texts, "grade": grade, "estimated": "yes" if grade == "estimated" else "no"}
+        return Row(self.tenancy, {name: cells[name] for name in HEADER if cells.get(name)})
 
 
-def rows_of(one: Split, found: List[Tuple[Period, Graded]], held: List[Held]) -> Iterator[Row]:
-    """The rows of a place: each part of the period.
+class Bill(NamedTuple):
+    """An audit file in which the amounts of a bill are asked for, and its rows, each with the place of its first line."""
+    lines: List[str]
+    rows: List[Tuple[int, Asked]]
 
-    Raises NotComputed where the parts don't add up."""
-    parts = found[1:] or found
-    if len(parts) > 1 and all(graded.amount is not None for _, graded in found):
-        if sum(graded.amount or 0 for _, graded in parts) != found[0][1].amount:
-            raise NotComputed(f"the parts of {one.place.name} don't add up")
-    for period, graded in parts:
-        if graded.amount is not None and any(month.begins < period.ends and period.begins < month.ends for month in held):
-            graded = graded._replace(grade=HELD)
-        yield Row(period.tenancy, cells_of(one, period, graded))
+    def filled(self, lines: List[str]) -> List[Row]:
+        """The rows as the filled file says."""
+        return [row.row(lines[at:at + len(row.lines)]) for at, row in self.rows]
+
+    def read(self, lines: List[str]) -> List[Published]:
+        """What the filled file publishes."""
+        return [(row.tenancy, f"{row.name} {column}", text, row.cells["grade"]) for row in self.filled(lines) for column, text in row.cells.items()]
 
 
 def ends_in(one: Split, period: Period) -> Tuple[List[Entry], List[Entry], List[Entry]]:
@@ -85,22 +92,19 @@ def ends_in(one: Split, period: Period) -> Tuple[List[Entry], List[Entry], List[
     return entries, around(entries, period.begins)[:1], around(entries, period.ends)[-1:]
 
 
-def cells_of(one: Split, period: Period, graded: Graded) -> Dict[str, str]:
-    """The cells of a row that have a text."""
-    smallest, unit, ratio = SHOWN[one.place.quantity]
+def asked_row(one: Split, period: Period, is_held: bool) -> Asked:
+    """A row, whose amounts aren't asked for where they are held."""
+    smallest, unit = SHOWN[one.place.quantity]
     zone = zoneinfo.ZoneInfo(one.place.zone)
-    amount = None if graded.grade in (PROVISIONAL, HELD) else graded.amount  # these are never in a bill
     entries, first, last = ends_in(one, period)
     cells = {"house": one.place.house, "flat": one.place.flat, "use": one.place.use, "place": str(one.place.number),
              "from": f"{period.begins.astimezone(zone):%Y-%m-%dT%H:%M}", "to": f"{period.ends.astimezone(zone):%Y-%m-%dT%H:%M}",
-             "amount": "" if amount is None else str(amount), "smallest_unit": smallest,
-             "consumption": "" if amount is None else rounded(amount, ratio), "unit": unit,
-             **ends_of("first", first, zone), **ends_of("last", last, zone),
+             "smallest_unit": smallest, "unit": unit, **ends_of("first", first, zone), **ends_of("last", last, zone),
              "meter": entries[0].fitting.identity if entries else "", "value_unit": entries[0].value.unit if entries else "",
              "serials": " ".join(str(it.value.telegram[1]) for it in first + last if it.value.telegram is not None),
-             "grade": graded.grade, "estimated": "yes" if graded.grade == "estimated" else "no", "weight": f"{one.place.weight:f}",
-             "HCA": "" if amount is None or unit != "count" else rounded(amount * one.place.weight, ratio)}
-    return {name: text for name, text in cells.items() if text}
+             "weight": f"{one.place.weight:f}"}
+    units = {"amount": ("smallest", 0), "consumption": (unit, DECIMALS), **({"HCA": ("HCA", DECIMALS)} if unit == "count" else {})}
+    return Asked(period.tenancy, cells, {} if is_held else {column: shown_line(period, *of_unit) for column, of_unit in units.items()})
 
 
 def ends_of(name: str, ends: List[Entry], zone: zoneinfo.ZoneInfo) -> Dict[str, str]:
@@ -114,76 +118,47 @@ def days_of(period: Tuple[datetime.date, datetime.date]) -> DateRange:
     return DateRange(period[0], period[1] + datetime.timedelta(days=1))
 
 
-class PlaceBill(NamedTuple):
-    """A place in a bill: its periods, and a row of each."""
-    split: Split
-    periods: List[Period]
-    rows: List[Row]
+def bill_of(cursor: Cursor, house: str, days: DateRange) -> Bill:
+    """A bill by what is known now, by flat, use and place.
 
-
-def places_of_bill(cursor: Cursor, house: str, days: DateRange) -> List[PlaceBill]:
-    """The places of a bill by what is known now, by flat, use and place.
-
-    Raises LookupError where values of its days were dropped, and NotComputed."""
+    Raises LookupError where values of its days were dropped."""
     kept = kept_month(cursor)
     if kept is not None and days.lower.replace(day=1) <= kept:
         raise LookupError(f"the values of days up to {kept:%Y-%m} were dropped: a bill can't be computed from what is left")
-    splits = splits_of(cursor, [house], days.lower, days.upper, at_exchanges=True)
+    splits = sorted(splits_of(cursor, [house], days.lower, days.upper, at_exchanges=True),
+                    key=lambda it: (it.place.flat, it.place.use, it.place.number))
     cursor.execute(HELD_MONTHS, (house, days))
     held = [Held(*row) for row in cursor]
-    found: Dict[int, List[Tuple[Period, Graded]]] = collections.defaultdict(list)
-    for one_place, period, graded in graded_periods(splits):
-        found[one_place.place.id].append((period, graded))
-    ordered = sorted(splits, key=lambda it: (it.place.flat, it.place.use, it.place.number))
-    return [PlaceBill(it, [period for period, _ in found[it.place.id][1:] or found[it.place.id]],
-                      list(rows_of(it, found[it.place.id], [month for month in held if month.place == it.place.id]))) for it in ordered]
+    cursor.execute("SELECT zone FROM houses WHERE house = %s", (house,))
+    zone = one(cursor)[0]
+    windows = [window_at(it, days.lower, days.upper) for it in splits]
+    writer = Writer(bodies_of(cursor, windows), struck_of(cursor, house, seconds(begin_of(days.lower, zone)), seconds(begin_of(days.upper, zone))))
+    writer.lines += [f"audit,1,{days.lower:%Y-%m}", span_line(1, days.lower, days.upper, zone), *use_lines(cursor, {it.use for it in windows}),
+                     *user_lines(cursor, house, windows, days.lower, days.upper)]
+    rows: List[Tuple[int, Asked]] = []
+    for split, window in zip(splits, windows):
+        periods = split.periods[1:] or split.periods
+        asked = [asked_row(split, it, any(month.place == window.place and month.begins < it.ends and it.begins < month.ends for month in held))
+                 for it in periods]
+        at = writer.window(1, window, [line for row in asked for line in row.lines.values()], readings_of(split, periods))
+        for row in asked:
+            rows.append((at, row))
+            at += len(row.lines)
+    writer.lines += ["totals", "end"]
+    return Bill(writer.lines, rows)
 
 
 def computed(cursor: Cursor, house: str, days: DateRange) -> List[Row]:
-    """The rows of a bill by what is known now."""
-    return [row for place in places_of_bill(cursor, house, days) for row in place.rows]
+    """The rows of a bill by what is known now. Raises NotComputed, and as bill_of."""
+    bill = bill_of(cursor, house, days)
+    return bill.filled(filled(bill.lines).lines)
 
 
-def bill_file(cursor: Cursor, house: str, days: DateRange) -> File:
-    """The audit file of a bill. Raises NoEvidence, and as places_of_bill."""
-    places = places_of_bill(cursor, house, days)
-    cursor.execute("SELECT zone FROM houses WHERE house = %s", (house,))
-    zone = one(cursor)[0]
-    begins, ends = seconds(begin_of(days.lower, zone)), seconds(begin_of(days.upper, zone))
-    windows = [window_of(it, begins, ends) for it in places]
-    writer = Writer(bodies_of(cursor, windows), struck_of(cursor, house, begins, ends))
-    writer.lines += [f"audit,1,{days.lower:%Y-%m}", span_line(1, days.lower, days.upper, zone), *use_lines(cursor, {it.use for it in windows}),
-                     *user_lines(cursor, house, windows, days.lower, days.upper)]
-    for place, window in zip(places, windows):
-        numbers = [line for period, row in zip(place.periods, place.rows) for line in number_lines(period, row)]
-        writer.window(1, window, numbers, readings_of_rows(place))
-    writer.lines += ["totals", "end"]
-    return File(writer.lines, [(row.tenancy, f"{row.name} {column}", text, row.cells["grade"])
-                               for place in places for row in place.rows for column, text in row.cells.items()])
-
-
-def window_of(bill: PlaceBill, begins: int, ends: int) -> Window:
-    place = bill.split.place
-    return Window(begins, ends, place.id, place.flat, place.use, place.number, plain_number(place.weight), place.zone,
-                  [run for fitting in place.fittings for run in fitting.runs()], [evidence_at(it) for it in bill.split.entries],
-                  [Part(seconds(it.begins), seconds(it.ends), it.tenancy) for it in bill.periods])
-
-
-def number_lines(period: Period, row: Row) -> Iterator[str]:
-    """The lines of a row's amounts; what is never in a bill has none."""
-    grade, cells = row.cells["grade"], row.cells
-    if grade in (PROVISIONAL, HELD):
-        return
-    for unit, column in (("smallest", "amount"), (cells["unit"], "consumption"), ("HCA", "HCA")):
-        if column != "HCA" or column in cells:
-            yield f"shown,1,{seconds(period.begins)},{seconds(period.ends)},{unit},{cells.get(column, '-')},{'measured' if grade == 'zero' else grade}"
-
-
-def readings_of_rows(bill: PlaceBill) -> Readings:
+def readings_of(split: Split, periods: List[Period]) -> Readings:
     """The meters' values that a place's rows name."""
     found: Readings = {}
-    for period in bill.periods:
-        _, first, last = ends_in(bill.split, period)
+    for period in periods:
+        _, first, last = ends_in(split, period)
         found.update({(it.line.meter, it.line.moment): (it.value.shown, it.value.unit) for it in first + last})
     return found
 

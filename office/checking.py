@@ -4,11 +4,11 @@ import urllib.parse
 from typing import List, Optional
 
 from catalogue import Catalogue
-from consumption import HEADER, Line
 from published import Printed
 from sheet_data import SMALLEST_OF_KWH, UNITS, PlaceUse, Use
-from supply import seconds
+from supply import Line, seconds
 
+HEADER = "place,meter,moment,value,most,size\n"
 SCALES = {"kWh": SMALLEST_OF_KWH, "m³": 1_000_000, "HCA": 1_000}  # of the smallest unit
 
 

@@ -6,8 +6,8 @@ from typing import Callable, NoReturn, Optional
 
 import psycopg2
 
-from consumption import NotComputed
 from database import Database, plain
+from program import NotComputed
 
 LONGEST_FAULT = 1000
 USAGE, FAILED, NO_DATABASE = 2, 3, 4
@@ -23,7 +23,7 @@ def words_of(doc: Optional[str]) -> argparse.ArgumentParser:
 
 def ended(name: str, given: argparse.Namespace, work: Callable[[Database, argparse.Namespace], int]) -> NoReturn:
     """Does the work of a command and ends with its status: 2 where something is named that isn't there, 3 where the
-    program of consumption failed, 4 where the database wasn't reached or refused something."""
+    program failed, 4 where the database wasn't reached or refused something."""
     database = Database(given.database, SECONDS)
     try:
         status = work(database, given)

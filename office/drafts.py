@@ -1,127 +1,176 @@
-"""The numbers of a month before they are judged: how each is printed, and which line of an audit file says it.
+"""The numbers of a month: which lines of an audit file ask `mbdc audit` for them, and what the filled file publishes.
 
-A key says which number it is: of a flat's use, in which month and unit. office/publish has `mbdc audit` judge the drafts; pages
-print what was published under the same keys, and nothing else.
+A key says which number it is: of a flat's use, in which month and unit. It is made of the audited lines alone, so that it can't say
+something else than they do; pages print what was published under their keys, and nothing else.
 """
 
 import datetime
 import decimal
-from fractions import Fraction
-from typing import Dict, Iterator, NamedTuple, Optional, Set, Tuple
+from typing import Callable, Dict, Iterator, List, NamedTuple, Optional, Set, Tuple
 
 from catalogue import DECIMALS
 from house_data import House
-from periods import begin_of, later_month, next_month
-from published import NONE, chart_key, flat_key, house_key, place_key, use_key
-from sheet_data import Number, Sheet, Use, rounded
+from periods import begin_of, day_after, later_month, next_month
+from published import NONE, flat_key, house_key, use_key
+from sheet_data import Number, Sheet, Use
 from supply import seconds
 
-NO_NUMBER = ("unclear", "disturbed", "missing")
 AUDIT_UNITS = {"kWh": "kWh", "m³": "m3", "HCA": "HCA"}
+SHOWN_UNITS = {of_file: unit for unit, of_file in AUDIT_UNITS.items()}
+NOW = "1"  # the span of the file's month
+BESIDE = {"mean": "average", "change": "change", "carbon": "carbon", "weather": "weather", "cost": "cost"}  # marks of what is said beside amounts
+CHARTED_WHOLE = 100  # from here on a chart's number has no decimals
 Spans = Dict[datetime.date, int]
+Published = Tuple[Optional[int], str, str, str]  # tenancy, key, text, mark
 
 
-class Draft(NamedTuple):
-    """A number: whose it is, its key, text and mark; and its line in an audit file before the text, and after it."""
-    tenancy: Optional[int]
-    key: str
-    text: str
-    mark: str
+class Asked(NamedTuple):
+    """A line that asks for a number."""
     line: str
-    tail: str
-    place: str = ""  # flat, use and number, where the line stands with the place
+    place: str = ""  # flat, use and number, where it stands with the place
 
 
-def text_of(number: Number, decimals: int) -> str:
-    return NONE if number.value is None else rounded(number.value, decimals)
+def asked(decimals: int) -> str:
+    """A number that is asked for with so many decimals."""
+    return f"?.{'0' * decimals}" if decimals else "?"
 
 
-def mark_of(grade: str) -> str:
-    return "measured" if grade == "zero" else grade
+# ---- what is asked
 
-
-def is_said(number: Optional[Number]) -> bool:
-    """Whether something may be said of a number: it isn't held, and its unit's factor is known."""
-    return number is not None and (number.value is not None or number.grade in NO_NUMBER)
-
-
-def chart_decimals(value: Optional[Fraction]) -> int:
-    return 0 if value is not None and value >= 100 else 1
-
-
-def of_sheet(sheet: Sheet, spans: Spans) -> Iterator[Draft]:
+def of_sheet(sheet: Sheet, spans: Spans) -> Iterator[Asked]:
     """The numbers of a sheet."""
     user, now = sheet.user, spans[sheet.month]
     for use in sheet.uses:
-        name = f"{user.id},{use.use},{AUDIT_UNITS[use.unit]}"
+        name, shown = f"{user.id},{use.use},{AUDIT_UNITS[use.unit]}", asked(DECIMALS[use.unit])
+        if use.is_charted and not use.months[sheet.month].why:
+            yield from (Asked(f"of_user,{now},{name},{asked(decimals)},?") for decimals in (0, 1))
         for month, span in spans.items():
-            number = use.months.get(month)
-            if number is None or not is_said(number):
-                continue
-            line, mark = f"of_user,{span},{name}", mark_of(number.grade)
-            yield Draft(user.id, use_key(user.flat, use, month), text_of(number, DECIMALS[use.unit]), mark, line, f",{mark}")
-            if month == sheet.month and use.is_charted:
-                yield Draft(user.id, chart_key(user.flat, use, month), text_of(number, chart_decimals(number.value)), mark, line, f",{mark}")
+            if month in use.months and not use.months[month].why:
+                yield Asked(f"of_user,{span},{name},{shown},?")
         for place in use.places:
-            if is_said(place.amount):
+            if not place.amount.why:
                 period = f"{seconds(place.amount.begins)},{seconds(place.amount.ends)}"
-                mark = mark_of(place.amount.grade)
-                yield Draft(user.id, place_key(user.flat, use, place), text_of(place.amount, DECIMALS[use.unit]), mark,
-                            f"shown,{now},{period},{AUDIT_UNITS[use.unit]}", f",{mark}", f"{user.flat} {use.use} {place.number}")
+                yield Asked(f"shown,{now},{period},{AUDIT_UNITS[use.unit]},{shown},?", f"{user.flat} {use.use} {place.number}")
         yield from of_use(sheet, use, spans, name)
 
 
-def of_use(sheet: Sheet, use: Use, spans: Spans, name: str) -> Iterator[Draft]:
+def of_use(sheet: Sheet, use: Use, spans: Spans, name: str) -> Iterator[Asked]:
     """What is said beside the amounts of a use."""
-    user, now, number = sheet.user, spans[sheet.month], use.months[sheet.month]
-    if use.average is not None and not sheet.facts.held.intersection({use.use}):
-        yield Draft(user.id, use_key(user.flat, use, "average"), rounded(use.average, DECIMALS[use.unit]), "average", f"mean,{now},{name}", "")
-    if number.value is None:
+    user, now, shown = sheet.user, spans[sheet.month], asked(DECIMALS[use.unit])
+    if user.area_m2 is not None and use.use not in sheet.facts.held:
+        yield Asked(f"mean,{now},{name},{shown}")
+    if use.months[sheet.month].why:
         return
-    for month in (later_month(sheet.month, -1), later_month(sheet.month, -12)):
-        then = use.months.get(month)
-        if month in spans and then is not None and then.value and is_whole(number, sheet.month, user.zone) and is_whole(then, month, user.zone):
-            change = 100 * (number.value - then.value) / then.value
-            yield Draft(user.id, use_key(user.flat, use, f"change {month:%Y-%m}", ""), rounded(change, 0), "change", f"change,{now},{spans[month]},{name}", "")
-    yield from of_heat(sheet, use, spans, number)
-    price = sheet.facts.prices.get(use.use)
-    if user.shows_costs and price is not None and price[0] == use.unit:
-        yield Draft(user.id, use_key(user.flat, use, "cost", ""), rounded(number.value * Fraction(price[1]) / 100, 2), "cost", f"cost,{now},{name}", "")
+    last = later_month(sheet.month, -12)
+    for month in (later_month(sheet.month, -1), last):
+        if is_compared(sheet, use, spans, month):
+            yield Asked(f"change,{now},{spans[month]},{name},{asked(0)}")
+    if user.co2_g_per_kwh is not None and use.use in sheet.facts.carbon_uses and use.unit == "kWh":
+        yield Asked(f"carbon,{now},{user.id},{use.use},{asked(1)}")
+    if (use.use in sheet.facts.heating_uses and use.unit == "kWh" and {sheet.month, last} <= sheet.facts.degrees.keys()
+            and is_compared(sheet, use, spans, last)):
+        yield Asked(f"weather,{now},{spans[last]},{user.id},{use.use},{shown}")
+    if user.shows_costs and sheet.facts.prices.get(use.use, ("",))[0] == use.unit:
+        yield Asked(f"cost,{now},{name},{asked(2)}")
 
 
-def of_heat(sheet: Sheet, use: Use, spans: Spans, number: Number) -> Iterator[Draft]:
-    """Emissions, and what the month of the year before would have been in this month's weather."""
-    user, now, facts, last = sheet.user, spans[sheet.month], sheet.facts, later_month(sheet.month, -12)
-    if use.unit != "kWh" or number.value is None:
-        return
-    if user.co2_g_per_kwh is not None and use.use in facts.carbon_uses:
-        yield Draft(user.id, use_key(user.flat, use, "co2", ""), rounded(number.value * Fraction(user.co2_g_per_kwh) / 1000, 1), "carbon",
-                    f"carbon,{now},{user.id},{use.use}", "")
-    then = use.months.get(last)
-    if (use.use in facts.heating_uses and last in spans and then is not None and then.value and facts.degrees.get(last) and sheet.month in facts.degrees
-            and is_whole(number, sheet.month, user.zone) and is_whole(then, last, user.zone)):
-        adjusted = then.value * Fraction(facts.degrees[sheet.month]) / Fraction(facts.degrees[last])
-        yield Draft(user.id, use_key(user.flat, use, "weather", ""), rounded(adjusted, DECIMALS["kWh"]), "weather",
-                    f"weather,{now},{spans[last]},{user.id},{use.use}", "")
+def is_compared(sheet: Sheet, use: Use, spans: Spans, month: datetime.date) -> bool:
+    """Whether the sheet's month is compared with another: both are whole, and something is said of both."""
+    now, then = use.months[sheet.month], use.months.get(month)
+    return (month in spans and then is not None and not then.why and is_whole(now, sheet.month, sheet.user.zone)
+            and is_whole(then, month, sheet.user.zone))
 
 
 def is_whole(number: Number, month: datetime.date, zone: str) -> bool:
     return number.begins == begin_of(month, zone) and number.ends == begin_of(next_month(month), zone)
 
 
-def of_house(page: House, held: Set[str], span: int) -> Iterator[Draft]:
+def of_house(page: House, held: Set[str], span: int) -> Iterator[Asked]:
     """The numbers of a house page. Where one is held, its use has no sum."""
     for use, unit in page.uses:
+        of_unit = f"{use},{AUDIT_UNITS[unit]},{asked(DECIMALS[unit])}"
         for flat, numbers in page.flats.items():
-            number = numbers.get(use)
-            if number is not None and is_said(number):
-                mark = mark_of(number.grade)
-                yield Draft(None, flat_key(flat, use), text_of(number, DECIMALS[unit]), mark, f"of_flat,{span},{flat},{use},{AUDIT_UNITS[unit]}", f",{mark}")
-        if use in held:
-            continue
-        total, none, count = page.sums[use]
-        yield Draft(None, house_key(use), NONE if total is None else rounded(total, DECIMALS[unit]), f"{none} {count}",
-                    f"of_house,{span},{use},{AUDIT_UNITS[unit]}", f",{none},{count}")
+            if use in numbers and not numbers[use].why:
+                yield Asked(f"of_flat,{span},{flat},{of_unit},?")
+        if use not in held:
+            yield Asked(f"of_house,{span},{of_unit},?,?")
+
+
+# ---- what is published
+
+class Reader:
+    """Reads a filled file. numbers: of the places, in the order of the file, among those of their flat and use."""
+
+    def __init__(self, numbers: List[int]) -> None:
+        self.numbers, self.found = iter(numbers), {}  # type: Iterator[int], Dict[Tuple[Optional[int], str], Published]
+        self.months: Dict[str, str] = {}  # by span
+        self.flats: Dict[str, str] = {}  # by user
+        self.facts: Dict[Tuple[str, ...], str] = {}
+        self.parts: Dict[Tuple[str, str], str] = {}  # the user of each
+        self.place: Tuple[str, str, int] = ("", "", 0)
+
+    def read(self, lines: List[str]) -> List[Published]:
+        """What the lines publish, each key once."""
+        for line in lines:
+            kind, *fields = line.split(",")
+            take: Optional[Callable[..., None]] = getattr(self, f"take_{kind}", None)
+            if kind in BESIDE:
+                self.take_beside(kind, *fields)
+            elif take is not None:
+                take(*fields)
+        return list(self.found.values())
+
+    def put(self, user: str, key: str, text: str, mark: str) -> None:
+        """A number of a user, or of nobody."""
+        tenancy = None if user == NONE else int(user)
+        self.found.setdefault((tenancy, key), (tenancy, key, text, mark))
+
+    def put_of(self, user: str, use: str, what: str, text: str, mark: str, unit: str = "") -> None:
+        """A number of a user, if there is one."""
+        if text != NONE:
+            self.put(user, use_key(self.flats[user], use, what, unit), text, mark)
+
+    def take_beside(self, kind: str, _: str, *fields: str) -> None:
+        then, user, use = (self.months[fields[0]], *fields[1:3]) if kind in ("change", "weather") else ("", *fields[:2])
+        what = {"mean": "average", "change": f"change {then}", "carbon": "co2"}.get(kind, kind)
+        self.put_of(user, use, what, fields[-1], BESIDE[kind], SHOWN_UNITS[fields[2]] if kind == "mean" else "")
+
+    def take_span(self, span: str, day: str, *_: str) -> None:
+        self.months[span] = f"{day_after(datetime.date.fromisoformat(day)):%Y-%m}"
+
+    def take_user(self, user: str, flat: str, _: str) -> None:
+        self.flats[user] = flat
+
+    def take_factor(self, use: str, span: str, factor: str) -> None:
+        self.facts["factor", use, "kWh", span] = factor
+
+    def take_price(self, use: str, unit: str, span: str, price: str) -> None:
+        self.facts["price", use, unit, span] = price
+
+    def take_place(self, _: str, flat: str, use: str, __: str) -> None:
+        self.place, self.parts = (flat, use, next(self.numbers)), {}
+
+    def take_part(self, _: str, begins: str, ends: str, user: str) -> None:
+        self.parts[begins, ends] = user
+
+    def take_shown(self, _: str, begins: str, ends: str, unit: str, text: str, mark: str) -> None:
+        flat, use, number = self.place
+        self.put(self.parts.get((begins, ends), NONE), use_key(flat, use, f"{number} {begins} {ends}", SHOWN_UNITS[unit]), text, mark)
+
+    def take_of_user(self, span: str, user: str, use: str, of_file: str, text: str, mark: str) -> None:
+        unit, month, decimals = SHOWN_UNITS[of_file], self.months[span], len(text.partition(".")[2])
+        if decimals == DECIMALS[unit] or text == NONE:
+            self.put(user, use_key(self.flats[user], use, month, unit), text, mark)
+        if span == NOW and (decimals == 1 or text == NONE or decimal.Decimal(text) >= CHARTED_WHOLE):
+            self.put(user, use_key(self.flats[user], use, f"{month} chart", unit), text, mark)
+        for what in ("factor", "price") if span == NOW else ():
+            self.put_of(user, use, what, self.facts.get((what, use, of_file, span), NONE), "declared")
+
+    def take_of_flat(self, _: str, flat: str, use: str, __: str, text: str, mark: str) -> None:
+        self.put(NONE, flat_key(flat, use), text, mark)
+
+    def take_of_house(self, _: str, use: str, __: str, text: str, none: str, count: str) -> None:
+        self.put(NONE, house_key(use), text, f"{none} {count}")
 
 
 def printed_reading(shown: str, unit: str) -> Tuple[str, str]:

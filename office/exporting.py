@@ -1,25 +1,24 @@
-"""Writes audit files (docs/OFFICE.md): the telegrams of a house and its months, what people declared, and each number to be
-published. `mbdc audit` judges them.
+"""Writes audit files (docs/OFFICE.md): the telegrams of a house and its months, what people declared, and a question mark for each
+number that is to be published. `mbdc audit` fills them in, and judges them.
 
 A file lists a place once for each month (span): the meters and what is known of them are those that the month was computed with.
 """
 
 import datetime
-import decimal
 import zoneinfo
-from typing import Any, Dict, Iterable, List, NamedTuple, Optional, Sequence, Set, Tuple
+from typing import Any, Callable, Dict, Iterable, List, NamedTuple, Optional, Sequence, Set, Tuple
 
-from consumption import Line
 from database import Cursor, plain
-from drafts import AUDIT_UNITS, Draft, Spans, of_house, of_sheet, printed_reading
+from drafts import AUDIT_UNITS, Asked, Published, Reader, Spans, of_house, of_sheet, printed_reading
 from house_data import House, house_of
 from periods import begin_of, later_month, next_month
-from published import reading_key, use_key
-from sheet_data import ENERGY, Averages, Sheet, declared_average, sheets_of
+from published import reading_key
+from sheet_data import Averages, Sheet, declared_average, sheets_of
 from sheet_facts import facts_of
-from supply import BY_HAND, DUE_DATE, ENDED, ESTIMATED, FITTED, REMOVED, RESTARTED, RUNS, Entry, Run, seconds
+from supply import BY_HAND, DUE_DATE, ENDED, ESTIMATED, FITTED, REMOVED, RESTARTED, RUNS, Entry, Line, Place, Run, plain_number, seconds
 
 STORED, READ = "stored", "read"
+NO_TELEGRAM = b"\0"  # in the place of one that isn't there any more: no evidence
 MARGIN = 3 * 86_400  # around a span, in which struck values are named
 NOBODY = 10**17  # users of this number and above are flats that nobody uses
 AT_ENDS = {FITTED: "first", RESTARTED: "first", REMOVED: "last", ENDED: "last"}
@@ -90,17 +89,12 @@ Bodies = Dict[Tuple[str, str, int], List[bytes]]
 Struck = Dict[int, List[Tuple[int, int, str]]]  # by place: fitting, moment, why
 Readings = Dict[Tuple[int, int], Tuple[str, str]]  # by run and moment: text and unit
 Declared = Dict[Tuple[str, ...], str]
-Published = Tuple[Optional[int], str, str, str]  # tenancy, key, text, mark
 
 
 class File(NamedTuple):
-    """An audit file, and what is to be published once it is accepted."""
+    """An audit file in which numbers are asked for, and what the filled one publishes."""
     lines: List[str]
-    published: List[Published]
-
-
-def plain_number(number: Any) -> str:
-    return f"{decimal.Decimal(number).normalize():f}"
+    read: Callable[[List[str]], List[Published]]
 
 
 def offset_of(moment: datetime.datetime, zone: str) -> int:
@@ -137,6 +131,12 @@ def evidence_at(entry: Entry) -> Evidence:
     value, line = entry.value, entry.line
     telegram = None if value.telegram is None or value.box is None else (value.telegram[0], value.box, value.telegram[1], value.telegram[2])
     return Evidence(line.meter, line.moment, line.value, value.source, value.shown, value.unit, value.is_estimated, telegram)
+
+
+def window_of(place: Place, entries: Sequence[Entry], parts: List[Part], begins: int, ends: int) -> Window:
+    """What decides the periods of a place, as it is known now."""
+    return Window(begins, ends, place.id, place.flat, place.use, place.number, plain_number(place.weight), place.zone,
+                  [run for fitting in place.fittings for run in fitting.runs()], [evidence_at(it) for it in entries], parts)
 
 
 def windows_of(cursor: Cursor, house: str, months: List[datetime.date]) -> Dict[datetime.date, List[Window]]:
@@ -185,8 +185,8 @@ class Writer:
         self.lines: List[str] = []
         self.bodies, self.struck, self.places = bodies, struck, 0
 
-    def window(self, span: int, window: Window, numbers: List[str], readings: Readings) -> None:
-        """A place in a span, its numbers, and its readings as they are printed. Raises NoEvidence."""
+    def window(self, span: int, window: Window, numbers: List[str], readings: Readings) -> int:
+        """A place in a span, its numbers, and its readings as they are printed; where the first number stands."""
         runs = needed_runs(window)
         number = {run.number: at for at, run in enumerate(runs, 1)}
         self.places += 1
@@ -201,11 +201,13 @@ class Writer:
         self.lines += [f"struck,{number[fitting * RUNS]},{moment},{why}" for fitting, moment, why in self.struck.get(window.place, [])
                        if window.begins - MARGIN <= moment <= window.ends + MARGIN and fitting * RUNS in number]
         self.lines += [f"part,{span},{part.begins},{part.ends},{'-' if part.user is None else part.user}" for part in window.parts]
+        first = len(self.lines)
         self.lines += numbers
         self.lines += [f"value,{number[run]},{moment},{text},{unit}" for (run, moment), (text, unit) in readings.items() if run in number]
+        return first
 
     def value(self, value: Evidence, number: Dict[int, int], zone: str, before: Optional[Evidence]) -> None:
-        """The line of a value. Raises NoEvidence."""
+        """The line of a value."""
         run, how = number[value.run], "estimated" if value.is_estimated else "hand"
         ends = end_fields(utc(value.moment), zone)
         if value.source in AT_ENDS:
@@ -226,9 +228,7 @@ class Writer:
         bodies = self.bodies.get(value.telegram[:3], []) if value.telegram is not None else []
         if value.telegram is not None and value.source == READ:
             bodies = bodies[value.telegram[3] - 1:value.telegram[3]]
-        if not bodies:
-            raise NoEvidence(f"the telegram of a value of {utc(value.moment):%Y-%m-%d} isn't there")
-        return ",".join(body.hex().upper() for body in bodies)
+        return ",".join(body.hex().upper() for body in bodies or [NO_TELEGRAM])
 
 
 def struck_of(cursor: Cursor, house: str, begins: int, ends: int) -> Struck:
@@ -250,46 +250,38 @@ def month_file(cursor: Cursor, house: str, month: datetime.date, averages: Avera
     if not page.uses:
         raise LookupError(f"{month:%Y-%m} of {house} isn't computed")
     windows = windows_of(cursor, house, [month, later_month(month, -1), later_month(month, -12)])
-    if month not in windows:
-        raise NoEvidence(f"{month:%Y-%m} was computed before there were audits")
     bodies = bodies_of(cursor, [it for of_month in windows.values() for it in of_month])
-    months = [it for it in windows if it == month or has_evidence(windows[it], bodies)]
-    spans = {one: number for number, one in enumerate(sorted(months, reverse=True), 1)}
-    drafts, readings, declared, published = numbers_of(cursor, page, sheets_of(cursor, [house], month, averages), spans, averages)
+    spans = {one: number for number, one in enumerate(sorted((it for it in windows if has_evidence(windows[it], bodies)), reverse=True), 1)}
+    if month not in spans:
+        raise NoEvidence(f"{month:%Y-%m} was computed before there were audits, or a telegram isn't there any more")
+    sheets = sheets_of(cursor, [house], month)
+    declared, readings = declared_of(cursor, page, spans, sheets, averages), readings_of(sheets, page)
     writer = Writer(bodies, struck_of(cursor, house, min(it[0].begins for it in windows.values()), max(it[0].ends for it in windows.values())))
     writer.lines += [f"audit,1,{month:%Y-%m}", *(span_line(number, one, next_month(one), page.zone) for one, number in spans.items()),
                      *use_lines(cursor, {it.use for one in spans for it in windows[one]} | {key[1] for key in declared})]
-    writer.lines += [f"{','.join(key)},{text}" for key, text in declared.items()]
+    writer.lines += [f"{','.join(key)},{number}" for key, number in declared.items()]
     writer.lines += user_lines(cursor, house, [it for one in spans for it in windows[one]], min(spans), next_month(month))
+    asked = [it for sheet in sheets for it in of_sheet(sheet, spans)]
+    asked += of_house(page, facts_of(cursor, [house], month, [])[house].held, spans[month])
+    shown = [(span, window, one == month) for one, span in spans.items() for window in windows[one]]
+    write(writer, shown, asked, readings)
+    numbers = [window.number for _, window, _ in shown]
+    return File(writer.lines, lambda lines: [*Reader(numbers).read(lines), *readings_published(readings)])
+
+
+def write(writer: Writer, windows: List[Tuple[int, Window, bool]], asked: List[Asked], readings: Readings) -> None:
+    """Writes the windows, those of the month with what is asked there, and the sums."""
     of_places: Dict[str, List[str]] = {}
-    for draft in drafts:
-        of_places.setdefault(draft.place, []).append(f"{draft.line},{draft.text}{draft.tail}")
-    for one, span in spans.items():
-        for window in windows[one]:
-            named = {key: readings[key] for key in keys_of(window) if key in readings}
-            writer.window(span, window, *((of_places.get(window.name, []), named) if one == month else ([], {})))
+    for it in asked:
+        of_places.setdefault(it.place, []).append(it.line)
+    for span, window, is_now in windows:
+        named = {key: readings[key] for key in keys_of(window) if is_now and key in readings}
+        writer.window(span, window, of_places.get(window.name, []) if is_now else [], named)
     writer.lines += ["totals", *of_places.get("", []), "end"]
-    return File(writer.lines, published)
 
 
-class Numbers(NamedTuple):
-    """The numbers of a house's month, the meters' values and the declared facts; and what is published of them."""
-    drafts: List[Draft]
-    readings: Readings
-    declared: Declared
-    published: List[Published]
-
-
-def numbers_of(cursor: Cursor, page: House, sheets: List[Sheet], spans: Spans, averages: Averages) -> Numbers:
-    """The numbers as the office has them, before they are judged."""
-    declared = declared_of(cursor, page, spans, sheets, averages)
-    energies = {use.use for sheet in sheets for use in sheet.uses if use.quantity == ENERGY}
-    drafts = [it for sheet in sheets for it in of_sheet(sheet, spans) if is_defined(it, declared, energies)]
-    drafts += of_house(page, facts_of(cursor, [page.house], page.month, [])[page.house].held, spans[page.month])
-    readings = readings_of(sheets, page)
-    published = [(it.tenancy, it.key, it.text, it.mark) for it in drafts]
-    published += [(None, reading_key(Line(run, moment, 0)), text, "reading") for (run, moment), (text, _) in readings.items()]
-    return Numbers(drafts, readings, declared, published + said_of(sheets, declared, spans[page.month]))
+def readings_published(readings: Readings) -> List[Published]:
+    return [(None, reading_key(Line(run, moment, 0)), text, "reading") for (run, moment), (text, _) in readings.items()]
 
 
 def keys_of(window: Window) -> List[Tuple[int, int]]:
@@ -318,12 +310,6 @@ def declared_of(cursor: Cursor, page: House, spans: Spans, sheets: List[Sheet], 
     return found
 
 
-def is_defined(draft: Draft, declared: Declared, energies: Set[str]) -> bool:
-    """Whether the factor of a number in kWh is known in its month."""
-    kind, span, *rest = draft.line.split(",")
-    return kind != "of_user" or rest[2] != "kWh" or rest[1] in energies or ("factor", rest[1], span) in declared
-
-
 def use_lines(cursor: Cursor, uses: Set[str]) -> List[str]:
     """What each of these uses counts."""
     cursor.execute(USES, (list(uses),))
@@ -350,15 +336,4 @@ def readings_of(sheets: List[Sheet], page: House) -> Readings:
     for meter in page.meters:
         if meter.entry is not None and meter.value is not None and meter.unit is not None:
             found[meter.entry.meter, meter.entry.moment] = printed_reading(meter.value, meter.unit)
-    return found
-
-
-def said_of(sheets: List[Sheet], declared: Declared, now: int) -> List[Published]:
-    """The declared facts that sheets print: factors and prices."""
-    found: List[Published] = []
-    for sheet in sheets:
-        for use in sheet.uses:
-            for what, key in (("factor", ("factor", use.use, str(now))), ("price", ("price", use.use, AUDIT_UNITS[use.unit], str(now)))):
-                if key in declared and use.unit == "kWh" or key in declared and what == "price":
-                    found.append((sheet.user.id, use_key(sheet.user.flat, use, what, ""), declared[key], "declared"))
     return found

@@ -2,13 +2,11 @@
 
 import datetime
 import re
-from fractions import Fraction
 from typing import Any, Dict, List, NamedTuple, Optional, Tuple
 
-from consumption import Line
 from database import Cursor
-from sheet_data import Amount, Number, amount_of, number_of, sum_of, unit_of, uses_in
-from supply import RUNS
+from sheet_data import Amount, Number, number_of, unit_of, uses_in
+from supply import RUNS, Line
 
 DIGITS = re.compile("([0-9]+)")
 BOXES = "SELECT name, collected_at, fault FROM boxes WHERE house = %s AND active ORDER BY name"
@@ -27,7 +25,7 @@ LEFT JOIN LATERAL (SELECT min(o.why) AS why FROM boxes b JOIN meters m ON m.box 
 LEFT JOIN month_kwh u ON u.place = p.id AND u.month = %(month)s AND u.part = 0
 WHERE p.house = %(house)s"""
 AMOUNTS = """
-SELECT NULL, month, use, number, begins, ends, grade, amount, has_kwh, kwh, units, NULL, quantity, position, is_charted, flat
+SELECT NULL, month, use, number, begins, ends, grade, has_kwh, NULL, quantity, position, is_charted, flat
 FROM month_parts
 WHERE house = %s AND month = %s ORDER BY use, number, begins"""
 # What the month was computed from, by place
@@ -83,8 +81,6 @@ class House(NamedTuple):
     meters: List[Meter]
     uses: List[Tuple[str, str]]  # with its unit
     flats: Dict[str, Dict[str, Number]]  # by flat and use
-    # By use: the sum of the places that have a value (None: none has), how many have none, and how many there are
-    sums: Dict[str, Tuple[Optional[Fraction], int, int]]
     alarms: List[Alarm]
     users: Dict[str, List[Tuple[str, str]]]  # by flat: name and token
 
@@ -118,12 +114,12 @@ def house_of(cursor: Cursor, house: str, month: datetime.date, after: datetime.d
     for flat, person, token in cursor:
         users.setdefault(flat, []).append((person, token))
     cursor.execute(AMOUNTS, (house, month))
-    rows = sorted(((row[-1], amount_of(row[:-1])) for row in cursor), key=lambda it: natural(it[0]))
-    return House(house, address, zone, month, boxes, meters, *summed(rows), alarms, users)
+    rows = sorted(((row[-1], Amount(*row[:-1])) for row in cursor), key=lambda it: natural(it[0]))
+    return House(house, address, zone, month, boxes, meters, *of_flats(rows), alarms, users)
 
 
-def summed(rows: List[Tuple[str, Amount]]) -> Tuple[Any, Any, Any]:
-    """The uses with their units, the numbers of each flat, and the sums of the house."""
+def of_flats(rows: List[Tuple[str, Amount]]) -> Tuple[Any, Any]:
+    """The uses with their units, and the numbers of each flat."""
     uses = [(name, unit_of([row for _, row in rows if row.use == name])) for name in uses_in(row for _, row in rows)]
     units, grouped = dict(uses), {}  # type: Tuple[Dict[str, str], Dict[Tuple[str, str], List[Amount]]]
     for flat, row in rows:
@@ -131,12 +127,4 @@ def summed(rows: List[Tuple[str, Amount]]) -> Tuple[Any, Any, Any]:
     flats: Dict[str, Dict[str, Number]] = {}
     for (flat, use), of_flat in grouped.items():
         flats.setdefault(flat, {})[use] = number_of(of_flat, units[use])
-    sums = {}
-    for use, unit in uses:
-        places: Dict[Tuple[str, int], List[Amount]] = {}
-        for flat, row in rows:
-            if row.use == use:
-                places.setdefault((flat, row.number), []).append(row)
-        known = [of_place for of_place in places.values() if all(row.value(unit) is not None for row in of_place)]
-        sums[use] = sum_of([row for of_place in known for row in of_place], unit), len(places) - len(known), len(places)
-    return uses, flats, sums
+    return uses, flats

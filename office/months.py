@@ -1,4 +1,4 @@
-"""The consumption of a month: its parts by users, computed by the proved program, graded, and written to `month_use`."""
+"""The consumption of a month: its parts by users, computed and graded by `mbdc audit`, and written to `month_use`."""
 
 import collections
 import datetime
@@ -9,10 +9,12 @@ from typing import Any, Callable, Dict, Iterator, List, Mapping, NamedTuple, Opt
 import psycopg2.extras
 
 from command import SECONDS
-from consumption import Amount, Key, Line, consumed
 from database import Cursor, Database, insert
-from grading import Graded, Period, graded, is_held
+from drafts import asked
+from exporting import Part, Window, Writer, bodies_of, span_line, use_lines, window_of
+from grading import UNCLEAR, Graded, Period, basis_of, graded, is_held
 from periods import begin_of, next_month
+from program import AtFault, filled
 from supply import Entry, Place, Tenancy, needed, places_of, seconds, tenancies_of
 
 HOUSES_A_TURN = 25  # whose values are in memory at once
@@ -55,7 +57,6 @@ WHERE c.house = ANY (%s) AND day_begins((c.month + interval '1 month')::date, h.
 # Whoever adds a row waits for this, or is waited for
 TAKEN = ("SELECT FROM to_compute WHERE month = %s AND house = ANY (%s) ORDER BY house FOR UPDATE",
          "DELETE FROM to_compute WHERE month = %s AND house = ANY (%s)")
-Moments = Tuple[int, ...]
 Job = Tuple[str, datetime.date, List[str]]
 
 
@@ -93,33 +94,45 @@ def user_at(users: List[Tenancy], moment: datetime.datetime, zone: str) -> Optio
                  and (user.ends is None or moment < begin_of(user.ends, zone))), None)
 
 
-def amounts_of(splits: List[Split]) -> Dict[Key, Amount]:
-    """What the places consumed in their periods: one run of the program for all places of the same boundaries."""
-    groups: Dict[Moments, Dict[str, List[Line]]] = collections.defaultdict(dict)
+def window_at(one: Split, first: datetime.date, after: datetime.date) -> Window:
+    """What decides a split of the days from the first one to the one before `after`."""
+    zone, parts = one.place.zone, one.periods[1:] or one.periods
+    return window_of(one.place, one.entries, [Part(seconds(it.begins), seconds(it.ends), it.tenancy) for it in parts],
+                     seconds(begin_of(first, zone)), seconds(begin_of(after, zone)))
+
+
+def graded_periods(cursor: Cursor, splits: List[Split], first: datetime.date, after: datetime.date) -> Iterator[Tuple[Split, Period, Graded]]:
+    """Each period of the days from the first one to the one before `after`, with its amount and grade. Where a house's file is at
+    fault, all of it is unclear.
+
+    Raises NotComputed."""
+    windows = {one.place.id: window_at(one, first, after) for one in splits}
+    bodies = bodies_of(cursor, windows.values())
+    of_houses: Dict[str, List[Split]] = {}
     for one in splits:
-        lines = [entry.line for entry in one.entries]
-        if not lines:
-            continue
-        groups[boundaries_of(one.periods[:1])][one.place.name] = lines
-        if len(one.periods) > 1:
-            groups[boundaries_of(one.periods[1:])][one.place.name] = lines
-    found: Dict[Key, Amount] = {}
-    for boundaries, places in groups.items():
-        found.update(consumed(places, boundaries))
-    return found
+        of_houses.setdefault(one.place.house, []).append(one)
+    for of_house in of_houses.values():
+        writer = Writer(bodies, {})
+        writer.lines += [f"audit,1,{first:%Y-%m}", span_line(1, first, after, of_house[0].place.zone),
+                         *use_lines(cursor, {it.place.use for it in of_house})]
+        begins = [writer.window(1, nobodys(windows[it.place.id]), [shown_line(period, "smallest", 0) for period in it.periods], {}) for it in of_house]
+        try:
+            lines = filled([*writer.lines, "totals", "end"]).lines
+        except AtFault:  # office/publish says which one
+            lines = []
+        for one, begin in zip(of_house, begins):
+            for at, period in enumerate(one.periods, begin):
+                yield one, period, graded(*lines[at].split(",")[-2:]) if lines else Graded(None, UNCLEAR)
 
 
-def boundaries_of(periods: Sequence[Period]) -> Moments:
-    return (*(seconds(period.begins) for period in periods), seconds(periods[-1].ends))
+def nobodys(window: Window) -> Window:
+    """A window whose parts are nobody's: amounts and grades don't depend on it."""
+    return window._replace(parts=[part._replace(user=None) for part in window.parts])
 
 
-def graded_periods(splits: List[Split]) -> Iterator[Tuple[Split, Period, Graded]]:
-    """Each period with its amount and grade."""
-    amounts = amounts_of(splits)
-    for one in splits:
-        for period in one.periods:
-            key = (one.place.name, seconds(period.begins), seconds(period.ends))
-            yield one, period, graded(one.place, one.entries, period, amounts.get(key))
+def shown_line(period: Period, unit: str, decimals: int) -> str:
+    """The line that asks for a period's amount and mark."""
+    return f"shown,1,{seconds(period.begins)},{seconds(period.ends)},{unit},{asked(decimals)},?"
 
 
 def splits_of(cursor: Cursor, houses: List[str], first: datetime.date, after: datetime.date,
@@ -141,13 +154,13 @@ def write_month(cursor: Cursor, month: datetime.date, houses: List[str]) -> "col
     rows: List[Tuple[Any, ...]] = []
     now: Dict[str, List[Tuple[Any, ...]]] = {house: [] for house in houses}
     counts: "collections.Counter[str]" = collections.Counter()
-    for one, period, found in graded_periods(splits):
+    for one, period, found in graded_periods(cursor, splits, month, next_month(month)):
         version, is_out = versions[one.place.house]
         counts[found.grade] += period.part == 0
         now[one.place.house].append((one.place.id, *period, found.amount, found.grade))
         if not is_out:
             rows.append((month, one.place.id, period.part, period.begins, period.ends, period.tenancy, found.amount,
-                         found.grade, is_held(one.place, one.entries, period), psycopg2.extras.Json(found.basis), version))
+                         found.grade, is_held(one.place, one.entries, period), psycopg2.extras.Json(basis_of(one.entries, period)), version))
     for table in ("frozen_values", "month_use"):
         cursor.execute(OPEN_ROWS.format(table), (month, month, open_houses))
     insert(cursor, MONTH_USE, rows)

@@ -3,10 +3,9 @@
 import datetime
 from typing import Any, Dict, Iterable, List, NamedTuple, Optional, Tuple
 
-from consumption import Line
 from database import Cursor
 from periods import later_month
-from supply import seconds
+from supply import Line, seconds
 
 NONE = "-"
 CHARTED = 13  # months
@@ -32,18 +31,21 @@ class Printed(NamedTuple):
 Numbers = Dict[str, Printed]
 
 
-def use_key(flat: str, use: Any, what: object, unit: Optional[str] = None) -> str:
+def use_key(flat: str, use: str, what: str, unit: str = "") -> str:
     """The key of a number of a user's use."""
-    shown = f"{what:%Y-%m}" if isinstance(what, datetime.date) else what
-    return f"{flat} {use.use} {shown}{'' if unit == '' else f' {unit or use.unit}'}"
+    return f"{flat} {use} {what} {unit}".rstrip(" ")
+
+
+def month_key(flat: str, use: Any, month: datetime.date) -> str:
+    return use_key(flat, use.use, f"{month:%Y-%m}", use.unit)
 
 
 def chart_key(flat: str, use: Any, month: datetime.date) -> str:
-    return use_key(flat, use, f"{month:%Y-%m} chart")
+    return use_key(flat, use.use, f"{month:%Y-%m} chart", use.unit)
 
 
 def place_key(flat: str, use: Any, place: Any) -> str:
-    return use_key(flat, use, f"{place.number} {seconds(place.amount.begins)} {seconds(place.amount.ends)}")
+    return use_key(flat, use.use, f"{place.number} {seconds(place.amount.begins)} {seconds(place.amount.ends)}", use.unit)
 
 
 def reading_key(entry: Line) -> str:

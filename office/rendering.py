@@ -20,7 +20,7 @@ from codes import Code, code_of
 from database import plain
 from periods import day_before, later_month, next_month
 from drafts import is_whole
-from published import Numbers, Printed, Published, chart_key, place_key, use_key
+from published import Numbers, Printed, Published, chart_key, month_key, place_key, use_key
 from sheet_data import MARKED, MONTHS, Number, Sheet, Use
 from sheet_facts import carbon, comparisons, corrected, costs, days_in, estimates, factors, weather
 
@@ -72,10 +72,11 @@ def sheet_html(sheet: Sheet, published: Published, options: Options, with_codes:
     months = [use.months[sheet.month] for use in sheet.uses]
     number, flat = printed_in(numbers, words), user.flat
     return html_of("sheet.html", words, sheet=sheet, user=user, months=compared(sheet.month), audit=published.audit, number=number,
-                   of_use=lambda use, what: number(use_key(flat, use, what)), of_place=lambda use, place: number(place_key(flat, use, place)),
+                   of_month=lambda use, month: number(month_key(flat, use, month)),
+                   average=lambda use: number(use_key(flat, use.use, "average", use.unit)), of_place=lambda use, place: number(place_key(flat, use, place)),
                    begins=min(month.begins for month in months), ends=max(month.ends for month in months),
                    charts=charts_of(sheet, numbers, words), last_of=lambda month: day_before(next_month(month)),
-                   is_estimated=any(is_estimated(numbers, use_key(flat, use, sheet.month)) for use in sheet.uses),
+                   is_estimated=any(is_estimated(numbers, month_key(flat, use, sheet.month)) for use in sheet.uses),
                    said=said_of(sheet, words, numbers), corrected=corrected(sheet, words, numbers),
                    part=lambda month, of: part_of(month, of, words), decoder=options.decoder,
                    check_link=lambda use, place: check_link(options.checker, words, use, place, numbers.get(place_key(flat, use, place))),
@@ -111,7 +112,7 @@ def said_of(sheet: Sheet, words: Catalogue, numbers: Numbers) -> Dict[str, List[
     for name, of in FACTS.items():
         of_uses = [(use, [it[1] for it in group]) for use, group in itertools.groupby(of(sheet, words, numbers), operator.itemgetter(0))]
         found[name] = [(use, ", ".join(sentences)) for use, sentences in of_uses]
-    return {**found, "estimates": list(estimates(sheet, words)), "factors": list(factors(sheet, words, numbers))}
+    return {**found, "estimates": list(estimates(sheet, words, numbers)), "factors": list(factors(sheet, words, numbers))}
 
 
 def charts_of(sheet: Sheet, numbers: Numbers, words: Catalogue) -> List[Tuple[Use, Chart]]:

@@ -1,27 +1,28 @@
 """What a sheet says: a user's consumption of a month, beside other months and other users, with the readings behind it.
 
-The numbers here are drafts: `mbdc audit` judges them, and pages print what it accepted (office/publish).
+It has no number: drafts.py asks `mbdc audit` for them, and pages print what it accepted (office/publish).
 """
 
 import dataclasses
 import datetime
 import decimal
 from fractions import Fraction
-from typing import Any, Dict, Iterable, List, NamedTuple, Optional, Sequence, Tuple
+from typing import Any, Dict, Iterable, List, NamedTuple, Optional, Tuple
 
 import psycopg2.extras
 
-from consumption import Line
 from database import Cursor
 from decoding import frame_of
 from periods import later_month
 from sheet_facts import Facts, facts_of
-from supply import seconds
+from supply import Line, seconds
 
 MONTHS = 13  # of the chart
 FEWEST_COMPARED = 3  # flats of an average, so that it tells of nobody
 DECLARED = 6  # decimals of an average over several houses
-NO_FACTOR = "no factor"
+NO_FACTOR, HELD = "no factor", "held"
+NO_NUMBER = ("unclear", "disturbed", "missing")
+MARKED = ("hand", "provisional", "estimated")  # beside the number
 ENERGY, SMALLEST_OF_KWH = "energy", 3_600_000_000  # millijoules
 UNITS = {ENERGY: "kWh", "volume": "m³", "allocation": "HCA"}  # by quantity, where there is no factor to kWh
 
@@ -31,9 +32,9 @@ SELECT t.id, t.person, t.language, t.wants, t.token, t.house, t.flat, h.address,
 FROM tenancies t JOIN houses h ON h.house = t.house JOIN flats f ON f.house = t.house AND f.flat = t.flat
 WHERE t.house = ANY (%s) AND t.days && daterange(%s, %s) ORDER BY t.house, t.flat, t.days"""
 AMOUNTS = """
-SELECT tenancy, month, use, number, begins, ends, grade, amount, has_kwh, kwh, units, basis, quantity, position, is_charted
+SELECT tenancy, month, use, number, begins, ends, grade, has_kwh, basis, quantity, position, is_charted
 FROM (
-    SELECT tenancy, month, use, number, begins, ends, grade, amount, has_kwh, kwh, units, quantity, position, is_charted,
+    SELECT tenancy, month, use, number, begins, ends, grade, has_kwh, quantity, position, is_charted,
            CASE WHEN month = %(month)s THEN basis END AS basis
     FROM month_kwh WHERE tenancy = ANY (%(tenancies)s) AND month BETWEEN %(first)s AND %(month)s) AS of_each
 ORDER BY tenancy, use, month, number, begins"""
@@ -70,9 +71,8 @@ Averages = Dict[Tuple[str, str], Average]  # by category and use
 
 
 class Number(NamedTuple):
-    """A consumption of a user in a month, or why it is none."""
-    value: Optional[Fraction]
-    grade: str  # of the worst place
+    """A consumption of a user in a month, and why nothing is said of it: a place's is held, or has no factor to the unit."""
+    why: str
     begins: datetime.datetime
     ends: datetime.datetime
 
@@ -104,7 +104,6 @@ class Use:
     unit: str  # kWh, m³, HCA
     months: Dict[datetime.date, Number]
     places: List[PlaceUse]
-    average: Optional[Fraction]
     quantity: str
     is_charted: bool
 
@@ -149,35 +148,15 @@ class Amount(NamedTuple):
     begins: datetime.datetime
     ends: datetime.datetime
     grade: str
-    amount: Optional[int]  # in the smallest unit
     has_kwh: bool  # whether an amount of that use and month can be shown in kWh
-    kwh: Optional[Fraction]
-    units: Optional[Fraction]
     basis: Optional[List[Dict[str, Any]]]
     quantity: str
     position: int  # of the use on a sheet
     is_charted: bool
 
-    def value(self, unit: str) -> Optional[Fraction]:
-        return self.kwh if unit == "kWh" else self.units
-
-
-def amount_of(row: Sequence[Any]) -> Amount:
-    """A row with exact amounts: energies aren't divided by the database, whose quotients are rounded."""
-    found = Amount(*row)
-    if found.quantity == ENERGY and found.amount is not None:
-        return found._replace(kwh=Fraction(found.amount, SMALLEST_OF_KWH))
-    return found._replace(kwh=exact(found.kwh), units=exact(found.units))
-
 
 def exact(number: Any) -> Optional[Fraction]:
     return None if number is None else Fraction(number)
-
-
-# The grades, from what may stand alone to what leaves no number
-WORST = ("zero", "measured", "hand", "provisional", "estimated", NO_FACTOR, "held", "unclear", "disturbed", "missing")
-NUMBERS = WORST[:5]
-MARKED = NUMBERS[2:]  # beside the number
 
 
 def averages_of(cursor: Cursor, month: datetime.date) -> Averages:
@@ -187,7 +166,7 @@ def averages_of(cursor: Cursor, month: datetime.date) -> Averages:
             for category, use, energy, kwh, kwh_area, with_kwh, units, units_area, with_units, houses in cursor}
 
 
-def sheets_of(cursor: Cursor, houses: List[str], month: datetime.date, averages: Averages) -> List[Sheet]:
+def sheets_of(cursor: Cursor, houses: List[str], month: datetime.date) -> List[Sheet]:
     """The sheets of all users of these houses in a month that has amounts."""
     cursor.execute(USERS, (houses, month, later_month(month, 1)))
     users = [User(*row) for row in cursor]
@@ -195,15 +174,14 @@ def sheets_of(cursor: Cursor, houses: List[str], month: datetime.date, averages:
                              "first": later_month(month, 1 - MONTHS)})
     amounts: Dict[int, List[Amount]] = {}
     for row in cursor:
-        amounts.setdefault(row[0], []).append(amount_of(row))
+        amounts.setdefault(row[0], []).append(Amount(*row))
     frames = frames_of(cursor, (it for rows in amounts.values() for it in rows))
     facts = facts_of(cursor, houses, month, [it["id"] for rows in amounts.values() for row in rows for it in row.basis or [] if it.get("id") is not None])
-    sheets = [Sheet(user, month, uses_of(user, month, amounts.get(user.id, []), averages, frames), facts[user.house]) for user in users]
+    sheets = [Sheet(user, month, uses_of(month, amounts.get(user.id, []), frames), facts[user.house]) for user in users]
     return [sheet for sheet in sheets if sheet.uses]
 
 
-def uses_of(user: User, month: datetime.date, amounts: List[Amount], averages: Averages,
-            frames: Dict[TelegramKey, str]) -> List[Use]:
+def uses_of(month: datetime.date, amounts: List[Amount], frames: Dict[TelegramKey, str]) -> List[Use]:
     """The uses that have an amount in the month, in the order of a sheet."""
     found = []
     for name in uses_in(amounts):
@@ -218,9 +196,7 @@ def uses_of(user: User, month: datetime.date, amounts: List[Amount], averages: A
         numbers = {one: number_of(rows_of_month, unit) for one, rows_of_month in by_month.items()}
         places = [PlaceUse(row.number, number_of([row], unit), [reading_of(it, frames) for it in row.basis or []])
                   for row in of_month]
-        average = averages.get((user.category, name))
-        found.append(Use(name, unit, numbers, places, average_of(user, unit, average), rows[0].quantity,
-                         rows[0].is_charted))
+        found.append(Use(name, unit, numbers, places, rows[0].quantity, rows[0].is_charted))
     return found
 
 
@@ -235,46 +211,20 @@ def unit_of(rows: List[Amount]) -> str:
 
 
 def number_of(rows: List[Amount], unit: str) -> Number:
-    """The sum over the places; no value where one of them has none."""
-    values = [row.value(unit) for row in rows]
-    grades = [NO_FACTOR if value is None and row.grade in NUMBERS else row.grade
-              for row, value in zip(rows, values)]
-    total = None if None in values else sum_of(rows, unit)
-    return Number(total, max(grades, key=WORST.index), min(row.begins for row in rows), max(row.ends for row in rows))
-
-
-def sum_of(rows: List[Amount], unit: str) -> Optional[Fraction]:
-    """The sum of those of these rows of a use that have a value; None where none has."""
-    known = [value for value in (row.value(unit) for row in rows) if value is not None]
-    return sum(known, Fraction()) if known else None
-
-
-def average_of(user: User, unit: str, average: Optional[Average]) -> Optional[Fraction]:
-    """The average of the user's category for an area as large as the user's. One over several houses is declared, with six
-    decimals a square metre."""
-    if average is None or user.area_m2 is None:
-        return None
-    total, area, flats = average[:3] if unit == "kWh" else average[3:6]
-    if not area or total is None or flats < FEWEST_COMPARED:
-        return None
-    declared = declared_average(user.house, unit, average)
-    return total * Fraction(user.area_m2) / area if declared is None else Fraction(declared) * Fraction(user.area_m2)
+    """The number of these places together."""
+    grades = {row.grade for row in rows}
+    is_held = HELD in grades and not grades.intersection(NO_NUMBER)
+    why = NO_FACTOR if unit == "kWh" and not all(row.has_kwh for row in rows) else HELD if is_held else ""
+    return Number(why, min(row.begins for row in rows), max(row.ends for row in rows))
 
 
 def declared_average(house: str, unit: str, average: Average) -> Optional[str]:
-    """What a square metre consumed in several houses; None where it is of the house alone."""
+    """What a square metre consumed in several houses, rounded half up; None where it is of the house alone."""
     total, area, flats = average[:3] if unit == "kWh" else average[3:6]
     if average.houses == [house] or not area or total is None or flats < FEWEST_COMPARED:
         return None
-    return rounded(total / area, DECLARED)
-
-
-def rounded(value: Fraction, decimals: int) -> str:
-    """Half away from zero."""
-    scaled = int(abs(value) * 10**decimals + Fraction(1, 2))
-    digits = f"{scaled:0{decimals + 1}}"
-    text = f"{digits[:-decimals]}.{digits[-decimals:]}" if decimals else digits
-    return f"-{text}" if value < 0 and scaled else text
+    scaled = int(total / area * 10**DECLARED + Fraction(1, 2))
+    return f"{scaled // 10**DECLARED}.{scaled % 10**DECLARED:0{DECLARED}}"
 
 
 def key_of(basis: Dict[str, Any]) -> Optional[TelegramKey]:

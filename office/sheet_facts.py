@@ -7,7 +7,7 @@ from typing import Any, Dict, Iterable, Iterator, List, NamedTuple, Optional, Se
 from catalogue import Catalogue
 from database import Cursor
 from periods import later_month, next_month
-from published import Numbers, use_key
+from published import Numbers, month_key, place_key, use_key
 
 LONGEST_GAP = datetime.timedelta(hours=48)  # between the readings around an end of what counts as measured
 PRICES = "SELECT house, use, unit, cents FROM prices WHERE house = ANY (%s) AND months @> %s"
@@ -89,7 +89,7 @@ def comparisons(sheet: Any, words: Catalogue, numbers: Numbers) -> Iterator[Tupl
     """Of each use and month that it is compared with: how much less or more it is, in per cent."""
     for use in sheet.uses:
         for month in (later_month(sheet.month, -12), later_month(sheet.month, -1)):
-            printed = numbers.get(use_key(sheet.user.flat, use, f"change {month:%Y-%m}", ""))
+            printed = numbers.get(use_key(sheet.user.flat, use.use, f"change {month:%Y-%m}"))
             if printed is not None and printed.is_number:
                 percent = printed.text.lstrip("-")
                 word = "as_much" if percent == "0" else "less" if printed.text != percent else "more"
@@ -117,7 +117,7 @@ def costs(sheet: Any, words: Catalogue, numbers: Numbers) -> Iterator[Tuple[Any,
 def known(sheet: Any, words: Catalogue, numbers: Numbers, what: str) -> Iterator[Tuple[Any, str]]:
     """The uses that have such a number, as it is printed."""
     for use in sheet.uses:
-        printed = numbers.get(use_key(sheet.user.flat, use, what, ""))
+        printed = numbers.get(use_key(sheet.user.flat, use.use, what))
         if printed is not None and printed.is_number:
             yield use, words.printed(printed.text)
 
@@ -129,7 +129,7 @@ def corrected(sheet: Any, words: Catalogue, numbers: Numbers) -> str:
         return ""
     parts = []
     for use in sheet.uses:
-        key = use_key(sheet.user.flat, use, sheet.month)
+        key = month_key(sheet.user.flat, use, sheet.month)
         now, before = numbers.get(key), it.before.get((sheet.user.id, key))
         if now is not None and before is not None and words.printed(now.text) != words.printed(before):
             parts.append(words.word("corrected_use", use=words.use(use.use), now=words.printed(now.text), unit=words.word(use.unit),
@@ -137,11 +137,12 @@ def corrected(sheet: Any, words: Catalogue, numbers: Numbers) -> str:
     return words.word("corrected", day=words.long_day(it.at), version=it.version, changes=" ".join(parts), why=it.why)
 
 
-def estimates(sheet: Any, words: Catalogue) -> Iterator[Tuple[Any, str]]:
+def estimates(sheet: Any, words: Catalogue, numbers: Numbers) -> Iterator[Tuple[Any, str]]:
     """How each estimated number of the month was made."""
     for use in sheet.uses:
         for place in use.places:
-            if place.amount.grade != "estimated":
+            printed = numbers.get(place_key(sheet.user.flat, use, place))
+            if printed is None or printed.mark != "estimated":
                 continue
             hows = [sheet.facts.hows[reading.id] for reading in place.readings if reading.id in sheet.facts.hows]
             gaps = [(one.at, other.at) for one, other in zip(place.readings, place.readings[1:])

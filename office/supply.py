@@ -4,7 +4,6 @@ import bisect
 import datetime
 from typing import Any, Dict, Iterable, List, NamedTuple, Optional, Sequence
 
-from consumption import Line
 from database import Cursor
 from periods import begin_of
 
@@ -15,6 +14,15 @@ ESTIMATED, BY_HAND = "estimated", "by hand"
 FITTED, REMOVED, RESTARTED, ENDED = "fitted", "removed", "restarted", "ended"
 DUE_DATE = "due date"  # why the office noted a restart by itself
 RUNS = 1000  # of a meter, at most
+
+
+class Line(NamedTuple):
+    """An entry of a place: a number for the meter, Unix seconds, and the value in the smallest unit."""
+    meter: int
+    moment: int
+    value: int
+    most: int = 0  # what the meter can count in an hour; 0: not declared
+    size: int = 0  # what its counter never shows, since it goes on at 0 from there; 0: not declared
 
 
 class Value(NamedTuple):

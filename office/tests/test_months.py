@@ -171,7 +171,7 @@ def test_words(office: Office, elm: Supplied) -> None:
     assert office.run("month", "2025-01", "--house", "nowhere").status == 2
     elm.days(elm.meter(1, HEAT, "A1"), "2024-12-25", 45, 1000, 10)
     failed = office.run("month", "2025-01", MBDC="/bin/false")
-    assert failed.status == 3 and "consumption ended with status 1" in failed.printed
+    assert failed.status == 3 and "audit ended with status 1" in failed.printed
     assert office.sql("SELECT count(*) FROM month_use") == [(0,)]
 
 

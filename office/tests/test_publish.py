@@ -14,6 +14,7 @@ from test_schema import refused
 from test_sheets import published, sheet_of
 
 from catalogue import Catalogue
+from drafts import Reader
 
 GAS = "03"
 SINCE = at("2023-12-01T00:00")
@@ -72,6 +73,22 @@ def elm(office: Office) -> Supplied:
 def computed(elm: Supplied) -> None:
     for month in ("2024-01", "2024-12", "2025-01"):
         elm.month(month)
+
+
+def test_a_key_says_what_its_line_says() -> None:
+    """Whose a number is, of which month, and in which unit, is read from the lines that were audited."""
+    lines = ["audit,1,2025-01", "span,1,2024-12-31,60,2025-01-31,60", "span,2,2024-11-30,60,2024-12-31,60", "use,heat,energy",
+             "price,heat,kWh,1,11.5", "user,7,A1,50", "place,1,A1,heat,1", "window,1", "part,1,10,20,7", "part,1,20,30,-",
+             "shown,1,10,20,kWh,348.3,measured", "shown,1,20,30,kWh,1.0,hand", "totals", "of_user,1,7,heat,kWh,348,measured",
+             "of_user,1,7,heat,kWh,348.3,measured", "of_user,2,7,heat,kWh,99,measured", "of_user,2,7,heat,kWh,99.0,measured",
+             "of_flat,1,A1,heat,kWh,349.3,hand", "of_house,1,heat,kWh,349.3,1,2", "mean,1,7,heat,kWh,-", "change,1,2,7,heat,kWh,252", "end"]
+    assert sorted(Reader([3]).read(lines), key=str) == [
+        (7, "A1 heat 2024-12 kWh", "99.0", "measured"), (7, "A1 heat 2025-01 chart kWh", "348", "measured"),
+        (7, "A1 heat 2025-01 kWh", "348.3", "measured"), (7, "A1 heat 3 10 20 kWh", "348.3", "measured"),
+        (7, "A1 heat change 2024-12", "252", "change"), (7, "A1 heat price", "11.5", "declared"),
+        (None, "A1 heat 3 20 30 kWh", "1.0", "hand"), (None, "flat A1 heat", "349.3", "hand"), (None, "house heat", "349.3", "1 2")]
+    small = [line.replace("348", "9") for line in lines if line != "of_user,1,7,heat,kWh,348,measured"]
+    assert (7, "A1 heat 2025-01 chart kWh", "9.3", "measured") in Reader([3]).read([*small[:13], "of_user,1,7,heat,kWh,9,measured", *small[13:]])
 
 
 def test_each_digit_was_accepted(office: Office, elm: Supplied, tmp_path: pathlib.Path) -> None:

@@ -63,6 +63,19 @@ def test_a_use_is_a_row(office: Office, elm: Supplied, tmp_path: pathlib.Path) -
                                          " VALUES ('elm-1', 'cold water', '[2025-01-01,)', 2)")
 
 
+def test_a_house_that_cannot_be_audited_stops_no_other(office: Office, elm: Supplied) -> None:
+    """Its use has a word of an older database that no audit file takes."""
+    oak = Supplied(office, "oak-2")
+    oak.days(oak.meter(9, HEAT, "B1"), "2024-12-25", 45, 1000, 10)
+    office.sql("ALTER TABLE uses DROP CONSTRAINT is_a_word")
+    office.sql("INSERT INTO uses (use, quantity) VALUES ('Rain, water', 'volume')")
+    office.sql("INSERT INTO device_types VALUES ('E7', 'Rain, water')")
+    elm.days(elm.meter(1, "E7", "A1"), "2024-12-25", 45, 1, 1, "m3")
+    assert [row[2:] for row in (*elm.month("2025-01"), *oak.month("2025-01"))] == [(None, "unclear"), (310 * WH, "measured")]
+    ended = office.run("publish", "-", "2025-01")
+    assert ended.status == 5 and "elm-1: refused: LINE 3 FAULT 2 Row" in ended.printed and "1 published, 1 refused" in ended.printed
+
+
 def test_cooling_and_gas(office: Office, elm: Supplied) -> None:
     elm.days(elm.meter(1, "0B", "A1"), "2024-12-25", 45, 1000, 10)
     elm.days(elm.meter(2, "03", "A1"), "2024-12-25", 45, 1, 1, "m3")
