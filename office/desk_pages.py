@@ -93,8 +93,8 @@ def morning_of(cursor: Cursor, words: Words) -> Morning:
 
 
 def page(name: str, words: Words, viewer: Optional[Viewer], **values: Any) -> str:
-    return environment().get_template(name).render(words=words, viewer=viewer, style=style("desk.css"), plain=lambda text: plain(str(text), LONGEST),
-                                                   **values)
+    return str(environment().get_template(name).render(words=words, viewer=viewer, style=style("desk.css"),
+                                                       plain=lambda text: plain(str(text), LONGEST), **values))
 
 
 def morning_page(morning: Morning, words: Words, viewer: Optional[Viewer], said: str = "") -> str:

@@ -55,7 +55,7 @@ def shown(text: str) -> str:
 
 
 def html_of(name: str, words: Catalogue, **values: Any) -> str:
-    return environment().get_template(name).render(words=words, style=style(), plain=shown, marked=MARKED, **values)
+    return str(environment().get_template(name).render(words=words, style=style(), plain=shown, marked=MARKED, **values))
 
 
 def printed_in(numbers: Numbers, words: Catalogue) -> Callable[[str], Optional[Printed]]:
