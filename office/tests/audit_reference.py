@@ -1,23 +1,17 @@
-#!/usr/bin/python3
-"""Judges an audit file as `mbdc audit` has to (docs/OFFICE.md): by the definitions alone, with a decoder of its own and
-exact ratios. The office's tests run it in the place of the program, and demo/audit compares the two.
+"""Judges and fills an audit file as `mbdc audit` has to (docs/COMMANDS.md): by the definitions alone, with a decoder of its own
+and exact ratios. fake_mbdc answers by it, or compares a program with it; so does demo/audit.
 """
 
 import datetime
 import pathlib
 import re
-import sys
 from fractions import Fraction
 from typing import Callable, Dict, Iterator, List, NamedTuple, Optional, Sequence, Tuple
-
-sys.dont_write_bytecode = True
-sys.path.insert(0, str(pathlib.Path(__file__).resolve().parent))
-from fake_consumption import Entry, curve, steps_of
 
 FAULTS = ("Header", "Row", "Order", "Moment", "Part", "Unit", "Fact", "TooMany", "TooLarge", "End")
 HEADER, ROW, ORDER, MOMENT, PART, UNIT, FACT, TOO_MANY, TOO_LARGE, END = range(1, 11)
 SPANS, USES, USERS, METERS, ENTRIES, PARTS, TOTALS = 4, 64, 4096, 16, 2048, 64, 16384  # at most
-LONGEST, DAY, NEAR = 4096, 86_400, 48 * 3600
+LONGEST, HOUR, DAY, NEAR = 4096, 3600, 86_400, 48 * 3600
 LARGEST = 10**18 - 1
 SMALLEST = {"Wh": ("energy", 3_600_000), "kWh": ("energy", 3_600_000_000), "MWh": ("energy", 3_600_000_000_000),
             "J": ("energy", 1000), "GJ": ("energy", 10**12), "m3": ("volume", 10**6), "HCA": ("units", 1000)}
@@ -77,6 +71,27 @@ class Record(NamedTuple):
     field: int
     vib: bytes
     data: bytes
+
+
+class Entry(NamedTuple):
+    """A value of a meter at a moment, in the smallest unit."""
+    meter: int
+    moment: int
+    value: int
+    most: int = 0  # what the meter can count in an hour; 0: not declared
+    size: int = 0  # what its counter never shows; 0: it doesn't turn
+
+
+class Step(NamedTuple):
+    """From an entry to the next."""
+    begins: int
+    ends: int
+    amount: int
+    is_marked: bool  # doubtful, or beside one that is
+    is_exchange: bool
+
+    def touches(self, begins: int, ends: int) -> bool:
+        return begins < self.ends and (self.begins < ends or self.ends <= ends)
 
 
 class Run(NamedTuple):
@@ -250,6 +265,56 @@ def value_in(run: Run, quantity: str, bodies: List[bytes], day: Optional[datetim
         if amount.denominator == 1 and 0 <= amount <= LARGEST:
             return int(amount)
     raise NoEvidence("no record of the use")
+
+
+# ---- consumptions
+
+def room(one: Entry, other: Entry) -> int:
+    return one.most * ((other.moment - one.moment) // HOUR + 2)
+
+
+def is_turn(one: Entry, other: Entry) -> bool:
+    return one.meter == other.meter and other.value < one.value < one.size and (
+        one.size - one.value + other.value <= room(one, other))
+
+
+def is_doubtful(one: Entry, other: Entry) -> bool:
+    if one.meter != other.meter or is_turn(one, other):
+        return False
+    return other.value < one.value or one.most > 0 and other.value - one.value > room(one, other)
+
+
+def amount_of(one: Entry, other: Entry) -> int:
+    if one.meter != other.meter:
+        return 0
+    return one.size - one.value + other.value if is_turn(one, other) else max(other.value - one.value, 0)
+
+
+def steps_of(entries: List[Entry]) -> List[Step]:
+    pairs = list(zip(entries, entries[1:]))
+    doubts = [False, *(is_doubtful(*pair) for pair in pairs), False]
+    return [Step(one.moment, other.moment, amount_of(one, other), any(doubts[place:place + 3]), one.meter != other.meter)
+            for place, (one, other) in enumerate(pairs)]
+
+
+def curve(entries: List[Entry], steps: List[Step], moment: int) -> Optional[int]:
+    """All that was consumed up to a moment; None before the first entry and after the last."""
+    if not entries or moment < entries[0].moment or moment > entries[-1].moment:
+        return None
+    total = 0
+    for step in steps:
+        if step.ends <= moment:
+            total += step.amount
+        elif step.begins <= moment:
+            return total + step.amount * (moment - step.begins) // (step.ends - step.begins)
+    return total
+
+
+def consumed(entries: List[Entry], begins: int, ends: int) -> Tuple[Optional[int], List[Step]]:
+    """What was consumed in a period, and the steps that touch it."""
+    steps = steps_of(entries)
+    first, last = curve(entries, steps, begins), curve(entries, steps, ends)
+    return None if first is None or last is None else last - first, [step for step in steps if step.touches(begins, ends)]
 
 
 # ---- numbers
@@ -486,17 +551,14 @@ class Audit:
 
     def graded(self, begins: int, ends: int) -> Tuple[Optional[int], str]:
         """What the place consumed in a period, and its mark."""
-        entries = [it.entry for it in self.entries]
-        steps = steps_of(entries)
-        first, last = curve(entries, steps, begins), curve(entries, steps, ends)
-        amount = None if first is None or last is None else last - first
-        mark = self.mark(begins, ends, amount, [step for step in steps if step.touches(begins, ends)])
+        amount, touching = consumed([it.entry for it in self.entries], begins, ends)
+        mark = self.mark(begins, ends, amount, touching)
         return (None if mark in NO_NUMBER else amount), mark
 
-    def mark(self, begins: int, ends: int, amount: Optional[int], touching: List[object]) -> str:
-        if any(step.is_marked for step in touching):  # type: ignore[attr-defined]
+    def mark(self, begins: int, ends: int, amount: Optional[int], touching: List[Step]) -> str:
+        if any(step.is_marked for step in touching):
             return "disturbed"
-        if self.is_unclear(begins, ends, sum(step.is_exchange for step in touching)):  # type: ignore[attr-defined]
+        if self.is_unclear(begins, ends, sum(step.is_exchange for step in touching)):
             return "unclear"
         if amount is None:
             return "missing"
@@ -687,17 +749,12 @@ def lines_of(content: bytes) -> Iterator[str]:
     yield from lines[:-1] if lines[-1] == "" else lines
 
 
-def main(*words: str) -> int:
+def answer(*words: str) -> Tuple[bytes, bytes, int]:
+    """What `audit` with these words prints, what it says beside, and its status."""
     content = pathlib.Path(words[-1]).read_bytes()
-    if words[0] != "--fill":
-        printed, status = judged(content)
-        print("\n".join(printed))
-        return status
-    made, said, status = filled(content)
-    sys.stdout.buffer.write("".join(f"{line}\n" for line in made).encode("utf-8", "surrogateescape"))
-    print("".join(f"{line}\n" for line in said), end="", file=sys.stderr)
-    return status
-
-
-if __name__ == "__main__":
-    sys.exit(main(*sys.argv[1:]))
+    if words[0] == "--fill":
+        made, said, status = filled(content)
+    else:
+        (made, status), said = judged(content), []
+    printed, beside = ("".join(f"{line}\n" for line in lines).encode("utf-8", "surrogateescape") for lines in (made, said))
+    return printed, beside, status

@@ -3,11 +3,11 @@
 import csv
 import io
 import pathlib
-import subprocess
-from typing import Any, List, Tuple
+from typing import Any, List, Optional, Tuple
 
 import pytest
-from conftest import TESTS, Office
+from audit_reference import Entry, consumed
+from conftest import Office
 from supplied import ALLOCATOR, HEAT, Supplied, at
 from test_schema import refused
 from test_sheets import checked, published, sheet_of
@@ -110,12 +110,9 @@ def test_a_month_may_be_left(office: Office, elm: Supplied, tmp_path: pathlib.Pa
     assert len(rows(office)) == 1
 
 
-def computed_again(tmp_path: pathlib.Path, entries: List[int], begins: int, ends: int) -> str:
-    lines = [",".join(map(str, ["x", *entries[place:place + 5]])) for place in range(0, len(entries), 5)]
-    path = tmp_path / "frozen.csv"
-    path.write_text("\n".join(["place,meter,moment,value,most,size", *lines, ""]), encoding="ascii")
-    done = subprocess.run([TESTS / "fake_mbdc", "consumption", path, f"{begins},{ends}"], capture_output=True, text=True, check=True)
-    return done.stdout.splitlines()[1].split(",")[3]
+def computed_again(numbers: List[int], begins: int, ends: int) -> Optional[int]:
+    entries = [Entry(*numbers[at:at + 5]) for at in range(0, len(numbers), 5)]
+    return consumed(list({entry[:2]: entry for entry in entries}.values()), begins, ends)[0]
 
 
 def test_neither_retain_nor_forget_changes_a_number(office: Office, elm: Supplied, tmp_path: pathlib.Path) -> None:
@@ -138,7 +135,7 @@ def test_neither_retain_nor_forget_changes_a_number(office: Office, elm: Supplie
     assert office.run("month", "2021-01", "--open").status == 0
     assert rows(office) == before and office.sql("SELECT count(*) FROM changes") == [(0,)]
     assert office.sql("SELECT count(tenancy) FROM published") != office.sql("SELECT count(*) FROM published")
-    assert int(computed_again(tmp_path, frozen, int(before[0][6].timestamp()), int(before[0][7].timestamp()))) == before[0][4]
+    assert computed_again(frozen, int(before[0][6].timestamp()), int(before[0][7].timestamp())) == before[0][4]
     assert office.run("retain").status == 0
     assert office.sql("SELECT count(*) FROM frozen_values WHERE month < '2022-01-01'") == [(0,)]
     assert rows(office) == before

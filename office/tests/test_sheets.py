@@ -10,6 +10,7 @@ import urllib.parse
 from typing import Any, Dict, List, Optional, Tuple
 
 import pytest
+from audit_reference import Entry, consumed
 from conftest import OFFICE, Office
 from supplied import ALLOCATOR, COLD, HEAT, WATER, Supplied, at
 
@@ -222,19 +223,19 @@ def test_links_lead_to_the_very_telegrams(office: Office, elm: Supplied, tmp_pat
     assert all(re.fullmatch(r"\.\./\.\./decode\.html#68[0-9A-F]+16", href) for href, _ in links), (links, frame)
 
 
-def computed_again(tmp_path: pathlib.Path, href: str) -> Tuple[int, str]:
+def computed_again(href: str) -> Tuple[int, str]:
     """The amount of the only period of a link, and what the sheet says where no factor lies between."""
     words = dict(urllib.parse.parse_qsl(href.partition("#")[2], strict_parsing=True))
-    entries = tmp_path / "entries.csv"
-    entries.write_text(words["entries"], encoding="utf-8")
-    text = subprocess.run([OFFICE / "tests/fake_mbdc", "consumption", entries, words["boundaries"]], capture_output=True,
-                          text=True, check=True).stdout
-    amount, backwards = text.splitlines()[1].split(",")[3:5]
-    assert len(text.splitlines()) == 2 and backwards == "0"
+    header, *rows = (line.split(",") for line in words["entries"].splitlines())
+    entries = [Entry(*map(int, row[1:])) for row in rows]
+    begins, ends = map(int, words["boundaries"].split(","))
+    amount, steps = consumed(entries, begins, ends)
+    assert header == ["place", *Entry._fields] and len({row[0] for row in rows}) == 1
+    assert amount is not None and not any(step.is_marked for step in steps)
     if "said" in words:
         quotient = decimal.Decimal(amount) / int(words["scale"])
         assert quotient.quantize(decimal.Decimal(words["said"]), rounding=decimal.ROUND_HALF_UP) == decimal.Decimal(words["said"])
-    return int(amount), words.get("said", "")
+    return amount, words.get("said", "")
 
 
 def test_links_compute_each_number_again(office: Office, elm: Supplied, tmp_path: pathlib.Path) -> None:
@@ -251,7 +252,7 @@ def test_links_compute_each_number_again(office: Office, elm: Supplied, tmp_path
         page = checked(sheet_of(office, tmp_path, tenancy).read_text(encoding="utf-8"))
         links = [href for href, _ in page.links if href.startswith("https://example.org/check.html#entries=")]
         amounts = office.sql("SELECT amount FROM month_use WHERE tenancy = %s AND amount IS NOT NULL", tenancy)
-        assert sorted(computed_again(tmp_path, href)[0] for href in links) == sorted(row[0] for row in amounts)
+        assert sorted(computed_again(href)[0] for href in links) == sorted(row[0] for row in amounts)
         assert any("entries=place%2Cmeter%2Cmoment%2Cvalue%2Cmost%2Csize%0AHeizung" in href for href in links) == (tenancy != tenancies[3])
     written(office, tmp_path, "--pdf", "none", "--checker", "")
     page = checked(sheet_of(office, tmp_path, tenancies[0]).read_text(encoding="utf-8"))
@@ -273,7 +274,7 @@ def test_a_link_over_an_exchange(office: Office, elm: Supplied, tmp_path: pathli
     written(office, tmp_path, "--pdf", "none")
     page = checked(sheet_of(office, tmp_path, tenancy).read_text(encoding="utf-8"))
     (link,) = [href for href, _ in page.links if href.startswith("../../check.html#")]
-    assert computed_again(tmp_path, link) == ((1205 - 1060 + 165) * 3_600_000, "0.3")
+    assert computed_again(link) == ((1205 - 1060 + 165) * 3_600_000, "0.3")
     entries = urllib.parse.unquote_plus(link)
     assert "Heizung 1,1," in entries and "Heizung 1,2," in entries and entries.count("Heizung 1,") == 4
 
@@ -281,16 +282,16 @@ def test_a_link_over_an_exchange(office: Office, elm: Supplied, tmp_path: pathli
 def test_allocators_and_missing_factors(office: Office, tmp_path: pathlib.Path) -> None:
     """Two radiators with their weights; without a factor the sheet has units, with one kWh."""
     oak = Supplied(office, "oak-2")
-    for number, weight in ((1, "1.5"), (2, "0.5")):
+    for number, weight in ((1, "1.5"), (2, "0.25")):
         oak.days(oak.meter(number, ALLOCATOR, "A1"), "2024-12-30", 40, 0, 10, "HCA")
         office.sql("UPDATE places SET weight = %s WHERE number = %s", weight, number)
     tenancy = oak.tenancy("A1", "2024-01-01", None)
     oak.month("2025-01")
     written(office, tmp_path, "--pdf", "none")
-    assert checked(sheet_of(office, tmp_path, tenancy).read_text()).cells["allocator", "2025-01-01"].split() == ["620,0"]
+    assert checked(sheet_of(office, tmp_path, tenancy).read_text()).cells["allocator", "2025-01-01"].split() == ["542,5"]
     office.sql("INSERT INTO factors (house, use, months, kwh_per_unit) VALUES ('oak-2', 'allocator', '[2025-01-01,)', 1.1)")
     written(office, tmp_path, "--pdf", "none")
-    assert checked(sheet_of(office, tmp_path, tenancy).read_text()).cells["allocator", "2025-01-01"].split() == ["682,0"]
+    assert checked(sheet_of(office, tmp_path, tenancy).read_text()).cells["allocator", "2025-01-01"].split() == ["596,8"]
 
 
 def test_a_folder_that_cannot_be_written(office: Office, elm: Supplied, tmp_path: pathlib.Path) -> None:
