@@ -12,7 +12,7 @@ from exporting import Readings, Writer, bodies_of, span_line, struck_of, use_lin
 from grading import PROVISIONAL, Period, around, graded
 from months import Split, differences, kept_month, lock, shown_line, splits_of, window_at
 from periods import begin_of, later_month
-from program import filled
+from program import AtFault, filled
 from published import NONE
 from supply import Entry, seconds
 
@@ -225,6 +225,9 @@ def changed(cursor: Cursor, house: str, days: DateRange, version: int) -> Option
     kept = kept_month(cursor)
     if kept is not None and days.lower.replace(day=1) <= kept:
         return None
-    out, now = ({row.name: (row.cells.get("amount"), row.cells["grade"]) for row in rows if row.tenancy is not None}
-                for rows in (printed(cursor, house, days, version), computed(cursor, house, days)))
+    try:
+        bills = printed(cursor, house, days, version), computed(cursor, house, days)
+    except AtFault as fault:
+        return str(fault)
+    out, now = ({row.name: (row.cells.get("amount"), row.cells["grade"]) for row in rows if row.tenancy is not None} for rows in bills)
     return differences(out, now, str)

@@ -11,7 +11,7 @@ from typing import Callable, Dict, Iterator, List, NamedTuple, Optional, Set, Tu
 from catalogue import DECIMALS
 from house_data import House
 from periods import begin_of, day_after, later_month, next_month
-from published import NONE, flat_key, house_key, use_key
+from published import NONE, flat_key, house_key, reading_key, use_key
 from sheet_data import Number, Sheet, Use
 from supply import seconds
 
@@ -99,10 +99,10 @@ def of_house(page: House, held: Set[str], span: int) -> Iterator[Asked]:
 # ---- what is published
 
 class Reader:
-    """Reads a filled file. numbers: of the places, in the order of the file, among those of their flat and use."""
+    """Reads a filled file. places: in its order the number of each among those of its flat and use, and its meters' numbers."""
 
-    def __init__(self, numbers: List[int]) -> None:
-        self.numbers, self.found = iter(numbers), {}  # type: Iterator[int], Dict[Tuple[Optional[int], str], Published]
+    def __init__(self, places: List[Tuple[int, List[int]]]) -> None:
+        self.places, self.runs, self.found = iter(places), [], {}  # type: Iterator[Tuple[int, List[int]]], List[int], Dict[Tuple[Optional[int], str], Published]
         self.months: Dict[str, str] = {}  # by span
         self.flats: Dict[str, str] = {}  # by user
         self.facts: Dict[Tuple[str, ...], str] = {}
@@ -148,7 +148,8 @@ class Reader:
         self.facts["price", use, unit, span] = price
 
     def take_place(self, _: str, flat: str, use: str, __: str) -> None:
-        self.place, self.parts = (flat, use, next(self.numbers)), {}
+        number, self.runs = next(self.places)
+        self.place, self.parts = (flat, use, number), {}
 
     def take_part(self, _: str, begins: str, ends: str, user: str) -> None:
         self.parts[begins, ends] = user
@@ -156,6 +157,9 @@ class Reader:
     def take_shown(self, _: str, begins: str, ends: str, unit: str, text: str, mark: str) -> None:
         flat, use, number = self.place
         self.put(self.parts.get((begins, ends), NONE), use_key(flat, use, f"{number} {begins} {ends}", SHOWN_UNITS[unit]), text, mark)
+
+    def take_value(self, run: str, moment: str, text: str, _: str) -> None:
+        self.put(NONE, reading_key(self.runs[int(run) - 1], int(moment)), text, "reading")
 
     def take_of_user(self, span: str, user: str, use: str, of_file: str, text: str, mark: str) -> None:
         unit, month, decimals = SHOWN_UNITS[of_file], self.months[span], len(text.partition(".")[2])

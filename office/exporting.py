@@ -12,10 +12,9 @@ from database import Cursor, plain
 from drafts import AUDIT_UNITS, Asked, Published, Reader, Spans, of_house, of_sheet, printed_reading
 from house_data import House, house_of
 from periods import begin_of, later_month, next_month
-from published import reading_key
 from sheet_data import Averages, Sheet, declared_average, sheets_of
 from sheet_facts import facts_of
-from supply import BY_HAND, DUE_DATE, ENDED, ESTIMATED, FITTED, REMOVED, RESTARTED, RUNS, Entry, Line, Place, Run, plain_number, seconds
+from supply import BY_HAND, DUE_DATE, ENDED, ESTIMATED, FITTED, REMOVED, RESTARTED, RUNS, Entry, Place, Run, plain_number, seconds
 
 STORED, READ = "stored", "read"
 NO_TELEGRAM = b"\0"  # in the place of one that isn't there any more: no evidence
@@ -183,14 +182,15 @@ class Writer:
 
     def __init__(self, bodies: Bodies, struck: Struck) -> None:
         self.lines: List[str] = []
-        self.bodies, self.struck, self.places = bodies, struck, 0
+        self.bodies, self.struck = bodies, struck
+        self.places: List[Tuple[int, List[int]]] = []  # of each its number, and the numbers of its meters' runs
 
     def window(self, span: int, window: Window, numbers: List[str], readings: Readings) -> int:
         """A place in a span, its numbers, and its readings as they are printed; where the first number stands."""
         runs = needed_runs(window)
         number = {run.number: at for at, run in enumerate(runs, 1)}
-        self.places += 1
-        self.lines.append(f"place,{self.places},{window.flat},{window.use},{window.weight}")
+        self.places.append((window.number, list(number)))
+        self.lines.append(f"place,{len(self.places)},{window.flat},{window.use},{window.weight}")
         self.lines += [f"meter,{number[run.number]},{run.identity},{run.begins},{'-' if run.ends is None else run.ends},{run.most},{run.size},"
                        f"{run.vib or '-'}" for run in runs]
         self.lines.append(f"window,{span}")
@@ -203,7 +203,7 @@ class Writer:
         self.lines += [f"part,{span},{part.begins},{part.ends},{'-' if part.user is None else part.user}" for part in window.parts]
         first = len(self.lines)
         self.lines += numbers
-        self.lines += [f"value,{number[run]},{moment},{text},{unit}" for (run, moment), (text, unit) in readings.items() if run in number]
+        self.lines += [f"value,{number[run]},{moment},{text},{unit}" for (run, moment), (text, unit) in readings.items()]
         return first
 
     def value(self, value: Evidence, number: Dict[int, int], zone: str, before: Optional[Evidence]) -> None:
@@ -265,8 +265,7 @@ def month_file(cursor: Cursor, house: str, month: datetime.date, averages: Avera
     asked += of_house(page, facts_of(cursor, [house], month, [])[house].held, spans[month])
     shown = [(span, window, one == month) for one, span in spans.items() for window in windows[one]]
     write(writer, shown, asked, readings)
-    numbers = [window.number for _, window, _ in shown]
-    return File(writer.lines, lambda lines: [*Reader(numbers).read(lines), *readings_published(readings)])
+    return File(writer.lines, lambda lines: Reader(writer.places).read(lines))
 
 
 def write(writer: Writer, windows: List[Tuple[int, Window, bool]], asked: List[Asked], readings: Readings) -> None:
@@ -278,10 +277,6 @@ def write(writer: Writer, windows: List[Tuple[int, Window, bool]], asked: List[A
         named = {key: readings[key] for key in keys_of(window) if is_now and key in readings}
         writer.window(span, window, of_places.get(window.name, []) if is_now else [], named)
     writer.lines += ["totals", *of_places.get("", []), "end"]
-
-
-def readings_published(readings: Readings) -> List[Published]:
-    return [(None, reading_key(Line(run, moment, 0)), text, "reading") for (run, moment), (text, _) in readings.items()]
 
 
 def keys_of(window: Window) -> List[Tuple[int, int]]:

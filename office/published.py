@@ -5,7 +5,7 @@ from typing import Any, Dict, Iterable, List, NamedTuple, Optional, Tuple
 
 from database import Cursor
 from periods import later_month
-from supply import Line, seconds
+from supply import seconds
 
 NONE = "-"
 CHARTED = 13  # months
@@ -48,9 +48,9 @@ def place_key(flat: str, use: Any, place: Any) -> str:
     return use_key(flat, use.use, f"{place.number} {seconds(place.amount.begins)} {seconds(place.amount.ends)}", use.unit)
 
 
-def reading_key(entry: Line) -> str:
+def reading_key(meter: int, moment: int) -> str:
     """The key of a reading, which is of no user."""
-    return f"reading {entry.meter} {entry.moment}"
+    return f"reading {meter} {moment}"
 
 
 def flat_key(flat: str, use: str) -> str:

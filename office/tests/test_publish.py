@@ -1,21 +1,27 @@
 """office/publish: no number reaches a person but those that were computed again from the meters' telegrams."""
 
 import datetime
+import decimal
 import hashlib
 import html.parser
 import pathlib
 import re
-from typing import List, Optional, Set, Tuple
+from typing import Callable, Dict, List, Optional, Set, Tuple
 
 import pytest
-from conftest import Office
+from conftest import TESTS, Office
 from supplied import ALLOCATOR, COLD, HEAT, WATER, Supplied, at
 from test_schema import refused
 from test_sheets import published, sheet_of
 
+import auditing
+import program
 from catalogue import Catalogue
+from database import Database
 from drafts import Reader
+from exporting import month_file
 
+Lie = Callable[[List[str]], List[str]]
 GAS = "03"
 SINCE = at("2023-12-01T00:00")
 DATES = (r"\d{2}\.\d{2}\.\d{4}(, \d{2}:\d{2})?", r"\d{1,2} [A-Z][a-z]{2} \d{4}(, \d{2}:\d{2})?", r"\b20\d{2}\b", r"\d+ (von|of) \d+ (Tagen|days)")
@@ -79,16 +85,17 @@ def test_a_key_says_what_its_line_says() -> None:
     """Whose a number is, of which month, and in which unit, is read from the lines that were audited."""
     lines = ["audit,1,2025-01", "span,1,2024-12-31,60,2025-01-31,60", "span,2,2024-11-30,60,2024-12-31,60", "use,heat,energy",
              "price,heat,kWh,1,11.5", "user,7,A1,50", "place,1,A1,heat,1", "window,1", "part,1,10,20,7", "part,1,20,30,-",
-             "shown,1,10,20,kWh,348.3,measured", "shown,1,20,30,kWh,1.0,hand", "totals", "of_user,1,7,heat,kWh,348,measured",
+             "shown,1,10,20,kWh,348.3,measured", "shown,1,20,30,kWh,1.0,hand", "value,1,20,412,kWh", "totals", "of_user,1,7,heat,kWh,348,measured",
              "of_user,1,7,heat,kWh,348.3,measured", "of_user,2,7,heat,kWh,99,measured", "of_user,2,7,heat,kWh,99.0,measured",
              "of_flat,1,A1,heat,kWh,349.3,hand", "of_house,1,heat,kWh,349.3,1,2", "mean,1,7,heat,kWh,-", "change,1,2,7,heat,kWh,252", "end"]
-    assert sorted(Reader([3]).read(lines), key=str) == [
+    assert sorted(Reader([(3, [9])]).read(lines), key=str) == [
         (7, "A1 heat 2024-12 kWh", "99.0", "measured"), (7, "A1 heat 2025-01 chart kWh", "348", "measured"),
         (7, "A1 heat 2025-01 kWh", "348.3", "measured"), (7, "A1 heat 3 10 20 kWh", "348.3", "measured"),
         (7, "A1 heat change 2024-12", "252", "change"), (7, "A1 heat price", "11.5", "declared"),
-        (None, "A1 heat 3 20 30 kWh", "1.0", "hand"), (None, "flat A1 heat", "349.3", "hand"), (None, "house heat", "349.3", "1 2")]
+        (None, "A1 heat 3 20 30 kWh", "1.0", "hand"), (None, "flat A1 heat", "349.3", "hand"), (None, "house heat", "349.3", "1 2"),
+        (None, "reading 9 20", "412", "reading")]
     small = [line.replace("348", "9") for line in lines if line != "of_user,1,7,heat,kWh,348,measured"]
-    assert (7, "A1 heat 2025-01 chart kWh", "9.3", "measured") in Reader([3]).read([*small[:13], "of_user,1,7,heat,kWh,9,measured", *small[13:]])
+    assert (7, "A1 heat 2025-01 chart kWh", "9.3", "measured") in Reader([(3, [9])]).read([*small[:14], "of_user,1,7,heat,kWh,9,measured", *small[14:]])
 
 
 def test_each_digit_was_accepted(office: Office, elm: Supplied, tmp_path: pathlib.Path) -> None:
@@ -159,6 +166,76 @@ def test_a_house_that_is_refused(office: Office, elm: Supplied, tmp_path: pathli
     office.sql("UPDATE readings SET bodies = ARRAY[%s::bytea] WHERE bodies[1] = %s", bytes(body), wrong)
     published(office)
     assert "END audit elm-1 2025-01" in office.run("alarms", "--at", moment).printed
+
+
+def next_digit(text: str) -> str:
+    return f"{text[:-1]}{(int(text[-1]) + 1) % 10}" if text[-1].isdigit() else text
+
+
+def other(form: str, at: int = 5, change: Callable[[str], str] = next_digit) -> Lie:
+    """The first line of a form of which a change makes another field."""
+    def lie(lines: List[str]) -> List[str]:
+        rows = [line.split(",") for line in lines]
+        row = next(row for row, line in zip(rows, lines) if re.match(form, line) and change(row[at]) != row[at])
+        row[at] = change(row[at])
+        return [",".join(row) for row in rows]
+    return lie
+
+
+def swapped(form: str, at: int = 5) -> Lie:
+    """The first line of a form, and the next one of somebody else, with the number of each other."""
+    def lie(lines: List[str]) -> List[str]:
+        rows = [line.split(",") for line in lines]
+        one, *more = [row for row, line in zip(rows, lines) if re.match(form, line) and "." in row[at]]
+        another = next(row for row in more if row[2] != one[2] and row[at] != one[at])
+        one[at], another[at] = another[at], one[at]
+        return [",".join(row) for row in rows]
+    return lie
+
+
+LIES: Dict[str, Lie] = {
+    "a place": other("shown,"), "a user": other("of_user,"), "a flat": other("of_flat,"), "the house": other("of_house,", 4),
+    "the places without a number": other("of_house,", 5), "the places": other("of_house,", 6), "an average": other("mean,"),
+    "per cent": other("change,", 6), "emissions": other("carbon,", 4), "a cost": other("cost,"), "the weather": other("weather,"),
+    "a reading": other("value,", 3), "a factor": other("factor,", 3), "a price": other("price,", 4),
+    "cut": other("of_user,", 5, lambda text: f"{text[:-1]}0" if "." in text else text), "none": other("of_user,", 5, lambda _: "-"),
+    "the mark of a place": other("shown,", 6, lambda _: "hand"), "the mark of a user": other("of_user,", 6, lambda _: "hand"),
+    "without the weight": other(r"of_user,1,\d+,allocator,HCA,", 5, lambda text: f"{decimal.Decimal(text) / decimal.Decimal('1.7'):.1f}"),
+    "two users": swapped("of_user,1,"), "two flats": swapped("of_flat,1,"), "two averages": swapped("mean,1,"), "a split": swapped("shown,1,")}
+
+
+def test_no_lie_is_published(office: Office, elm: Supplied, monkeypatch: pytest.MonkeyPatch) -> None:
+    """Whatever was filled in: sums, averages, splits, roundings, marks, users."""
+    for flat, since, until in (("A1", "2023-01-01", None), ("A2", "2023-01-01", "2025-01-11"), ("A2", "2025-01-11", None), ("A3", "2023-01-01", None)):
+        elm.tenancy(flat, since, until)
+    computed(elm)
+    monkeypatch.setattr(program, "MBDC", str(TESTS / "fake_mbdc"))
+    of, database = auditing.Of("elm-1", datetime.date(2025, 1, 1), None, 1, "2025-01"), Database(office.name, 600)
+    with database.transaction() as cursor:
+        file = month_file(cursor, "elm-1", datetime.date(2025, 1, 1), {})
+        made = program.filled(file.lines)
+        for what, lie in LIES.items():
+            monkeypatch.setattr(auditing, "filled", lambda _, false=lie(made.lines): made._replace(lines=false))
+            assert "DIFFERS line" in (auditing.publish(cursor, of, file) or ""), what
+        monkeypatch.setattr(auditing, "filled", lambda _: made)
+        assert auditing.publish(cursor, of, file) is None
+        cursor.execute("SELECT count(*), count(DISTINCT audit) FROM published")
+        assert cursor.fetchall()[0][1] == 1
+    database.close()
+
+
+def test_an_average_over_several_houses(office: Office, elm: Supplied) -> None:
+    """It is declared: of the category's flats that were measured, by their areas and the weights of allocators."""
+    elm.tenancy("A1", "2023-01-01", None)
+    oak = Supplied(office, "oak-2")
+    oak.days(oak.meter(40, HEAT, "B1", area=40), "2024-12-25", 60, 0, 10_000)
+    oak.days(oak.meter(41, ALLOCATOR, "B1", area=40), "2024-12-25", 60, 0, 2, "HCA")
+    oak.values(oak.meter(42, HEAT, "B2", area=70), {"2024-12-31": 0, "2025-01-28": 700_000, "2025-02-03": 800_000})
+    elm.month("2025-01")
+    published(office)
+    lines = bytes(office.sql("SELECT file FROM audits WHERE house = 'elm-1'")[0][0]).decode().splitlines()
+    assert sorted(line for line in lines if line.startswith("average,")) == [
+        "average,allocator,HCA,1,2.822632", "average,heat,kWh,1,12.629074"]  # (3 * 93 * 1.7 + 62) / 190, (6 * 31 * 11.234 + 310) / 190
 
 
 def test_nothing_goes_out_without_an_audit(office: Office, elm: Supplied) -> None:
