@@ -60,7 +60,7 @@ def test_the_help_of_a_command_is_that_of_the_sources(name: str) -> None:
     status, text = said(name, "--help")
     assert (status, said("help", name)) == (0, (0, text))
     about, after = text.split("\n", 1)
-    assert f'about: "{about}",' in (WORDS / "rows.rt").read_text()
+    assert f'about = "{about}";' in (WORDS / "words.rt").read_text()
     assert after.endswith("\n\n" + constants()[name.upper()] + "\n")
 
 

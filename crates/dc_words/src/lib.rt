@@ -10,7 +10,6 @@ mod help;
 mod link;
 mod links;
 mod near;
-mod rows;
 mod silence;
 mod task;
 mod words;
