@@ -41,7 +41,6 @@ def _load() -> ctypes.CDLL:
     number = ctypes.c_uint64
     for call, arguments in (
             (library.mbdc_header, [number, ctypes.c_char_p, ctypes.c_size_t, ctypes.c_void_p]),
-            (library.mbdc_next_record, [number, ctypes.c_char_p, ctypes.c_size_t, number, ctypes.c_void_p]),
             (library.mbdc_name, [number, number, ctypes.c_void_p, ctypes.c_size_t]),
             (library.mbdc_value_text, [ctypes.c_void_p, ctypes.c_char_p, ctypes.c_size_t, ctypes.c_void_p, ctypes.c_size_t])):
         call.restype = ctypes.c_uint64
@@ -49,7 +48,16 @@ def _load() -> ctypes.CDLL:
     return library
 
 
+def _load_quick(path: str) -> Any:
+    """mbdc_next_record without conversions: the call takes the very types of C, and keeps the interpreter's lock, since it lasts less
+    than letting go of it."""
+    call = ctypes.PyDLL(path).mbdc_next_record
+    call.restype = ctypes.c_uint64
+    return call
+
+
 library = _load()
+next_record = _load_quick(_path())
 _Call = Callable[[bytes, int, int, int], int]
 
 

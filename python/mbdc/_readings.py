@@ -8,9 +8,9 @@ import functools
 import struct
 import threading
 from collections.abc import Iterator
-from typing import Optional, Union
+from typing import Any, Optional, Union
 
-from mbdc._library import library
+from mbdc._library import library, next_record
 
 ReadingValue = Union[decimal.Decimal, datetime.date, datetime.datetime, datetime.time, str, int]
 _QUANTITIES = {**dict.fromkeys((2, 4, 5, 10, 11, 12, 13), "energy"), 8: "heat cost allocation",
@@ -19,18 +19,21 @@ _CORRECTIONS = "multiplicative correction 10^"
 _SAME = ("no error", "uncorrected", "at base conditions", "multiplied by 1000")
 _FORWARD = "forward flow only"
 
-# What library/mbdc.h has: mbdc_head, mbdc_record, types of values, tables, results
+# What library/mbdc.h has: mbdc_head; mbdc_record, of it the place and size of the data, next, reading, type, error, mantissa and exponent,
+# and summer_time to flags; types of values, tables, results
 _HEAD, _MEDIUM, _FIRST = struct.Struct("12Q"), 4, 11
-_RECORD, _NEXT, _YEAR = struct.Struct("27Q2q7Q"), 17, 29
+_RECORD, _NEXT = struct.Struct("27Q2q7Q"), 17
+_FOUND, _TIME_AND_FLAGS = struct.Struct("72x2Q48x3Q24xQ24x2q"), struct.Struct("208xQ16x7Q")
 _NUMBER, _DIGITS, _FLAGS, _DATE, _MINUTE, _SECOND, _TIME, _TEXT = range(1, 9)
 _FUNCTIONS, _READINGS, _TYPES, _ERRORS, _QUANTITY_NAMES, _UNITS, _VIFES, _VIFE_TEXTS = range(6, 14)
 _NO_UNIT = 0xFFFF
 _DONE, _END, _MORE = range(3)
-_VARIABLE_DATA = 0x72
+_VARIABLE_DATA, _FIXED_DATA = 0x72, 0x73
 _TEXT_ROOM = 512  # bytes; no value and no name has more
-_CODES_KEPT = 65_536  # kinds of records whose names are kept
-_EXACT = decimal.Context(prec=64)
-_Words = tuple[str, str, Optional[str], str, str, str, Optional[str], Optional[str], Optional[str]]
+_KINDS_KEPT = 4096  # kinds of records whose fields are kept
+_decimal, _scaled = decimal.Decimal, decimal.Context(prec=64).scaleb  # (exact)
+_Fields = dict[str, Any]
+_Kind = tuple[bytes, int, int, int]
 
 
 @dataclasses.dataclass(frozen=True)
@@ -66,35 +69,31 @@ class Reading:
     summer_time: Optional[bool]
 
 
+_set_fields = Reading.__dict__["__dict__"].__set__
+
+
 class _Space(threading.local):
-    """Each thread's place for a record as the library writes it."""
+    """Each thread's arguments of a call: the record that the library writes, and, by value, the number of bytes and the place from
+    which on it looks, which is the `next` of the record that it wrote last."""
 
     def __init__(self) -> None:
-        self.buffer = ctypes.create_string_buffer(_RECORD.size)
-        self.address = ctypes.addressof(self.buffer)
+        self.record = ctypes.create_string_buffer(_RECORD.size)
+        self.out = ctypes.byref(self.record)
+        self.size = ctypes.c_size_t()
+        self.at = ctypes.c_uint64.from_buffer(self.record, 8 * _NEXT)
 
 
 _space = _Space()
+_kinds: dict[_Kind, _Fields] = {}
 
 
-@functools.lru_cache(maxsize=_CODES_KEPT)
+@functools.lru_cache(maxsize=_KINDS_KEPT)
 def _name(table: int, number: int) -> str:
     room = ctypes.create_string_buffer(_TEXT_ROOM)
     count: int = library.mbdc_name(table, number, room, _TEXT_ROOM)
     return room.raw[:count].decode()
 
 
-@functools.lru_cache(maxsize=_CODES_KEPT)
-def _words(function: int, how: int, of_type: int, quantity: int, unit: int, suffix: int, error: int, phase: int, direction: int) -> _Words:
-    """The names of these numbers, the unit without what follows it; numbers and flags have a unit."""
-    if of_type not in (_NUMBER, _FLAGS):
-        unit, suffix = _NO_UNIT, 0
-    return (_name(_FUNCTIONS, function), _name(_READINGS, how), _name(_TYPES, of_type) or None, _name(_QUANTITY_NAMES, quantity),
-            _name(_UNITS, unit), _name(_VIFE_TEXTS, suffix), _name(_ERRORS, error) or None, _name(_VIFE_TEXTS, phase) or None,
-            _name(_VIFE_TEXTS, direction) or None)
-
-
-@functools.lru_cache(maxsize=_CODES_KEPT)
 def _qualifiers(vifes: bytes) -> tuple[str, ...]:
     names, after_extension = [], False
     for vife in vifes:
@@ -110,9 +109,11 @@ def _head(body: bytes, ci: int) -> tuple[int, ...]:
 
 
 @functools.lru_cache(maxsize=None)
-def _first(ci: int) -> int:
-    """Where the records of all bodies after a CI field begin."""
-    return _head(b"", ci)[_FIRST]
+def _start(ci: int) -> tuple[ctypes.c_uint64, int]:
+    """A CI field as a call takes it, and where the records of all bodies after it begin."""
+    if not 0 <= ci <= 0xFF:
+        raise ValueError(f"no CI field is {ci:X}h")
+    return ctypes.c_uint64(ci), _head(b"", ci)[_FIRST]
 
 
 def _unit(base: str, suffix: str) -> Optional[str]:
@@ -122,77 +123,83 @@ def _unit(base: str, suffix: str) -> Optional[str]:
     return base + suffix or None
 
 
-def _text(body: bytes) -> str:
-    """The text of the value of the record that was written last."""
-    room = ctypes.create_string_buffer(_TEXT_ROOM)
-    count: int = library.mbdc_value_text(_space.address, body, len(body), room, _TEXT_ROOM)
-    return room.raw[:count].decode()
+def _fields(body: bytes) -> _Fields:
+    """All fields of the record that was written last, but for those that its data decide. Numbers and flags have a unit."""
+    (storage, tariff, subunit, function, _, _, _, vib_at, vib_size, _, _, label_at, label_size, vifes_at, vifes_size, maker_at, maker_size,
+     _, how, of_type, quantity, unit, suffix, error, phase, direction, *_) = _RECORD.unpack_from(_space.record)
+    label = body[label_at:label_at + label_size][::-1].decode("latin-1") if label_at else None
+    has_unit = of_type in (_NUMBER, _FLAGS)
+    base = label if label and unit != _NO_UNIT and of_type == _NUMBER else _name(_UNITS, unit) if has_unit else ""
+    return {
+        "storage": storage, "tariff": tariff, "subunit": subunit, "function": _name(_FUNCTIONS, function),
+        "vib": body[vib_at:vib_at + vib_size], "data": b"", "quantity": _name(_QUANTITY_NAMES, quantity),
+        "qualifiers": _qualifiers(body[vifes_at:vifes_at + vifes_size]), "reading": _name(_READINGS, how), "value": None,
+        "unit": _unit(base, _name(_VIFE_TEXTS, suffix) if has_unit else ""), "type": _name(_TYPES, of_type) or None,
+        "error": _name(_ERRORS, error) or None, "phase": _name(_VIFE_TEXTS, phase) or None,
+        "direction": _name(_VIFE_TEXTS, direction) or None, "maker": body[maker_at:maker_at + maker_size] if maker_at else None,
+        "label": label, "summer_time": None}
 
 
-def _number(mantissa: int, exponent: int) -> decimal.Decimal:
-    """A number with the digits that its text has."""
-    if exponent < 0:
-        return decimal.Decimal(mantissa).scaleb(exponent, _EXACT)
-    return decimal.Decimal(mantissa * 10 ** exponent if exponent else mantissa)
+def _kept(kind: _Kind, body: bytes) -> _Fields:
+    """The fields of the record that was written last, kept for others of its kind."""
+    if len(_kinds) == _KINDS_KEPT:
+        _kinds.clear()
+    return _kinds.setdefault(kind, _fields(body))
 
 
-def _other(of_type: int, body: bytes, data: bytes, found: tuple[int, ...]) -> ReadingValue:
-    """A value that is no number."""
-    year, month, day, hour, minute, second, flags = found[_YEAR:]
+def _other(of_type: int, body: bytes, fields: _Fields) -> ReadingValue:
+    """The value of the record that was written last, which is no number."""
+    summer, year, month, day, hour, minute, second, flags = _TIME_AND_FLAGS.unpack_from(_space.record)
     if of_type == _FLAGS:
-        return flags
+        return int(flags)
     if of_type in (_DIGITS, _TEXT):
-        return data[::-1].hex() if of_type == _DIGITS else data[::-1].decode("latin-1")
+        data: bytes = fields["data"][::-1]
+        return data.hex() if of_type == _DIGITS else data.decode("latin-1")
     if of_type > _TEXT:
-        return _text(body)
+        room = ctypes.create_string_buffer(_TEXT_ROOM)
+        count: int = library.mbdc_value_text(_space.record, body, len(body), room, _TEXT_ROOM)
+        return room.raw[:count].decode()
     if of_type == _DATE:
         return datetime.date(year, month, day)
-    return datetime.time(hour, minute, second) if of_type == _TIME else datetime.datetime(year, month, day, hour, minute, second)
-
-
-def _next(body: bytes, found: tuple[int, ...]) -> Reading:
-    """The record that was written last, by its numbers."""
-    (storage, tariff, subunit, function, _, _, _, vib_at, vib_size, data_at, data_size, label_at, label_size, vifes_at, vifes_size,
-     maker_at, maker_size, _, how, of_type, quantity, unit, suffix, error, phase, direction, summer, mantissa, exponent, *_) = found
-    (function_name, reading_name, type_name, quantity_name, unit_name, suffix_name, error_name, phase_name,
-     direction_name) = _words(function, how, of_type, quantity, unit, suffix, error, phase, direction)
-    data = body[data_at:data_at + data_size]
-    label = body[label_at:label_at + label_size][::-1].decode("latin-1") if label_at else None
-    is_known = of_type and not error
-    value = None if not is_known else _number(mantissa, exponent) if of_type == _NUMBER else _other(of_type, body, data, found)
-    reading = object.__new__(Reading)
-    # (a frozen dataclass takes longer to set its fields one by one than the library to read the record)
-    object.__setattr__(reading, "__dict__", {
-        "storage": storage, "tariff": tariff, "subunit": subunit, "function": function_name, "vib": body[vib_at:vib_at + vib_size],
-        "data": data, "quantity": quantity_name, "qualifiers": _qualifiers(body[vifes_at:vifes_at + vifes_size]) if vifes_size else (),
-        "reading": reading_name, "value": value,
-        "unit": _unit(label if label and unit != _NO_UNIT and of_type == _NUMBER else unit_name, suffix_name) if label or suffix
-                else unit_name or None,
-        "type": type_name, "error": error_name, "phase": phase_name, "direction": direction_name,
-        "maker": body[maker_at:maker_at + maker_size] if maker_at else None, "label": label,
-        "summer_time": bool(summer) if is_known and of_type in (_MINUTE, _SECOND) else None})
-    return reading
+    if of_type == _TIME:
+        return datetime.time(hour, minute, second)
+    fields["summer_time"] = bool(summer)
+    return datetime.datetime(year, month, day, hour, minute, second)
 
 
 def _walk(body: bytes, ci: int) -> tuple[list[Reading], int]:
     """The records of a body, and the library's result after the last."""
-    if not 0 <= ci <= 0xFF:
-        raise ValueError(f"no CI field is {ci:X}h")
-    call, address, buffer, size, at = library.mbdc_next_record, _space.address, _space.buffer, len(body), _first(ci)
-    readings_of: list[Reading] = []
-    while True:
-        result: int = call(ci, body, size, at, address)
-        if result != _DONE:
-            return readings_of, result
-        found = _RECORD.unpack_from(buffer)
-        readings_of.append(_next(body, found))
-        at = found[_NEXT]
+    if not isinstance(body, bytes):
+        raise TypeError(f"a body is bytes, not {type(body).__name__}")
+    ci_field, at = _start(ci)
+    space, kinds, unpack, new, whole = _space, _kinds, _FOUND.unpack_from, object.__new__, len(body)
+    record, size, place, out = space.record, space.size, space.at, space.out
+    size.value, place.value = whole, at
+    walked: list[Reading] = []
+    result: int = next_record(ci_field, body, size, place, out)
+    while result == _DONE:
+        data_at, data_size, after, how, of_type, error, mantissa, exponent = unpack(record)
+        # (DIB and VIB decide all but the data; units of fixed data stand in the header)
+        kind = body[at:data_at], how, of_type, error
+        fields = (kinds.get(kind) or _kept(kind, body)).copy() if ci != _FIXED_DATA else _fields(body)
+        fields["data"] = body[data_at:data_at + data_size]
+        if of_type == _NUMBER and not error:
+            fields["value"] = _scaled(mantissa, exponent) if exponent < 0 else _decimal(mantissa * 10 ** exponent if exponent else mantissa)
+        elif of_type and not error:
+            fields["value"] = _other(of_type, body, fields)
+        # (a frozen dataclass takes longer to set its fields one by one than the library to read the record)
+        reading = new(Reading)
+        _set_fields(reading, fields)
+        walked.append(reading)
+        at = after
+        result = _END if at == whole else next_record(ci_field, body, size, place, out)
+    return walked, result
 
 
 def readings(body: bytes, ci: int = 0x72) -> Iterator[Reading]:
     """What is read of each record of a body after this CI field (72h, 73h, 78h, 7Ah), in order, up to the first fault.
 
-    Raises ValueError where no frame has such a CI field.
+    Raises ValueError where no frame has such a CI field, TypeError where the body isn't bytes.
 
     >>> fixed_data = bytes.fromhex("785634120A00E97E" "0100000035010000")
     >>> [(str(reading.value), reading.unit, reading.storage) for reading in readings(fixed_data, 0x73)]
