@@ -3,8 +3,8 @@
  *     cc -std=c99 readings.c $(pkg-config --cflags --libs mbdc) -o readings
  *     ./readings <LINES
  *
- * For each long frame in lines of hex digits a line with its CI byte, then a line for each record, with the fields that
- * `mbdc decode --json` has of it, separated by tabs, and - for null.
+ * For each frame in lines of hex digits, or what is none, a line; for a long frame then one of what stands before its records, one
+ * for each record, and one with the result at their end. Fields are those of `mbdc decode --json`, separated by tabs, and - for null.
  */
 #include <ctype.h>
 #include <inttypes.h>
@@ -14,7 +14,7 @@
 
 #include <mbdc.h>
 
-enum { LONG_FRAME = 3, LONGEST_LINE = 4096, ROOM = 1024, EXTENSION = 0xFC, NO_UNIT = 0xFFFF };
+enum { ACK = 1, SHORT_FRAME, LONG_FRAME, LONGEST_LINE = 4096, ROOM = 1024, FIXED = 0x73, EXTENSION = 0xFC, NO_UNIT = 0xFFFF };
 
 /* Prints a name, or - for none. */
 static void print_name(uint64_t table, uint64_t number)
@@ -114,21 +114,72 @@ static void print_record(const mbdc_record *record, const uint8_t *body, size_t 
     printf("\t%s\n", !is_timed ? "-" : record->summer_time ? "true" : "false");
 }
 
-/* Prints the records of the long frames of bytes. */
+/* Prints a number, or - where there is none. */
+static void print_number(int is_there, uint64_t number)
+{
+    if (is_there)
+        printf("\t%" PRIu64, number);
+    else
+        printf("\t-");
+}
+
+/* Prints what stands before the records: meter, access number, status, security. */
+static void print_head(const mbdc_head *head, uint64_t ci)
+{
+    int has_rest = ci != FIXED;
+    if (head->named)
+        printf("\t%08" PRIu64, head->number);
+    else
+        printf("\t-");
+    if (head->named && has_rest)
+        printf("\t%c%c%c", 64 + (int)(head->manufacturer >> 10), 64 + (int)(head->manufacturer >> 5 & 31), 64 + (int)(head->manufacturer & 31));
+    else
+        printf("\t-");
+    print_number(head->named && has_rest, head->version);
+    print_number(head->named != 0, head->medium);
+    print_number(head->headed != 0, head->access);
+    print_number(head->headed != 0, head->status);
+    if (head->headed && has_rest)
+        print_name(MBDC_SECURITY, head->mode);
+    else
+        printf("\t-");
+    print_number(head->headed && has_rest && (head->mode == 5 || head->mode == 7), head->blocks);
+    print_number(head->headed && has_rest, head->configuration);
+    printf("\n");
+}
+
+/* Prints what stands before the records of a body, the records, and the result at their end. */
+static void print_body(uint64_t ci, const uint8_t *body, size_t size)
+{
+    mbdc_head head = {0};
+    mbdc_record record;
+    uint64_t result = mbdc_header(ci, body, size, &head);
+    if (result == MBDC_DONE)
+        print_head(&head, ci);
+    for (uint64_t at = head.first; (result = mbdc_next_record(ci, body, size, at, &record)) == MBDC_DONE; at = record.next)
+        print_record(&record, body, size);
+    printf("%" PRIu64 "\n", result);
+}
+
+/* Prints the frames of bytes. */
 static void print_frames(const uint8_t *bytes, size_t size)
 {
     mbdc_frame frame;
-    mbdc_head head;
-    mbdc_record record;
-    for (uint64_t at = 0; mbdc_next_frame(bytes, size, at, &frame) != MBDC_END; at = frame.next) {
-        if (frame.kind != LONG_FRAME)
-            continue;
-        const uint8_t *body = bytes + frame.body_at;
-        printf("%02" PRIX64 "\n", frame.ci);
-        if (mbdc_header(frame.ci, body, frame.body_size, &head) != MBDC_DONE)
-            continue;
-        for (uint64_t from = head.first; mbdc_next_record(frame.ci, body, frame.body_size, from, &record) == MBDC_DONE; from = record.next)
-            print_record(&record, body, frame.body_size);
+    uint64_t result;
+    for (uint64_t at = 0; (result = mbdc_next_frame(bytes, size, at, &frame)) != MBDC_END; at = frame.next) {
+        if (frame.kind == ACK)
+            printf("ack\n");
+        else if (frame.kind == SHORT_FRAME)
+            printf("short\t%" PRIu64 "\t%" PRIu64 "\n", frame.control, frame.address);
+        else if (frame.kind == LONG_FRAME)
+            printf("long\t%" PRIu64 "\t%" PRIu64 "\t%" PRIu64 "\n", frame.control, frame.address, frame.ci);
+        else {
+            printf("none");
+            print_name(MBDC_FRAME_FAULTS, result - MBDC_FAULT);
+            printf("\n");
+        }
+        if (frame.kind == LONG_FRAME)
+            print_body(frame.ci, bytes + frame.body_at, frame.body_size);
     }
 }
 

@@ -6,7 +6,7 @@ import pytest
 from world.cases import Cases, Failed, until, wants
 from world.frames import ACK, parse
 from world.said import Object, lines_of, without_length
-from world.varied import MOST_BODY, random_body, random_frame, random_line
+from world.varied import MOST_BODY, random_body, random_frame, random_line, wide_frame, wide_line
 
 POINT = {"storage": 1, "tariff": 2, "subunit": 0, "function": "maximum", "vib": "13", "data": "", "reading": "point",
          "value": "0.5", "unit": "m3"}
@@ -43,6 +43,13 @@ def test_random_frames_are_of_every_kind(rng: random.Random) -> None:
 def test_random_lines_are_the_same_for_a_seed() -> None:
     first, again = ([random_line(random.Random(seed)) for seed in range(50)] for _ in range(2))
     assert first == again and len(set(first)) > 40
+
+
+def test_wide_frames_are_whole_and_wide_lines_at_times_arent(rng: random.Random) -> None:
+    frames = [wide_frame(rng) for _ in range(500)]
+    assert all(map(parse, frames)) and {frame[6] for frame in frames} == {0x72, 0x73, 0x78, 0x7A}
+    lines = [wide_line(rng, frames) for _ in range(500)]
+    assert 100 < sum(len(line) % 2 == 0 and parse(bytes.fromhex(line)) is not None for line in lines) < 490
 
 
 def test_cases_are_counted(capsys: pytest.CaptureFixture[str]) -> None:
