@@ -2,11 +2,8 @@
 
 ghost use Rattle.std.specs.Prelude.{⊤};
 
-use crate::connection::Connection;
 use crate::peer::Peer;
 use crate::reach::Connector;
-use crate::socket::Socket;
-use crate::terminal::Held;
 use dc_words::LinkName;
 use std::fs::File;
 use std::io;
@@ -33,14 +30,8 @@ where
 
     ghost releases = { λ _ _ _. ⊤ };
 
-    // The host isn't found or doesn't accept the connection within 10 s; the terminal can't be opened, or another
-    // program uses it; or out of memory.
     fn connect(&mut self, name: &LinkName<'n>) -> io::Result<Peer<R>> {
-        match *name {
-            LinkName::Tcp(place) => Ok(Peer::Tcp(Socket::new(self.rt, place)?)),
-            LinkName::Serial(path) => Ok(Peer::Serial(Held::open(self.rt, path)?)),
-            LinkName::Blocks(place) => Ok(Peer::Blocks(Connection::new(self.rt, place)?)),
-        }
+        Peer::connect(self.rt, name)
     }
 
     fn say(&mut self, line: u8, error: &io::Error)
@@ -52,8 +43,6 @@ where
     fn release(&mut self, peer: &Peer<R>)
         ensures { ⊤ }
     {
-        if let Peer::Serial(held) = peer {
-            held.release(self.rt);
-        }
+        peer.release(self.rt);
     }
 }

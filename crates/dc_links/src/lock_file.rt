@@ -85,11 +85,15 @@ fn is_held<R: Files<File = File>>(rt: &R, name: &str) -> bool {
     let Ok(count) = file.read(&mut room) else {
         return true;
     };
-    let Ok(text) = str::from_utf8(&room[..count.min(room.len())]) else {
-        return true;
-    };
-    match text.trim().parse::<i32>() {
-        Ok(process) if process > 0 => process != libc::getpid() && libc::getpgid(process) >= 0,
-        _ => true,
+    match process_in(&room[..count.min(room.len())]) {
+        Some(process) => process != libc::getpid() && libc::getpgid(process) >= 0,
+        None => true,
     }
+}
+
+// The process number that a lock file holds.
+fn process_in(bytes: &[u8]) -> Option<i32> {
+    let text = str::from_utf8(bytes).ok()?;
+    let process = text.trim().parse::<i32>().ok()?;
+    if process > 0 { Some(process) } else { None }
 }

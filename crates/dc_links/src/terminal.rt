@@ -36,11 +36,7 @@ impl Held {
         if !file.is_terminal() {
             return Err(io::Error::new(ErrorKind::InvalidInput, "it is no terminal"));
         }
-        match file.try_lock() {
-            Ok(()) => {}
-            Err(TryLockError::WouldBlock) => return Err(in_use()),
-            Err(TryLockError::Error(error)) => return Err(error),
-        }
+        lock(&file)?;
         let lock_file = lock_file_of(rt, &file)?;
         Ok(Held {
             file,
@@ -55,6 +51,14 @@ impl Held {
         if let Some(name) = &self.lock_file {
             let _ = fs::remove_file(rt, name.as_str());
         }
+    }
+}
+
+fn lock(file: &File) -> io::Result<()> {
+    match file.try_lock() {
+        Ok(()) => Ok(()),
+        Err(TryLockError::WouldBlock) => Err(in_use()),
+        Err(TryLockError::Error(error)) => Err(error),
     }
 }
 

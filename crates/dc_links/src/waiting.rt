@@ -1,7 +1,7 @@
 //! Waiting for several buses at once.
 
 use crate::bus::LinkBus;
-use crate::peer::SystemBus;
+use crate::peer::{ByteBus, SystemBus};
 use dc_bus::trace::{Observed, Observer};
 use dc_bus::{HalfBus, Pause};
 use libc::net::{POLLIN, poll};
@@ -39,6 +39,22 @@ impl Watch {
         }
     }
 
+    /// Adds a bus. A lost bus, or one of the block protocol, needs no wait.
+    pub fn add<C: Net<Stream = TcpStream> + Clock + Copy>(&mut self, bus: &SystemBus<'_, C>) {
+        match bus {
+            LinkBus::First(bytes) if !bus.is_lost() => self.add_bytes(bytes),
+            _ => self.is_ready = true,
+        }
+    }
+
+    fn add_bytes<C: Net<Stream = TcpStream> + Clock + Copy>(&mut self, bus: &ByteBus<'_, C>) {
+        match bus {
+            LinkBus::First(tcp) => self.put(tcp.wire.fd(), tcp.wire.left()),
+            LinkBus::Second(serial) => self.put(serial.wire.fd(), serial.wire.left()),
+            LinkBus::Absent => {}
+        }
+    }
+
     fn put(&mut self, fd: i32, left: Duration) {
         if let Some(place) = self.asked.get_mut(self.count) {
             place.fd = fd;
@@ -64,17 +80,9 @@ pub trait Watched {
     fn add_to(&self, watch: &mut Watch);
 }
 
-// A lost bus, or one of the block protocol, needs no wait.
 impl<C: Net<Stream = TcpStream> + Clock + Copy> Watched for SystemBus<'_, C> {
     fn add_to(&self, watch: &mut Watch) {
-        match self {
-            _ if self.is_lost() => watch.is_ready = true,
-            LinkBus::First(LinkBus::First(tcp)) => watch.put(tcp.wire.fd(), tcp.wire.left()),
-            LinkBus::First(LinkBus::Second(serial)) => {
-                watch.put(serial.wire.fd(), serial.wire.left())
-            }
-            _ => watch.is_ready = true,
-        }
+        watch.add(self);
     }
 }
 
@@ -88,10 +96,20 @@ impl<B: HalfBus + Watched + Drop, O: Observer + Drop> Watched for Observed<B, O>
 #[derive(Clone, Copy, Drop)]
 pub struct Waiter;
 
-impl<B: Watched> Pause<B> for Waiter {
-    fn pause(&mut self, bus: &B) {
+impl<C: Net<Stream = TcpStream> + Clock + Copy> Pause<SystemBus<'_, C>> for Waiter {
+    fn pause(&mut self, bus: &SystemBus<'_, C>) {
         let mut watch = Watch::new();
-        bus.add_to(&mut watch);
+        watch.add(bus);
+        watch.wait();
+    }
+}
+
+impl<C: Net<Stream = TcpStream> + Clock + Copy, O: Observer + Drop> Pause<
+    Observed<SystemBus<'_, C>, O>,
+> for Waiter {
+    fn pause(&mut self, bus: &Observed<SystemBus<'_, C>, O>) {
+        let mut watch = Watch::new();
+        watch.add(&bus.bus);
         watch.wait();
     }
 }
