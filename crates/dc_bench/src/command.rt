@@ -49,8 +49,8 @@ pub enum Done {
 }
 
 /// Does the work on a bus, prints it line by line, and says on standard error what is to be known of it. Returns how
-/// the command ends. A search may be listed in another form. One that hears noise alone is given up: after 16 answers,
-/// none of which is a frame.
+/// the command ends. A search may be listed in another form. One that hears noise alone is given up, and prints no
+/// more: after 16 answers, none of which is a frame.
 pub fn run_over<'a, R, B, O>(
     alloc: Global,
     work: Work,
@@ -78,6 +78,7 @@ where
         } else {
             None
         },
+        is_hushed: &progress.is_hushed,
     };
     let mut out = WriteSink::new(out);
     let ending = match (work, listing) {

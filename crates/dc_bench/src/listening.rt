@@ -5,20 +5,23 @@ ghost use Rattle.dc_bench.specs.Listening.{heard_as, is_given_up, left_after};
 
 use dc_bus::{AnswerBuf, Bus};
 use dc_frame::{FrameBuf, parse};
+use std::cell::Cell;
 
 /// Number of answers, none of which is a frame, after which a search is given up.
 pub(crate) const MOST_NOISE: u8 = 16;
 
 /// A bus that counts as lost once that many answers came, none of which is a frame.
 #[derive(Drop)]
-pub(crate) struct Listening<B: Bus + Drop> {
+pub(crate) struct Listening<'c, B: Bus + Drop> {
     /// The bus.
     pub bus: B,
     /// Number of answers that may still be noise; none once a frame came, or where nothing is given up.
     pub left: Option<u8>,
+    /// Set once it is given up: what noise alone said isn't printed.
+    pub is_hushed: &'c Cell<bool>,
 }
 
-impl<B: Bus + Drop> Listening<B> {
+impl<B: Bus + Drop> Listening<'_, B> {
     /// Whether it was given up.
     pub fn is_given_up(&self) -> bool
         ensures { result ≡ is_given_up self.now.left }
@@ -31,9 +34,11 @@ impl<B: Bus + Drop> Listening<B> {
         ensures bus { self.new.bus ≡ self.old.bus }
         ensures left { self.new.left ≡ left_after answer self.old.left }
         ensures answer { result ≡ heard_as self.new.left answer }
+        ensures hushed { self.new.is_hushed ≡ self.old.is_hushed }
     {
         self.left = left_after(&answer, self.left);
         if self.is_given_up() {
+            self.is_hushed.set(true);
             AnswerBuf::new()
         } else {
             answer
@@ -55,7 +60,7 @@ fn left_after(answer: &AnswerBuf, left: Option<u8>) -> Option<u8>
     }
 }
 
-impl<B: Bus + Drop> Bus for Listening<B> {
+impl<B: Bus + Drop> Bus for Listening<'_, B> {
     ghost use Rattle.std.specs.Prelude.{None, [], false, ◌||◌};
     ghost use Rattle.dc_bench.specs.Listening.{Hears, is_given_up};
 

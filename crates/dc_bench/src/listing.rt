@@ -157,6 +157,7 @@ impl<W: Printer, R: Clock + Eprint> List<'_, '_, W, R> {
             (Listing::Csv(line), Finding::Meter(meter, address, value)) => {
                 put_row(self.out, line, &meter, address, value)
             }
+            (Listing::Csv(_), _) if self.progress.is_hushed.get() => Ok(()),
             (Listing::Csv(_), other) => {
                 let mut text: FixedSink<ROOM> = FixedSink::new();
                 let put = put_words(&mut text, other);

@@ -37,6 +37,8 @@ pub struct Progress<'h, R> {
     // The meters that answered, each with its first current value.
     values: RefCell<Vec<(Identity, Point)>>,
     is_shown: Cell<bool>,
+    /// Whether nothing more is printed on standard output.
+    pub(crate) is_hushed: Cell<bool>,
 }
 
 impl<'h, R: Clock + Eprint> Progress<'h, R> {
@@ -52,6 +54,7 @@ impl<'h, R: Clock + Eprint> Progress<'h, R> {
             meters: Cell::new(0),
             values: RefCell::new(Vec::new(alloc)),
             is_shown: Cell::new(false),
+            is_hushed: Cell::new(false),
         };
         if is_terminal && let Some(addresses) = progress.addresses {
             let mut text = Text::new();
@@ -192,7 +195,7 @@ impl<R: Clock + Eprint> Observer for Show<'_, '_, R> {
     }
 }
 
-/// A writer before whose writes the line of the progress is cleared.
+/// A writer before whose writes the line of the progress is cleared. After a search is given up it writes nothing.
 #[derive(Drop)]
 pub(crate) struct Cleared<'p, 'h, R, W: Write + Drop> {
     /// The writer.
@@ -203,6 +206,9 @@ pub(crate) struct Cleared<'p, 'h, R, W: Write + Drop> {
 
 impl<R: Clock + Eprint, W: Write + Drop> Write for Cleared<'_, '_, R, W> {
     fn write(&mut self, bytes: &[u8]) -> io::Result<usize> {
+        if self.progress.is_hushed.get() {
+            return Ok(bytes.len());
+        }
         self.progress.clear();
         self.writer.write(bytes)
     }
