@@ -2,7 +2,7 @@
 
 ghost use Rattle.std.specs.Prelude.{◌≡◌, IfOk, IfErr, OnOk};
 ghost use Rattle.dc_io.specs.Written.{PutsInto};
-ghost use Rattle.dc_bench.specs.Command.{DoesOrStops, IsDone, Works, fault_of, is_faulty};
+ghost use Rattle.dc_bench.specs.Command.{DoesOrStops, IsDone, Works, fault_of};
 ghost use Rattle.dc_bench.specs.Ending.{IsStopped};
 
 use crate::ending::{ended, finish};
@@ -90,7 +90,7 @@ where
     if !bus.is_given_up() {
         return ending;
     }
-    progress.say(NOISE);
+    progress.say(NOISE.as_bytes());
     Ending::Faulty
 }
 
@@ -179,19 +179,9 @@ fn fault_of(late: u64, outcome: &Result<Done, ScanFault>) -> Result<bool, ScanFa
     ensures { result ≡ fault_of late outcome.now }
 {
     match outcome {
-        Ok(done) => Ok(is_faulty(late, done)),
+        Ok(Done::Searched(_)) => Ok(late != 0),
+        Ok(Done::ReadOut(Readout::Whole) | Done::Addressed(Addressing::Set(_))) => Ok(false),
+        Ok(Done::ReadOut(Readout::Failed(_)) | Done::Addressed(_)) => Ok(true),
         Err(fault) => Err(*fault),
-    }
-}
-
-fn is_faulty(late: u64, done: &Done) -> bool
-    ensures { result ≡ is_faulty late done.now }
-{
-    match done {
-        Done::Searched(_) => late != 0,
-        Done::ReadOut(Readout::Whole) => false,
-        Done::ReadOut(Readout::Failed(_)) => true,
-        Done::Addressed(Addressing::Set(_)) => false,
-        Done::Addressed(_) => true,
     }
 }

@@ -3,12 +3,13 @@
 ghost use Rattle.std.specs.Prelude.{◌≡◌, OnOk, OnErr};
 ghost use Rattle.dc_io.specs.Failures.{HasRisen};
 ghost use Rattle.dc_io.specs.Written.{PutsInto, Wrote};
-ghost use Rattle.dc_bench.specs.Ending.{EndsOver, late_line, late_text};
+ghost use Rattle.dc_bench.specs.Ending.{EndsOver, late_text};
 
 use crate::printer::Printer;
 use dc_ending::{Ending, STREAM};
 use dc_installer::ScanFault;
-use dc_io::{IoFault, Sink, put_number_word};
+use dc_io::{IoFault, Sink};
+use dc_tokens::{Piece, put_pieces};
 
 /// Prints last how often bytes came that nothing on the bus could have sent, and writes out what is held back.
 pub(crate) fn finish<W: Printer>(late: u64, out: &mut W) -> Result<(), IoFault>
@@ -21,22 +22,17 @@ pub(crate) fn finish<W: Printer>(late: u64, out: &mut W) -> Result<(), IoFault>
     }
 }
 
+#[tactic(auto, unfolding(crate::specs::Ending::late_line))]
 fn put_late<W: Sink>(late: u64, out: &mut W) -> Result<(), IoFault>
     ensures { Wrote W.Sink result out.old out.new (late_text late) }
 {
     match late {
         0 => Ok(()),
-        _ => put_line(late, out),
+        _ => put_pieces(
+            out,
+            &[Piece::Text(b"LATE"), Piece::Word(late), Piece::Text(b"\n")],
+        ),
     }
-}
-
-#[tactic(auto, using(dc_io::proofs::Pieces::written), unfolding(crate::specs::Ending::late_line))]
-fn put_line<W: Sink>(late: u64, out: &mut W) -> Result<(), IoFault>
-    ensures { Wrote W.Sink result out.old out.new (late_line late) }
-{
-    out.put(b"LATE")?;
-    put_number_word(out, late)?;
-    out.put(b"\n")
 }
 
 /// The ending of a command, by whether something was at fault, or by what stopped it. A lost bus comes before a fault.

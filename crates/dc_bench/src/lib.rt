@@ -10,10 +10,8 @@ mod command;
 mod ending;
 mod listening;
 mod listing;
-mod meter_text;
 mod printer;
 mod progress;
-mod progress_text;
 mod reading;
 mod remark;
 

@@ -13,32 +13,15 @@ use dc_io::{FixedSink, IoFault, Sink, put_number};
 use dc_record::names::medium_name;
 use dc_record::value::{Point, TEXT_ROOM};
 use dc_search::Step;
+use dc_tokens::{Piece, put_pieces};
 use dc_words::{Listing, Scan};
 use std::alloc::Global;
 use std::rt::Clock;
-use std::str;
 
 const HEADER: &[u8] = b"meter,line,address,flat,medium,value\n";
 
 // The longest line on standard error.
 const ROOM: usize = 100;
-
-// What a search finds.
-#[derive(Clone, Copy)]
-enum Finding {
-    // A meter, at its primary address or by wildcards, and its first current value.
-    Meter(Identity, Option<u8>, Option<Point>),
-    // A number that several meters have.
-    Shared(u32),
-    // An address at which somebody answers, but no meter alone.
-    Unread(u8),
-    // The budget was spent.
-    Budget,
-    // Number of selections.
-    End(u32),
-    // Number of late answers.
-    Late(u64),
-}
 
 // A list that is written.
 #[derive(Drop)]
@@ -101,7 +84,8 @@ impl<W: Printer, R: Clock + Eprint> List<'_, '_, W, R> {
             }
         };
         if bus.late() != 0 {
-            self.put(Finding::Late(bus.late()))?;
+            let late = Piece::Number(bus.late());
+            self.put_event(b"LATE ", b"late\",\"answers\":", late, b"}\n")?;
         }
         match self.out.flush() {
             Ok(()) => Ok(count),
@@ -120,15 +104,23 @@ impl<W: Printer, R: Clock + Eprint> List<'_, '_, W, R> {
             return Err(ScanFault::NoMemory);
         };
         for meter in search.found() {
-            self.put(Finding::Meter(*meter, None, self.progress.value_of(meter)))?;
+            self.put_meter(meter, None)?;
         }
         for number in search.shared() {
-            self.put(Finding::Shared(*number))?;
+            let number = digits_of(*number);
+            self.put_event(
+                b"SHARED ",
+                b"shared\",\"number\":\"",
+                Piece::Text(&number),
+                b"\"}\n",
+            )?;
         }
         if let Step::Budget = search.next() {
-            self.put(Finding::Budget)?;
+            self.put_event(b"BUDGET", b"budget", Piece::Text(b""), b"\"}\n")?;
         }
-        self.put(Finding::End(search.selections()))?;
+        // A list has no line of its end.
+        let selections = Piece::Number(u64::from(search.selections()));
+        self.put_event(b"", b"end\",\"selections\":", selections, b"}\n")?;
         Ok(Count {
             meters: search.found().len(),
             shared: search.shared().len(),
@@ -140,32 +132,55 @@ impl<W: Printer, R: Clock + Eprint> List<'_, '_, W, R> {
         for address in 1..=GREATEST {
             let asked = ask_address(bus, address);
             if is_there(&asked) {
-                self.put(match sender_at(address, &asked.telegram) {
-                    Some(meter) => {
-                        Finding::Meter(meter, Some(address), self.progress.value_of(&meter))
+                match sender_at(address, &asked.telegram) {
+                    Some(meter) => self.put_meter(&meter, Some(address))?,
+                    // Somebody answers, but no meter alone.
+                    None => {
+                        let address = Piece::Number(u64::from(address));
+                        self.put_event(b"ADDRESS ", b"unread\",\"address\":", address, b"}\n")?;
                     }
-                    None => Finding::Unread(address),
-                })?;
+                }
             }
         }
         Ok(())
     }
 
-    // Writes what was found; what is no row of a list goes to standard error.
-    fn put(&mut self, finding: Finding) -> Result<(), ScanFault> {
-        let put = match (self.listing, finding) {
-            (Listing::Csv(line), Finding::Meter(meter, address, value)) => {
-                put_row(self.out, line, &meter, address, value)
-            }
-            (Listing::Csv(_), _) if self.progress.is_hushed.get() => Ok(()),
-            (Listing::Csv(_), other) => {
-                let mut text: FixedSink<ROOM> = FixedSink::new();
-                let put = put_words(&mut text, other);
-                self.progress
-                    .say(str::from_utf8(text.as_slice()).unwrap_or_default());
+    // Writes a meter, found at its primary address or by wildcards, as a row or an object.
+    fn put_meter(&mut self, meter: &Identity, address: Option<u8>) -> Result<(), ScanFault> {
+        let value = self.progress.value_of(meter);
+        let put = match self.listing {
+            Listing::Csv(line) => put_row(self.out, line, meter, address, value),
+            _ => put_found(self.out, meter, address, value),
+        };
+        match put {
+            Ok(()) => Ok(()),
+            Err(IoFault) => Err(ScanFault::Write),
+        }
+    }
+
+    // Writes what else was found: an object; beside a list a line of words on standard error.
+    fn put_event<'p>(
+        &mut self,
+        words: &'p [u8],
+        event: &'p [u8],
+        number: Piece<'p>,
+        end: &'p [u8],
+    ) -> Result<(), ScanFault> {
+        let mut text: FixedSink<ROOM> = FixedSink::new();
+        let before = Piece::Text(b"{\"event\":\"");
+        let put = match self.listing {
+            Listing::Csv(_) if words.is_empty() || self.progress.is_hushed.get() => Ok(()),
+            Listing::Csv(_) => {
+                let before = Piece::Text(b"mbdc: ");
+                let row = [before, Piece::Text(words), number, Piece::Text(b"\n")];
+                let put = put_pieces(&mut text, &row);
+                self.progress.say(text.as_slice());
                 put
             }
-            _ => put_object(self.out, finding),
+            _ => put_pieces(
+                self.out,
+                &[before, Piece::Text(event), number, Piece::Text(end)],
+            ),
         };
         match put {
             Ok(()) => Ok(()),
@@ -198,65 +213,25 @@ fn put_row<W: Sink>(
     out.put(b"\n")
 }
 
-// Writes what no list has.
-fn put_words<W: Sink>(out: &mut W, finding: Finding) -> Result<(), IoFault> {
-    let (words, number) = match finding {
-        Finding::Meter(..) | Finding::End(_) => return Ok(()),
-        Finding::Budget => return out.put(b"mbdc: BUDGET\n"),
-        Finding::Shared(number) => return put_shared(out, b"mbdc: SHARED ", number, b"\n"),
-        Finding::Unread(address) => (b"mbdc: ADDRESS ".as_slice(), u64::from(address)),
-        Finding::Late(count) => (b"mbdc: LATE ".as_slice(), count),
-    };
-    out.put(words)?;
-    put_number(out, number)?;
-    out.put(b"\n")
-}
-
-// Writes a number of eight digits between two texts.
-fn put_shared<W: Sink>(
-    out: &mut W,
-    before: &[u8],
-    number: u32,
-    after: &[u8],
-) -> Result<(), IoFault> {
-    out.put(before)?;
+// The eight digits of a number.
+fn digits_of(number: u32) -> [u8; 8] {
     let mut left = number;
     let mut digits = [b'0'; 8];
     for digit in digits.iter_mut().rev() {
         *digit = b'0' + (left % 10) as u8;
         left /= 10;
     }
-    out.put(&digits)?;
-    out.put(after)
+    digits
 }
 
-fn put_object<W: Sink>(out: &mut W, finding: Finding) -> Result<(), IoFault> {
-    out.put(b"{\"event\":\"")?;
-    let (words, number) = match finding {
-        Finding::Meter(meter, address, value) => {
-            return put_found(out, &meter, address, value);
-        }
-        Finding::Shared(number) => {
-            return put_shared(out, b"shared\",\"number\":\"", number, b"\"}\n");
-        }
-        Finding::Budget => return out.put(b"budget\"}\n"),
-        Finding::Unread(address) => (b"unread\",\"address\":".as_slice(), u64::from(address)),
-        Finding::End(count) => (b"end\",\"selections\":".as_slice(), u64::from(count)),
-        Finding::Late(count) => (b"late\",\"answers\":".as_slice(), count),
-    };
-    out.put(words)?;
-    put_number(out, number)?;
-    out.put(b"}\n")
-}
-
-// Writes the rest of the object of a meter.
+// Writes the object of a meter.
 fn put_found<W: Sink>(
     out: &mut W,
     meter: &Identity,
     address: Option<u8>,
     value: Option<Point>,
 ) -> Result<(), IoFault> {
-    out.put(b"found\",\"meter\":\"")?;
+    out.put(b"{\"event\":\"found\",\"meter\":\"")?;
     out.put(&meter.text())?;
     out.put(b"\",\"address\":")?;
     match address {

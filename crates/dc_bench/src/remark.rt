@@ -2,7 +2,7 @@
 
 ghost use Rattle.std.specs.Prelude.{◌≡◌};
 ghost use Rattle.dc_io.specs.Written.{Wrote};
-ghost use Rattle.dc_bench.specs.Remark.{advice_text, hint, owner_of, remark_text};
+ghost use Rattle.dc_bench.specs.Remark.{hint, owner_of, remark_text};
 
 use crate::command::{Done, Work};
 use dc_installer::{Count, Course, Readout, is_all_read, put_unread};
@@ -13,6 +13,7 @@ use dc_words::MeterName;
 /// Writes what is to be known of a command besides its text: after a search how many answers can't be read, and to a
 /// person what to do where nothing was found, and with numbers that several meters have; after a readout that failed
 /// what its failed tries brought.
+#[tactic(auto, using(dc_io::proofs::Pieces::written), unfolding(crate::specs::Remark::advice_text))]
 pub fn put_remark<W: Sink>(
     work: &Work,
     done: &Done,
@@ -24,25 +25,15 @@ pub fn put_remark<W: Sink>(
         (remark_text work.now done.now course.now is_watched) }
 {
     match (work, done) {
-        (_, Done::Searched(count)) => put_advice(course, *count, is_watched, out),
+        (_, Done::Searched(count)) => {
+            put_unread(out, course)?;
+            out.put(hint(course, *count, is_watched))
+        }
         (Work::Read(meter), Done::ReadOut(Readout::Failed(misses))) => {
             put_reason(out, &owner_of(meter), misses)
         }
         _ => Ok(()),
     }
-}
-
-#[tactic(auto, using(dc_io::proofs::Pieces::written), unfolding(crate::specs::Remark::advice_text))]
-fn put_advice<W: Sink>(
-    course: &Course,
-    count: Option<Count>,
-    is_watched: bool,
-    out: &mut W,
-) -> Result<(), IoFault>
-    ensures { Wrote W.Sink result out.old out.new (advice_text course.now count is_watched) }
-{
-    put_unread(out, course)?;
-    out.put(hint(course, count, is_watched))
 }
 
 // What a person does next; nothing where no person reads it.
