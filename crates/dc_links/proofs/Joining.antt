@@ -46,3 +46,8 @@ module _ {C N P : Type 0} (tries : C → N → Option P → C → Type 0) where
   reaches_first says line None links (Some peer) peers old mid new first rest = absurd first
   reaches_first says line (Some link) links (Some peer) peers old mid new (came, tried, same) rest = (came, tried, subst (λ (c : C). Reaches tries says (line + 1) links peers c new) same rest)
   reaches_first says line (Some link) links None peers old mid new (missed, said, tried, told, same) rest = (missed, said, tried, told, subst (λ (c : C). Reaches tries says (line + 1) links peers c new) same rest)
+
+-- the lines from one on
+pub ruleset all_connected = (connects_first, all_of_none, one_more)
+
+pub ruleset all_reached = (reaches_first, all_of_none, one_more)

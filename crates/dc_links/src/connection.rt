@@ -1,6 +1,5 @@
 //! A connection to a gateway of the block protocol: a TCP stream of blocks.
 
-use dc_io::{ReadSource, WriteSink};
 use std::cell::Cell;
 use std::io;
 use std::io::{ErrorKind, Read, Write};
@@ -14,9 +13,6 @@ const CONNECTING: u64 = 10;
 // Time limit of an exchange in seconds, from its request to the end of its answer. The longest
 // frame takes 10 s at 300 baud, and a meter takes up to a second before it answers.
 const EXCHANGE: u64 = 15;
-
-/// The stream of answers, and the stream of requests.
-pub type Ends<'a, C> = (ReadSource<&'a Connection<C>>, WriteSink<&'a Connection<C>>);
 
 /// A connection to a gateway on which an exchange has a time limit: reading the answer fails 15 s after the last write.
 #[derive(Drop)]
@@ -43,11 +39,6 @@ impl<C: Clock + Copy> Connection<C> {
             clock: *rt,
             asked,
         })
-    }
-
-    /// The reader and the writer of the connection.
-    pub fn ends(&self) -> Ends<'_, C> {
-        (ReadSource::new(self), WriteSink::new(self))
     }
 }
 

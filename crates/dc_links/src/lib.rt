@@ -1,9 +1,8 @@
 //! The links of the bus lines on this system: transparent gateways over TCP, serial level
 //! converters, and gateways of the block protocol.
 //!
-//! [`Peer::connect`] connects a link by its name, and [`Peer::bus`] returns its bus ([`LinkBus`]). A [`Linker`]
-//! connects those of all bus lines, as [`reach`] asks it to. A [`Watch`] waits until one of several buses may have
-//! received something.
+//! A [`Linker`] connects the links of all bus lines, as [`reach`] asks it to, and [`Peer::bus`] returns a link's bus
+//! ([`LinkBus`]). A [`Watch`] waits until one of several buses may have received something.
 #![tactic(auto)]
 
 mod bus;
@@ -17,7 +16,7 @@ mod terminal;
 mod waiting;
 
 pub use bus::LinkBus;
-pub use connection::{Connection, Ends};
+pub use connection::Connection;
 pub use linking::Linker;
 pub use peer::{BlockBus, ByteBus, Peer, RawBus, SystemBus};
 pub use socket::{Socket, Tcp, Terminal};

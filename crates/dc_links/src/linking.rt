@@ -2,13 +2,16 @@
 
 ghost use Rattle.std.specs.Prelude.{⊤};
 
+use crate::connection::Connection;
 use crate::peer::Peer;
 use crate::reach::Connector;
+use crate::socket::Socket;
+use crate::terminal::Held;
 use dc_words::LinkName;
 use std::fs::File;
-use std::io;
 use std::net::{Net, TcpStream};
 use std::rt::{Clock, Files};
+use std::{fs, io};
 
 /// Connects links by TCP and over terminals, and says on standard error which can't be connected.
 #[derive(Clone, Copy, Drop)]
@@ -30,8 +33,14 @@ where
 
     ghost releases = { λ _ _ _. ⊤ };
 
+    // The host isn't found or doesn't accept the connection within 10 s; the terminal can't be opened, or another
+    // program uses it; or out of memory.
     fn connect(&mut self, name: &LinkName<'n>) -> io::Result<Peer<R>> {
-        Peer::connect(self.rt, name)
+        match *name {
+            LinkName::Tcp(place) => Ok(Peer::Tcp(Socket::new(self.rt, place)?)),
+            LinkName::Serial(path) => Ok(Peer::Serial(Held::open(self.rt, path)?)),
+            LinkName::Blocks(place) => Ok(Peer::Blocks(Connection::new(self.rt, place)?)),
+        }
     }
 
     fn say(&mut self, line: u8, error: &io::Error)
@@ -43,6 +52,11 @@ where
     fn release(&mut self, peer: &Peer<R>)
         ensures { ⊤ }
     {
-        peer.release(self.rt);
+        // A lock file that is left behind, by a kill, names a process that has ended.
+        if let Peer::Serial(held) = peer
+            && let Some(name) = &held.lock_file
+        {
+            let _ = fs::remove_file(self.rt, name.as_str());
+        }
     }
 }

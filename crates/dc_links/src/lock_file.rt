@@ -33,9 +33,18 @@ pub fn make<R: Files<File = File> + AllocGlobal>(
         return Ok(None);
     };
     let name = name_of(rt.alloc(), device)?;
+    let text = format!(in rt.alloc(); "{:>10}\n", libc::getpid())?;
+    let mut options = OpenOptions::new();
+    options.write(true).create_new(true);
     for _ in 0..TRIES {
-        match create(rt, name.as_str()) {
-            Ok(()) => return Ok(Some(name)),
+        match options.open(rt, name.as_str()) {
+            Ok(mut file) => {
+                if file.write_all(text.as_bytes()).is_ok() {
+                    return Ok(Some(name));
+                }
+                let _ = fs::remove_file(rt, name.as_str());
+                return Ok(None);
+            }
             Err(error) if error.kind() == ErrorKind::AlreadyExists => {}
             Err(_) => return Ok(None),
         }
@@ -63,18 +72,6 @@ fn name_of(alloc: Global, device: &str) -> Result<String, AllocError> {
     Ok(name)
 }
 
-fn create<R: Files<File = File> + AllocGlobal>(rt: &R, name: &str) -> io::Result<()> {
-    let mut options = OpenOptions::new();
-    options.write(true).create_new(true);
-    let text = format!(in rt.alloc(); "{:>10}\n", libc::getpid())?;
-    let mut file = options.open(rt, name)?;
-    let written = file.write_all(text.as_bytes());
-    if written.is_err() {
-        let _ = fs::remove_file(rt, name);
-    }
-    written
-}
-
 // Whether a lock file is another running process's. One that can't be read, or names no process, is:
 // its process may be about to write it.
 fn is_held<R: Files<File = File>>(rt: &R, name: &str) -> bool {
@@ -85,15 +82,11 @@ fn is_held<R: Files<File = File>>(rt: &R, name: &str) -> bool {
     let Ok(count) = file.read(&mut room) else {
         return true;
     };
-    match process_in(&room[..count.min(room.len())]) {
-        Some(process) => process != libc::getpid() && libc::getpgid(process) >= 0,
-        None => true,
+    let Ok(text) = str::from_utf8(&room[..count.min(room.len())]) else {
+        return true;
+    };
+    match text.trim().parse::<i32>() {
+        Ok(process) if process > 0 => process != libc::getpid() && libc::getpgid(process) >= 0,
+        _ => true,
     }
-}
-
-// The process number that a lock file holds.
-fn process_in(bytes: &[u8]) -> Option<i32> {
-    let text = str::from_utf8(bytes).ok()?;
-    let process = text.trim().parse::<i32>().ok()?;
-    if process > 0 { Some(process) } else { None }
 }

@@ -1,5 +1,7 @@
 //! A connected link.
 
+ghost use Rattle.std.specs.Prelude.{◌≤◌};
+
 use crate::bus::LinkBus;
 use crate::connection::Connection;
 use crate::socket::{Socket, Tcp, Terminal};
@@ -7,11 +9,9 @@ use crate::terminal::Held;
 use dc_bus::blocks::{BlockLink, Gateway};
 use dc_io::{ReadSource, WriteSink};
 use dc_raw::{Line, PollWire};
-use dc_words::LinkName;
-use std::fs::File;
 use std::io;
 use std::net::{Net, TcpStream};
-use std::rt::{Clock, Files};
+use std::rt::Clock;
 
 // The patience of a TCP stream in milliseconds, whose converter may hold an answer back, and that of a terminal, whose
 // driver doesn't.
@@ -43,22 +43,6 @@ pub type BlockBus<'a, C> = BlockLink<ReadSource<&'a Connection<C>>, WriteSink<&'
 pub type SystemBus<'a, C> = LinkBus<ByteBus<'a, C>, BlockBus<'a, C>>;
 
 impl<C: Clock + Copy> Peer<C> {
-    /// Connects a link by its name.
-    ///
-    /// # Errors
-    /// The host isn't found or doesn't accept the connection within 10 s; the terminal can't be
-    /// opened, or another program uses it; or out of memory.
-    pub fn connect(rt: &C, name: &LinkName<'_>) -> io::Result<Peer<C>>
-    where
-        C: Files<File = File> + Net<Stream = TcpStream> + AllocGlobal,
-    {
-        match *name {
-            LinkName::Tcp(place) => Ok(Peer::Tcp(Socket::new(rt, place)?)),
-            LinkName::Serial(path) => Ok(Peer::Serial(Held::open(rt, path)?)),
-            LinkName::Blocks(place) => Ok(Peer::Blocks(Connection::new(rt, place)?)),
-        }
-    }
-
     /// Returns the link's bus, with a time-out of this many milliseconds.
     ///
     /// # Errors
@@ -78,14 +62,17 @@ impl<C: Clock + Copy> Peer<C> {
                 Ok(LinkBus::First(LinkBus::Second(Line::new(wire))))
             }
             Peer::Blocks(connection) => {
-                let (reader, writer) = connection.ends();
-                Ok(LinkBus::Second(BlockLink::new(Gateway::new(reader, writer))))
+                let gateway = Gateway::new(ReadSource::new(connection), WriteSink::new(connection));
+                Ok(LinkBus::Second(BlockLink::new(gateway)))
             }
         }
     }
 
     /// The patience of the link in milliseconds, where readings are stored and none is given.
-    pub fn patience(&self) -> u16 {
+    pub fn patience(&self) -> u16
+        ensures least { 2000 ≤ result }
+        ensures most { result ≤ 6000 }
+    {
         match self {
             Peer::Tcp(_) => PATIENCE_TCP,
             Peer::Serial(_) | Peer::Blocks(_) => PATIENCE,
@@ -98,16 +85,6 @@ impl<C: Clock + Copy> Peer<C> {
             Peer::Tcp(socket) => socket.deserted.get(),
             Peer::Serial(held) => held.deserted.get(),
             Peer::Blocks(_) => false,
-        }
-    }
-
-    /// Gives a terminal back to other programs, at the end of this one.
-    pub fn release(&self, rt: &C)
-    where
-        C: Files<File = File>,
-    {
-        if let Peer::Serial(held) = self {
-            held.release(rt);
         }
     }
 }

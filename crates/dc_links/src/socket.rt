@@ -79,25 +79,6 @@ impl<C> Socket<C> {
         fd
     }
 
-    // Opens the stream again. Returns whether it could be.
-    fn open(&self) -> bool
-    where
-        C: Net<Stream = TcpStream>,
-    {
-        self.stream.set(None);
-        self.is_asked.set(false);
-        self.opened.set(self.opened.get().saturating_add(1));
-        if self.is_lost() {
-            return false;
-        }
-        let limit = Duration::from_secs(OPENING);
-        match TcpStream::connect_timeout(&self.rt, &self.place, limit) {
-            Ok(stream) => self.stream.set(prepared(stream).ok()),
-            Err(_) => return false,
-        }
-        self.fd() != CLOSED
-    }
-
     // Whether it is closed, and isn't opened again.
     fn is_lost(&self) -> bool {
         self.opened.get() > MOST_OPENED
@@ -186,12 +167,25 @@ impl<C> AsRawFd for Tcp<'_, C> {
 }
 
 impl<C: Net<Stream = TcpStream>> Link for Tcp<'_, C> {
+    // A stream that its peer hasn't ended stays.
     fn reopen(&mut self) -> bool {
-        let fd = self.socket.fd();
-        if fd != CLOSED && !has_ended(fd) {
+        let socket = self.socket;
+        let fd = socket.fd();
+        if fd != CLOSED && polled(fd, POLLRDHUP, 0) & (POLLRDHUP | POLLHUP | POLLERR) == 0 {
             return false;
         }
-        self.socket.open()
+        socket.stream.set(None);
+        socket.is_asked.set(false);
+        socket.opened.set(socket.opened.get().saturating_add(1));
+        if socket.is_lost() {
+            return false;
+        }
+        let limit = Duration::from_secs(OPENING);
+        match TcpStream::connect_timeout(&socket.rt, &socket.place, limit) {
+            Ok(stream) => socket.stream.set(prepared(stream).ok()),
+            Err(_) => return false,
+        }
+        socket.fd() != CLOSED
     }
 
     fn desert(&mut self) {
@@ -208,7 +202,8 @@ impl Read for Terminal<'_> {
 
 impl Write for Terminal<'_> {
     fn write(&mut self, bytes: &[u8]) -> io::Result<usize> {
-        if !takes_bytes(self.held.file.as_raw_fd()) {
+        // One that takes bytes within the time limit has room for a request.
+        if polled(self.held.file.as_raw_fd(), POLLOUT, WRITING) == 0 {
             return Err(io::Error::from(ErrorKind::TimedOut));
         }
         let mut file = &self.held.file;
@@ -235,16 +230,6 @@ impl Link for Terminal<'_> {
     fn desert(&mut self) {
         self.held.deserted.set(true);
     }
-}
-
-// Whether the peer of a stream has ended it.
-fn has_ended(fd: i32) -> bool {
-    polled(fd, POLLRDHUP, 0) & (POLLRDHUP | POLLHUP | POLLERR) != 0
-}
-
-// Whether a terminal takes bytes within the time limit. It has then room for a request.
-fn takes_bytes(fd: i32) -> bool {
-    polled(fd, POLLOUT, WRITING) != 0
 }
 
 // What a poll for these events finds within this many milliseconds.

@@ -3,10 +3,10 @@
 use crate::lock_file::{in_use, make};
 use std::cell::Cell;
 use std::fs::{File, OpenOptions, TryLockError};
+use std::io;
 use std::io::{ErrorKind, IsTerminal};
 use std::os::fd::AsRawFd;
 use std::rt::Files;
-use std::{fs, io};
 
 // The longest path of a terminal.
 const LONGEST: usize = 128;
@@ -17,8 +17,8 @@ const LONGEST: usize = 128;
 pub struct Held {
     /// The terminal.
     pub file: File,
-    // The name of the lock file, if one was made.
-    lock_file: Option<String>,
+    /// The name of the lock file, if one was made.
+    pub lock_file: Option<String>,
     /// Whether its line was given up, since nobody answers.
     pub deserted: Cell<bool>,
 }
@@ -36,44 +36,23 @@ impl Held {
         if !file.is_terminal() {
             return Err(io::Error::new(ErrorKind::InvalidInput, "it is no terminal"));
         }
-        lock(&file)?;
-        let lock_file = lock_file_of(rt, &file)?;
+        match file.try_lock() {
+            Ok(()) => {}
+            Err(TryLockError::WouldBlock) => return Err(in_use()),
+            Err(TryLockError::Error(error)) => return Err(error),
+        }
+        // The lock file has the terminal's own name: the path may be a link.
+        let mut room = [0; LONGEST];
+        let is_named = libc::ttyname_r(file.as_raw_fd(), &mut room) == 0;
+        let name = room.split(|byte| *byte == 0).next().unwrap_or_default();
+        let lock_file = match str::from_utf8(name) {
+            Ok(name) if is_named => make(rt, name)?,
+            _ => None,
+        };
         Ok(Held {
             file,
             lock_file,
             deserted: Cell::new(false),
         })
-    }
-
-    /// Removes the lock file, at the end of the program. One that is left behind, by a kill, names a
-    /// process that has ended.
-    pub fn release<R: Files<File = File>>(&self, rt: &R) {
-        if let Some(name) = &self.lock_file {
-            let _ = fs::remove_file(rt, name.as_str());
-        }
-    }
-}
-
-fn lock(file: &File) -> io::Result<()> {
-    match file.try_lock() {
-        Ok(()) => Ok(()),
-        Err(TryLockError::WouldBlock) => Err(in_use()),
-        Err(TryLockError::Error(error)) => Err(error),
-    }
-}
-
-// Makes the lock file of an open terminal, under the terminal's own name: the path may be a link.
-fn lock_file_of<R: Files<File = File> + AllocGlobal>(
-    rt: &R,
-    file: &File,
-) -> io::Result<Option<String>> {
-    let mut room = [0; LONGEST];
-    if libc::ttyname_r(file.as_raw_fd(), &mut room) != 0 {
-        return Ok(None);
-    }
-    let name = room.split(|byte| *byte == 0).next().unwrap_or_default();
-    match str::from_utf8(name) {
-        Ok(name) => make(rt, name),
-        Err(_) => Ok(None),
     }
 }

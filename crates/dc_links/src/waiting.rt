@@ -1,7 +1,7 @@
 //! Waiting for several buses at once.
 
 use crate::bus::LinkBus;
-use crate::peer::{ByteBus, SystemBus};
+use crate::peer::SystemBus;
 use dc_bus::trace::{Observed, Observer};
 use dc_bus::{HalfBus, Pause};
 use libc::net::{POLLIN, poll};
@@ -39,22 +39,6 @@ impl Watch {
         }
     }
 
-    /// Adds a bus. A lost bus, or one of the block protocol, needs no wait.
-    pub fn add<C: Net<Stream = TcpStream> + Clock + Copy>(&mut self, bus: &SystemBus<'_, C>) {
-        match bus {
-            LinkBus::First(bytes) if !bus.is_lost() => self.add_bytes(bytes),
-            _ => self.is_ready = true,
-        }
-    }
-
-    fn add_bytes<C: Net<Stream = TcpStream> + Clock + Copy>(&mut self, bus: &ByteBus<'_, C>) {
-        match bus {
-            LinkBus::First(tcp) => self.put(tcp.wire.fd(), tcp.wire.left()),
-            LinkBus::Second(serial) => self.put(serial.wire.fd(), serial.wire.left()),
-            LinkBus::Absent => {}
-        }
-    }
-
     fn put(&mut self, fd: i32, left: Duration) {
         if let Some(place) = self.asked.get_mut(self.count) {
             place.fd = fd;
@@ -80,9 +64,17 @@ pub trait Watched {
     fn add_to(&self, watch: &mut Watch);
 }
 
+// A lost bus, or one of the block protocol, needs no wait.
 impl<C: Net<Stream = TcpStream> + Clock + Copy> Watched for SystemBus<'_, C> {
     fn add_to(&self, watch: &mut Watch) {
-        watch.add(self);
+        match self {
+            _ if self.is_lost() => watch.is_ready = true,
+            LinkBus::First(LinkBus::First(tcp)) => watch.put(tcp.wire.fd(), tcp.wire.left()),
+            LinkBus::First(LinkBus::Second(serial)) => {
+                watch.put(serial.wire.fd(), serial.wire.left())
+            }
+            _ => watch.is_ready = true,
+        }
     }
 }
 
@@ -96,10 +88,11 @@ impl<B: HalfBus + Watched + Drop, O: Observer + Drop> Watched for Observed<B, O>
 #[derive(Clone, Copy, Drop)]
 pub struct Waiter;
 
+// One Pause for all buses that can be watched would stop the checker at its limit of steps in the program.
 impl<C: Net<Stream = TcpStream> + Clock + Copy> Pause<SystemBus<'_, C>> for Waiter {
     fn pause(&mut self, bus: &SystemBus<'_, C>) {
         let mut watch = Watch::new();
-        watch.add(bus);
+        bus.add_to(&mut watch);
         watch.wait();
     }
 }
@@ -109,7 +102,7 @@ impl<C: Net<Stream = TcpStream> + Clock + Copy, O: Observer + Drop> Pause<
 > for Waiter {
     fn pause(&mut self, bus: &Observed<SystemBus<'_, C>, O>) {
         let mut watch = Watch::new();
-        watch.add(&bus.bus);
+        bus.bus.add_to(&mut watch);
         watch.wait();
     }
 }

@@ -58,7 +58,7 @@ pub fn connect_all<N, P: Drop, E: Drop, C: Connector<N, P, E>, A: Allocator + Dr
 }
 
 // The links from this line on. Their peers follow those that are there.
-#[tactic(auto, using(crate::proofs::Joining::connects_first, crate::proofs::Joining::all_of_none, crate::proofs::Joining::one_more))]
+#[tactic(auto, using(crate::proofs::Joining::all_connected))]
 fn connect_from<N, P: Drop, E: Drop, C: Connector<N, P, E>, A: Allocator>(
     line: u8,
     links: &[Option<N>],

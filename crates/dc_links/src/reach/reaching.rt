@@ -38,7 +38,7 @@ pub fn reach_all<N, P: Drop, E: Drop, C: Connector<N, P, E>, A: Allocator + Drop
 
 // The links from this line on; `last` is the last before them that can't be connected. Their peers follow those that
 // are there.
-#[tactic(auto, using(crate::proofs::Joining::reaches_first, crate::proofs::Joining::all_of_none, crate::proofs::Joining::one_more))]
+#[tactic(auto, using(crate::proofs::Joining::all_reached))]
 fn reach_from<N, P: Drop, E: Drop, C: Connector<N, P, E>, A: Allocator>(
     line: u8,
     links: &[Option<N>],
