@@ -15,7 +15,7 @@ import words as packaging  # noqa: E402
 
 HELP = f"{kit.ROOT}/packaging/help"
 HINT = "; try mbdc --help"
-# The least and the greatest number that an option or an argument takes, as crates/dc_words/src/words.rt has them
+# The least and the greatest number that an option or an argument takes, as crates/dc_words/src/rows.rt has them
 RANGES = {"--patience": (1, 60_000), "--tries": (1, 9), "--budget": (0, 4_294_967_295), "SECTORS": (131, 131_075),
           "NEW": (0, 250), "--csv": (1, 8)}
 GREATEST = 2 ** 63 - 1
@@ -24,8 +24,8 @@ EXCLUSIVE = [{"--json", "--explain"}, {"--json", "--prometheus"}, {"--primary", 
              {"--dry-run", "--trace"}]
 WRITING = {"format", "run", "fit", "swap", "move", "out", "poll"}  # the commands that write to their image; `poll --dry-run` doesn't
 # As crates/dc_words/src/near.rt has them
-COMMANDS = ["audit", "consumption", "copy", "decode", "demo", "fit", "fold", "format", "inspect", "move", "out", "poll", "read",
-            "report", "rescue", "run", "scan", "status", "swap", "values"]
+COMMANDS = ["address", "audit", "consumption", "copy", "decode", "demo", "fit", "fold", "format", "inspect", "move", "out", "poll",
+            "read", "report", "rescue", "run", "scan", "status", "swap", "values"]
 
 
 class Said(Exception):

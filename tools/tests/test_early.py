@@ -60,13 +60,13 @@ def test_the_help_of_a_command_is_that_of_the_sources(name: str) -> None:
     status, text = said(name, "--help")
     assert (status, said("help", name)) == (0, (0, text))
     about, after = text.split("\n", 1)
-    assert f'about = "{about}";' in (WORDS / "words.rt").read_text()
+    assert f'about: "{about}",' in (WORDS / "rows.rt").read_text()
     assert after.endswith("\n\n" + constants()[name.upper()] + "\n")
 
 
 def test_each_command_has_a_help() -> None:
     assert set(COMMANDS) == {it.name for it in packaging.listed()}
-    assert set(early.COMMANDS) <= set(COMMANDS)
+    assert set(early.COMMANDS) == set(COMMANDS)
 
 
 def test_the_commands_that_a_word_is_near_are_those_of_the_sources() -> None:

@@ -10,6 +10,7 @@ mod help;
 mod link;
 mod links;
 mod near;
+mod rows;
 mod silence;
 mod task;
 mod words;

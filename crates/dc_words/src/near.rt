@@ -1,7 +1,8 @@
 //! The command that a mistyped word is nearly.
 
 // The commands, the shortest words first among those that begin alike.
-const COMMANDS: [&str; 20] = [
+const COMMANDS: [&str; 21] = [
+    "address",
     "audit",
     "consumption",
     "copy",
@@ -36,7 +37,8 @@ pub fn nearest(word: &str) -> Option<&'static str> {
 }
 
 fn is_near(word: &[u8], command: &[u8]) -> bool {
-    let same = same_front(word, command);
+    // Number of letters in which both begin alike.
+    let same = word.iter().zip(command).take_while(|(a, b)| a == b).count();
     let (Some(left), Some(wanted)) = (word.get(same..), command.get(same..)) else {
         return false;
     };
@@ -47,14 +49,4 @@ fn is_near(word: &[u8], command: &[u8]) -> bool {
         ([a, b, left @ ..], [c, d, wanted @ ..]) => a == d && b == c && left == wanted,
         _ => false,
     }
-}
-
-// Number of letters in which both begin alike.
-fn same_front(word: &[u8], command: &[u8]) -> usize {
-    for (same, (a, b)) in word.iter().zip(command).enumerate() {
-        if a != b {
-            return same;
-        }
-    }
-    word.len().min(command.len())
 }
