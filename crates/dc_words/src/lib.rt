@@ -21,7 +21,7 @@ pub use link::LinkName;
 pub use links::{LINES, Links};
 pub use near::nearest;
 pub use task::{
-    Call, Engine, Form, Listing, MeterName, OrderTask, PollTask, Reached, RunTask, Scan,
-    StatusForm, Task, Turn,
+    BusTask, Call, Engine, Errand, Form, Listing, MeterName, OrderTask, PollTask, Reached, RunTask,
+    Scan, StatusForm, Task, Turn,
 };
 pub use words::call_of;

@@ -85,6 +85,32 @@ pub enum Reached {
     At(u8),
 }
 
+/// What is done on one bus.
+#[derive(Clone, Copy)]
+pub enum Errand {
+    /// A search for meters.
+    Search(Scan),
+    /// The readout of one meter.
+    Read(MeterName),
+    /// A new primary address for a meter.
+    Address(Reached, u8),
+}
+
+/// What is done on one bus, without an image.
+#[derive(Clone, Copy)]
+pub struct BusTask<'a> {
+    /// The bus.
+    pub link: LinkName<'a>,
+    /// What is done there.
+    pub errand: Errand,
+    /// How meters that are found are printed.
+    pub listing: Listing,
+    /// The time-out of an answer in milliseconds.
+    pub patience: u16,
+    /// The file of the trace, if one is written; `-` is standard error.
+    pub trace: Option<&'a str>,
+}
+
 /// A script over an image, in files.
 #[derive(Clone, Copy)]
 pub struct RunTask<'a> {
@@ -240,41 +266,8 @@ pub enum Task<'a> {
     },
     /// The readout of the registered meters over an image.
     Poll(PollTask<'a>),
-    /// A search for meters on one bus, without an image.
-    Scan {
-        /// The bus.
-        link: LinkName<'a>,
-        /// How they are searched for.
-        scan: Scan,
-        /// How they are printed.
-        listing: Listing,
-        /// The time-out of an answer in milliseconds.
-        patience: u16,
-        /// The file of the trace, if one is written; `-` is standard error.
-        trace: Option<&'a str>,
-    },
-    /// The readout of one meter on one bus, without an image.
-    Read {
-        /// The bus.
-        link: LinkName<'a>,
-        /// The meter.
-        meter: MeterName,
-        /// The time-out of an answer in milliseconds.
-        patience: u16,
-        /// The file of the trace, if one is written; `-` is standard error.
-        trace: Option<&'a str>,
-    },
-    /// A new primary address for a meter on one bus, without an image.
-    Address {
-        /// The bus.
-        link: LinkName<'a>,
-        /// The meter, by its identity or the address that it has.
-        meter: Reached,
-        /// The address that it gets.
-        to: u8,
-        /// The time-out of an answer in milliseconds.
-        patience: u16,
-    },
+    /// What is done on one bus, without an image.
+    Bus(BusTask<'a>),
     /// A house of one simulated meter, in memory.
     Demo,
 }

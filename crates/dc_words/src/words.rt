@@ -6,8 +6,8 @@ use crate::links::Links;
 use crate::rows::program;
 use crate::silence::silence_of;
 use crate::task::{
-    Call, Engine, Form, Listing, MeterName, OrderTask, PollTask, Reached, RunTask, Scan,
-    StatusForm, Task, Turn,
+    BusTask, Call, Engine, Errand, Form, Listing, MeterName, OrderTask, PollTask, Reached, RunTask,
+    Scan, StatusForm, Task, Turn,
 };
 use clap::ArgMatches;
 use dc_address::Primary;
@@ -100,39 +100,32 @@ fn decoder_of(inner: &ArgMatches<'_>) -> Engine {
     }
 }
 
-// The tasks over one bus.
+// The tasks over one bus. Words that the command doesn't have are absent.
 fn bus_task<'a>(name: &str, inner: &ArgMatches<'a>) -> Result<Task<'a>, WordsFault> {
     let link = LinkName::parse(inner.get_str("LINK").unwrap_or_default())?;
-    let patience = inner.get_one("PATIENCE").unwrap_or_default();
-    if name == "scan" {
-        let budget = inner.get_one("BUDGET").unwrap_or_default();
-        return Ok(Task::Scan {
-            link,
-            scan: if inner.get_flag("PRIMARY") {
-                Scan::Primary
-            } else {
-                Scan::Wildcards(budget)
-            },
-            listing: listing_of(inner),
-            patience,
-            trace: inner.get_str("TRACE"),
-        });
-    }
-    if name == "address" {
-        return Ok(Task::Address {
-            link,
-            meter: reached_by(inner.get_str("OLD").unwrap_or_default())?,
-            to: inner.get_one("NEW").unwrap_or_default(),
-            patience,
-        });
-    }
-    let meter = meter_of(inner.get_str("METER").unwrap_or_default()).ok_or(WordsFault::Meter)?;
-    Ok(Task::Read {
+    let errand = match name {
+        "scan" if inner.get_flag("PRIMARY") => Errand::Search(Scan::Primary),
+        "scan" => Errand::Search(Scan::Wildcards(inner.get_one("BUDGET").unwrap_or_default())),
+        "address" => Errand::Address(
+            reached_by(inner.get_str("OLD").unwrap_or_default())?,
+            inner.get_one("NEW").unwrap_or_default(),
+        ),
+        _ => {
+            let meter = inner.get_str("METER").unwrap_or_default();
+            Errand::Read(meter_of(meter).ok_or(WordsFault::Meter)?)
+        }
+    };
+    Ok(Task::Bus(BusTask {
         link,
-        meter,
-        patience,
+        errand,
+        listing: match inner.get_one("CSV") {
+            Some(line) => Listing::Csv(line),
+            None if inner.get_flag("JSON") => Listing::Json,
+            None => Listing::Text,
+        },
+        patience: inner.get_one("PATIENCE").unwrap_or_default(),
         trace: inner.get_str("TRACE"),
-    })
+    }))
 }
 
 // The meter that gets an address.
@@ -141,17 +134,6 @@ fn reached_by(word: &str) -> Result<Reached, WordsFault> {
         Some(MeterName::Identity(meter)) => Ok(Reached::Selected(meter)),
         Some(MeterName::Address(address)) => Ok(Reached::At(address)),
         Some(MeterName::Number(_)) | None => Err(WordsFault::Reached),
-    }
-}
-
-fn listing_of(inner: &ArgMatches<'_>) -> Listing {
-    if let Some(line) = inner.get_one("CSV") {
-        return Listing::Csv(line);
-    }
-    if inner.get_flag("JSON") {
-        Listing::Json
-    } else {
-        Listing::Text
     }
 }
 

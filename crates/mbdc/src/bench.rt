@@ -2,13 +2,13 @@
 
 use crate::connecting::{connected, released};
 use crate::tracing::{shows_progress, trace_file_of, tracer_of};
-use dc_bench::{Progress, Show, Work, run_over};
+use dc_bench::{Progress, Show, Target, Work, run_over};
 use dc_bus::Both;
 use dc_bus::trace::{Observed, Observer, Pair, TraceFile};
 use dc_ending::Ending;
 use dc_files::{Host, Noted};
 use dc_links::{Peer, Waiter};
-use dc_words::{LinkName, Listing};
+use dc_words::{BusTask, Errand, Listing, Reached};
 use std::fs::File;
 use std::io;
 use std::net::{Net, TcpStream};
@@ -18,22 +18,28 @@ use std::rt::{Clock, Files};
 const LINE: u8 = 1;
 
 /// Connects a link, does the work on its bus, and gives the link back.
-pub fn on_bus<'a, R>(
-    host: &Host<'a, R>,
-    link: &LinkName<'_>,
-    work: Work,
-    listing: Listing,
-    patience: u16,
-    trace: Option<&'a str>,
-) -> Ending<'a>
+pub fn on_bus<'a, R>(host: &Host<'a, R>, task: &BusTask<'a>) -> Ending<'a>
 where
     R: Files<File = File> + Net<Stream = TcpStream> + Clock + Copy + Print + Eprint + AllocGlobal,
 {
+    let BusTask {
+        link,
+        errand,
+        listing,
+        patience,
+        trace,
+    } = *task;
+    let work = match errand {
+        Errand::Search(scan) => Work::Search(scan),
+        Errand::Read(meter) => Work::Read(meter),
+        Errand::Address(Reached::Selected(meter), to) => Work::Address(Target::Meter(meter), to),
+        Errand::Address(Reached::At(address), to) => Work::Address(Target::Address(address), to),
+    };
     let file = match trace_file_of(host, trace) {
         Ok(file) => file,
         Err(error) => return host.why.file(trace.unwrap_or_default(), error),
     };
-    let peers = match connected(host, &[Some(*link)]) {
+    let peers = match connected(host, &[Some(link)]) {
         Ok(peers) => peers,
         Err(ending) => return ending,
     };

@@ -11,7 +11,6 @@ use crate::poll::poll_on_image;
 use crate::rescue::rescue_image;
 use crate::script::run_on_image;
 use dc_audit::{audit, fill};
-use dc_bench::{Target, Work};
 use dc_consumption::table::{Boundaries, consumption_lines};
 use dc_decode::decode_lines;
 use dc_ending::{Ending, ProgramFault, STREAM};
@@ -22,7 +21,7 @@ use dc_io::{Buffered, Bytes, ReadSource, Sink, Source, WriteSink};
 use dc_json::explain_lines;
 use dc_paste::Pointed;
 use dc_script::fold_lines;
-use dc_words::{Engine, Form, Listing, Reached, Task};
+use dc_words::{Engine, Form, Task};
 use std::alloc::{Allocator, Global};
 use std::fs::File;
 use std::io::{Read, Write};
@@ -85,42 +84,7 @@ where
         Task::Order(task) => order_on_image(host, task),
         Task::Copy { image, file } => back_up(host, image, file),
         Task::Rescue { image, file } => rescue_image(host, image, file),
-        Task::Scan {
-            link,
-            scan,
-            listing,
-            patience,
-            trace,
-        } => on_bus(host, link, Work::Search(*scan), *listing, *patience, *trace),
-        Task::Read {
-            link,
-            meter,
-            patience,
-            trace,
-        } => on_bus(
-            host,
-            link,
-            Work::Read(*meter),
-            Listing::Text,
-            *patience,
-            *trace,
-        ),
-        Task::Address {
-            link,
-            meter,
-            to,
-            patience,
-        } => on_bus(
-            host,
-            link,
-            match meter {
-                Reached::Selected(meter) => Work::Address(Target::Meter(*meter), *to),
-                Reached::At(address) => Work::Address(Target::Address(*address), *to),
-            },
-            Listing::Text,
-            *patience,
-            None,
-        ),
+        Task::Bus(task) => on_bus(host, task),
         Task::Poll(task) if task.is_dry => dry_run(host, task),
         Task::Poll(task) => poll_on_image(host, task),
         Task::Demo => demo::play(host),
