@@ -114,7 +114,7 @@ pub fn back_up<'a, R: Files<File = File> + AllocGlobal>(
         Err(ending) => return ending,
     };
     // A copy can't hold what the drive can't read.
-    if host.why.has_unreadable() {
+    if host.why.has_unreadable.get() {
         return Ending::Open(OpenFault::Device);
     }
     let length = SECTOR.saturating_mul(copy.sectors.len() as u64);

@@ -46,7 +46,8 @@ pub fn format_image<'a, R: Files<File = File> + AllocGlobal>(
     }
 }
 
-// Formats the regular file that was found under the name. Another one may have replaced it since.
+// Formats the regular file that was found under the name, if it holds only zeros. If it holds an image, that is
+// reported, and any other content is kept. Another file may have replaced it since.
 fn format_seen<R: Files<File = File>>(
     host: &Host<'_, R>,
     name: &str,
@@ -60,7 +61,18 @@ fn format_seen<R: Files<File = File>>(
     if !is_same_file(&file.metadata()?, seen) {
         return Err(io::Error::new(ErrorKind::NotFound, "another file came under that name"));
     }
-    format_blank(host.why, file, length)
+    if is_blank(&file, length)? {
+        return format_file(host.why, file, length);
+    }
+    let mut disk = FileDisk::new(Noted::new(file, host.why))?;
+    if disk.count() <= 2 {
+        return Err(refused(OTHER_CONTENT));
+    }
+    match choose(&mut disk) {
+        Ok(_) => Ok(Some(FormatFault::AlreadyFormatted)),
+        Err(RootFault::Device) => Ok(Some(FormatFault::Device)),
+        Err(RootFault::NoRoot(_) | RootFault::Worn) => Err(refused(OTHER_CONTENT)),
+    }
 }
 
 // The ending of `format`.
@@ -75,23 +87,6 @@ fn formatted_as<'a>(
         Ok(None) => Ending::Clean,
         Ok(Some(fault)) => Ending::Format(fault),
         Err(error) => why.file(name, error),
-    }
-}
-
-// Formats a file that holds only zeros. If it holds an image, that is reported, and any other
-// content is kept.
-fn format_blank(why: &Why, file: File, length: u64) -> io::Result<Option<FormatFault>> {
-    if is_blank(&file, length)? {
-        return format_file(why, file, length);
-    }
-    let mut disk = FileDisk::new(Noted::new(file, why))?;
-    if disk.count() <= 2 {
-        return Err(refused(OTHER_CONTENT));
-    }
-    match choose(&mut disk) {
-        Ok(_) => Ok(Some(FormatFault::AlreadyFormatted)),
-        Err(RootFault::Device) => Ok(Some(FormatFault::Device)),
-        Err(RootFault::NoRoot(_) | RootFault::Worn) => Err(refused(OTHER_CONTENT)),
     }
 }
 

@@ -50,16 +50,9 @@ pub fn open_to_look<R: Files<File = File>>(rt: &R, name: &str) -> io::Result<Fil
     open_regular(rt, &options, name)
 }
 
-/// Makes what was written to the file durable, and lets its next read go to the drive. Where the sync fails, the drive
-/// lacks what was written, and that read shows it.
-pub fn read_anew(file: &File) {
-    let _ = file.sync_data();
-    let _ = drop_cached(file);
-}
-
-// Drops the file's pages from the system's cache, once they are synced. If a sync of an earlier
-// program failed, the cache may hold data that the drive lacks, and no call reports it.
-fn drop_cached(file: &File) -> io::Result<()> {
+/// Drops the file's pages from the system's cache, once they are synced. If a sync of an earlier
+/// program failed, the cache may hold data that the drive lacks, and no call reports it.
+pub(crate) fn drop_cached(file: &File) -> io::Result<()> {
     match libc::posix_fadvise(file.as_raw_fd(), 0, 0, libc::POSIX_FADV_DONTNEED) {
         0 => Ok(()),
         error => Err(io::Error::from_raw_os_error(error)),

@@ -2,7 +2,7 @@
 
 use crate::image::{NO_FILE, file_limit, refused};
 use crate::why::without_number;
-use std::alloc::{AllocError, Global};
+use std::alloc::AllocError;
 use std::fs::{File, OpenOptions};
 use std::io::{ErrorKind, Read, Seek, SeekFrom, Write};
 use std::os::unix::fs::OpenOptionsExt;
@@ -34,7 +34,7 @@ pub struct Journal<'h, R> {
 impl<'h, R: Files<File = File> + Eprint + AllocGlobal> Journal<'h, R> {
     /// Opens the journal of that image, or makes it. One that is full is put aside first.
     pub fn open(rt: &'h R, image: &str) -> Option<Self> {
-        let name = named(rt.alloc(), image, JOURNAL).ok()?;
+        let name = format!(in rt.alloc(); "{image}{JOURNAL}").ok()?;
         let mut journal = Journal {
             rt,
             name,
@@ -56,17 +56,22 @@ impl<'h, R: Files<File = File> + Eprint + AllocGlobal> Journal<'h, R> {
                 return Err(refused(NO_FILE));
             }
             if about.len() >= FULL {
-                let earlier = named(self.rt.alloc(), image, EARLIER)?;
+                let earlier = format!(in self.rt.alloc(); "{image}{EARLIER}")?;
                 fs::rename(self.rt, name, earlier.as_str())?;
             }
         }
         let mut options = OpenOptions::new();
         options.read(true).append(true).create(true).mode(MODE);
-        let file = options.open(self.rt, name)?;
+        let mut file = options.open(self.rt, name)?;
         self.length = file.metadata()?.len();
-        let is_torn = is_torn(&file, self.length)?;
+        // The last line has no line feed after a power cut, or where the drive was full.
+        let mut last = *b"\n";
+        if self.length > 0 {
+            file.seek(SeekFrom::Start(self.length - 1))?;
+            let _ = file.read(&mut last)?;
+        }
         self.file = Some(file);
-        if is_torn {
+        if last != *b"\n" {
             return self.put(b"\n");
         }
         Ok(())
@@ -107,21 +112,6 @@ impl<'h, R: Files<File = File> + Eprint + AllocGlobal> Journal<'h, R> {
     }
 }
 
-// Whether the last line has no line feed: a power cut, or a full drive.
-fn is_torn(file: &File, length: u64) -> io::Result<bool> {
-    if length == 0 {
-        return Ok(false);
-    }
-    let mut file = file;
-    let mut last = [0u8; 1];
-    file.seek(SeekFrom::Start(length - 1))?;
-    Ok(file.read(&mut last)? == 1 && last != *b"\n")
-}
-
-fn named(alloc: Global, image: &str, end: &str) -> Result<String, AllocError> {
-    format!(in alloc; "{image}{end}")
-}
-
 // The most bytes of a file that are read: the last ones.
 const MOST: u64 = 2 * FULL;
 
@@ -137,8 +127,13 @@ pub fn journal_lines<R: Files<File = File> + AllocGlobal>(
     let mut lines = Vec::new(rt.alloc());
     let mut is_there = false;
     for end in [EARLIER, JOURNAL] {
-        let name = named(rt.alloc(), image, end)?;
-        if let Some(file) = open_lines(rt, name.as_str()) {
+        let name = format!(in rt.alloc(); "{image}{end}")?;
+        let name = name.as_str();
+        // Opening a device or a pipe may do something.
+        if let Ok(about) = fs::metadata(rt, name)
+            && about.is_file()
+            && let Ok(file) = fs::open(rt, name)
+        {
             is_there = true;
             add_lines(&file, &mut lines)?;
             // A line that is torn ends here.
@@ -146,13 +141,6 @@ pub fn journal_lines<R: Files<File = File> + AllocGlobal>(
         }
     }
     Ok(if is_there { Some(lines) } else { None })
-}
-
-fn open_lines<R: Files<File = File>>(rt: &R, name: &str) -> Option<File> {
-    if !fs::metadata(rt, name).ok()?.is_file() {
-        return None;
-    }
-    fs::open(rt, name).ok()
 }
 
 // Adds the last bytes of a file, up to the first that can't be read.

@@ -8,7 +8,7 @@ ghost use Rattle.dc_disk.specs.File.{IsOpened};
 ghost use Rattle.dc_files.specs.Copied.{IsOfCopy};
 
 use crate::host::Host;
-use crate::image::{open_to_look, read_anew, wait};
+use crate::image::{drop_cached, open_to_look, wait};
 use crate::why::{Noted, Why};
 use dc_disk::snapshot::{Sample, SampleFault};
 use dc_disk::{FileDisk, Logged};
@@ -68,7 +68,9 @@ impl<'h> LookedAt<'h> {
         ensures opened { IfOk result (λ disk. IsOpened [] disk) }
         ensures failed { IfErr result (λ ending. IsOfFile ending name.now) }
     {
-        read_anew(&self.file);
+        // Where the sync fails, the drive lacks what was written, and the next read shows it.
+        let _ = self.file.sync_data();
+        let _ = drop_cached(&self.file);
         let file = match self.file.try_clone() {
             Ok(file) => file,
             Err(error) => return Err(self.why.file(name, error)),

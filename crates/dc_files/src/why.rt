@@ -48,9 +48,12 @@ pub struct DiskReason {
 /// states what a cell holds: what is noted here is tested.
 #[derive(Drop)]
 pub struct Why {
-    last: Cell<Option<Reason>>,
-    disk: Cell<Option<DiskReason>>,
-    has_unreadable: Cell<bool>,
+    /// The last call that failed.
+    pub last: Cell<Option<Reason>>,
+    /// The last call of an image's file that failed. The commands go on after it, and refuse what they can't keep.
+    pub disk: Cell<Option<DiskReason>>,
+    /// Whether the drive couldn't read a sector of the image.
+    pub has_unreadable: Cell<bool>,
 }
 
 impl Why {
@@ -61,26 +64,6 @@ impl Why {
             disk: Cell::new(None),
             has_unreadable: Cell::new(false),
         }
-    }
-
-    /// The last call that failed.
-    pub fn last(&self) -> Option<Reason> {
-        self.last.get()
-    }
-
-    /// The last call of an image's file that failed. The commands go on after it, and refuse what they can't keep.
-    pub fn disk(&self) -> Option<DiskReason> {
-        self.disk.get()
-    }
-
-    /// Whether the drive couldn't read a sector of the image.
-    pub fn has_unreadable(&self) -> bool {
-        self.has_unreadable.get()
-    }
-
-    /// Forgets the sectors that the drive couldn't read.
-    pub fn forget_unreadable(&self) {
-        self.has_unreadable.set(false);
     }
 
     fn note_disk(&self, sector: Option<u64>, error: io::Error) {

@@ -53,7 +53,7 @@ fn look<'a, R: Files<File = File> + AllocGlobal>(
     let file = LookedAt::open(host, image)?;
     let greatest = scan_file(&file, image)?;
     // The poll reads the roots and the chain alone.
-    host.why.forget_unreadable();
+    host.why.has_unreadable.set(false);
     for _ in 0..ROUNDS {
         let mut sample = file.sample(host.rt.alloc(), image)?;
         let read = match register_of(host.rt.alloc(), &mut sample, &greatest) {
@@ -62,7 +62,7 @@ fn look<'a, R: Files<File = File> + AllocGlobal>(
         };
         if file.stands(sample, image)? {
             // A poll doesn't open an image where a sector that opening reads can't be read.
-            if host.why.has_unreadable() {
+            if host.why.has_unreadable.get() {
                 return Err(Ending::Open(OpenFault::Device));
             }
             return Ok(read);

@@ -84,14 +84,14 @@ pub fn told(rt: &HostRuntime, ending: &Ending) -> ExitCode
 /// Whether the reader of standard output has gone away.
 pub fn is_cut_off(ending: &Ending, why: &Why) -> bool {
     matches!(ending, Ending::File(STREAM))
-        && matches!(why.last(), Some(reason) if reason.error.kind() == io::ErrorKind::BrokenPipe)
+        && matches!(why.last.get(), Some(reason) if reason.error.kind() == io::ErrorKind::BrokenPipe)
 }
 
 /// Prints on a second line why the run failed, if the system gave a reason, and for a person the next step.
 pub fn told_why(rt: &HostRuntime, ending: &Ending, why: &Why, is_watched: bool) {
     let reason = match ending {
         Ending::File(_) | Ending::Gateway | Ending::Format(_) | Ending::Open(_) | Ending::Disk(_) =>
-            why.last(),
+            why.last.get(),
         _ => None,
     };
     let step = if is_watched {
@@ -118,11 +118,11 @@ pub fn told_why(rt: &HostRuntime, ending: &Ending, why: &Why, is_watched: bool) 
 pub fn told_disk(rt: &HostRuntime, ending: &Ending, why: &Why) {
     let is_told = match ending {
         Ending::Clean | Ending::Faulty => true,
-        Ending::Open(_) | Ending::Behind(_) => why.has_unreadable(),
+        Ending::Open(_) | Ending::Behind(_) => why.has_unreadable.get(),
         _ => false,
     };
     if is_told
-        && let Some(reason) = why.disk()
+        && let Some(reason) = why.disk.get()
         && let Ok(said) = format!(in rt.alloc(); "{}", reason.error)
     {
         let said = without_number(said.as_str());

@@ -75,7 +75,7 @@ fn answer(rt: &HostRuntime, call: &Call<'_>) -> ExitCode {
     if call.is_verbose || host.is_watched {
         told_why(rt, &ending, &why, host.is_watched);
     }
-    if call.is_verbose || host.is_watched || why.has_unreadable() {
+    if call.is_verbose || host.is_watched || why.has_unreadable.get() {
         told_disk(rt, &ending, &why);
     }
     status
