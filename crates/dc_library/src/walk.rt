@@ -3,6 +3,7 @@
 ghost use Rattle.std.specs.Prelude.{◌≡◌, ◌≢◌, ◌<◌, ◌≤◌, [], length, Some, IfSome, position};
 ghost use Rattle.dc_reading.specs.Content.{variable_view};
 ghost use Rattle.dc_reading.specs.Fixed.{fixed_at, fixed_view};
+ghost use Rattle.dc_library.specs.Plain.{counter_places};
 ghost use Rattle.dc_library.specs.Walk.{IsNext, IsNextCounter, IsNextSent, counters_left};
 ghost use Rattle.dc_library.specs.Walk.{counters_result, end_left, end_result, is_item, is_last, left, left_result};
 ghost use Rattle.dc_library.specs.Walk.{sents_left};
@@ -16,9 +17,7 @@ use dc_record::{BodyFault, End};
 // What fills a body between records (EN 13757-3, DIF 2F).
 const FILLER: u8 = 0x2F;
 
-// Where the counters of fixed data begin, and where the second ends.
-const FIRST: u64 = 8;
-
+// Where the second counter of fixed data begins, and where it ends.
 pub(crate) const SECOND: u64 = 12;
 
 const AFTER_SECOND: u64 = 16;
@@ -72,6 +71,21 @@ fn next_sent(variable: &Variable<'_>, body: &[u8], at: u64, out: &mut PlainRecor
     }
 }
 
+// The places of a counter whose number of four bytes begins at `data_at`.
+fn counter_places(at: u64, vib_at: u8, data_at: u8) -> Places
+    ensures { result ≡ counter_places at vib_at data_at }
+{
+    Places {
+        at,
+        vib_at: u64::from(vib_at),
+        vib_size: 1,
+        data_at: u64::from(data_at),
+        data_size: 4,
+        next: u64::from(data_at) + 4,
+        ..NO_PLACES
+    }
+}
+
 // Writes the counter of fixed data that comes next from a place on.
 #[tactic(auto, using(crate::proofs::Counters::next_counter), unfolding(dc_reading::specs::Fixed::fixed_at))]
 fn next_counter(counters: &FixedData<'_>, body: &[u8], at: u64, out: &mut PlainRecord) -> u64
@@ -93,27 +107,13 @@ fn next_counter(counters: &FixedData<'_>, body: &[u8], at: u64, out: &mut PlainR
         return END;
     }
     if at < SECOND {
-        let places = Places {
-            at,
-            vib_at: 6,
-            vib_size: 1,
-            data_at: FIRST,
-            data_size: 4,
-            next: SECOND,
-            ..NO_PLACES
-        };
         let Counter {
             record,
             reading,
             ..
         } = &counters.first;
-        *out = plain_record(
-            record,
-            0,
-            FIXED_CODES + u64::from(*one % 64),
-            reading,
-            places,
-        );
+        let code = FIXED_CODES + u64::from(*one % 64);
+        *out = plain_record(record, 0, code, reading, counter_places(at, 6, 8));
         return DONE;
     }
     let code = if *two % 64 == SAME {
@@ -121,21 +121,13 @@ fn next_counter(counters: &FixedData<'_>, body: &[u8], at: u64, out: &mut PlainR
     } else {
         *two % 64
     };
-    let places = Places {
-        at,
-        vib_at: 7,
-        vib_size: 1,
-        data_at: SECOND,
-        data_size: 4,
-        next: AFTER_SECOND,
-        ..NO_PLACES
-    };
     let Counter {
         record,
         reading,
         ..
     } = &counters.second;
-    *out = plain_record(record, 0, FIXED_CODES + u64::from(code), reading, places);
+    let code = FIXED_CODES + u64::from(code);
+    *out = plain_record(record, 0, code, reading, counter_places(at, 7, 12));
     DONE
 }
 
