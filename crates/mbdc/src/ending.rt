@@ -47,7 +47,7 @@ const NO_ADDRESS: &str =
 
 // `-` for a file that isn't a stream.
 const NO_DASH: &str =
-    "- is standard input for decode and fold, and standard error for --trace; a file of that name is ./-";
+    "- is standard input for decode, fold and audit, and standard error for --trace; a file of that name is ./-";
 
 // No bus is connected.
 const NO_LINK: &str = "no bus line has a link; try mbdc poll --help";
