@@ -79,3 +79,16 @@ def test_the_places_that_it_reads_are_there(release: types.ModuleType) -> None:
     assert release.image_versions_in((root / release.IMAGE).read_text())
     assert len(release.cases_in(root / release.CASES)) > 50
     assert "none" not in release.versions_of(root).values()
+
+
+def test_steps_beside_each_other(release: types.ModuleType, tmp_path: pathlib.Path,
+                                 monkeypatch: pytest.MonkeyPatch) -> None:
+    monkeypatch.setattr(release, "LOG", tmp_path / "log")
+    monkeypatch.setattr(release, "KEPT", tmp_path / "steps.json")
+    later = set(release.STEPS) - set(release.ALONE)
+    of_packages = {step for step in later if not release.names_program(step)} - {"arm64"}
+    for failing, left in (("", set()), ("build", later), ("arm64", of_packages)):
+        monkeypatch.setattr(release, "row_of", lambda step, *_: release.Row(step != failing, 0, ""))
+        rows: dict[str, object] = {}
+        release.do(list(release.STEPS), rows, None, None, 3)
+        assert set(release.STEPS) - rows.keys() == left
