@@ -1,0 +1,166 @@
+"""The cases of the page that audits a sheet's file, against `mbdc audit`: over files by chance, right and wrong, it prints the very text."""
+
+import base64
+import hashlib
+import json
+import pathlib
+import random
+import subprocess
+import sys
+import tempfile
+from typing import Any, Optional
+
+from world.browser import Browser, each_look
+from world.cases import until, wants
+
+ROOT = pathlib.Path(__file__).resolve().parent.parent.parent
+SECONDS = 60
+EXAMPLE = """audit,1,2026-10
+use,cold water,volume
+span,1,2026-09-30,120,2026-10-31,60
+price,cold water,m3,1,215
+user,1,A1,62.5
+place,1,A1,cold water,1
+meter,1,12345678.PAD.01.16,1773525600,-,3125000,-,-
+window,1
+read,1,1790719200,7856341224400116010000000C1300184100
+stored,1,2026-09-30,120,7856341224400116010000000C13752041004C1370204100426C5E39
+read,1,1792101600,7856341224400116010000000C1300654100
+stored,1,2026-10-31,60,7856341224400116010000000C13851342004C1380134200426C5F3A
+read,1,1793574000,7856341224400116010000000C1300174200
+part,1,1790805600,1793487600,1
+shown,1,1790805600,1793487600,m3,9.31,measured
+value,1,1790805600,412.07,m3
+value,1,1793487600,421.38,m3
+totals
+of_user,1,1,cold water,m3,9.31,measured
+cost,1,1,cold water,m3,20.02
+end
+"""
+
+
+def audited(browser: Browser, content: bytes, is_file: bool = False) -> tuple[str, str]:
+    """Audits a file as who drops it does, or as text. Returns the page's verdict and what it prints."""
+    script = "last = null; document.getElementById('said').textContent = ''; "
+    if is_file:
+        script += (f"const bytes = Uint8Array.from(atob('{base64.b64encode(content).decode()}'), (it) => it.charCodeAt(0));"
+                   "const transfer = new DataTransfer(); transfer.items.add(new File([bytes], '2026-10.audit'));"
+                   "dispatchEvent(new DragEvent('drop', { dataTransfer: transfer }));")
+    else:
+        script += f"document.getElementById('input').value = {json.dumps(content.decode())}; document.getElementById('form').requestSubmit();"
+    browser.run(script)
+    until(browser.said, SECONDS, "the page says nothing")
+    verdict: Any = browser.run("return [last.verdict, last.printed];")
+    return verdict[0], verdict[1]
+
+
+def printed(program: str, content: bytes) -> tuple[str, str]:
+    """What the program says of a file."""
+    with tempfile.NamedTemporaryFile(suffix=".audit") as file:
+        file.write(content)
+        file.flush()
+        done = subprocess.run([program, "audit", file.name], capture_output=True, check=False)
+    wants(done.returncode in (0, 1), f"mbdc audit: status {done.returncode}")
+    return ("right", "wrong")[done.returncode], done.stdout.decode("utf-8", "replace")
+
+
+def equal(browser: Browser, program: str, files: int, seed: int) -> None:
+    """The page prints what the program prints."""
+    sys.path.insert(0, str(ROOT / "office/tests"))
+    from people.audited import EDITS, Files
+    rng, found = random.Random(seed), {"right": 0, "wrong": 0}
+    lines: list[str] = []
+    made = Files(rng)
+    browser.open()
+    for number in range(files):
+        lines = made.file() if number % 3 == 0 else lines
+        edited = lines if number % 3 == 0 else EDITS[rng.choice(list(EDITS))](rng, lines) or lines
+        content = "".join(f"{line}\n" for line in edited).encode()
+        wanted = printed(program, content)
+        wants(audited(browser, content, number % 2 == 0) == wanted, f"file {number}: {browser.run('return last.printed;')[:200]!r} and not {wanted}")
+        found[wanted[0]] += 1
+    print(f"    {found['right']} right and {found['wrong']} wrong files", flush=True)
+    wants(min(found.values()) > 0 or files < 10, "files of one kind alone")
+
+
+def sheets(browser: Browser, program: str, folder: pathlib.Path) -> None:
+    """Each sheet's file holds, and is the one that its sheet names."""
+    files = sorted(folder.rglob("*/sheets/*/*.audit")) or sorted(folder.rglob("*.audit"))
+    for file in files:
+        content = file.read_bytes()
+        browser.open(hashlib.sha256(content).hexdigest())
+        wants(audited(browser, content, True) == printed(program, content), f"{file}")
+        wants("It is the file" in browser.run("return document.getElementById('hash').textContent;"), f"{file}: another hash")
+    print(f"    {len(files)} files", flush=True)
+
+
+def links(browser: Browser) -> None:
+    """The link of a sheet names its file: the page says whether a file is that one."""
+    content = EXAMPLE.encode()
+    browser.open(hashlib.sha256(content).hexdigest())
+    wants(browser.said() == "Choose the file that the sheet names.", browser.said())
+    wants(audited(browser, content, True)[0] == "right", browser.said())
+    wants("It is the file that the sheet names." in browser.run("return document.getElementById('hash').textContent;"), "another file")
+    wants(audited(browser, content.replace(b"9.31", b"9.32", 1), True)[0] == "wrong", browser.said())
+    wants("It is not the file" in browser.run("return document.getElementById('hash').textContent;"), "the same file")
+    wants(browser.said() == "Not everything in this file holds.", browser.said())
+
+
+def numbers(browser: Browser) -> None:
+    """The table has the file's numbers, and what is declared."""
+    browser.open()
+    audited(browser, EXAMPLE.encode())
+    rows = browser.run("return Array.from(document.querySelectorAll('tbody tr'), (row) => Array.from(row.cells, (it) => it.textContent));")
+    wants([row[3] for row in rows] == ["215 ct/m3", "62.5 m²", "9.31 m3", "412.07 m3", "421.38 m3", "9.31 m3", "20.02 €"], f"{rows}")
+    wants([row[4] for row in rows] == ["declared, not audited"] * 2 + ["measured", "", "", "measured", ""], f"{rows}")
+    wants(all(row[1] in ("cold water", "") for row in rows) and rows[5][2].startswith("Oct 1, 2026"), f"{rows}")
+
+
+def hostile(browser: Browser) -> None:
+    """What isn't an audit file harms nothing."""
+    browser.open()
+    lines = EXAMPLE.replace("A1", "<img src=x onerror=document.title=1>")
+    for text in ("", "\n", "audit", "<script>document.title=1</script>", lines, "\u202e", "place,\n" * 1000, "of_user,__proto__\n", "x" * 5000, EXAMPLE + "end\n"):
+        verdict, _ = audited(browser, text.encode())
+        wants(verdict == ("right" if text == lines else "wrong"), f"{text[:40]!r}: {verdict}")
+        wants(browser.run("return document.title;") == "Audit a sheet", f"{text[:40]!r} ran")
+        wants(browser.run("return document.querySelectorAll('#found img, #found script').length;") == 0, f"{text[:40]!r}: an element")
+    large = EXAMPLE.replace("window,1\n", "window,1\n" + "hand,1,1790719200,410,m3\n" * 2000)
+    wants(audited(browser, large.encode(), True)[0] in ("right", "wrong"), "a large file")
+    wants(audited(browser, ("".join(f"user,{n},A{n},50\n" for n in range(1, 60_000))).encode(), True)[1].startswith("LINE 1 FAULT 1"), "a large file of none")
+    size = browser.run("return memory().byteLength;")
+    audited(browser, large.encode(), True)
+    wants(browser.run("return memory().byteLength;") == size, "memory isn't given back")
+    wants(not browser.errors(), "the browser logged errors")
+
+
+def keyboard(browser: Browser) -> None:
+    """The keyboard reaches all, a screen reader gets names and a table, and both languages have each word."""
+    from selenium.webdriver.common.keys import Keys
+    browser.open()
+    order = []
+    for _ in range(4):
+        browser.press(Keys.TAB)
+        order.append(browser.focus())
+    wants(order == ["language", "file", "input", "BUTTON"], f"order of the keyboard: {order}")
+    keys = "const deep = (one) => Object.entries(one).map(([k, v]) => [k, typeof v === 'object' ? deep(v) : typeof v]); "
+    english, german = json.loads(browser.run(f"{keys} return JSON.stringify([deep(WORDS.en), deep(WORDS.de)]);"))
+    wants(english == german, "the languages have other words")
+    audited(browser, EXAMPLE.encode())
+    nodes = browser.tell("Accessibility.getFullAXTree")["nodes"]
+    known = [(one.get("role", {}).get("value"), one.get("name", {}).get("value", "")) for one in nodes if not one.get("ignored")]
+    for role, name in (("textbox", "Or its text"), ("button", "Audit"), ("table", "What is in the file")):
+        wants(any(it[0] == role and it[1].startswith(name) for it in known), f"no {role} {name}")
+
+
+def looks(browser: Browser, folder: Optional[pathlib.Path]) -> None:
+    """Nothing is wider than the window, and each text has contrast: both languages, light and dark, two widths."""
+    for language, scheme, width in each_look():
+        browser.open("0" * 64, language, scheme, width)
+        audited(browser, EXAMPLE.encode())
+        browser.looks_well(f"{language}, {scheme}, {width}")
+        if folder:
+            browser.keep_picture(folder / f"audit-{language}-{scheme}-{width}.png", width)
+
+
+CASES = [links, numbers, hostile, keyboard]
