@@ -47,7 +47,14 @@ WORDS: Dict[str, Tuple[str, str]] = {  # German, English
     "average_explain": (
         "Durchschnitt: Verbrauch je m² aller vergleichbaren Wohnungen mit gemessenem Wert, mal Ihre Wohnfläche, ganzer Monat.",
         "Average: consumption per m² of all comparable flats with a measured value, times your floor area, whole month."),
+    "average_declared": ("Er ist über mehrere Häuser gerechnet: eine Angabe, die keine Prüfung nachrechnet.",
+                         "It is of several houses: declared, and computed by no audit."),
     "audited": ("Aus den Telegrammen der Zähler nachgerechnet (Prüfung {id}).", "Computed again from the meters' telegrams (audit {id})."),
+    "evidence": ("Die Belege Ihrer Zahlen hat die Datei", "The evidence of your numbers is in the file"),
+    "explain_audit": ("Speichern Sie sie, und wählen Sie sie auf der", "Save it, and choose it on the"), "audit_page": ("Prüfseite", "audit page"),
+    "declared_facts": (
+        "Angegeben und nicht nachgerechnet: Wohnflächen, Gewichte, Umrechnungen, Preise, Emissionsfaktoren, Gradtage, Einzugs- und Auszugstage.",
+        "Declared, and not computed: floor areas, weights, conversions, prices, emission factors, degree days, days of moving."),
     "draft": ("Entwurf: nicht geprüft", "Draft: not audited"),
     "less": ("{percent} % weniger als {then}", "{percent} % less than {then}"),
     "more": ("{percent} % mehr als {then}", "{percent} % more than {then}"),

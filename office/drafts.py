@@ -19,6 +19,7 @@ AUDIT_UNITS = {"kWh": "kWh", "m³": "m3", "HCA": "HCA"}
 SHOWN_UNITS = {of_file: unit for unit, of_file in AUDIT_UNITS.items()}
 NOW = "1"  # the span of the file's month
 BESIDE = {"mean": "average", "change": "change", "carbon": "carbon", "weather": "weather", "cost": "cost"}  # marks of what is said beside amounts
+DECLARED = "declared"  # the mark of what no audit computes
 CHARTED_WHOLE = 100  # from here on a chart's number has no decimals
 Spans = Dict[datetime.date, int]
 Published = Tuple[Optional[int], str, str, str]  # tenancy, key, text, mark
@@ -133,7 +134,8 @@ class Reader:
     def take_beside(self, kind: str, _: str, *fields: str) -> None:
         then, user, use = (self.months[fields[0]], *fields[1:3]) if kind in ("change", "weather") else ("", *fields[:2])
         what = {"mean": "average", "change": f"change {then}", "carbon": "co2"}.get(kind, kind)
-        self.put_of(user, use, what, fields[-1], BESIDE[kind], SHOWN_UNITS[fields[2]] if kind == "mean" else "")
+        is_declared = kind == "mean" and ("average", use, fields[2], NOW) in self.facts
+        self.put_of(user, use, what, fields[-1], DECLARED if is_declared else BESIDE[kind], SHOWN_UNITS[fields[2]] if kind == "mean" else "")
 
     def take_span(self, span: str, day: str, *_: str) -> None:
         self.months[span] = f"{day_after(datetime.date.fromisoformat(day)):%Y-%m}"
@@ -146,6 +148,9 @@ class Reader:
 
     def take_price(self, use: str, unit: str, span: str, price: str) -> None:
         self.facts["price", use, unit, span] = price
+
+    def take_average(self, use: str, unit: str, span: str, average: str) -> None:
+        self.facts["average", use, unit, span] = average
 
     def take_place(self, _: str, flat: str, use: str, __: str) -> None:
         number, self.runs = next(self.places)
@@ -168,7 +173,7 @@ class Reader:
         if span == NOW and (decimals == 1 or text == NONE or decimal.Decimal(text) >= CHARTED_WHOLE):
             self.put(user, use_key(self.flats[user], use, f"{month} chart", unit), text, mark)
         for what in ("factor", "price") if span == NOW else ():
-            self.put_of(user, use, what, self.facts.get((what, use, of_file, span), NONE), "declared")
+            self.put_of(user, use, what, self.facts.get((what, use, of_file, span), NONE), DECLARED)
 
     def take_of_flat(self, _: str, flat: str, use: str, __: str, text: str, mark: str) -> None:
         self.put(NONE, flat_key(flat, use), text, mark)

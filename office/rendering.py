@@ -19,7 +19,7 @@ from checking import check_link
 from codes import Code, code_of
 from database import plain
 from periods import day_before, later_month, next_month
-from drafts import is_whole
+from drafts import DECLARED, is_whole
 from published import Numbers, Printed, Published, chart_key, month_key, place_key, use_key
 from sheet_data import MARKED, MONTHS, Number, Sheet, Use
 from sheet_facts import carbon, comparisons, corrected, costs, days_in, estimates, factors, weather
@@ -30,10 +30,17 @@ FACTS = {"changes": comparisons, "weather": weather, "carbon": carbon, "costs": 
 
 
 class Options(NamedTuple):
-    """How sheets are made: the pages that decode a telegram and that compute a consumption again (a relative or an
-    absolute link; none: no links)."""
+    """How sheets are made: the pages that decode a telegram, that compute a consumption again, and that audit a sheet's file (a
+    relative or an absolute link; none: no links)."""
     decoder: str
     checker: str
+    auditor: str
+
+
+class Evidence(NamedTuple):
+    """A sheet's audit file, which lies beside it."""
+    name: str
+    sha256: str
 
 
 @functools.lru_cache(maxsize=None)
@@ -66,21 +73,24 @@ def printed_in(numbers: Numbers, words: Catalogue) -> Callable[[str], Optional[P
     return number
 
 
-def sheet_html(sheet: Sheet, published: Published, options: Options, with_codes: bool = False) -> str:
+def sheet_html(sheet: Sheet, published: Published, options: Options, evidence: Optional[Evidence], with_codes: bool = False) -> str:
     """A sheet; with the codes of its telegrams for paper."""
     user, words, numbers = sheet.user, Catalogue(sheet.user.language, sheet.user.zone), published.of(sheet.user.id)
     months = [use.months[sheet.month] for use in sheet.uses]
     number, flat = printed_in(numbers, words), user.flat
+    means = {use.use: number(use_key(flat, use.use, "average", use.unit)) for use in sheet.uses}
     return html_of("sheet.html", words, sheet=sheet, user=user, months=compared(sheet.month), audit=published.audit, number=number,
                    of_month=lambda use, month: number(month_key(flat, use, month)),
-                   average=lambda use: number(use_key(flat, use.use, "average", use.unit)), of_place=lambda use, place: number(place_key(flat, use, place)),
+                   average=lambda use: means[use.use],
+                   is_average_declared=any(it is not None and it.mark == DECLARED for it in means.values()),
+                   of_place=lambda use, place: number(place_key(flat, use, place)), evidence=evidence, auditor=options.auditor,
                    begins=min(month.begins for month in months), ends=max(month.ends for month in months),
                    charts=charts_of(sheet, numbers, words), last_of=lambda month: day_before(next_month(month)),
                    is_estimated=any(is_estimated(numbers, month_key(flat, use, sheet.month)) for use in sheet.uses),
                    said=said_of(sheet, words, numbers), corrected=corrected(sheet, words, numbers),
                    part=lambda month, of: part_of(month, of, words), decoder=options.decoder,
                    check_link=lambda use, place: check_link(options.checker, words, use, place, numbers.get(place_key(flat, use, place))),
-                   checker=options.checker, codes=codes_of(sheet, options) if with_codes else [])
+                   checker=options.checker, is_paper=with_codes, codes=codes_of(sheet, options) if with_codes else [])
 
 
 def is_estimated(numbers: Numbers, key: str) -> bool:

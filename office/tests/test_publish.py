@@ -24,8 +24,8 @@ from exporting import month_file
 Lie = Callable[[List[str]], List[str]]
 GAS = "03"
 SINCE = at("2023-12-01T00:00")
-DATES = (r"\d{2}\.\d{2}\.\d{4}(, \d{2}:\d{2})?", r"\d{1,2} [A-Z][a-z]{2} \d{4}(, \d{2}:\d{2})?", r"\b20\d{2}\b", r"\d+ (von|of) \d+ (Tagen|days)")
-NAMES = (r"\d{8}\.PAD\.01\.\d{2}", r"Elm Street 1", r"\bA\d\b", r"(Messstelle|Place) \d", r"CO2", r"elm-\d", r"kg CO2")
+DATES = (r"\d{4}-\d{2}\.audit", r"\d{2}\.\d{2}\.\d{4}(, \d{2}:\d{2})?", r"\d{1,2} [A-Z][a-z]{2} \d{4}(, \d{2}:\d{2})?", r"\b20\d{2}\b", r"\d+ (von|of) \d+ (Tagen|days)")
+NAMES = (r"SHA-256", r"\b[0-9a-f]{64}\b", r"\d{8}\.PAD\.01\.\d{2}", r"Elm Street 1", r"\bA\d\b", r"(Messstelle|Place) \d", r"CO2", r"elm-\d", r"kg CO2")
 NUMBER = re.compile(r"\d[\d.,]*")
 
 
@@ -59,6 +59,10 @@ def digits_of(page: str, audit: int) -> Set[str]:
 
 @pytest.fixture
 def elm(office: Office) -> Supplied:
+    return elm_of(office)
+
+
+def elm_of(office: Office) -> Supplied:
     """Three flats with heat, allocators, and water of one; a move in mid-month."""
     made = Supplied(office)
     for number in (1, 2, 3):
@@ -158,7 +162,7 @@ def test_a_house_that_is_refused(office: Office, elm: Supplied, tmp_path: pathli
     assert office.sql("SELECT DISTINCT house FROM audits") == office.sql("SELECT DISTINCT house FROM published") == [("oak-2",)]
     ended = office.run("sheets", "2025-01", "--out", str(tmp_path), "--pdf", "none", "--release")
     assert ended.status == 5 and "no audit of 2025-01 (office/publish): elm-1" in ended.printed
-    assert [path.name for path in tmp_path.glob("houses/*")] == ["oak-2.html"] and len(list(tmp_path.glob("sheets/*/*"))) == 1
+    assert [path.name for path in tmp_path.glob("houses/*")] == ["oak-2.html"] and len(list(tmp_path.glob("sheets/*/*.html"))) == 1
     assert office.sql("SELECT house FROM versions WHERE out_at IS NOT NULL") == [("oak-2",)]
     moment = datetime.datetime(2025, 2, 3, tzinfo=datetime.timezone.utc).isoformat()
     assert "NEW audit elm-1 2025-01: The audit refused the numbers: 2025-01: DIFFERS" in office.run("alarms", "--at", moment).printed
@@ -224,9 +228,9 @@ def test_no_lie_is_published(office: Office, elm: Supplied, monkeypatch: pytest.
     database.close()
 
 
-def test_an_average_over_several_houses(office: Office, elm: Supplied) -> None:
-    """It is declared: of the category's flats that were measured, by their areas and the weights of allocators."""
-    elm.tenancy("A1", "2023-01-01", None)
+def test_an_average_over_several_houses(office: Office, elm: Supplied, tmp_path: pathlib.Path) -> None:
+    """It is declared, as the sheet says: of the category's flats that were measured, by their areas and the weights of allocators."""
+    tenancy = elm.tenancy("A1", "2023-01-01", None, language="en")
     oak = Supplied(office, "oak-2")
     oak.days(oak.meter(40, HEAT, "B1", area=40), "2024-12-25", 60, 0, 10_000)
     oak.days(oak.meter(41, ALLOCATOR, "B1", area=40), "2024-12-25", 60, 0, 2, "HCA")
@@ -236,6 +240,9 @@ def test_an_average_over_several_houses(office: Office, elm: Supplied) -> None:
     lines = bytes(office.sql("SELECT file FROM audits WHERE house = 'elm-1'")[0][0]).decode().splitlines()
     assert sorted(line for line in lines if line.startswith("average,")) == [
         "average,allocator,HCA,1,2.822632", "average,heat,kWh,1,12.629074"]  # (3 * 93 * 1.7 + 62) / 190, (6 * 31 * 11.234 + 310) / 190
+    assert office.sql("SELECT mark, count(*) FROM published WHERE key LIKE '%% average%%' GROUP BY mark") == [("declared", 2)]
+    assert office.run("sheets", "2025-01", "--out", str(tmp_path), "--pdf", "none").status == 0
+    assert "It is of several houses: declared, and computed by no audit." in sheet_of(office, tmp_path, tenancy).read_text(encoding="utf-8")
 
 
 def test_nothing_goes_out_without_an_audit(office: Office, elm: Supplied) -> None:
@@ -273,9 +280,9 @@ def exchanged(office: Office, elm: Supplied, number: int, moment: datetime.datet
     return int(new)
 
 
-def test_the_audit_accepts(office: Office, elm: Supplied) -> None:
+def furnish(office: Office, elm: Supplied) -> None:
     """A house with everything that decides a number: an exchange, a turn, a restart, a move, what people read, an estimate, gaps,
-    a fall, an error, factors, weights, joules, a place without a value. Nothing but the audit looks at the numbers here."""
+    a fall, an error, factors, weights, joules, a place without a value."""
     for flat, since, until in (("A1", "2023-01-01", None), ("A2", "2023-01-01", "2025-01-11"), ("A2", "2025-01-11", None), ("A3", "2023-01-01", None)):
         elm.tenancy(flat, since, until)
     office.sql("UPDATE prices SET cents = 991.37")
@@ -309,6 +316,11 @@ def test_the_audit_accepts(office: Office, elm: Supplied) -> None:
     for day, litres in (("2024-12-30", 1.5), ("2024-12-31", 2.5), ("2025-01-30", 7.125), ("2025-01-31", 7.25), ("2025-02-01", 8)):
         elm.reads(reads, at(f"{day}T20:00"), litres)
     elm.reads(reads, at("2025-01-31T22:00"), 99, status=8)  # an error: it doesn't count
+
+
+def test_the_audit_accepts(office: Office, elm: Supplied) -> None:
+    """Nothing but the audit looks at the numbers here."""
+    furnish(office, elm)
     assert office.run("close").status == 0
     computed(elm)
     for month in ("2024-01", "2024-12"):

@@ -1,5 +1,6 @@
 """office/sheets: what stands on a sheet and a house page, and what hostile names may not do there."""
 
+import datetime
 import decimal
 import hashlib
 import html.parser
@@ -10,7 +11,7 @@ import urllib.parse
 from typing import Any, Dict, List, Optional, Tuple
 
 import pytest
-from audit_reference import Entry, consumed
+from audit_reference import Entry, consumed, judged
 from conftest import OFFICE, Office
 from supplied import ALLOCATOR, COLD, HEAT, WATER, Supplied, at
 
@@ -292,6 +293,38 @@ def test_allocators_and_missing_factors(office: Office, tmp_path: pathlib.Path) 
     office.sql("INSERT INTO factors (house, use, months, kwh_per_unit) VALUES ('oak-2', 'allocator', '[2025-01-01,)', 1.1)")
     written(office, tmp_path, "--pdf", "none")
     assert checked(sheet_of(office, tmp_path, tenancy).read_text()).cells["allocator", "2025-01-01"].split() == ["596,8"]
+
+
+def test_a_sheet_has_its_file(office: Office, elm: Supplied, tmp_path: pathlib.Path) -> None:
+    """It holds, has the sheet's numbers, is named there with its hash, and has nothing of other users but what decides an end."""
+    moved = at("2025-01-11T00:00")
+    one, other = elm.tenancy("A2", "2023-01-01", "2025-01-11"), elm.tenancy("A2", "2025-01-11", None)
+    for month in ("2024-01", "2024-12", "2025-01"):
+        elm.month(month)
+        published(office, month)
+    written(office, tmp_path, "--pdf", "none", "--auditor", "https://example.org/audit.html")
+    whole = (tmp_path / "audits/elm-1/2025-01.audit").read_bytes().splitlines()
+    for tenancy in (one, other):
+        path, file = (sheet_of(office, tmp_path, tenancy, form=form) for form in ("html", "audit"))
+        text, content = path.read_text(encoding="utf-8"), file.read_bytes()
+        lines, status = judged(content)
+        assert status == 0 and "differ 0" in lines[-1], lines
+        hashed = hashlib.sha256(content).hexdigest()
+        assert f'href="2025-01.audit" download>2025-01.audit</a> (SHA-256 <code>{hashed}</code>)' in text
+        assert f'href="https://example.org/audit.html#{hashed}"' in text and not office.sql("SELECT 1 FROM sheets WHERE form = 'audit'")
+        rows = [line.split(",") for line in content.decode().splitlines()]
+        assert [row[:3] for row in rows if row[0] == "user"] == [["user", str(tenancy), "A2"]]
+        assert {row[2] for row in rows if row[0] == "place"} == {"A2"} and {row[4] for row in rows if row[0] == "part"} <= {str(tenancy), "-"}
+        assert not {row[0] for row in rows} & {"of_flat", "of_house"} and sum(row[0] == "average" for row in rows) == 3
+        kept = [line for line in content.splitlines() if not line.startswith((b"place", b"part", b"average"))]
+        assert set(kept) <= set(whole)
+        shown = {row[5].replace(".", ",") for row in rows if row[0] == "shown"}
+        assert shown and all(number in text for number in shown)
+        first = next(at for at, row in enumerate(rows) if row[0] == "place" and row[3] == "heat")
+        after = next(at for at, row in enumerate(rows) if at > first and row[0] in ("place", "totals"))
+        days = [datetime.date.fromisoformat(row[2]) for row in rows[first:after] if row[0] == "stored"]
+        own = [day for day in days if (day >= moved.date()) == (tenancy == other)]
+        assert len(own) >= 11 and len(days) - len(own) == (3 if tenancy == other else 1), days  # (the value at the end is both's)
 
 
 def test_a_folder_that_cannot_be_written(office: Office, elm: Supplied, tmp_path: pathlib.Path) -> None:
