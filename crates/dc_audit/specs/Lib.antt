@@ -6,6 +6,8 @@ pub mod Fault
 pub mod Uses
 -- the fields of a line
 pub mod Field
+-- what is declared
+pub mod Facts
 -- exact numbers, and what is printed of them
 pub mod Exact
 -- decimals, and whole numbers of the smallest unit
@@ -32,5 +34,19 @@ pub mod Sums
 pub mod Place
 -- what is counted
 pub mod Counts
--- what is declared
-pub mod Facts
+-- what holds of each number
+pub mod Sum
+-- what is known after some lines
+pub mod State
+-- what lines do that declare
+pub mod DeclaringLines
+-- those that begin a place, a meter, a window, the totals
+pub mod PlaceLines
+-- those that give values
+pub mod ValueLines
+-- those of parts and of published numbers
+pub mod NumberLines
+-- when a file is right
+pub mod File
+-- how its lines are read
+pub mod Reading
