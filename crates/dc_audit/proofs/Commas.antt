@@ -1,5 +1,5 @@
 -- The first field of a text.
-use Rattle.std.proofs.Common.{eqb-true, ◌≡◌, ℕ, suc, ◌<◌, List, [], ◌∷◌, ◌++◌, length, get_or, Bool, true, false, cond, refl, ap, arith}
+use Rattle.std.proofs.Common.{◌≡◌, ℕ, suc, ◌<◌, List, [], ◌∷◌, ◌++◌, length, get_or, Bool, true, false, cond, refl, ap, arith}
 use Rattle.std.specs.Prelude.{◌==◌}
 use Rattle.dc_audit.specs.Field.{fields_of, onto_field}
 

@@ -77,16 +77,6 @@ total_after (Some t) s = total_with t s
 abbrev pub sums_with : Key → Share → List (Key × Total) → List (Key × Total)
 sums_with key s sums = insert_entry key_cmp sums key (total_after (total_at key sums) s)
 
-abbrev pub with_window : Key → Option Share → List (Key × Total) → List (Key × Total)
-with_window key None sums = sums
-with_window key (Some sum) sums = sums_with key sum sums
-
--- the sums of the house with that of a window that is closed, if it has one
-abbrev pub house_after : Key → Option (Option Share) → List (Key × Total)
-    → Option (List (Key × Total))
-house_after key None sums = None
-house_after key (Some sum) sums = Some (with_window key sum sums)
-
 -- ---- what a mean is made of
 
 abbrev pub area_of : Option (Option ℕ) → Option ℕ

@@ -238,11 +238,11 @@ impl<A: Allocator + Copy> Facts<A> {
         Ok(())
     }
 
-    /// Number of uses.
-    pub fn uses(&self) -> u64
-        ensures { result ≡ length self.now.uses }
+    /// What the meters of each use count.
+    pub fn counted(&self) -> &[Counted]
+        ensures { result.now ≡ self.now.counted }
     {
-        self.uses.len() as u64
+        self.counted.as_slice()
     }
 
     /// The number of a use by its word, from 0, and what its meters count.

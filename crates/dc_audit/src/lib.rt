@@ -4,11 +4,11 @@
 //! parts and their numbers, the sums. It computes each number again, with its grade, and writes which differ and which
 //! values have no evidence. Kept are one window and the sums.
 //!
-//! Proved, each by its definition in `specs/`: the value that the telegrams of a readout give, or why it is refused
-//! (Evidence); days and their ends (Moment); the grade of a period (Window, Grade); the exact numbers (Number, Total)
-//! and their rounding, half away from zero (Exact, Printed); the order of lines (Order); that the parts of a house add
-//! up (Sums). All functions are safe, and end. That each line is read as docs/COMMANDS.md says, and each difference
-//! written, is tested.
+//! Proved: [`audit`] returns true only if its input is right (File). Each line may follow the one before it (Order)
+//! and does what its word says (DeclaringLines, PlaceLines, ValueLines, NumberLines); each value by telegrams is the
+//! one that their bytes give (Evidence); each number is the rounded value of its definition (Sum, Number, Total,
+//! Printed), with the mark of its period (Window, Grade). The parts of a house add up (Sums). All functions are safe,
+//! and end. That every right file is accepted, and each difference written, is tested.
 #![tactic(auto)]
 
 mod checking;

@@ -1,6 +1,15 @@
--- no take failed yet, and a chunk has room
-use Rattle.std.proofs.Common.{◌≡◌}
+-- no take failed yet, and all is right where what is left is, after the line so far
+use Rattle.std.proofs.Common.{◌≡◌, ◌≤◌, length}
+use Rattle.dc_io.specs.Lines.{longest_input_line}
+use Rattle.dc_audit.specs.Reading.{Lacks}
+use Rattle.dc_audit.specs.State.{empty}
+use Rattle.dc_audit.proofs.Reaching.{Reaches}
 use Rattle.dc_audit.proofs.engine.check_file.Given as goal
 
 abbrev pub invariant-takes : goal.invariant-takes
-invariant-takes g l = g.R.Source.take_failures l.reader ≡ g.R.Source.take_failures l.fn.reader
+invariant-takes g l = record {
+  well : g.R.Source.take_failures l.reader ≡ g.R.Source.take_failures l.fn.reader;
+  lacks : Lacks l.front.items;
+  short : length l.front.items ≤ longest_input_line;
+  reaches : Reaches (g.R.Source.left l.fn.reader) (empty l.may_ask) (g.R.Source.left l.reader) l.front.items l.audit;
+}
