@@ -57,32 +57,43 @@ class Held(NamedTuple):
 
 
 class Asked(NamedTuple):
-    """A row whose amounts are asked for: its other cells, and by column the lines that ask."""
+    """A row whose amounts are asked for: its other cells, by column the lines that ask, and the meter's values at its ends."""
     tenancy: Optional[int]
     cells: Dict[str, str]
     lines: Dict[str, str]
+    ends: Dict[str, Entry]
+    zone: zoneinfo.ZoneInfo
 
-    def row(self, lines: List[str]) -> Row:
+    def row(self, lines: List[str], ends: Dict[str, str]) -> Row:
         """The row as the filled lines say. What is provisional or held is never in a bill."""
         numbers = [line.split(",")[-2:] for line in lines]
         grade = graded(*numbers[0]).grade if numbers else HELD
         texts = {column: text for column, (text, _) in zip(self.lines, numbers) if text != NONE and grade != PROVISIONAL}
+        for name, line in ends.items():
+            _, _, moment, texts[f"{name}_value"], _ = line.split(",")
+            texts[f"{name}_at"] = f"{datetime.datetime.fromtimestamp(int(moment), self.zone):%Y-%m-%dT%H:%M}"
         cells = {**self.cells, **texts, "grade": grade, "estimated": "yes" if grade == "estimated" else "no"}
         return Row(self.tenancy, {name: cells[name] for name in HEADER if cells.get(name)})
 
 
 class Bill(NamedTuple):
-    """An audit file in which the amounts of a bill are asked for, and its rows, each with the place of its first line."""
+    """An audit file in which the amounts of a bill are asked for, and its rows, each with the places of its first line, and of the values
+    at its ends."""
     lines: List[str]
-    rows: List[Tuple[int, Asked]]
+    rows: List[Tuple[int, Dict[str, int], Asked]]
 
     def filled(self, lines: List[str]) -> List[Row]:
         """The rows as the filled file says."""
-        return [row.row(lines[at:at + len(row.lines)]) for at, row in self.rows]
+        return [row.row(lines[at:at + len(row.lines)], {name: lines[end] for name, end in ends.items()}) for at, ends, row in self.rows]
 
     def read(self, lines: List[str]) -> List[Published]:
         """What the filled file publishes."""
         return [(row.tenancy, f"{row.name} {column}", text, row.cells["grade"]) for row in self.filled(lines) for column, text in row.cells.items()]
+
+
+def key_of(entry: Entry) -> Tuple[int, int]:
+    """The run and the moment of a value."""
+    return entry.line.meter, entry.line.moment
 
 
 def ends_in(one: Split, period: Period) -> Tuple[List[Entry], List[Entry], List[Entry]]:
@@ -99,18 +110,13 @@ def asked_row(one: Split, period: Period, is_held: bool) -> Asked:
     entries, first, last = ends_in(one, period)
     cells = {"house": one.place.house, "flat": one.place.flat, "use": one.place.use, "place": str(one.place.number),
              "from": f"{period.begins.astimezone(zone):%Y-%m-%dT%H:%M}", "to": f"{period.ends.astimezone(zone):%Y-%m-%dT%H:%M}",
-             "smallest_unit": smallest, "unit": unit, **ends_of("first", first, zone), **ends_of("last", last, zone),
+             "smallest_unit": smallest, "unit": unit,
              "meter": entries[0].fitting.identity if entries else "", "value_unit": entries[0].value.unit if entries else "",
              "serials": " ".join(str(it.value.telegram[1]) for it in first + last if it.value.telegram is not None),
              "weight": f"{one.place.weight:f}"}
     units = {"amount": ("smallest", 0), "consumption": (unit, DECIMALS), **({"HCA": ("HCA", DECIMALS)} if unit == "count" else {})}
-    return Asked(period.tenancy, cells, {} if is_held else {column: shown_line(period, *of_unit) for column, of_unit in units.items()})
-
-
-def ends_of(name: str, ends: List[Entry], zone: zoneinfo.ZoneInfo) -> Dict[str, str]:
-    """The meter's value at or around an end."""
-    return {f"{name}_at": f"{end.value.at.astimezone(zone):%Y-%m-%dT%H:%M}" for end in ends} | {
-        f"{name}_value": end.value.shown for end in ends}
+    ends = {name: end[0] for name, end in (("first", first), ("last", last)) if end}
+    return Asked(period.tenancy, cells, {} if is_held else {column: shown_line(period, *of_unit) for column, of_unit in units.items()}, ends, zone)
 
 
 def days_of(period: Tuple[datetime.date, datetime.date]) -> DateRange:
@@ -135,14 +141,16 @@ def bill_of(cursor: Cursor, house: str, days: DateRange) -> Bill:
     writer = Writer(bodies_of(cursor, windows), struck_of(cursor, house, seconds(begin_of(days.lower, zone)), seconds(begin_of(days.upper, zone))))
     writer.lines += [f"audit,1,{days.lower:%Y-%m}", span_line(1, days.lower, days.upper, zone), *use_lines(cursor, {it.use for it in windows}),
                      *user_lines(cursor, house, windows, days.lower, days.upper)]
-    rows: List[Tuple[int, Asked]] = []
+    rows: List[Tuple[int, Dict[str, int], Asked]] = []
     for split, window in zip(splits, windows):
         periods = split.periods[1:] or split.periods
         asked = [asked_row(split, it, any(month.place == window.place and month.begins < it.ends and it.begins < month.ends for month in held))
                  for it in periods]
-        at = writer.window(1, window, [line for row in asked for line in row.lines.values()], readings_of(split, periods))
+        lines, readings = [line for row in asked for line in row.lines.values()], readings_of(split, periods)
+        at = writer.window(1, window, lines, readings)
+        places = {key: place for place, key in enumerate(readings, at + len(lines))}
         for row in asked:
-            rows.append((at, row))
+            rows.append((at, {name: places[key_of(end)] for name, end in row.ends.items()}, row))
             at += len(row.lines)
     writer.lines += ["totals", "end"]
     return Bill(writer.lines, rows)
@@ -159,7 +167,7 @@ def readings_of(split: Split, periods: List[Period]) -> Readings:
     found: Readings = {}
     for period in periods:
         _, first, last = ends_in(split, period)
-        found.update({(it.line.meter, it.line.moment): (it.value.shown, it.value.unit) for it in first + last})
+        found.update({key_of(it): (it.value.shown, it.value.unit) for it in first + last})
     return found
 
 
