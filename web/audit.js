@@ -12,9 +12,9 @@ const NUMBERS = {
   mean: "span user use unit text", change: "span then user use unit text", weather: "span then user use text", carbon: "span user use text",
   cost: "span user use unit text", value: "run moment text unit",
 };
-const DECLARED = { factor: "use span text", co2: "use span text", degrees: "of span text", price: "use unit span text", average: "use unit span text", user: "user flat text" };
+const DECLARED = { factor: "use span text", co2: "use span text", degrees: "of span text", price: "use unit span text", average: "use unit span text", user: "user flat text", place: "place flat use text" };
 const UNITS = { change: () => "%", weather: () => "kWh", carbon: () => "kg", cost: () => "€", factor: () => "kWh", co2: () => "g/kWh", degrees: () => "",
-  price: (unit) => `ct/${unit}`, average: (unit) => `${unit}/m²`, user: () => "m²" };
+  price: (unit) => `ct/${unit}`, average: (unit) => `${unit}/m²`, user: () => "m²", place: () => "" };
 
 const WORDS = {
   en: {
@@ -31,7 +31,7 @@ const WORDS = {
     more: (n) => `${n} more are not shown.`,
     kinds: { of_user: "consumption", of_flat: "flat", of_house: "house", shown: "place", mean: "average", change: "change", weather: "by the weather",
       carbon: "CO2", cost: "cost", value: "reading", factor: "factor", co2: "CO2 of a kWh", degrees: "degree days", price: "price", average: "average of a m²",
-      user: "floor area" },
+      user: "floor area", place: "weight" },
     marks: { measured: "measured", hand: "by a person", provisional: "provisional", estimated: "estimated", unclear: "unclear", disturbed: "disturbed", missing: "missing" },
   },
   de: {
@@ -48,7 +48,7 @@ const WORDS = {
     more: (n) => `${n} weitere werden nicht gezeigt.`,
     kinds: { of_user: "Verbrauch", of_flat: "Wohnung", of_house: "Haus", shown: "Messstelle", mean: "Durchschnitt", change: "Änderung", weather: "nach dem Wetter",
       carbon: "CO2", cost: "Kosten", value: "Stand", factor: "Faktor", co2: "CO2 je kWh", degrees: "Gradtage", price: "Preis", average: "Durchschnitt je m²",
-      user: "Wohnfläche" },
+      user: "Wohnfläche", place: "Gewicht" },
     marks: { measured: "gemessen", hand: "von einer Person", provisional: "vorläufig", estimated: "geschätzt", unclear: "unklar", disturbed: "gestört", missing: "fehlt" },
   },
 };
@@ -113,6 +113,7 @@ function spanShown(from, to) {
 function rowsOf(text) {
   const spans = new Map();
   const flats = new Map();
+  const units = new Map(); // what each use counts
   const rows = [];
   let place = ["", ""];
   for (const line of text.split("\n")) {
@@ -121,7 +122,9 @@ function rowsOf(text) {
     if (kind === "user") flats.set(fields[0], fields[1]);
     if (kind === "place") place = fields.slice(1, 3);
     const names = NUMBERS[kind] ?? DECLARED[kind];
-    if (!Object.hasOwn({ ...NUMBERS, ...DECLARED }, kind) || (kind === "user" && fields[2] === "-")) continue;
+    if (kind === "use") units.set(fields[0], fields[1]);
+    const isNothing = (kind === "user" && fields[2] === "-") || (kind === "place" && units.get(fields[2]) !== "units"); // (heat cost allocators alone have a weight)
+    if (!Object.hasOwn({ ...NUMBERS, ...DECLARED }, kind) || isNothing) continue;
     const one = Object.fromEntries(names.split(" ").map((name, n) => [name, fields[n] ?? ""]));
     const isOfPlace = kind === "shown" || kind === "value";
     const period = kind === "shown" ? `${momentShown(one.from)} – ${momentShown(one.to)}` : kind === "value" ? momentShown(one.moment) : spans.get(one.span) ?? "";

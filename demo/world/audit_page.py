@@ -114,6 +114,10 @@ def numbers(browser: Browser) -> None:
     wants([row[3] for row in rows] == ["215 ct/m3", "62.5 m²", "9.31 m3", "412.07 m3", "421.38 m3", "9.31 m3", "20.02 €"], f"{rows}")
     wants([row[4] for row in rows] == ["declared, not audited"] * 2 + ["measured", "", "", "measured", ""], f"{rows}")
     wants(all(row[1] in ("cold water", "") for row in rows) and rows[5][2].startswith("Oct 1, 2026"), f"{rows}")
+    allocator = EXAMPLE.replace("cold water,volume", "cold water,units").replace("A1,cold water,1\n", "A1,cold water,1.75\n")
+    audited(browser, allocator.encode())
+    row = browser.run("return Array.from(document.querySelectorAll('tbody tr')[2].cells, (it) => it.textContent);")
+    wants(row == ["weight A1", "cold water", "", "1.75 ", "declared, not audited"], f"{row}")
 
 
 def hostile(browser: Browser) -> None:
