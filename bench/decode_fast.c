@@ -1,5 +1,5 @@
-/* What `mbdc decode` prints, in C with its own buffer, tables of hex pairs and units, and no formatting of stdio: bench/decode
-   times the program against it. It reads standard input. */
+/* What `mbdc decode` prints, in C with its own buffer, tables and wide loads, and no formatting of stdio: bench/decode times the
+   program against it. It reads standard input. */
 #define _GNU_SOURCE
 #include <stdio.h>
 #include <stdlib.h>
@@ -8,39 +8,81 @@
 
 typedef unsigned char byte;
 
-static int value[256]; /* of a hex digit, or -1 */
+enum { LONGEST = 4096, IS_PAIR = 256 };
+
+/* The byte of two digits and IS_PAIR, by both characters as they lie in memory; 0 of two other characters. */
+static unsigned short pair_values[65536];
+
+static unsigned short both_at(const char *text)
+{
+    unsigned short both;
+    memcpy(&both, text, 2);
+    return both;
+}
 
 static void make_table(void)
 {
-    for (int i = 0; i < 256; i++)
-        value[i] = -1;
-    for (int i = 0; i < 10; i++)
-        value['0' + i] = i;
-    for (int i = 0; i < 6; i++)
-        value['A' + i] = value['a' + i] = 10 + i;
+    static const char digits[] = "0123456789ABCDEFabcdef";
+    for (int i = 0; i < 22; i++) {
+        for (int k = 0; k < 22; k++) {
+            int high = i < 16 ? i : i - 6, low = k < 16 ? k : k - 6;
+            pair_values[both_at((char[]){digits[i], digits[k]})] = IS_PAIR | high << 4 | low;
+        }
+    }
+}
+
+/* The bytes of pairs of digits, or -1. */
+static long read_pairs(const char *line, size_t len, byte *out)
+{
+    size_t count = len / 2;
+    unsigned all = IS_PAIR;
+    if (len % 2)
+        return -1;
+    for (size_t i = 0; i < count; i++) {
+        unsigned pair = pair_values[both_at(line + 2 * i)];
+        all &= pair;
+        out[i] = (byte)pair;
+    }
+    return all ? (long)count : -1;
+}
+
+/* The bytes of pairs of digits with one space between them, or -1. */
+static long read_spaced(const char *line, size_t len, byte *out)
+{
+    size_t count = len / 3;
+    unsigned all = IS_PAIR, others = 0;
+    if (len % 3 != 2)
+        return -1;
+    for (size_t i = 0; i < count; i++) {
+        unsigned pair = pair_values[both_at(line + 3 * i)];
+        all &= pair;
+        others |= line[3 * i + 2] ^ ' ';
+        out[i] = (byte)pair;
+    }
+    unsigned pair = pair_values[both_at(line + 3 * count)];
+    out[count] = (byte)pair;
+    return all & pair && !others ? (long)count + 1 : -1;
 }
 
 /* The bytes of a line's digits, or -1. */
 static long read_hex(const char *line, size_t len, byte *out)
 {
+    char solid[LONGEST];
     size_t n = 0;
-    int high = -1;
-    if (len > 4096)
+    if (len > LONGEST)
         return -1;
-    for (size_t i = 0; i < len; i++) {
-        if (line[i] == ' ')
-            continue;
-        int v = value[(byte)line[i]];
-        if (v < 0)
-            return -1;
-        if (high < 0) {
-            high = v;
-        } else {
-            out[n++] = (byte)(high << 4 | v);
-            high = -1;
-        }
+    if (len > 2 && line[2] == ' ') {
+        long count = read_spaced(line, len, out);
+        if (count >= 0)
+            return count;
+    } else if (!memchr(line, ' ', len)) {
+        return read_pairs(line, len, out);
     }
-    return high < 0 ? (long)n : -1;
+    for (size_t i = 0; i < len; i++) {
+        solid[n] = line[i];
+        n += line[i] != ' ';
+    }
+    return read_pairs(solid, n, out);
 }
 
 /* The length that a length byte gives and moves past it, or -1. */
@@ -395,7 +437,7 @@ static void put_words(const char *what, size_t n, const byte *bytes, int count)
     }
 }
 
-/* The frames of a line, printed: the same as in decode.c. */
+/* The frames of a line, printed. */
 static void put_frames(const byte *p, long n)
 {
     while (n > 0) {
@@ -439,7 +481,7 @@ static void put_frames(const byte *p, long n)
 int main(void)
 {
     static char input[1 << 21];
-    static byte bytes[2048];
+    static byte bytes[LONGEST / 2];
     size_t size = 0;
     make_tables();
     for (ssize_t n; (n = read(0, input + size, sizeof input - size)) > 0;)
