@@ -1,8 +1,7 @@
 //! A data record.
 
-ghost use Rattle.std.specs.Prelude.{◌≤◌, ◌∷◌, [], length, map, option_map};
+ghost use Rattle.std.specs.Prelude.{◌∷◌, [], map, option_map};
 ghost use Rattle.json.specs.Json.{string};
-ghost use Rattle.json.specs.Token as Token;
 ghost use Rattle.json.specs.Tree.{json_tokens};
 ghost use Rattle.dc_record.specs.Record.{view};
 ghost use Rattle.dc_tokens.specs.Object.{fields_tokens, object_of, values_tokens};
@@ -15,6 +14,7 @@ ghost use Rattle.dc_frame_json.specs.Record.{told_fields};
 ghost use Rattle.dc_frame_json.specs.Record.{flag_or_null, hex_or_null, qualifier_fields, text_or_null};
 ghost use Rattle.dc_frame_json.specs.Record.{unit_json, value_fields, value_json, vife_fields};
 
+use crate::row::{Cell, put_row};
 use dc_io::Sink;
 use dc_reading::content::Counter;
 use dc_reading::{
@@ -25,9 +25,6 @@ use dc_record::Record;
 use dc_record::names::function_name;
 use dc_record::value::{TEXT_ROOM, Value};
 use dc_tokens::TokenWriter;
-
-/// A record's unit and its other texts have room in this many bytes.
-pub(crate) const RECORD_ROOM: usize = 2 * READING_ROOM;
 
 /// Writes a value, or null.
 #[tactic(auto, unfolding(crate::specs::Record::value_json))]
@@ -54,54 +51,46 @@ pub fn put_unit<W: Sink>(out: &mut TokenWriter<'_, W>, unit: &[u8])
     out.put_string(unit);
 }
 
-// Writes a field of a text, or of null.
-#[inline(always)]
-fn put_maybe<W: Sink>(out: &mut TokenWriter<'_, W>, name: &str, text: Option<&[u8]>)
-    ensures { Added W.Sink out.old out.new (Token.key name.now
-        ∷ json_tokens (text_or_null (option_map (λ s. s.now) text.entry))) }
+// Writes a text, or null.
+fn put_maybe<W: Sink>(out: &mut TokenWriter<'_, W>, text: Option<&[u8]>)
+    ensures { Added W.Sink out.old out.new
+        (json_tokens (text_or_null (option_map (λ s. s.now) text.entry))) }
 {
     match text {
-        Some(text) => {
-            out.put_name(name);
-            out.put_string(text);
-        }
-        None => out.put_nothing(name),
+        Some(text) => out.put_string(text),
+        None => out.put_null(),
     }
 }
 
-// Writes a field of a word, or of null.
-#[inline(always)]
-fn put_word<W: Sink>(out: &mut TokenWriter<'_, W>, name: &str, word: Option<&str>)
-    ensures { Added W.Sink out.old out.new (Token.key name.now
-        ∷ json_tokens (text_or_null (option_map (λ s. s.now) word.entry))) }
+// Writes a name, or null.
+fn put_word<W: Sink>(out: &mut TokenWriter<'_, W>, name: Option<&str>)
+    ensures { Added W.Sink out.old out.new
+        (json_tokens (text_or_null (option_map (λ s. s.now) name.entry))) }
 {
-    match word {
-        Some(word) => out.put_text(name, word),
-        None => out.put_nothing(name),
+    match name {
+        Some(name) => out.put_string(name.as_bytes()),
+        None => out.put_null(),
     }
 }
 
-// Writes a field of bytes in capital hex digits, or of null.
-#[inline(always)]
-fn put_maybe_hex<W: Sink>(out: &mut TokenWriter<'_, W>, name: &str, bytes: Option<&[u8]>)
-    ensures { Added W.Sink out.old out.new (Token.key name.now
-        ∷ json_tokens (hex_or_null (option_map (λ s. s.now) bytes.entry))) }
+// Writes bytes in capital hex digits, or null.
+fn put_maybe_hex<W: Sink>(out: &mut TokenWriter<'_, W>, bytes: Option<&[u8]>)
+    ensures { Added W.Sink out.old out.new
+        (json_tokens (hex_or_null (option_map (λ s. s.now) bytes.entry))) }
 {
     match bytes {
-        Some(bytes) => out.put_hex(name, bytes),
-        None => out.put_nothing(name),
+        Some(bytes) => out.put_hex_string(bytes),
+        None => out.put_null(),
     }
 }
 
-// Writes a field of a truth, or of null.
-#[inline(always)]
-fn put_maybe_flag<W: Sink>(out: &mut TokenWriter<'_, W>, name: &str, flag: Option<bool>)
-    ensures { Added W.Sink out.old out.new
-        (Token.key name.now ∷ json_tokens (flag_or_null flag)) }
+// Writes a truth, or null.
+fn put_maybe_flag<W: Sink>(out: &mut TokenWriter<'_, W>, flag: Option<bool>)
+    ensures { Added W.Sink out.old out.new (json_tokens (flag_or_null flag)) }
 {
     match flag {
-        Some(flag) => out.put_flag(name, flag),
-        None => out.put_nothing(name),
+        Some(flag) => out.put_boolean(flag),
+        None => out.put_null(),
     }
 }
 
@@ -111,18 +100,20 @@ fn put_value_fields<W: Sink>(
     found: &Record<'_>,
     unit: &[u8],
     reading: &Reading,
-    room: &mut [u8],
 )
-    requires { READING_ROOM ≤ length room.old }
     ensures { Added W.Sink out.old out.new
         (fields_tokens (value_fields (view found.now) unit.now reading.now)) }
 {
+    let mut room = [0u8; READING_ROOM];
     out.put_text("reading", reading.how.name());
-    put_maybe(out, "value", value_text(reading, found.content, room));
+    out.put_name("value");
+    put_maybe(out, value_text(reading, found.content, &mut room));
     out.put_name("unit");
     put_unit(out, unit);
-    put_word(out, "type", reading.found.type_name());
-    put_word(out, "error", reading.found.fault_name());
+    out.put_name("type");
+    put_word(out, reading.found.type_name());
+    out.put_name("error");
+    put_word(out, reading.found.fault_name());
 }
 
 // Writes what else the VIFEs and the data of a record say.
@@ -131,29 +122,39 @@ fn put_vife_fields<W: Sink>(
     found: &Record<'_>,
     vib: &[u8],
     reading: &Reading,
-    room: &mut [u8],
 )
-    requires { READING_ROOM ≤ length room.old }
     ensures { Added W.Sink out.old out.new
         (fields_tokens (vife_fields (view found.now) vib.now reading.now)) }
 {
-    put_word(out, "phase", vife_text(&reading.phase));
-    put_word(out, "direction", vife_text(&reading.direction));
-    put_maybe_hex(out, "maker", maker_of(vib));
-    put_maybe(out, "label", label_text(vib, room));
-    put_maybe_flag(out, "summer_time", reading.found.summer_time(found.content));
+    let mut room = [0u8; READING_ROOM];
+    out.put_name("phase");
+    put_word(out, vife_text(&reading.phase));
+    out.put_name("direction");
+    put_word(out, vife_text(&reading.direction));
+    out.put_name("maker");
+    put_maybe_hex(out, maker_of(vib));
+    out.put_name("label");
+    put_maybe(out, label_text(vib, &mut room));
+    out.put_name("summer_time");
+    put_maybe_flag(out, reading.found.summer_time(found.content));
 }
 
 // Writes the numbers and the function of a record, and its bytes as sent.
+#[tactic(auto, unfolding(crate::specs::Record::sent_fields))]
 fn put_sent<W: Sink>(out: &mut TokenWriter<'_, W>, found: &Record<'_>)
     ensures { Added W.Sink out.old out.new (fields_tokens (sent_fields (view found.now))) }
 {
-    out.put_count("storage", found.storage);
-    out.put_count("tariff", u64::from(found.tariff));
-    out.put_count("subunit", u64::from(found.subunit));
-    out.put_text("function", function_name(found.function));
-    out.put_hex("vib", found.vib);
-    out.put_hex("data", found.content);
+    put_row(
+        out,
+        &[
+            Cell::Number("storage", found.storage),
+            Cell::Number("tariff", u64::from(found.tariff)),
+            Cell::Number("subunit", u64::from(found.subunit)),
+            Cell::Text("function", function_name(found.function).as_bytes()),
+            Cell::Hex("vib", found.vib),
+            Cell::Hex("data", found.content),
+        ],
+    );
 }
 
 // Writes the field of what a record is of.
@@ -171,9 +172,7 @@ fn put_told<W: Sink>(
     vib: &[u8],
     unit: &[u8],
     reading: &Reading,
-    room: &mut [u8],
 )
-    requires { READING_ROOM ≤ length room.old }
     ensures { Added W.Sink out.old out.new (json_tokens
         (object_of (told_fields (view found.now) name.now vib.now unit.now reading.now))) }
 {
@@ -181,21 +180,20 @@ fn put_told<W: Sink>(
     put_sent(out, found);
     put_quantity(out, name);
     put_qualifiers(out, vib);
-    put_value_fields(out, found, unit, reading, room);
-    put_vife_fields(out, found, vib, reading, room);
+    put_value_fields(out, found, unit, reading);
+    put_vife_fields(out, found, vib, reading);
     out.end_object();
 }
 
-/// Writes a record. The caller has the room, so that it is cleared once for all records.
+/// Writes a record.
 #[tactic(auto, unfolding(crate::specs::Record::record_json, crate::specs::Record::read_fields))]
-pub(crate) fn put_record_in<W: Sink>(out: &mut TokenWriter<'_, W>, sent: &Sent<'_>, room: &mut [u8])
-    requires { RECORD_ROOM ≤ length room.old }
+pub fn put_record<W: Sink>(out: &mut TokenWriter<'_, W>, sent: &Sent<'_>)
     ensures { Added W.Sink out.old out.new (json_tokens (record_json (sent_view sent.now))) }
 {
     let reading = reading_of(&sent.record, sent.len);
     let vib = sent.record.vib;
-    let (of_unit, of_others) = room.split_at_mut(READING_ROOM);
-    let unit = unit_text(&reading, vib, of_unit);
+    let mut room = [0u8; READING_ROOM];
+    let unit = unit_text(&reading, vib, &mut room);
     put_told(
         out,
         &sent.record,
@@ -203,15 +201,7 @@ pub(crate) fn put_record_in<W: Sink>(out: &mut TokenWriter<'_, W>, sent: &Sent<'
         vib,
         unit,
         &reading,
-        of_others,
     );
-}
-
-/// Writes a record.
-pub fn put_record<W: Sink>(out: &mut TokenWriter<'_, W>, sent: &Sent<'_>)
-    ensures { Added W.Sink out.old out.new (json_tokens (record_json (sent_view sent.now))) }
-{
-    put_record_in(out, sent, &mut [0u8; RECORD_ROOM]);
 }
 
 /// Writes a counter of fixed data as a record.
@@ -228,7 +218,6 @@ pub fn put_counter<W: Sink>(out: &mut TokenWriter<'_, W>, counter: &Counter<'_>)
         &[],
         unit,
         &counter.reading,
-        &mut [0u8; READING_ROOM],
     );
 }
 

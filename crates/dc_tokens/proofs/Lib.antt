@@ -2,8 +2,6 @@
 pub mod Adding
 -- texts that need no escape, and one byte more of those that do
 mod Escapes
--- names with what stands around them
-mod Keys
 -- the tokens of objects and arrays
 pub mod Objects
 -- the text of a row is that of its first piece and of the others
