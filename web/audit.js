@@ -20,8 +20,8 @@ const WORDS = {
   en: {
     title: "Audit a sheet", about: "Computes the numbers of a sheet again, from the telegrams in its audit file. Nothing leaves this page.",
     file: "The audit file: choose it, or drop it on this page", input: "Or its text", audit: "Audit", other: "Deutsch", program: "What mbdc audit prints",
-    proved: "The audit is the module of mbdc audit, whose values, marks, sums and rounding are proved. This page's own words, the table of what is in the "
-      + "file, and the module's heap are not proved.",
+    proved: "The audit is the module of mbdc audit. It is proved that it says that all holds only of a file in which all holds. This page's own words, the "
+      + "table of what is in the file, and the module's heap are not proved.",
     refused: "This page needs a browser with 64-bit WebAssembly memory: Chrome or Edge 133, Firefox 134, or later.",
     right: "Each number in this file is what its telegrams and what is declared give.", wrong: "Not everything in this file holds.",
     noMemory: "The browser has no memory for this file.", tooLong: "Too much is printed of this file.", unread: "The file can't be read.",
@@ -37,8 +37,8 @@ const WORDS = {
   de: {
     title: "Ein Blatt prüfen", about: "Rechnet die Zahlen eines Blatts aus den Telegrammen in seiner Prüfdatei nach. Nichts verlässt diese Seite.",
     file: "Die Prüfdatei: wählen, oder auf diese Seite ziehen", input: "Oder ihr Text", audit: "Prüfen", other: "English", program: "Was mbdc audit druckt",
-    proved: "Die Prüfung ist das Modul von mbdc audit, dessen Werte, Merkmale, Summen und Rundung bewiesen sind. Die Wörter dieser Seite, die Tabelle dessen, "
-      + "was in der Datei steht, und der Speicher des Moduls sind nicht bewiesen.",
+    proved: "Die Prüfung ist das Modul von mbdc audit. Bewiesen ist, dass es nur von einer Datei sagt, alles stimme, in der alles stimmt. Die Wörter dieser "
+      + "Seite, die Tabelle dessen, was in der Datei steht, und der Speicher des Moduls sind nicht bewiesen.",
     refused: "Diese Seite braucht einen Browser mit 64-Bit-Speicher für WebAssembly: Chrome oder Edge 133, Firefox 134 oder neuer.",
     right: "Jede Zahl in dieser Datei ist, was ihre Telegramme und das Angegebene ergeben.", wrong: "Nicht alles in dieser Datei stimmt.",
     noMemory: "Der Browser hat keinen Speicher für diese Datei.", tooLong: "Zu dieser Datei wird zu viel gedruckt.", unread: "Die Datei ist nicht lesbar.",
