@@ -49,7 +49,7 @@ VALUES = ("read", "stored", "hand", "estimated", "first", "last", "struck", "end
 NUMBERS = ("of_user", "of_flat", "of_house", "mean", "change", "carbon", "cost", "weather")
 CLOSED = ("window", "place", "totals")
 AFTER: Dict[str, Sequence[str]] = {  # what may follow what
-    "audit": ("span",), **dict.fromkeys(FACTS, (*FACTS, "place", "totals")), "place": ("meter",), "meter": ("meter", *CLOSED),
+    **dict.fromkeys(("audit", *FACTS), (*FACTS, "place", "totals")), "place": ("meter",), "meter": ("meter", *CLOSED),
     **dict.fromkeys(("window", *VALUES), (*VALUES, "part", "shown", "value", *CLOSED)), "part": ("part", "shown", "value", *CLOSED),
     **dict.fromkeys(("shown", "value"), ("shown", "value", *CLOSED)), **dict.fromkeys(("totals", *NUMBERS), (*NUMBERS, "end")), "end": ()}
 
