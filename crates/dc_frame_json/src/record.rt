@@ -1,7 +1,8 @@
 //! A data record.
 
-ghost use Rattle.std.specs.Prelude.{◌∷◌, [], map, option_map};
+ghost use Rattle.std.specs.Prelude.{◌≤◌, ◌∷◌, [], length, map, option_map};
 ghost use Rattle.json.specs.Json.{string};
+ghost use Rattle.json.specs.Token as Token;
 ghost use Rattle.json.specs.Tree.{json_tokens};
 ghost use Rattle.dc_record.specs.Record.{view};
 ghost use Rattle.dc_tokens.specs.Object.{fields_tokens, object_of, values_tokens};
@@ -14,7 +15,6 @@ ghost use Rattle.dc_frame_json.specs.Record.{told_fields};
 ghost use Rattle.dc_frame_json.specs.Record.{flag_or_null, hex_or_null, qualifier_fields, text_or_null};
 ghost use Rattle.dc_frame_json.specs.Record.{unit_json, value_fields, value_json, vife_fields};
 
-use crate::row::{Cell, put_row};
 use dc_io::Sink;
 use dc_reading::content::Counter;
 use dc_reading::{
@@ -25,6 +25,9 @@ use dc_record::Record;
 use dc_record::names::function_name;
 use dc_record::value::{TEXT_ROOM, Value};
 use dc_tokens::TokenWriter;
+
+/// A record's unit and its other texts have room in this many bytes.
+pub(crate) const RECORD_ROOM: usize = 2 * READING_ROOM;
 
 /// Writes a value, or null.
 #[tactic(auto, unfolding(crate::specs::Record::value_json))]
@@ -51,46 +54,64 @@ pub fn put_unit<W: Sink>(out: &mut TokenWriter<'_, W>, unit: &[u8])
     out.put_string(unit);
 }
 
-// Writes a text, or null.
-fn put_maybe<W: Sink>(out: &mut TokenWriter<'_, W>, text: Option<&[u8]>)
-    ensures { Added W.Sink out.old out.new
-        (json_tokens (text_or_null (option_map (λ s. s.now) text.entry))) }
+// Writes a field of a text, or of null.
+#[inline(always)]
+fn put_maybe<W: Sink>(out: &mut TokenWriter<'_, W>, name: &str, text: Option<&[u8]>)
+    ensures { Added W.Sink out.old out.new (Token.key name.now
+        ∷ json_tokens (text_or_null (option_map (λ s. s.now) text.entry))) }
 {
     match text {
-        Some(text) => out.put_string(text),
-        None => out.put_null(),
+        Some(text) => out.put_bytes(name, text),
+        None => out.put_nothing(name),
     }
 }
 
-// Writes a name, or null.
-fn put_word<W: Sink>(out: &mut TokenWriter<'_, W>, name: Option<&str>)
+// Writes a field of a unit, or of null for none.
+#[inline(always)]
+#[tactic(auto, unfolding(crate::specs::Record::unit_json))]
+fn put_unit_field<W: Sink>(out: &mut TokenWriter<'_, W>, name: &str, unit: &[u8])
     ensures { Added W.Sink out.old out.new
-        (json_tokens (text_or_null (option_map (λ s. s.now) name.entry))) }
+        (Token.key name.now ∷ json_tokens (unit_json unit.now)) }
 {
-    match name {
-        Some(name) => out.put_string(name.as_bytes()),
-        None => out.put_null(),
+    if unit.is_empty() {
+        return out.put_nothing(name);
+    }
+    out.put_bytes(name, unit);
+}
+
+// Writes a field of a word, or of null.
+#[inline(always)]
+fn put_word<W: Sink>(out: &mut TokenWriter<'_, W>, name: &str, word: Option<&str>)
+    ensures { Added W.Sink out.old out.new (Token.key name.now
+        ∷ json_tokens (text_or_null (option_map (λ s. s.now) word.entry))) }
+{
+    match word {
+        Some(word) => out.put_text(name, word),
+        None => out.put_nothing(name),
     }
 }
 
-// Writes bytes in capital hex digits, or null.
-fn put_maybe_hex<W: Sink>(out: &mut TokenWriter<'_, W>, bytes: Option<&[u8]>)
-    ensures { Added W.Sink out.old out.new
-        (json_tokens (hex_or_null (option_map (λ s. s.now) bytes.entry))) }
+// Writes a field of bytes in capital hex digits, or of null.
+#[inline(always)]
+fn put_maybe_hex<W: Sink>(out: &mut TokenWriter<'_, W>, name: &str, bytes: Option<&[u8]>)
+    ensures { Added W.Sink out.old out.new (Token.key name.now
+        ∷ json_tokens (hex_or_null (option_map (λ s. s.now) bytes.entry))) }
 {
     match bytes {
-        Some(bytes) => out.put_hex_string(bytes),
-        None => out.put_null(),
+        Some(bytes) => out.put_hex(name, bytes),
+        None => out.put_nothing(name),
     }
 }
 
-// Writes a truth, or null.
-fn put_maybe_flag<W: Sink>(out: &mut TokenWriter<'_, W>, flag: Option<bool>)
-    ensures { Added W.Sink out.old out.new (json_tokens (flag_or_null flag)) }
+// Writes a field of a truth, or of null.
+#[inline(always)]
+fn put_maybe_flag<W: Sink>(out: &mut TokenWriter<'_, W>, name: &str, flag: Option<bool>)
+    ensures { Added W.Sink out.old out.new
+        (Token.key name.now ∷ json_tokens (flag_or_null flag)) }
 {
     match flag {
-        Some(flag) => out.put_boolean(flag),
-        None => out.put_null(),
+        Some(flag) => out.put_flag(name, flag),
+        None => out.put_nothing(name),
     }
 }
 
@@ -100,20 +121,17 @@ fn put_value_fields<W: Sink>(
     found: &Record<'_>,
     unit: &[u8],
     reading: &Reading,
+    room: &mut [u8],
 )
+    requires { READING_ROOM ≤ length room.old }
     ensures { Added W.Sink out.old out.new
         (fields_tokens (value_fields (view found.now) unit.now reading.now)) }
 {
-    let mut room = [0u8; READING_ROOM];
     out.put_text("reading", reading.how.name());
-    out.put_name("value");
-    put_maybe(out, value_text(reading, found.content, &mut room));
-    out.put_name("unit");
-    put_unit(out, unit);
-    out.put_name("type");
-    put_word(out, reading.found.type_name());
-    out.put_name("error");
-    put_word(out, reading.found.fault_name());
+    put_maybe(out, "value", value_text(reading, found.content, room));
+    put_unit_field(out, "unit", unit);
+    put_word(out, "type", reading.found.type_name());
+    put_word(out, "error", reading.found.fault_name());
 }
 
 // Writes what else the VIFEs and the data of a record say.
@@ -122,39 +140,29 @@ fn put_vife_fields<W: Sink>(
     found: &Record<'_>,
     vib: &[u8],
     reading: &Reading,
+    room: &mut [u8],
 )
+    requires { READING_ROOM ≤ length room.old }
     ensures { Added W.Sink out.old out.new
         (fields_tokens (vife_fields (view found.now) vib.now reading.now)) }
 {
-    let mut room = [0u8; READING_ROOM];
-    out.put_name("phase");
-    put_word(out, vife_text(&reading.phase));
-    out.put_name("direction");
-    put_word(out, vife_text(&reading.direction));
-    out.put_name("maker");
-    put_maybe_hex(out, maker_of(vib));
-    out.put_name("label");
-    put_maybe(out, label_text(vib, &mut room));
-    out.put_name("summer_time");
-    put_maybe_flag(out, reading.found.summer_time(found.content));
+    put_word(out, "phase", vife_text(&reading.phase));
+    put_word(out, "direction", vife_text(&reading.direction));
+    put_maybe_hex(out, "maker", maker_of(vib));
+    put_maybe(out, "label", label_text(vib, room));
+    put_maybe_flag(out, "summer_time", reading.found.summer_time(found.content));
 }
 
 // Writes the numbers and the function of a record, and its bytes as sent.
-#[tactic(auto, unfolding(crate::specs::Record::sent_fields))]
 fn put_sent<W: Sink>(out: &mut TokenWriter<'_, W>, found: &Record<'_>)
     ensures { Added W.Sink out.old out.new (fields_tokens (sent_fields (view found.now))) }
 {
-    put_row(
-        out,
-        &[
-            Cell::Number("storage", found.storage),
-            Cell::Number("tariff", u64::from(found.tariff)),
-            Cell::Number("subunit", u64::from(found.subunit)),
-            Cell::Text("function", function_name(found.function).as_bytes()),
-            Cell::Hex("vib", found.vib),
-            Cell::Hex("data", found.content),
-        ],
-    );
+    out.put_count("storage", found.storage);
+    out.put_count("tariff", u64::from(found.tariff));
+    out.put_count("subunit", u64::from(found.subunit));
+    out.put_text("function", function_name(found.function));
+    out.put_hex("vib", found.vib);
+    out.put_hex("data", found.content);
 }
 
 // Writes the field of what a record is of.
@@ -172,7 +180,9 @@ fn put_told<W: Sink>(
     vib: &[u8],
     unit: &[u8],
     reading: &Reading,
+    room: &mut [u8],
 )
+    requires { READING_ROOM ≤ length room.old }
     ensures { Added W.Sink out.old out.new (json_tokens
         (object_of (told_fields (view found.now) name.now vib.now unit.now reading.now))) }
 {
@@ -180,20 +190,21 @@ fn put_told<W: Sink>(
     put_sent(out, found);
     put_quantity(out, name);
     put_qualifiers(out, vib);
-    put_value_fields(out, found, unit, reading);
-    put_vife_fields(out, found, vib, reading);
+    put_value_fields(out, found, unit, reading, room);
+    put_vife_fields(out, found, vib, reading, room);
     out.end_object();
 }
 
-/// Writes a record.
+/// Writes a record. The caller has the room, so that it is cleared once for all records.
 #[tactic(auto, unfolding(crate::specs::Record::record_json, crate::specs::Record::read_fields))]
-pub fn put_record<W: Sink>(out: &mut TokenWriter<'_, W>, sent: &Sent<'_>)
+pub(crate) fn put_record_in<W: Sink>(out: &mut TokenWriter<'_, W>, sent: &Sent<'_>, room: &mut [u8])
+    requires { RECORD_ROOM ≤ length room.old }
     ensures { Added W.Sink out.old out.new (json_tokens (record_json (sent_view sent.now))) }
 {
     let reading = reading_of(&sent.record, sent.len);
     let vib = sent.record.vib;
-    let mut room = [0u8; READING_ROOM];
-    let unit = unit_text(&reading, vib, &mut room);
+    let (of_unit, of_others) = room.split_at_mut(READING_ROOM);
+    let unit = unit_text(&reading, vib, of_unit);
     put_told(
         out,
         &sent.record,
@@ -201,7 +212,15 @@ pub fn put_record<W: Sink>(out: &mut TokenWriter<'_, W>, sent: &Sent<'_>)
         vib,
         unit,
         &reading,
+        of_others,
     );
+}
+
+/// Writes a record.
+pub fn put_record<W: Sink>(out: &mut TokenWriter<'_, W>, sent: &Sent<'_>)
+    ensures { Added W.Sink out.old out.new (json_tokens (record_json (sent_view sent.now))) }
+{
+    put_record_in(out, sent, &mut [0u8; RECORD_ROOM]);
 }
 
 /// Writes a counter of fixed data as a record.
@@ -218,6 +237,7 @@ pub fn put_counter<W: Sink>(out: &mut TokenWriter<'_, W>, counter: &Counter<'_>)
         &[],
         unit,
         &counter.reading,
+        &mut [0u8; READING_ROOM],
     );
 }
 

@@ -9,7 +9,7 @@ ghost use Rattle.dc_frame_json.specs.Record.{record_json};
 ghost use Rattle.dc_frame_json.specs.Telegram.{end_fields, header_fields, records_field};
 ghost use Rattle.dc_frame_json.specs.Telegram.{telegram_fields};
 
-use crate::record::put_record;
+use crate::record::{RECORD_ROOM, put_record_in};
 use crate::row::{Cell, put_row};
 use dc_io::Sink;
 use dc_reading::SentRecords;
@@ -20,8 +20,9 @@ use dc_tokens::TokenWriter;
 fn put_records<W: Sink>(out: &mut TokenWriter<'_, W>, records: SentRecords<'_>)
     ensures { Added W.Sink out.old out.new (values_tokens (map record_json records.entry)) }
 {
+    let mut room = [0u8; RECORD_ROOM];
     'records: for found in records {
-        put_record(out, &found);
+        put_record_in(out, &found, &mut room);
     }
 }
 

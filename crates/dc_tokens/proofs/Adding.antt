@@ -1,7 +1,7 @@
 -- Tokens that are written one after the other.
-use Rattle.std.proofs.Common.{◌≡◌, ℕ, List, [], ◌∷◌, ◌++◌, Bool, true, false, cond, refl, ap, sym, ◌∙◌, subst, append-nil}
-use Rattle.json.specs.Print.{begins, ends, print, print_from, separator, token_text}
-use Rattle.json.specs.Token.{Token}
+use Rattle.std.proofs.Common.{◌≡◌, ℕ, List, [], ◌∷◌, ◌++◌, Bool, true, false, cond, refl, ap, sym, ◌∙◌, subst, append-nil, append_assoc}
+use Rattle.json.specs.Print.{begins, ends, print, print_from, quoted, separator, token_text}
+use Rattle.json.specs.Token.{Token, key}
 use Rattle.json.proofs.Printed.Tokens.{print_from-append}
 use Rattle.dc_io.specs.Failures.{HasRisen}
 use Rattle.dc_io.specs.Stream.{PutsFront}
@@ -103,6 +103,22 @@ module _ {S : Type 0} {g : Ghosts S} where
       → bytes ≡ token_text t → Added g old new (t ∷ [])
   last_added {old} {mid} {new} {bytes} t begun sent is text =
       token_added t sent is (text ∙ ap (λ (s : List ℕ). s ++ token_text t) (no_comma old.after_value t begun))
+
+  -- a name and its value
+  pub field_added : {old mid new : TokenWriter S} {bytes : List ℕ} (name : List ℕ) (t : Token) → ends t ≡ true → Sent g old mid bytes → new ≡ record mid { after_value = true }
+      → bytes ≡ cond old.after_value (44 ∷ []) [] ++ (quoted name ++ 58 ∷ token_text t) → Added g old new (key name ∷ t ∷ [])
+  unfolding print_from
+  field_added {old} {mid} {new} {bytes} name t ended sent is text = record {
+    name = ap (λ (w : TokenWriter S). w.out.ghost_name) is ∙ sent.name;
+    after_value = ap (λ (w : TokenWriter S). w.after_value) is ∙ sym ended;
+    went =
+        let P : TokenWriter S → Type 0 = λ w. Went g old.out.now w.out.now (print_from old.after_value (key name ∷ t ∷ [])) old.is_stopped w.is_stopped in
+        let value : (quoted name ++ 58 ∷ []) ++ (token_text t ++ []) ≡ quoted name ++ 58 ∷ token_text t =
+        append_assoc (quoted name) (58 ∷ []) (token_text t ++ []) ∙ ap (λ (s : List ℕ). quoted name ++ 58 ∷ s) (append-nil (token_text t)) in
+        subst P (sym is) (said_bytes g old.out.now mid.out.now old.is_stopped mid.is_stopped bytes (print_from old.after_value (key name ∷ t ∷ [])) sent.went
+        (text ∙ ap (λ (s : List ℕ). s ++ (quoted name ++ 58 ∷ token_text t)) (comma old.after_value (key name) refl)
+        ∙ ap (λ (s : List ℕ). separator old.after_value (key name) ++ s) (sym value)));
+  }
 
   -- all tokens of a writer that was new
   pub whole : {old new : TokenWriter S} {tokens : List Token} → Added g old new tokens → old.after_value ≡ false → old.is_stopped ≡ false

@@ -1,16 +1,11 @@
--- Texts that need no escape, and one byte more of those that do.
-use Rattle.std.proofs.Common.{◌≡◌, ℕ, suc, ◌+◌, ◌/◌, ◌%◌, ◌<◌, true, List, [], ◌∷◌, ◌++◌, length, take, get_or, refl, ap, sym, ◌∙◌, arith, append_assoc, append-nil}
+-- Hex digits need no escape, and what one byte more of a text adds.
+use Rattle.std.proofs.Common.{◌≡◌, ℕ, suc, ◌+◌, ◌/◌, ◌%◌, ◌<◌, List, [], ◌∷◌, ◌++◌, length, take, get_or, refl, ap, ◌∙◌, arith, append-nil}
 use Rattle.std.proofs.lemmas.Bool.Decides.{nat_tests}
 use Rattle.std.proofs.lemmas.Grind.{common_steps}
 use Rattle.std.proofs.lemmas.List.Concat.{flat_map-append}
-use Rattle.json.specs.Print.{escape, escape_byte, quoted}
-use Rattle.json.specs.Run.{is_plain}
-use Rattle.json.proofs.Printed.Plain.{escape_on_plain}
+use Rattle.json.specs.Print.{escape, escape_byte}
 use Rattle.json.proofs.Printed.Strings.{escape_byte_plain}
 use Rattle.dc_io.specs.Hex.{upper_digit, upper_pair, upper_hex}
-
-pub plain_escaped : (text : List ℕ) → ((k : ℕ) → k < length text → is_plain (get_or text k 0) ≡ true) → escape text ≡ text
-plain_escaped text plain = escape_on_plain true text (λ k least below. plain k below)
 
 pub escape_of_one_more : (text : List ℕ) (i : ℕ) → i < length text → escape (take (i + 1) text) ≡ escape (take i text) ++ escape_byte (get_or text i 0)
 escape_of_one_more text i below =
@@ -29,9 +24,3 @@ hex_escaped (b ∷ bytes) small =
     ap (λ (s : List ℕ). s ++ (escape_byte (upper_digit (b % 16)) ++ escape (upper_hex bytes))) (digit_escaped (b / 16) high)
     ∙ ap (λ (s : List ℕ). upper_digit (b / 16) ∷ (s ++ escape (upper_hex bytes))) (digit_escaped (b % 16) low)
     ∙ ap (λ (s : List ℕ). upper_pair b ++ s) (hex_escaped bytes (λ i. small (suc i)))
-
--- a name with its quotes and its colon, after what stands before it
-pub name_text : (before name : List ℕ) → (before ++ 34 ∷ []) ++ (escape name ++ 34 ∷ 58 ∷ []) ≡ before ++ (quoted name ++ 58 ∷ [])
-name_text before name =
-    append_assoc before (34 ∷ []) (escape name ++ 34 ∷ 58 ∷ [])
-    ∙ ap (λ (s : List ℕ). before ++ 34 ∷ s) (sym (append_assoc (escape name) (34 ∷ []) (58 ∷ [])))

@@ -1,12 +1,13 @@
 //! A writer of JSON tokens over a borrowed sink.
 
-ghost use Rattle.std.specs.Prelude.{◌≡◌, ◌∷◌, ◌++◌, [], true, false, cond, decimal, OnOk, OnErr};
+ghost use Rattle.std.specs.Prelude.{◌≡◌, ◌≤◌, ◌∷◌, ◌++◌, [], true, false, cond, decimal, length};
+ghost use Rattle.std.specs.Prelude.{OnOk, OnErr};
 ghost use Rattle.json.specs.Token as Token;
-ghost use Rattle.json.specs.Print.{escape};
+ghost use Rattle.json.specs.Print.{escape, quoted};
 ghost use Rattle.dc_io.specs.Hex.{upper_hex};
 ghost use Rattle.dc_tokens.specs.Writing.{Added, Sent};
 
-use crate::plain::{escaped, is_plain, word_of};
+use crate::plain::{KEY_ROOM, SHORT, escaped, is_plain, word_of, write_key};
 use dc_io::{IoFault, Sink, put_hex, put_number};
 
 /// Writes JSON tokens (RFC 8259) to a sink, with the commas and colons between them. The nesting is
@@ -107,8 +108,7 @@ impl<'a, W: Sink> TokenWriter<'a, W> {
         self.after_value = ends;
     }
 
-    // Puts a text with its escapes. Inlined, so that a name of the program's own is tested when it is
-    // compiled.
+    // Puts a text with its escapes.
     #[inline(always)]
     fn put_escaped(&mut self, text: &[u8])
         ensures { Sent W.Sink self.old self.new (escape text.now) }
@@ -130,6 +130,45 @@ impl<'a, W: Sink> TokenWriter<'a, W> {
             let (bytes, len) = escaped(*byte);
             self.put(&bytes[..len]);
         }
+    }
+
+    // Puts what is left of a string after its first quote.
+    fn put_rest(&mut self, text: &[u8])
+        ensures { Sent W.Sink self.old self.new (escape text.now ++ 34 ∷ []) }
+    {
+        self.put_escaped(text);
+        self.put(b"\"");
+    }
+
+    // Puts a name in quotes, its colon and a few bytes, after a comma if a value stands before. Inlined, so that a
+    // short name of the program's own is tested and put together when it is compiled, and goes out by one put.
+    #[inline(always)]
+    fn put_key(&mut self, name: &[u8], after: &[u8])
+        requires { length after.now ≤ 4 }
+        ensures { Sent W.Sink self.old self.new
+            (cond self.old.after_value (44 ∷ []) [] ++ (quoted name.now ++ 58 ∷ after.now)) }
+    {
+        if name.len() > SHORT || !is_plain(name) {
+            return self.put_other_key(name, after);
+        }
+        let mut key = [0u8; KEY_ROOM];
+        let len = write_key(name, after, &mut key);
+        if self.after_value {
+            return self.put(&key[..len]);
+        }
+        self.put(&key[1..len]);
+    }
+
+    // Puts a name that is long or has escapes, its colon and a few bytes.
+    #[cold]
+    fn put_other_key(&mut self, name: &[u8], after: &[u8])
+        ensures { Sent W.Sink self.old self.new
+            (cond self.old.after_value (44 ∷ []) [] ++ (quoted name.now ++ 58 ∷ after.now)) }
+    {
+        self.put_first(b"\"");
+        self.put_escaped(name);
+        self.put(b"\":");
+        self.put(after);
     }
 
     /// Begins an object.
@@ -169,9 +208,7 @@ impl<'a, W: Sink> TokenWriter<'a, W> {
     pub fn put_name(&mut self, name: &str)
         ensures { Added W.Sink self.old self.new (Token.key name.now ∷ []) }
     {
-        self.put_first(b"\"");
-        self.put_escaped(name.as_bytes());
-        self.put(b"\":");
+        self.put_key(name.as_bytes(), b"");
         self.note(false);
     }
 
@@ -180,8 +217,7 @@ impl<'a, W: Sink> TokenWriter<'a, W> {
         ensures { Added W.Sink self.old self.new (Token.string text.now ∷ []) }
     {
         self.put_first(b"\"");
-        self.put_escaped(text);
-        self.put(b"\"");
+        self.put_rest(text);
         self.note(true);
     }
 
@@ -226,16 +262,43 @@ impl<'a, W: Sink> TokenWriter<'a, W> {
         ensures { Added W.Sink self.old self.new
             (Token.key name.now ∷ Token.string text.now ∷ []) }
     {
-        self.put_name(name);
-        self.put_string(text.as_bytes());
+        self.put_key(name.as_bytes(), b"\"");
+        self.put_rest(text.as_bytes());
+        self.note(true);
+    }
+
+    /// Writes a field whose value is a string, given as its bytes.
+    #[inline(always)]
+    pub fn put_bytes(&mut self, name: &str, text: &[u8])
+        ensures { Added W.Sink self.old self.new
+            (Token.key name.now ∷ Token.string text.now ∷ []) }
+    {
+        self.put_key(name.as_bytes(), b"\"");
+        self.put_rest(text);
+        self.note(true);
+    }
+
+    /// Writes a field whose value is null.
+    #[inline(always)]
+    pub fn put_nothing(&mut self, name: &str)
+        ensures { Added W.Sink self.old self.new (Token.key name.now ∷ Token.null ∷ []) }
+    {
+        self.put_key(name.as_bytes(), b"null");
+        self.note(true);
     }
 
     /// Writes a field whose value is a whole number.
     #[inline(always)]
+    #[tactic(auto, using(std::proofs::lemmas::Fmt::decimal_digit))]
     pub fn put_count(&mut self, name: &str, number: u64)
         ensures { Added W.Sink self.old self.new
             (Token.key name.now ∷ Token.number (decimal number) ∷ []) }
     {
+        // Most numbers of a record have one digit.
+        if number < 10 {
+            self.put_key(name.as_bytes(), &[b'0' + number as u8]);
+            return self.note(true);
+        }
         self.put_name(name);
         self.put_whole(number);
     }
@@ -251,11 +314,14 @@ impl<'a, W: Sink> TokenWriter<'a, W> {
     }
 
     /// Writes a field of bytes in capital hex digits.
+    #[inline(always)]
     pub fn put_hex(&mut self, name: &str, bytes: &[u8])
         ensures { Added W.Sink self.old self.new
             (Token.key name.now ∷ Token.string (upper_hex bytes.now) ∷ []) }
     {
-        self.put_name(name);
-        self.put_hex_string(bytes);
+        self.put_key(name.as_bytes(), b"\"");
+        self.put_digits(bytes);
+        self.put(b"\"");
+        self.note(true);
     }
 }

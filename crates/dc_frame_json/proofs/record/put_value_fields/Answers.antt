@@ -8,5 +8,4 @@ pub returns : goal.returns
 unfolding fields_tokens value_fields
 returns g c =
     said (fields_tokens (value_fields (view c.args.found.now) c.args.unit.now c.args.reading.now))
-    (c.put_text.ensures >> c.put_name.ensures >> c.put_maybe.ensures >> c.put_name-2.ensures >> c.put_unit.ensures
-    >> c.put_name-3.ensures >> c.put_word.ensures >> c.put_name-4.ensures >> c.put_word-2.ensures >> unchanged) cc
+    (c.put_text.ensures >> c.put_maybe.ensures >> c.put_unit_field.ensures >> c.put_word.ensures >> c.put_word-2.ensures >> unchanged) cc

@@ -8,5 +8,4 @@ pub returns : goal.returns
 unfolding fields_tokens vife_fields
 returns g c =
     said (fields_tokens (vife_fields (view c.args.found.now) c.args.vib.now c.args.reading.now))
-    (c.put_name.ensures >> c.put_word.ensures >> c.put_name-2.ensures >> c.put_word-2.ensures >> c.put_name-3.ensures >> c.put_maybe_hex.ensures
-    >> c.put_name-4.ensures >> c.put_maybe.ensures >> c.put_name-5.ensures >> c.put_maybe_flag.ensures >> unchanged) cc
+    (c.put_word.ensures >> c.put_word-2.ensures >> c.put_maybe_hex.ensures >> c.put_maybe.ensures >> c.put_maybe_flag.ensures >> unchanged) cc

@@ -13,7 +13,7 @@ pub records-preserved : goal.records-preserved
 records-preserved g c =
     rest_more c.records.invariant
     (ap (λ (es : List Sent). values_tokens (map record_json es)) c.in-Some.ensures.steps ∙ values_of_map record_json (sent_view c.in-Some.found) c.next.new.self)
-    c.put_record.ensures
+    c.put_record_in.ensures
 
 pub returns : goal.returns
 returns g c =

@@ -1,9 +1,11 @@
-use Rattle.std.proofs.Common.{List, ℕ, [], ◌∷◌, ap}
+use Rattle.std.proofs.Common.{[], ◌∷◌, refl, cond}
 use Rattle.json.specs.Token as Token
-use Rattle.dc_tokens.proofs.Adding.{◌>>◌, said}
+use Rattle.dc_tokens.proofs.Adding.{◌&&&◌, field_added}
+use Rattle.dc_tokens.proofs.Keys.{text_field}
 use Rattle.dc_tokens.proofs.writer.TokenWriter.put_text.Goals as goal
 
 pub returns : goal.returns
 returns g c =
-    said (Token.key c.args.name.now ∷ Token.string c.args.text.now ∷ []) (c.put_name.ensures >> c.put_string.ensures)
-    (ap (λ (text : List ℕ). Token.key c.args.name.now ∷ Token.string text ∷ []) c.as_bytes.ensures.value)
+    field_added c.args.name.now (Token.string c.args.text.now) refl (c.put_key.ensures &&& c.put_rest.ensures) c.note.ensures
+    (text_field (cond c.args.self.now.after_value (44 ∷ []) []) c.args.name.now c.args.text.now c.as_bytes.result.now c.as_bytes-2.result.now
+    c.as_bytes.ensures.value c.as_bytes-2.ensures.value)
