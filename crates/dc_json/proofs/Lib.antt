@@ -1,5 +1,3 @@
--- the records of several telegrams
-mod Sents
 -- what is told of a reading
 mod Told
 -- how many records aren't read
@@ -12,10 +10,6 @@ mod Names
 mod Fronts
 -- the items of a list in JSON
 mod Items
--- of the module `latest`
-
--- the days after 1 January 1970 are those of the calendar
-pub mod Days
 -- of the module `status`
 
 -- what silence and room mean

@@ -3,7 +3,8 @@ use Rattle.std.proofs.Common.{◌≡◌, ℕ, ◌+◌, ◌-◌, ◌*◌, ◌/◌
 use Rattle.std.proofs.Math.Nat.{div-mul-le_self}
 use Rattle.std.proofs.lemmas.Bool.Decides.{nat_tests}
 use Rattle.dc_change.specs.Size.{size_of}
-use Rattle.dc_json.specs.Status.{bytes_a_day, bytes_a_reading, first_moment}
+use Rattle.dc_shown.specs.Room.{bytes_a_reading}
+use Rattle.dc_json.specs.Status.{bytes_a_day, first_moment}
 use Rattle.dc_json.specs.Laws.{DaysLast, RoomIsEnough, SilenceLasts, SilentWasNotHeard}
 
 left_is : (none : Bool) (n left : ℕ) → ◌≡◌ {A = Option ℕ} (if none then None else Some n) (Some left) → left ≡ n

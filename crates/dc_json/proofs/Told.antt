@@ -1,4 +1,4 @@
--- What is told of a reading, and what one telegram reports: their fields, one after the other.
+-- What is told of a reading: its fields, one after the other.
 use Rattle.std.proofs.Common.{◌≡◌, ℕ, List, [], ◌∷◌, ◌++◌, Option, codes, decimal, ap, sym, ◌∙◌, append-nil, append_assoc}
 use Rattle.json.specs.Json.{Json, string}
 use Rattle.json.specs.Token as Token
@@ -6,47 +6,16 @@ use Rattle.json.specs.Tree.{json_tokens}
 use Rattle.dc_address.specs.declared.identity.Identity.{Identity}
 use Rattle.dc_change.specs.State.{PartRow, ReadingRow, State}
 use Rattle.dc_register.specs.declared.place.Place.{Place}
-use Rattle.dc_record.specs.Telegram.{Parsed, telegram_at}
-use Rattle.dc_record.specs.declared.header.Header.{Header}
-use Rattle.dc_reading.specs.Headline.{headline}
+use Rattle.dc_record.specs.Telegram.{telegram_at}
 use Rattle.dc_reading.specs.Sent.{Sent}
 use Rattle.dc_frame_json.specs.Meter.{identity_fields}
 use Rattle.dc_tokens.specs.Object.{Field, fields_tokens, object_of}
-use Rattle.dc_tokens.proofs.Objects.{fields-append, fields-cons, members_are}
-use Rattle.dc_json.specs.Reported.{reported_fields}
-use Rattle.dc_json.specs.Stand.{all_sent, body_sent, listed, parts_sent}
-use Rattle.dc_json.specs.declared.stand.Current.TheVariants.{Values, Also}
+use Rattle.dc_tokens.proofs.Objects.{fields-append, members_are}
+use Rattle.dc_shown.specs.Reported.{received_fields, told_fields}
+use Rattle.dc_shown.specs.Stand.{all_sent, parts_sent}
+use Rattle.dc_shown.proofs.Sents.{all_of_parts}
 use Rattle.dc_json.specs.LatestValues.{last_reading}
-use Rattle.dc_json.specs.Values.{byte_in, held_json, reading_json, received_fields, records_field, stands_json, told_fields}
-use Rattle.dc_json.proofs.Sents.{all_of_body, all_of_parts}
-
-three : (a b c : Field) → fields_tokens (a ∷ []) ++ (fields_tokens (b ∷ []) ++ (fields_tokens (c ∷ []) ++ [])) ≡ fields_tokens (a ∷ b ∷ c ∷ [])
-three a b c =
-    ap (λ (ts : List Token.Token). fields_tokens (a ∷ []) ++ (fields_tokens (b ∷ []) ++ ts)) (append-nil (fields_tokens (c ∷ [])))
-    ∙ ap (λ (ts : List Token.Token). fields_tokens (a ∷ []) ++ ts) (sym (fields-cons b (c ∷ [])))
-    ∙ sym (fields-cons a (b ∷ c ∷ []))
-
-abbrev told : List Sent → List Sent → List Sent → List Field
-told a b c = records_field (codes "headline") a ∷ records_field (codes "values") b ∷ records_field (codes "also") c ∷ []
-
-pub told_as : (kind : ℕ) (ss a b c : List Sent) → a ≡ headline kind ss → b ≡ listed Values ss → c ≡ listed Also ss
-    → fields_tokens (records_field (codes "headline") a ∷ []) ++ (fields_tokens (records_field (codes "values") b ∷ []) ++ (fields_tokens (records_field (codes "also") c ∷ []) ++ [])) ≡ fields_tokens (told_fields kind ss)
-unfolding told_fields
-told_as kind ss a b c first second third =
-    three (records_field (codes "headline") a) (records_field (codes "values") b) (records_field (codes "also") c)
-    ∙ ap (λ (x : List Sent). fields_tokens (told x b c)) first
-    ∙ ap (λ (x : List Sent). fields_tokens (told (headline kind ss) x c)) second
-    ∙ ap (λ (x : List Sent). fields_tokens (told (headline kind ss) (listed Values ss) x)) third
-
-pub reported_as : (moment : ℕ) (header : Header) (body : List ℕ) (t : Parsed) → header ≡ t.header → body ≡ t.body
-    → fields_tokens (received_fields moment header.status) ++ (fields_tokens (told_fields header.identity.kind (all_sent body [])) ++ []) ≡ fields_tokens (reported_fields moment t)
-unfolding reported_fields
-reported_as moment header body t same sent =
-    ap (λ (ts : List Token.Token). fields_tokens (received_fields moment header.status) ++ ts) (append-nil (fields_tokens (told_fields header.identity.kind (all_sent body []))))
-    ∙ sym (fields-append (received_fields moment header.status) (told_fields header.identity.kind (all_sent body [])))
-    ∙ ap (λ (ss : List Sent). fields_tokens (received_fields moment header.status ++ told_fields header.identity.kind ss)) (all_of_body body)
-    ∙ ap (λ (h : Header). fields_tokens (received_fields moment h.status ++ told_fields h.identity.kind (body_sent body))) same
-    ∙ ap (λ (b : List ℕ). fields_tokens (received_fields moment t.header.status ++ told_fields t.header.identity.kind (body_sent b))) sent
+use Rattle.dc_json.specs.Values.{byte_in, held_json, reading_json, stands_json}
 
 -- the tokens of a reading
 abbrev pub reading_tokens : ℕ → ℕ → ℕ → ℕ → List Sent → List Token.Token

@@ -28,9 +28,9 @@ use Rattle.dc_reading.specs.Reading.{reading_of as read_of}
 use Rattle.dc_reading.specs.declared.reading.Reading.{Reading}
 use Rattle.dc_reading.specs.Sent.{Sent}
 use Rattle.dc_reading.specs.Text.{unit_text, value_text_of}
-use Rattle.dc_json.specs.Stand.{listed, parts_sent}
-use Rattle.dc_json.specs.declared.stand.Current.TheVariants.{Also, Unread}
-use Rattle.dc_json.specs.Utc.{minute_of}
+use Rattle.dc_shown.specs.Stand.{listed, parts_sent}
+use Rattle.dc_shown.specs.declared.stand.Current.TheVariants.{Also, Unread}
+use Rattle.dc_shown.specs.Utc.{minute_of}
 
 -- ---- which reading
 

@@ -3,7 +3,8 @@ use Rattle.std.specs.Prelude.{◌≡◌, ℕ, ◌+◌, ◌*◌, ◌≤◌, ◌<�
 use Rattle.dc_change.specs.Size.{size_of}
 use Rattle.dc_change.specs.State.{State}
 use Rattle.dc_json.specs.Heard.{is_silent}
-use Rattle.dc_json.specs.Status.{bytes_a_day, bytes_a_reading, days_left, first_moment, readings_left}
+use Rattle.dc_shown.specs.Room.{bytes_a_reading, readings_left}
+use Rattle.dc_json.specs.Status.{bytes_a_day, days_left, first_moment}
 
 -- A silent meter of which something is held wasn't heard within the time.
 abbrev pub SilentWasNotHeard : Type 0

@@ -1,17 +1,11 @@
 -- the definitions that contracts cite
 
--- the headline of a reading, and its current records
-pub mod Stand
 -- the rows of the tables of `report`
 pub mod Report
 -- what the meters of a house stand at
 pub mod Values
--- what one telegram reports
-pub mod Reported
 -- of the module `latest`
 
--- the day and the minute of a time stamp
-pub mod Utc
 -- the lines of `values` of a reading that the image holds
 pub mod LatestValues
 -- those of a reading of the journal

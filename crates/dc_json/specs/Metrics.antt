@@ -10,7 +10,7 @@ use Rattle.dc_register.specs.Places.{by_flat}
 use Rattle.dc_register.specs.declared.place.Place.{Place}
 use Rattle.dc_json.specs.Journal.{Notes}
 use Rattle.dc_json.specs.Row.{row_at}
-use Rattle.dc_json.specs.Status.{readings_left}
+use Rattle.dc_shown.specs.Room.{readings_left}
 use Rattle.dc_json.specs.declared.status.row.Row.{Row}
 use Rattle.dc_json.specs.declared.status.metrics.Metric.{Metric}
 use Rattle.dc_json.specs.declared.status.metrics.Metric.TheVariants.{Silent, Age, Code}

@@ -10,10 +10,11 @@ use Rattle.dc_tokens.specs.Object.{object_of, count}
 use Rattle.dc_frame_json.specs.Meter.{identity_fields, status_fields}
 use Rattle.dc_frame_json.specs.Record.{value_json}
 use Rattle.dc_frame_json.specs.Text.{value_line}
-use Rattle.dc_json.specs.Utc.{minute_of}
+use Rattle.dc_shown.specs.Utc.{minute_of}
 use Rattle.dc_json.specs.Journal.{Notes}
 use Rattle.dc_json.specs.Row.{row_at}
-use Rattle.dc_json.specs.Status.{days_left, failure_name, readings_left}
+use Rattle.dc_shown.specs.Room.{readings_left}
+use Rattle.dc_json.specs.Status.{days_left, failure_name}
 use Rattle.dc_json.specs.declared.status.row.Row.{Row}
 use Rattle.dc_json.specs.declared.status.row.Told.{Told}
 

@@ -6,7 +6,7 @@ use Rattle.json.specs.Find.{as_array, get}
 use Rattle.json.specs.Json.{Json, null, boolean, number, string, array, object, Items, no_items, item}
 use Rattle.dc_record.specs.Text.{value_text}
 use Rattle.dc_json.specs.LatestValues.{shown, status_line, value_word}
-use Rattle.dc_json.specs.Utc.{minute_of}
+use Rattle.dc_shown.specs.Utc.{minute_of}
 
 -- a text, or a number as it is written
 abbrev pub word_in : Json → Option (List ℕ)

@@ -1,6 +1,6 @@
 -- The lines of `status` (this product): of each registered meter when it was last heard, and how full the image is.
 use Rattle.std.specs.Prelude.{ℕ, ◌-◌, ◌/◌, max, ◌==◌, if◌then◌else◌, Bool, true, false, List, [], ◌++◌}
-use Rattle.std.specs.Prelude.{codes, length, slice_get, Option, None, Some}
+use Rattle.std.specs.Prelude.{codes, slice_get, Option, None, Some}
 use Rattle.std.specs.List.{flat_map, list_any}
 use Rattle.dc_io.specs.Words.{number_word}
 use Rattle.dc_address.specs.Text.{text_of}
@@ -9,11 +9,12 @@ use Rattle.dc_change.specs.Size.{size_of, empty_size}
 use Rattle.dc_change.specs.State.{State, Held, ReadingRow}
 use Rattle.dc_register.specs.Places.{by_flat}
 use Rattle.dc_register.specs.declared.place.Place.{Place}
-use Rattle.dc_json.specs.Utc.{minute_of}
 use Rattle.dc_json.specs.LatestValues.{byte_words}
 use Rattle.dc_json.specs.Heard.{ago, moment_of}
 use Rattle.dc_json.specs.Journal.{Notes}
 use Rattle.dc_json.specs.Row.{row_at}
+use Rattle.dc_shown.specs.Room.{number_line, readings_left, room_words}
+use Rattle.dc_shown.specs.Utc.{minute_of}
 use Rattle.dc_readout.specs.Why.{name_of}
 use Rattle.dc_readout.specs.declared.why.Why.TheVariants.{NoAnswer, WrongFrame, WrongAddress}
 use Rattle.dc_readout.specs.declared.why.Why.TheVariants.{ApplicationError, Content, Stranger, TooManyParts}
@@ -105,31 +106,11 @@ days_left budget now s =
     if bytes_a_day now s (first_moment s) == 0 then None
     else Some ((budget - size_of s) / bytes_a_day now s (first_moment s))
 
--- a number after its name
-unfoldable pub number_line : List ℕ → Option ℕ → List ℕ
-number_line name None = name ++ codes " NONE\n"
-number_line name (Some number) = name ++ (number_word number ++ codes "\n")
-
 unfoldable pub days_words : Option ℕ → List ℕ
 days_words days = number_line (codes "DAYS") days
 
 unfoldable pub size_line : ℕ → State → List ℕ
 size_line budget s = codes "SIZE" ++ (number_word (size_of s) ++ (number_word budget ++ codes "\n"))
-
--- the bytes that a reading takes, of those that are held
-abbrev pub bytes_a_reading : State → ℕ
-bytes_a_reading s =
-    if length s.readings == 0 then 0
-    else (size_of s - empty_size) / length s.readings
-
--- how many more readings of that size the budget has room for; none where none is held
-abbrev pub readings_left : ℕ → State → Option ℕ
-readings_left budget s =
-    if bytes_a_reading s == 0 then None
-    else Some ((budget - size_of s) / bytes_a_reading s)
-
-unfoldable pub room_words : Option ℕ → List ℕ
-room_words readings = number_line (codes "ROOM") readings
 
 -- ---- all
 

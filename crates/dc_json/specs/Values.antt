@@ -1,5 +1,5 @@
 -- What the meters of a house stand at, as JSON Lines (this product): the lines of `values`, an object a meter.
-use Rattle.std.specs.Prelude.{ℕ, List, [], ◌∷◌, ◌++◌, codes, map, Option, None, Some, Result, Ok, Err}
+use Rattle.std.specs.Prelude.{ℕ, List, [], ◌∷◌, ◌++◌, codes, Option, None, Some, Result, Ok, Err}
 use Rattle.std.specs.List.{flat_map}
 use Rattle.json.specs.Json.{Json, string, null}
 use Rattle.json.specs.Print.{print}
@@ -8,46 +8,21 @@ use Rattle.dc_address.specs.declared.identity.Identity.{Identity}
 use Rattle.dc_record.specs.declared.fault.BodyFault.{BodyFault}
 use Rattle.dc_record.specs.Telegram.{Parsed, telegram_at}
 use Rattle.dc_change.specs.State.{State, ReadingRow, PartRow}
-use Rattle.dc_reading.specs.Headline.{headline}
-use Rattle.dc_reading.specs.Sent.{Sent}
 use Rattle.dc_register.specs.Places.{by_flat}
 use Rattle.dc_register.specs.declared.place.Place.{Place}
-use Rattle.dc_json.specs.Utc.{minute_of}
 use Rattle.dc_json.specs.Journal.{Notes}
 use Rattle.dc_json.specs.Latest.{noted_text}
 use Rattle.dc_json.specs.LatestValues.{last_part, last_reading}
-use Rattle.dc_json.specs.Stand.{listed, parts_sent}
-use Rattle.dc_json.specs.declared.stand.Current.TheVariants.{Values, Also}
-use Rattle.dc_tokens.specs.Object.{Field, object_of, array_of, count, fields_tokens}
-use Rattle.dc_frame_json.specs.Meter.{identity_fields, status_fields}
-use Rattle.dc_frame_json.specs.Record.{record_json, value_json}
+use Rattle.dc_tokens.specs.Object.{object_of, count, fields_tokens}
+use Rattle.dc_frame_json.specs.Meter.{identity_fields}
 use Rattle.dc_frame_json.specs.Text.{value_line}
-
--- records, an object each
-unfoldable pub records_field : List ℕ → List Sent → Field
-records_field name ss = (name, array_of (map record_json ss))
-
--- of the records of a meter of this device type its headline, the current ones that the due-date table has, and the others that are
--- read
-unfoldable pub told_fields : ℕ → List Sent → List Field
-told_fields kind ss =
-    records_field (codes "headline") (headline kind ss)
-    ∷ records_field (codes "values") (listed Values ss)
-    ∷ records_field (codes "also") (listed Also ss)
-    ∷ []
+use Rattle.dc_shown.specs.Reported.{received_fields, told_fields}
+use Rattle.dc_shown.specs.Stand.{parts_sent}
 
 -- the status byte of a telegram, which a part always is
 abbrev pub byte_in : Result Parsed BodyFault → ℕ
 byte_in (Ok telegram) = telegram.header.status
 byte_in (Err fault) = 0
-
--- when a telegram was received, in seconds since 1970 and as the minute in UTC, and the status that it reports
-unfoldable pub received_fields : ℕ → ℕ → List Field
-received_fields moment status =
-    (codes "moment", count moment)
-    ∷ (codes "utc", value_json (minute_of moment))
-    ∷ (codes "status", object_of (status_fields status))
-    ∷ []
 
 -- a reading with this last part
 unfoldable pub reading_json : ReadingRow → PartRow → Json

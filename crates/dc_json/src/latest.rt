@@ -5,15 +5,14 @@
 //! 0, instantaneous). A reading that the billing office has confirmed is no longer held: where the journal's is later than
 //! what is held, it writes that.
 //!
-//! Proved: the text is exactly the one that `specs/Latest.antt` defines of the register's state and the journal. The days of
-//! `specs/Utc.antt` are those of the calendar ([`minute`] finds them by the kit's dates).
+//! Proved: the text is exactly the one that `specs/Latest.antt` defines of the register's state and the journal. The
+//! minutes are those of [`minute`](dc_shown::minute).
 
 mod lines;
 mod noted;
 mod reading;
 mod said;
 mod status;
-mod utc;
 
 pub(crate) use lines::put_names;
 pub use lines::put_values;
@@ -22,4 +21,3 @@ pub use reading::last_reading;
 pub(crate) use reading::{last_of, part_in};
 pub(crate) use said::put_said;
 pub(crate) use status::put_byte_words;
-pub use utc::minute;

@@ -20,7 +20,7 @@ mod row;
 mod silence;
 
 pub use laws::rows_mean_what_they_say;
-pub use lines::{put_room_left, put_status};
+pub use lines::put_status;
 pub use metrics::put_metrics;
 pub use object::put_status_objects;
 pub(crate) use row::{is_later, taken_at};

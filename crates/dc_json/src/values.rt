@@ -11,10 +11,10 @@ ghost use Rattle.dc_json.specs.Values.{stands_json, stands_line, values_lines};
 
 use crate::journal::Journal;
 use crate::latest::{last_reading, noted_text, part_in};
-use crate::reported::{put_received, put_told};
 use dc_frame_json::{Cell, put_row};
 use dc_io::{IoFault, Sink};
 use dc_register::{House, Part, Place, Reading};
+use dc_shown::{put_received, put_told};
 use dc_tokens::TokenWriter;
 use std::alloc::Allocator;
 

@@ -11,7 +11,7 @@ use Rattle.dc_poll.specs.Planned.{asked_for, is_queued, queue_on, refusal_of}
 use Rattle.dc_poll.specs.Queue.{most_asks}
 use Rattle.dc_poll.specs.declared.end.Refusal.TheVariants.{Start}
 use Rattle.dc_poll.specs.declared.event.Event.TheVariants.{Refused}
-use Rattle.dc_json.specs.Status.{readings_left, room_words}
+use Rattle.dc_shown.specs.Room.{readings_left, room_words}
 use Rattle.dc_poll.specs.Text.{line_of}
 
 -- whether a line has a link

@@ -7,7 +7,7 @@ use Rattle.std.proofs.lemmas.List.Sums.{sum_by-cons}
 use Rattle.dc_address.specs.declared.identity.Identity.{Identity}
 use Rattle.dc_change.specs.Size.{size_of}
 use Rattle.dc_change.specs.State.{State}
-use Rattle.dc_json.specs.Status.{bytes_a_reading}
+use Rattle.dc_shown.specs.Room.{bytes_a_reading}
 use Rattle.dc_poll.specs.Bus.{Bus}
 use Rattle.dc_poll.specs.Round.{meters_left}
 use Rattle.dc_poll.specs.declared.station.Station.{Station}

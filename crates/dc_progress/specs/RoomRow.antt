@@ -5,7 +5,7 @@ use Rattle.dc_address.specs.declared.identity.Identity.{Identity}
 use Rattle.dc_change.specs.Size.{size_of}
 use Rattle.dc_change.specs.State.{State}
 use Rattle.dc_change.specs.Fields.{end_of_numbers}
-use Rattle.dc_json.specs.Status.{bytes_a_reading, readings_left}
+use Rattle.dc_shown.specs.Room.{bytes_a_reading, readings_left}
 use Rattle.dc_poll.specs.Bus.{Bus}
 use Rattle.dc_poll.specs.Round.{meters_left}
 use Rattle.dc_poll.specs.declared.station.Station.{Station}

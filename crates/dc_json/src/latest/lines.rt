@@ -9,7 +9,7 @@ ghost use Rattle.dc_json.specs.LatestValues.{also_line, also_lines, counted, hea
 ghost use Rattle.dc_json.specs.LatestValues.{name_words, names_words, other_lines, sent_words, shown, shown_word};
 ghost use Rattle.dc_json.specs.LatestValues.{told_lines};
 ghost use Rattle.dc_json.specs.LatestValues.{unread_line, value_line, value_lines, value_word};
-ghost use Rattle.dc_json.specs.Stand.{all_sent};
+ghost use Rattle.dc_shown.specs.Stand.{all_sent};
 ghost use Rattle.dc_reading.specs.Sent.{sent_view};
 ghost use Rattle.dc_reading.specs.Vifes.{vife_at};
 
@@ -17,8 +17,6 @@ use crate::journal::Journal;
 use crate::latest::noted::noted_text;
 use crate::latest::reading::last_reading;
 use crate::latest::status::put_status;
-use crate::latest::utc::minute;
-use crate::stand::{Current, Headline, Listed};
 use dc_decode::put_point;
 use dc_io::{IoFault, Sink, put_number_word};
 use dc_reading::{
@@ -28,6 +26,7 @@ use dc_reading::{
 use dc_record::names::medium_name;
 use dc_record::value::{Point, TEXT_ROOM};
 use dc_register::{House, Part, Place, Points, Reading};
+use dc_shown::{Current, Headline, Listed, minute};
 use dc_tokens::{Piece, put_pieces};
 use std::alloc::Allocator;
 
@@ -103,7 +102,7 @@ fn put_held<A: Allocator, W: Sink>(out: &mut W, reading: Option<&Reading<A>>) ->
 }
 
 // Writes the serial and the moment of a reading, the status, and what its records tell.
-#[tactic(auto, using(dc_io::proofs::Pieces::written, crate::proofs::Sents::all_of_parts), unfolding(crate::specs::LatestValues::reading_words))]
+#[tactic(auto, using(dc_io::proofs::Pieces::written, dc_shown::proofs::Sents::all_of_parts), unfolding(crate::specs::LatestValues::reading_words))]
 fn put_reading<A: Allocator, W: Sink>(out: &mut W, reading: &Reading<A>) -> Result<(), IoFault>
     ensures { Wrote W.Sink result out.old out.new (reading_words reading.now) }
 {

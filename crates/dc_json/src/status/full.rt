@@ -1,17 +1,14 @@
-//! How full an image is.
+//! In how many days an image is full.
 
 ghost use Rattle.std.specs.Prelude.{◌≡◌, option_copied};
-ghost use Rattle.dc_json.specs.Status.{began, bytes_a_day, bytes_a_reading, days_left, first_moment};
-ghost use Rattle.dc_json.specs.Status.{readings_left};
+ghost use Rattle.dc_json.specs.Status.{began, bytes_a_day, days_left, first_moment};
 
 use crate::status::silence::moment_of;
 use dc_register::{House, Reading};
+use dc_shown::EMPTY;
 use std::alloc::Allocator;
 
 const SECONDS_A_DAY: u64 = 86_400;
-
-// The size of a register without meters and readings.
-const EMPTY: u32 = 153;
 
 // When a reading began.
 fn began<A: Allocator>(reading: Option<&Reading<A>>) -> Option<u64>
@@ -51,26 +48,4 @@ pub(crate) fn days_left<A: Allocator + Copy>(house: &House<A>, now: u64) -> Opti
         return None;
     }
     Some(u64::from(house.budget() - house.size()) / pace)
-}
-
-// The number of bytes that a reading takes, of those that are held; 0 where none is.
-fn bytes_a_reading<A: Allocator + Copy>(house: &House<A>) -> u64
-    ensures { result ≡ bytes_a_reading house.now.state }
-{
-    let held = house.readings().len() as u64;
-    if held == 0 {
-        return 0;
-    }
-    u64::from(house.size() - EMPTY) / held
-}
-
-/// How many more readings of the size of those that are held there is room for; none where none is held.
-pub(crate) fn readings_left<A: Allocator + Copy>(house: &House<A>) -> Option<u64>
-    ensures { result ≡ readings_left house.now.budget house.now.state }
-{
-    let each = bytes_a_reading(house);
-    if each == 0 {
-        return None;
-    }
-    Some(u64::from(house.budget() - house.size()) / each)
 }

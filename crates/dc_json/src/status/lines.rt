@@ -4,13 +4,13 @@ ghost use Rattle.std.specs.Prelude.{◌≡◌, ◌≤◌, IfSome};
 ghost use Rattle.dc_io.specs.Written.{Wrote};
 ghost use Rattle.dc_change.specs.Fields.{last_moment};
 ghost use Rattle.dc_json.specs.Status.{failed_text, failed_words, failure_name, heard_words};
-ghost use Rattle.dc_json.specs.Status.{name_end, number_line, readings_left, room_words, row_lines, row_text};
+ghost use Rattle.dc_json.specs.Status.{name_end, row_lines, row_text};
 ghost use Rattle.dc_json.specs.Status.{silent_words, size_line};
 ghost use Rattle.dc_json.specs.Status.{source_words, state_words, status_text};
 
 use crate::journal::Journal;
-use crate::latest::{minute, put_byte_words};
-use crate::status::full::{days_left, readings_left};
+use crate::latest::put_byte_words;
+use crate::status::full::days_left;
 use crate::status::row::{Row, Told, row_at};
 use crate::status::silence::Clock;
 use dc_io::{IoFault, Sink};
@@ -18,11 +18,12 @@ use dc_readout::Why;
 use dc_record::BodyFault;
 use dc_record::value::TEXT_ROOM;
 use dc_register::House;
+use dc_shown::{minute, put_number, readings_left};
 use dc_tokens::{Piece, put_pieces};
 use std::alloc::Allocator;
 
 /// Writes when the registered meters were last heard, by flat and then by identity, and how full the image is.
-#[tactic(auto, using(dc_io::proofs::Pieces::written), unfolding(crate::specs::Status::status_text, crate::specs::Status::days_words, crate::specs::Status::room_words))]
+#[tactic(auto, using(dc_io::proofs::Pieces::written), unfolding(crate::specs::Status::status_text, crate::specs::Status::days_words, dc_shown::specs::Room::room_words))]
 pub fn put_status<A: Allocator + Copy, W: Sink>(
     out: &mut W,
     house: &House<A>,
@@ -205,30 +206,4 @@ fn put_size<A: Allocator + Copy, W: Sink>(out: &mut W, house: &House<A>) -> Resu
             Piece::Text(b"\n"),
         ],
     )
-}
-
-// Writes a number after its name.
-#[tactic(auto, unfolding(crate::specs::Status::number_line))]
-fn put_number<W: Sink>(out: &mut W, name: &'static [u8], number: Option<u64>) -> Result<(), IoFault>
-    ensures { Wrote W.Sink result out.old out.new (number_line name.now number) }
-{
-    match number {
-        Some(number) => put_pieces(
-            out,
-            &[Piece::Text(name), Piece::Word(number), Piece::Text(b"\n")],
-        ),
-        None => put_pieces(out, &[Piece::Text(name), Piece::Text(b" NONE\n")]),
-    }
-}
-
-/// Writes how many more readings the image has room for: the row `ROOM` of `status`.
-#[tactic(auto, unfolding(crate::specs::Status::room_words))]
-pub fn put_room_left<A: Allocator + Copy, W: Sink>(
-    out: &mut W,
-    house: &House<A>,
-) -> Result<(), IoFault>
-    ensures { Wrote W.Sink result out.old out.new
-        (room_words (readings_left house.now.budget house.now.state)) }
-{
-    put_number(out, b"ROOM", readings_left(house))
 }

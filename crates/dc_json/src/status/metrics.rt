@@ -6,11 +6,11 @@ ghost use Rattle.dc_json.specs.Metrics.{gauge_text, head_of, help_of, image_text
 ghost use Rattle.dc_json.specs.Metrics.{metrics_text, name_of, sample_of, value_of};
 
 use crate::journal::Journal;
-use crate::status::full::readings_left;
 use crate::status::row::{Row, row_at};
 use crate::status::silence::Clock;
 use dc_io::{IoFault, Sink, put_number_word};
 use dc_register::House;
+use dc_shown::readings_left;
 use dc_tokens::{Piece, put_pieces};
 use std::alloc::Allocator;
 

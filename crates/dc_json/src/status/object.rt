@@ -10,8 +10,7 @@ ghost use Rattle.dc_json.specs.Object.{row_objects, source_json, state_json, sta
 ghost use Rattle.dc_json.specs.Object.{told_object, utc_json};
 
 use crate::journal::Journal;
-use crate::latest::minute;
-use crate::status::full::{days_left, readings_left};
+use crate::status::full::days_left;
 use crate::status::lines::failure_name;
 use crate::status::row::{Row, Told, row_at};
 use crate::status::silence::Clock;
@@ -19,6 +18,7 @@ use dc_frame_json::{Cell, put_line};
 use dc_io::{IoFault, Sink};
 use dc_record::value::Value;
 use dc_register::House;
+use dc_shown::{minute, readings_left};
 use std::alloc::Allocator;
 
 /// Writes a JSON object for each registered meter, by flat and then by identity, and one for the image.

@@ -17,9 +17,9 @@ use dc_address::Identity;
 use dc_frame_json::Cell::{Number, Text};
 use dc_frame_json::{put_content, put_row};
 use dc_io::{IoFault, Sink};
-use dc_json::put_reported;
 use dc_readout::Why;
 use dc_readout::misses::Misses;
+use dc_shown::put_reported;
 use dc_tokens::TokenWriter;
 
 /// Prints a JSON object for each event, in a line of its own.

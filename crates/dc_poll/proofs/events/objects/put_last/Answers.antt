@@ -1,6 +1,6 @@
 use Rattle.std.proofs.Common.{ℕ, Option, Result, ap, sym, ◌∙◌}
 use Rattle.dc_change.specs.State.{PartRow}
-use Rattle.dc_json.specs.Reported.{reported_fields}
+use Rattle.dc_shown.specs.Reported.{reported_fields}
 use Rattle.dc_record.specs.Telegram.{Parsed, parsed}
 use Rattle.dc_record.specs.declared.fault.BodyFault.{BodyFault}
 use Rattle.dc_tokens.specs.Object.{fields_tokens}
