@@ -11,7 +11,7 @@ use Rattle.dc_record.specs.Text.{day_text}
 use Rattle.dc_office.specs.DueTable.{due_text}
 use Rattle.dc_office.specs.RegisterTable.{register_text}
 use Rattle.dc_json.specs.Journal.{Notes}
-use Rattle.dc_json.specs.Report.{due_lines, register_lines}
+use Rattle.dc_inspect.specs.Report.{due_lines, register_lines}
 use Rattle.dc_json.specs.Values.{values_lines}
 use Rattle.dc_json.specs.Latest.{values_text}
 use Rattle.dc_json.specs.Metrics.{metrics_text}

@@ -6,6 +6,8 @@ pub mod Answer
 pub mod Look
 -- the register of an image
 pub mod Register
+-- the rows of the tables of `report`
+pub mod Report
 -- the lines of `inspect`, and of a rescued state
 pub mod Text
 -- what a look finds of an image

@@ -15,14 +15,15 @@ ghost use Rattle.dc_inspect.specs.Told.{IsOfLook};
 
 use crate::asking::{Asked, Form, Report, StatusForm};
 use crate::look::{Look, Outlook, Slots, look_at, read_slots};
+use crate::report::{put_due_objects, put_register_objects};
 use crate::text::{put_image, put_number_line, put_small};
 use dc_disk::{Disk, Failed};
 use dc_ending::ProgramFault;
 use dc_io::{Bytes, IoFault, NoMemory, Sink};
 use dc_json::journal::Journal;
 use dc_json::latest::put_values;
+use dc_json::put_value_objects;
 use dc_json::status::{Clock, any_silent, put_metrics, put_status, put_status_objects};
-use dc_json::{put_due_objects, put_register_objects, put_value_objects};
 use dc_log::{FEWEST_SECTORS, Greatest, OpenFault, greatest_of, half_len_of};
 use dc_office::table::{due_table, register_table, rows};
 use dc_register::House;

@@ -2,12 +2,10 @@
 mod Told
 -- how many records aren't read
 mod Unread
--- a row of the due-date table
-mod Rows
 -- the names of VIFEs
 mod Names
 -- a prefix of one piece of a text
-mod Fronts
+pub mod Fronts
 -- the items of a list in JSON
 mod Items
 -- of the module `status`

@@ -1,7 +1,5 @@
 -- the definitions that contracts cite
 
--- the rows of the tables of `report`
-pub mod Report
 -- what the meters of a house stand at
 pub mod Values
 -- of the module `latest`

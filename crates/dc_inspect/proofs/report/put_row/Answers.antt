@@ -1,7 +1,7 @@
 use Rattle.std.proofs.Common.{List, ◌∙◌, subst, ℕ}
 use Rattle.dc_io.specs.Written.{Wrote}
-use Rattle.dc_json.proofs.Rows.{row_as}
-use Rattle.dc_json.proofs.report.put_row.Goals as goal
+use Rattle.dc_inspect.proofs.Rows.{row_as}
+use Rattle.dc_inspect.proofs.report.put_row.Goals as goal
 
 pub returns : goal.returns
 returns g c =

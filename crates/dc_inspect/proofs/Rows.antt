@@ -10,7 +10,7 @@ use Rattle.dc_record.specs.Fields.{function_name}
 use Rattle.dc_record.specs.Quantity.{unit_of}
 use Rattle.dc_record.specs.declared.value.value.Value.TheVariants.{Day as OnDay}
 use Rattle.dc_tokens.specs.Object.{count, object_of}
-use Rattle.dc_json.specs.Report.{row_json, row_line}
+use Rattle.dc_inspect.specs.Report.{row_json, row_line}
 
 abbrev row_with : Day → Row → List ℕ → ℕ → ℕ → List ℕ → List ℕ → List ℕ
 row_with date row flat tariff subunit function unit = value_line (object_of (

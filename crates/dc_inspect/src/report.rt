@@ -4,7 +4,7 @@ ghost use Rattle.std.specs.Prelude.{◌≡◌, codes};
 ghost use Rattle.std.specs.List.{flat_map};
 ghost use Rattle.dc_io.specs.Written.{Wrote};
 ghost use Rattle.dc_frame_json.specs.Row.{field_of};
-ghost use Rattle.dc_json.specs.Report.{address_json, line_at, register_lines, row_line};
+ghost use Rattle.dc_inspect.specs.Report.{address_json, line_at, register_lines, row_line};
 
 use dc_address::Primary;
 use dc_frame_json::{Cell, put_line};
@@ -74,7 +74,7 @@ fn put_row<W: Sink>(out: &mut W, date: Date, row: &Row) -> Result<(), IoFault>
 
 /// Writes the register as JSON Lines (RFC 8259): an object for each registered meter, by flat and then by identity.
 #[tactic(auto, using(dc_io::proofs::Pieces::written), unfolding(crate::specs::Report::register_lines))]
-pub fn put_register_objects<A: Allocator + Copy, W: Sink>(
+pub(crate) fn put_register_objects<A: Allocator + Copy, W: Sink>(
     out: &mut W,
     house: &House<A>,
 ) -> Result<(), IoFault>
@@ -89,7 +89,7 @@ pub fn put_register_objects<A: Allocator + Copy, W: Sink>(
 /// Writes rows of the due-date table for a date as JSON Lines (RFC 8259), an object for each: its
 /// [`rows`](dc_office::table::rows) are the table.
 #[tactic(auto, using(dc_io::proofs::Pieces::written))]
-pub fn put_due_objects<W: Sink>(out: &mut W, date: Date, rows: &[Row]) -> Result<(), IoFault>
+pub(crate) fn put_due_objects<W: Sink>(out: &mut W, date: Date, rows: &[Row]) -> Result<(), IoFault>
     ensures { Wrote W.Sink result out.old out.new (flat_map (row_line date) rows.now) }
 {
     for row in rows {

@@ -1,8 +1,8 @@
 use Rattle.std.proofs.Common.{◌≡◌, drop}
 use Rattle.std.specs.List.{flat_map}
 use Rattle.std.specs.Io.KnownBytes.{append_known}
-use Rattle.dc_json.specs.Report.{row_line}
-use Rattle.dc_json.proofs.report.put_due_objects.Given as goal
+use Rattle.dc_inspect.specs.Report.{row_line}
+use Rattle.dc_inspect.proofs.report.put_due_objects.Given as goal
 
 -- the lines so far, and those of the rows that are left, make the whole
 abbrev pub invariant-loop-row : goal.invariant-loop-row

@@ -1,8 +1,8 @@
 use Rattle.std.proofs.Common.{◌≡◌}
 use Rattle.std.specs.List.{flat_map}
 use Rattle.std.specs.Io.KnownBytes.{append_known}
-use Rattle.dc_json.specs.Report.{line_at}
-use Rattle.dc_json.proofs.report.put_register_objects.Given as goal
+use Rattle.dc_inspect.specs.Report.{line_at}
+use Rattle.dc_inspect.proofs.report.put_register_objects.Given as goal
 
 -- the lines so far, and those of the places that are left, make the whole
 abbrev pub invariant-loop-place : goal.invariant-loop-place

@@ -3,9 +3,9 @@ use Rattle.std.proofs.lemmas.List.{drop_more}
 use Rattle.std.specs.List.{flat_map}
 use Rattle.dc_io.specs.Stream.{PutsFront}
 use Rattle.dc_office.specs.declared.table.row.Row.{Row}
-use Rattle.dc_json.specs.Report.{row_line}
+use Rattle.dc_inspect.specs.Report.{row_line}
 use Rattle.dc_json.proofs.Fronts.{front_of_all}
-use Rattle.dc_json.proofs.report.put_due_objects.Goals as goal
+use Rattle.dc_inspect.proofs.report.put_due_objects.Goals as goal
 
 pub returns-in_err-put_row : goal.returns-in_err-put_row
 returns-in_err-put_row g c =
