@@ -16,6 +16,7 @@ TELEGRAM = "68 1F 1F 68 08 02 72 78 56 34 12 24 40 01 07 55 00 00 00 03 13 15 31
 SHORT, WRONG_SUM = "10 5B 01 5C 16", "10 40 05 46 16"
 CUT = digits(answer(2, header(Identity(12345678), access=0) + bytes.fromhex("0313")))
 MIB = 1024 * 1024
+COLUMNS = 20  # of the CSV
 
 # Inputs of 1 MiB; and ones that the browser's own text area takes minutes to lay out: they are decoded without it
 LARGE = {"one line": "6" * MIB, "spaces": " " * MIB, "tags": "<script>" * (MIB // 8), "marks": ":" * MIB,
@@ -76,7 +77,7 @@ def copies(browser: Browser) -> None:
     browser.decode(f"{TELEGRAM}\n{WRONG_SUM}\n" + f"{SHORT}\n" * 300)
     wants("more are not shown" in browser.said(), browser.said())
     rows = list(csv.reader(io.StringIO(browser.run("return csv();"), newline="")))
-    wants([len(row) for row in rows] == [13] * 5, f"rows of the CSV: {len(rows)}")
+    wants([len(row) for row in rows] == [COLUMNS] * 5, f"rows of the CSV: {[len(row) for row in rows]}")
     wants([row[4:6] for row in rows[1:4]] == [["12.565", "m3"], ["0.113", "m3/h"], ["218370", "Wh"]], f"{rows}")
     wants(not any(value[:1] in ("=", "+", "@", "\t") for row in rows for value in row), "a formula")
     wants(rows[4][0] == "2" and rows[4][12].startswith("frame 7"), f"{rows[4]}")
