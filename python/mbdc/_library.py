@@ -34,7 +34,7 @@ def _load() -> ctypes.CDLL:
     try:
         library = ctypes.CDLL(_path())
     except OSError as fault:
-        raise LibraryFault(f"{_path()}: {fault}") from fault
+        raise LibraryFault(f"{fault}; MBDC_LIBRARY may name it (tools/library makes it, Debian's package is libmbdc0)") from fault
     for call in (library.mbdc_decode_text, library.mbdc_decode_json, library.mbdc_decode_body):
         call.restype = ctypes.c_size_t
         call.argtypes = [ctypes.c_char_p, ctypes.c_size_t, ctypes.c_void_p, ctypes.c_size_t]

@@ -104,7 +104,7 @@ def test_frozen() -> None:
 
 def test_no_library(monkeypatch: pytest.MonkeyPatch) -> None:
     monkeypatch.setenv("MBDC_LIBRARY", "/nonexistent/libmbdc.so.0")
-    with pytest.raises(mbdc.LibraryFault):
+    with pytest.raises(mbdc.LibraryFault, match="MBDC_LIBRARY"):
         mbdc._library._load()
 
 
