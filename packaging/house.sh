@@ -40,6 +40,14 @@ is_number() {
     esac
 }
 
+# A speed in baud, after which may stand whether bytes have a parity bit: 2400, 2400,8N1
+is_speed() {
+    case $1 in
+    *,8E1 | *,8N1) is_number "${1%,*}" ;;
+    *) is_number "$1" ;;
+    esac
+}
+
 # One setting: set_value NAME VALUE. Status 1 where it is none.
 set_value() {
     case $2 in
@@ -48,8 +56,8 @@ set_value() {
     case $1 in
     IMAGE) [ "${2#/}" != "$2" ] && image=$2 ;;
     BACKUP) [ "${2#/}" != "$2" ] && backups=$2 ;;
-    BAUD) is_number "$2" && baud=$2 ;;
-    BAUD_[1-8]) is_number "$2" && bauds="$bauds ${1#BAUD_}=$2" ;;
+    BAUD) is_speed "$2" && baud=$2 ;;
+    BAUD_[1-8]) is_speed "$2" && bauds="$bauds ${1#BAUD_}=$2" ;;
     TRIES) is_number "$2" && tries=$2 ;;
     PATIENCE) is_number "$2" && patience=$2 ;;
     LINE_[1-8]) lines="$lines ${1#LINE_}=$2" ;;
@@ -57,13 +65,13 @@ set_value() {
     esac
 }
 
-# Prints the speed of a bus line's port, that of all of them where it has none of its own: speed_of N
+# Prints the speed of a bus line's port, that of all of them where it has none of its own, and its parity: speed_of N
 speed_of() {
     speed=$baud
     for own in $bauds; do
         [ "${own%%=*}" != "$1" ] || speed=${own#*=}
     done
-    echo "$speed"
+    echo "$speed" | tr , ' '
 }
 
 # Reads /etc/mbdc/HOUSE.conf into image, backups, lines (words N=LINK), baud, bauds (words N=BAUD), tries and patience.
