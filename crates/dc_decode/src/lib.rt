@@ -27,7 +27,6 @@ mod form;
 mod frames;
 mod input;
 mod laws;
-mod line;
 mod lines;
 mod seen;
 mod telegram;

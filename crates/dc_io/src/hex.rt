@@ -7,7 +7,6 @@ ghost use Rattle.dc_io.specs.Hex.{digit_value, bytes_of, upper_digit, upper_pair
 ghost use Rattle.dc_io.specs.Lines.{is_solid};
 ghost use Rattle.dc_io.specs.Words.{byte_word, hex_word};
 
-use crate::blocks::{decode_pairs, decode_spaced_pairs};
 use crate::{IoFault, Sink};
 
 // Most VIBs and data have no more bytes than these.
@@ -54,9 +53,6 @@ pub fn decode_hex(digits: &[u8], out: &mut [u8]) -> Option<usize>
         return None;
     }
     let count = digits.len() / 2;
-    if count >= 16 {
-        return decode_pairs(digits, count, out);
-    }
     'pairs: for i in 0..count {
         let high = value_of(digits[2 * i])?;
         let low = value_of(digits[2 * i + 1])?;
@@ -77,9 +73,6 @@ pub(crate) fn decode_spaced(line: &[u8], out: &mut [u8]) -> Option<usize>
         return None;
     }
     let count = line.len() / 3;
-    if count >= 10 {
-        return decode_spaced_pairs(line, count + 1, out);
-    }
     'pairs: for i in 0..count {
         if line[3 * i + 2] != b' ' {
             return None;
@@ -104,10 +97,10 @@ static PAIRS: [u8; 512] = *b"000102030405060708090A0B0C0D0E0F1011121314151617181
     C0C1C2C3C4C5C6C7C8C9CACBCCCDCECFD0D1D2D3D4D5D6D7D8D9DADBDCDDDEDF\
     E0E1E2E3E4E5E6E7E8E9EAEBECEDEEEFF0F1F2F3F4F5F6F7F8F9FAFBFCFDFEFF";
 
-/// A byte as two capital hex digits.
+// A byte as two capital hex digits.
 #[inline]
 #[tactic(auto, using(crate::proofs::Values::PAIRS_at))]
-pub fn pair_of(byte: u8) -> [u8; 2]
+fn pair_of(byte: u8) -> [u8; 2]
     ensures { result ≡ upper_pair byte }
 {
     let at = 2 * usize::from(byte);

@@ -19,53 +19,36 @@ pub fn unit_at(vib: &[u8]) -> Option<(Quantity, i8)>
     }
 }
 
-// The quantity of four VIFs each, and the power of ten of the first of them.
-static FOURS: [Option<(Quantity, i8)>; 27] = [
-    Some((Quantity::EnergyWattHour, -3)),
-    Some((Quantity::EnergyWattHour, 1)),
-    Some((Quantity::EnergyJoule, 0)),
-    Some((Quantity::EnergyJoule, 4)),
-    Some((Quantity::Volume, -6)),
-    Some((Quantity::Volume, -2)),
-    Some((Quantity::Mass, -3)),
-    Some((Quantity::Mass, 1)),
-    None,
-    None,
-    Some((Quantity::PowerWatt, -3)),
-    Some((Quantity::PowerWatt, 1)),
-    Some((Quantity::PowerJoulePerHour, 0)),
-    Some((Quantity::PowerJoulePerHour, 4)),
-    Some((Quantity::VolumeFlowPerHour, -6)),
-    Some((Quantity::VolumeFlowPerHour, -2)),
-    Some((Quantity::VolumeFlowPerMinute, -7)),
-    Some((Quantity::VolumeFlowPerMinute, -3)),
-    Some((Quantity::VolumeFlowPerSecond, -9)),
-    Some((Quantity::VolumeFlowPerSecond, -5)),
-    Some((Quantity::MassFlow, -3)),
-    Some((Quantity::MassFlow, 1)),
-    Some((Quantity::FlowTemperature, -3)),
-    Some((Quantity::ReturnTemperature, -3)),
-    Some((Quantity::TemperatureDifference, -3)),
-    Some((Quantity::ExternalTemperature, -3)),
-    Some((Quantity::Pressure, -3)),
-];
-
 /// The units of VIFs that no further byte extends.
 #[inline(always)]
 #[tactic(auto, unfolding(crate::specs::Table::row_of))]
 fn primary(vif: u8) -> Option<(Quantity, i8)>
     ensures { result ≡ unit_at (vif ∷ []) }
 {
-    match vif {
-        0x6C => Some((Quantity::Date, 0)),
-        0x6D => Some((Quantity::DateTime, 0)),
-        0x6E => Some((Quantity::HeatCostAllocator, 0)),
-        0x6F..=0xFF => None,
-        _ => {
-            let (quantity, first) = FOURS[usize::from(vif / 4)]?;
-            Some((quantity, first + (vif % 4) as i8))
-        }
-    }
+    let eighth = (vif % 8) as i8;
+    let fourth = (vif % 4) as i8;
+    let unit = match vif {
+        0x00..=0x07 => (Quantity::EnergyWattHour, eighth - 3),
+        0x08..=0x0F => (Quantity::EnergyJoule, eighth),
+        0x10..=0x17 => (Quantity::Volume, eighth - 6),
+        0x18..=0x1F => (Quantity::Mass, eighth - 3),
+        0x28..=0x2F => (Quantity::PowerWatt, eighth - 3),
+        0x30..=0x37 => (Quantity::PowerJoulePerHour, eighth),
+        0x38..=0x3F => (Quantity::VolumeFlowPerHour, eighth - 6),
+        0x40..=0x47 => (Quantity::VolumeFlowPerMinute, eighth - 7),
+        0x48..=0x4F => (Quantity::VolumeFlowPerSecond, eighth - 9),
+        0x50..=0x57 => (Quantity::MassFlow, eighth - 3),
+        0x58..=0x5B => (Quantity::FlowTemperature, fourth - 3),
+        0x5C..=0x5F => (Quantity::ReturnTemperature, fourth - 3),
+        0x60..=0x63 => (Quantity::TemperatureDifference, fourth - 3),
+        0x64..=0x67 => (Quantity::ExternalTemperature, fourth - 3),
+        0x68..=0x6B => (Quantity::Pressure, fourth - 3),
+        0x6C => (Quantity::Date, 0),
+        0x6D => (Quantity::DateTime, 0),
+        0x6E => (Quantity::HeatCostAllocator, 0),
+        _ => return None,
+    };
+    Some(unit)
 }
 
 /// The units of the codes after FB.
