@@ -97,10 +97,10 @@ static PAIRS: [u8; 512] = *b"000102030405060708090A0B0C0D0E0F1011121314151617181
     C0C1C2C3C4C5C6C7C8C9CACBCCCDCECFD0D1D2D3D4D5D6D7D8D9DADBDCDDDEDF\
     E0E1E2E3E4E5E6E7E8E9EAEBECEDEEEFF0F1F2F3F4F5F6F7F8F9FAFBFCFDFEFF";
 
-// A byte as two capital hex digits.
+/// A byte as two capital hex digits.
 #[inline]
 #[tactic(auto, using(crate::proofs::Values::PAIRS_at))]
-fn pair_of(byte: u8) -> [u8; 2]
+pub fn pair_of(byte: u8) -> [u8; 2]
     ensures { result ≡ upper_pair byte }
 {
     let at = 2 * usize::from(byte);

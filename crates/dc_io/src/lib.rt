@@ -41,7 +41,7 @@ pub use bytes::Bytes;
 pub use failures::one_failure_more;
 pub use fault::{put_fault, put_fault_line};
 pub use fixed_sink::FixedSink;
-pub use hex::{decode_hex, put_byte, put_byte_word, put_hex, put_hex_word};
+pub use hex::{decode_hex, pair_of, put_byte, put_byte_word, put_hex, put_hex_word};
 pub use input::{CHUNK, MOST, read_input};
 pub use laws::{hex_is_read_back, lines_end_at_feeds};
 pub use lines::{LONGEST, first_line};

@@ -1,7 +1,7 @@
 //! Reading a record from the front of a slice.
 
 ghost use Rattle.std.specs.Prelude.{◌≡◌, ◌≤◌, ◌<◌, ◌^◌, ◌*◌, length, map, IfOk};
-ghost use Rattle.dc_record.specs.Record.{number, storage_digit, tariff_digit, subunit_digit, view};
+ghost use Rattle.dc_record.specs.Record.{number, storage_digit, tariff_digit, subunit_digit, view, width};
 ghost use Rattle.dc_record.specs.Reading.{Gives, chain_len, counted_at, vib_len, data_at};
 ghost use Rattle.dc_record.specs.Reading.{record_at};
 
@@ -81,20 +81,26 @@ fn vib_len(bytes: &[u8]) -> Result<usize, BodyFault>
     }
 }
 
+// How many bytes each data field has; D has a length byte.
+static WIDTHS: [usize; 15] = [0, 1, 2, 3, 4, 4, 6, 8, 0, 1, 2, 3, 4, 0, 6];
+
+/// How many bytes a data field has, without those that a length byte states.
+#[inline(always)]
+pub fn width(field: u8) -> usize
+    ensures { result ≡ width field }
+{
+    let at = usize::from(field);
+    if at < WIDTHS.len() { WIDTHS[at] } else { 0 }
+}
+
 // The data that a data field has: its content, and the rest.
 fn data(field: u8, bytes: &[u8]) -> Result<(&[u8], &[u8]), BodyFault>
     ensures { Gives (λ x. (x.0.now, x.1.now)) result (data_at field bytes.now) }
 {
-    let len = match field {
-        0xD => return counted(bytes),
-        1 | 2 | 3 | 4 | 6 => field,
-        5 => 4,
-        7 => 8,
-        9 | 0xA | 0xB | 0xC => field - 8,
-        0xE => 6,
-        _ => 0,
-    };
-    bytes.split_at_checked(len as usize).ok_or(BodyFault::Cut)
+    if field == 0xD {
+        return counted(bytes);
+    }
+    bytes.split_at_checked(width(field)).ok_or(BodyFault::Cut)
 }
 
 // The numbers that the DIFEs make. Ten of them fit in these types.

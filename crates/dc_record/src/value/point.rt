@@ -8,6 +8,7 @@ ghost use Rattle.dc_record.specs.Quantity.{takes, is_integer};
 ghost use Rattle.dc_record.specs.Value.{value_in, number_in};
 
 use crate::Record;
+use crate::reading::width;
 use crate::value::number::{bcd, integer, unsigned};
 use crate::value::quantity::is_integer;
 use crate::value::table::unit_at;
@@ -64,25 +65,6 @@ fn look_up(record: &Record<'_>) -> Seen
         quantity,
         value: value_in(quantity, exponent, field, content),
     })
-}
-
-/// How many bytes a data field has.
-#[inline(always)]
-fn width(field: u8) -> usize
-    ensures { result ≡ width field }
-{
-    match field {
-        1 | 2 | 3 | 4 => field as usize,
-        5 => 4,
-        6 => 6,
-        7 => 8,
-        9 => 1,
-        0xA => 2,
-        0xB => 3,
-        0xC => 4,
-        0xE => 6,
-        _ => 0,
-    }
 }
 
 /// The value of a quantity and a power of ten in a data field.
