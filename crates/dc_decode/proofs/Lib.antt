@@ -10,6 +10,8 @@ pub mod Inputs
 mod Prefixes
 -- the text of records
 pub mod Records
+-- bytes just before the end of a room
+mod Rooms
 -- frames by their spellings
 pub mod Spelled
 -- frames that follow one another

@@ -7,10 +7,12 @@ ghost use Rattle.dc_decode.specs.Frames.{front_len, frames_of, read_as, content_
 ghost use Rattle.dc_decode.specs.Frames.{is_bad_content, short_line, long_line, frame_text};
 ghost use Rattle.dc_decode.specs.Frames.{is_bad_frame, shown, is_bad};
 
+use crate::line::{WORDS_ROOM, put_number_before};
 use crate::telegram::put_telegram;
 use dc_frame::{Frame, FrameFault, Need, need, parse};
-use dc_io::{IoFault, Sink, put_byte_word, put_fault_line, put_number_word};
+use dc_io::{IoFault, Sink, pair_of, put_byte_word, put_fault_line};
 use dc_record::Telegram;
+use dc_record::value::{put_byte, put_piece};
 
 /// The CI field of a variable data structure (EN 13757-3).
 const VARIABLE_DATA: u8 = 0x72;
@@ -78,7 +80,7 @@ fn put_short<W: Sink>(control: u8, address: u8, out: &mut W) -> Result<(), IoFau
 }
 
 // Writes the line of a long frame.
-#[tactic(auto, using(dc_io::proofs::Pieces::joined), unfolding(crate::specs::Frames::long_line))]
+#[tactic(auto, unfolding(crate::specs::Frames::long_line))]
 fn put_long<W: Sink>(
     control: u8,
     address: u8,
@@ -89,12 +91,16 @@ fn put_long<W: Sink>(
     ensures { Wrote W.Sink result out.old out.new
         (long_line control address ci body.now) }
 {
-    out.put(b"LONG")?;
-    put_byte_word(out, control)?;
-    put_byte_word(out, address)?;
-    put_byte_word(out, ci)?;
-    put_number_word(out, body.len() as u64)?;
-    out.put(b"\n")
+    let mut room = [0u8; WORDS_ROOM];
+    put_byte(b'\n', &mut room, WORDS_ROOM);
+    let end = put_number_before(body.len() as u64, &mut room, WORDS_ROOM - 1);
+    let (control, address, ci) = (pair_of(control), pair_of(address), pair_of(ci));
+    let words = [
+        b'L', b'O', b'N', b'G', b' ', control[0], control[1], b' ', address[0], address[1], b' ',
+        ci[0], ci[1],
+    ];
+    let start = put_piece(&words, &mut room, end);
+    out.put(&room[start..])
 }
 
 // Writes the text of a frame, and returns whether its body has a fault.

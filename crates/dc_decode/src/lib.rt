@@ -27,6 +27,7 @@ mod form;
 mod frames;
 mod input;
 mod laws;
+mod line;
 mod lines;
 mod seen;
 mod telegram;
