@@ -1,16 +1,17 @@
 //! The frames of a line and their text.
 
-ghost use Rattle.std.specs.Prelude.{◌≡◌, ◌<◌, ◌∷◌, length, Ok, Err, MatchResult, IfOk, OnOk, OnErr};
+ghost use Rattle.std.specs.Prelude.{◌≡◌, ◌<◌, ◌≤◌, ◌∷◌, drop, length, Ok, Err, MatchResult};
+ghost use Rattle.std.specs.Prelude.{IfOk, OnOk, OnErr};
 ghost use Rattle.dc_frame.specs.Frame.{seen};
 ghost use Rattle.dc_io.specs.Written.{Wrote};
 ghost use Rattle.dc_decode.specs.Frames.{front_len, frames_of, read_as, content_text};
 ghost use Rattle.dc_decode.specs.Frames.{is_bad_content, short_line, long_line, frame_text};
 ghost use Rattle.dc_decode.specs.Frames.{is_bad_frame, shown, is_bad};
 
-use crate::line::{WORDS_ROOM, put_number_before};
+use crate::line::{WORDS_ROOM, put_byte_word_before, put_number_before};
 use crate::telegram::put_telegram;
 use dc_frame::{Frame, FrameFault, Need, need, parse};
-use dc_io::{IoFault, Sink, pair_of, put_byte_word, put_fault_line};
+use dc_io::{IoFault, Sink, put_byte_word, put_fault_line};
 use dc_record::Telegram;
 use dc_record::value::{put_byte, put_piece};
 
@@ -79,8 +80,24 @@ fn put_short<W: Sink>(control: u8, address: u8, out: &mut W) -> Result<(), IoFau
     out.put(b"\n")
 }
 
-// Writes the line of a long frame.
+// Writes the line of a long frame so that it ends with the room, and returns where it begins.
+#[inline(always)]
 #[tactic(auto, unfolding(crate::specs::Frames::long_line))]
+fn put_long_before(control: u8, address: u8, ci: u8, body: &[u8], room: &mut [u8]) -> usize
+    requires { WORDS_ROOM ≤ length room.old }
+    ensures start { result ≤ length room.new }
+    ensures written { drop result room.new ≡ long_line control address ci body.now }
+{
+    let end = room.len();
+    put_byte(b'\n', room, end);
+    let end = put_number_before(body.len() as u64, room, end - 1);
+    let end = put_byte_word_before(ci, room, end);
+    let end = put_byte_word_before(address, room, end);
+    let end = put_byte_word_before(control, room, end);
+    put_piece(b"LONG", room, end)
+}
+
+// Writes the line of a long frame.
 fn put_long<W: Sink>(
     control: u8,
     address: u8,
@@ -92,14 +109,7 @@ fn put_long<W: Sink>(
         (long_line control address ci body.now) }
 {
     let mut room = [0u8; WORDS_ROOM];
-    put_byte(b'\n', &mut room, WORDS_ROOM);
-    let end = put_number_before(body.len() as u64, &mut room, WORDS_ROOM - 1);
-    let (control, address, ci) = (pair_of(control), pair_of(address), pair_of(ci));
-    let words = [
-        b'L', b'O', b'N', b'G', b' ', control[0], control[1], b' ', address[0], address[1], b' ',
-        ci[0], ci[1],
-    ];
-    let start = put_piece(&words, &mut room, end);
+    let start = put_long_before(control, address, ci, body, &mut room);
     out.put(&room[start..])
 }
 

@@ -5,7 +5,7 @@ ghost use Rattle.std.specs.Prelude.{IsTrue};
 ghost use Rattle.dc_record.specs.Quantity.{unit_of};
 ghost use Rattle.dc_record.specs.Record.{view};
 ghost use Rattle.dc_io.specs.Hex.{upper_hex};
-ghost use Rattle.dc_io.specs.Words.{number_word, hex_word};
+ghost use Rattle.dc_io.specs.Words.{number_word, byte_word, hex_word};
 ghost use Rattle.dc_decode.specs.Seen.{unit_word, point_text, seen_text, seen_word};
 ghost use Rattle.dc_decode.specs.Telegram.{record_line, record_words};
 
@@ -98,6 +98,17 @@ pub fn put_number_before(number: u64, room: &mut [u8], end: usize) -> usize
     let start = put_digits_before(number, room, end);
     put_byte(b' ', room, start);
     start - 1
+}
+
+/// Writes a space and a byte in two capital hex digits just before `end`, and returns where they begin.
+#[inline(always)]
+pub fn put_byte_word_before(byte: u8, room: &mut [u8], end: usize) -> usize
+    requires { (3 ≤ end) × (end ≤ length room.old) }
+    ensures start { result + 3 ≡ end }
+    ensures written { drop result room.new ≡ byte_word byte ++ drop end room.old }
+{
+    let [high, low] = pair_of(byte);
+    put_piece(&[b' ', high, low], room, end)
 }
 
 // Writes bytes in capital hex digits just before `end`, the last byte first, and returns where they begin.
