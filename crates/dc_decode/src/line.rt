@@ -38,7 +38,7 @@ const POINT_ROOM: usize = TEXT_ROOM + UNIT_ROOM;
 // Room for ` = `, a value and its unit.
 const SEEN_ROOM: usize = 3 + POINT_ROOM;
 
-// Each unit after a space, at the end of so many bytes, and how many bytes they have; in the order of the quantities.
+// Each unit after a space, right-aligned, and the length of both; in the order of the quantities.
 static UNITS: [([u8; UNIT_ROOM], u8); 21] = [
     (*b"         Wh", 3),
     (*b"          J", 2),
@@ -142,7 +142,7 @@ fn put_hex_word_before(bytes: &[u8], room: &mut [u8], end: usize) -> usize
     start - 1
 }
 
-// The unit of a quantity after a space, at the end of the bytes, and how many bytes they have.
+// The row of a quantity: its unit after a space, right-aligned, and the length of both.
 #[inline(always)]
 fn unit_row(quantity: Quantity) -> &'static ([u8; UNIT_ROOM], u8)
     ensures few { result.now.1 ≤ UNIT_ROOM }
@@ -151,8 +151,8 @@ fn unit_row(quantity: Quantity) -> &'static ([u8; UNIT_ROOM], u8)
     &UNITS[quantity as usize]
 }
 
-// Writes a space and a unit just before `end`, and returns where they begin. A copy of one size is cheaper than one of
-// the unit's.
+// Writes a space and a unit just before `end`, and returns where they begin. A copy of constant size is cheaper than one
+// of the unit's length.
 #[inline(always)]
 fn put_unit_text_before(quantity: Quantity, room: &mut [u8], end: usize) -> usize
     requires { (UNIT_ROOM ≤ end) × (end ≤ length room.old) }
