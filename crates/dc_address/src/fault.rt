@@ -1,10 +1,10 @@
 //! Why a text is no identity.
 
+use std::fmt;
 use thiserror::Error;
 
 /// Why a text is no identity: the first of these that stands. It prints as its number and its name.
-#[derive(Clone, Copy, Debug, PartialEq, Eq, Error)]
-#[error("{} {}", self.number(), self.name())]
+#[derive(Clone, Copy, Debug, Error)]
 pub enum IdentityFault {
     /// Not 18 bytes.
     Length,
@@ -16,6 +16,12 @@ pub enum IdentityFault {
     Hex,
     /// A dot is missing between the parts.
     Dot,
+}
+
+impl fmt::Display for IdentityFault {
+    fn fmt<W: fmt::Write>(&self, f: &mut fmt::Formatter<W>) -> fmt::Result {
+        write!(f, "{} {}", self.number(), self.name())
+    }
 }
 
 impl IdentityFault {

@@ -18,7 +18,7 @@ const GREATEST_MAKER: u16 = 0x6B5A;
 /// three letters, the version and the device type, as in the fixed data header of EN 13757-3.
 ///
 /// Identities are ordered by their fields in this order.
-#[derive(Clone, Copy, Debug, PartialEq, Eq, PartialOrd, Ord, Hash)]
+#[derive(Clone, Copy, PartialEq, Eq, PartialOrd, Ord, Hash)]
 pub struct Identity {
     /// The identification number, below 10^8.
     pub number: u32,

@@ -13,7 +13,7 @@ use std::marker::Model;
 /// What a selection asks for: eight digits of the identification number, a manufacturer, a version and
 /// a device type, each a value or a wildcard (EN 13757-3, editions of 2004 and 2013: selection; since
 /// 2018 EN 13757-7).
-#[derive(Clone, Copy, Debug, PartialEq, Eq)]
+#[derive(Clone, Copy)]
 pub struct Mask {
     digits: [Option<u8>; 8],
     maker: Option<u16>,

@@ -3,7 +3,7 @@
 use std::marker::Model;
 
 /// A primary address, from 1 to 250 (EN 13757-2: 0 is unconfigured, 251 and above have other uses).
-#[derive(Clone, Copy, Debug, PartialEq, Eq, PartialOrd, Ord, Hash)]
+#[derive(Clone, Copy, PartialEq, Eq, PartialOrd, Ord, Hash)]
 pub struct Primary {
     address: u8,
 }

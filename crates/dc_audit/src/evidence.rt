@@ -22,7 +22,7 @@ use dc_record::{Record, Telegram};
 use std::alloc::Allocator;
 
 /// Why telegrams give no value.
-#[derive(Clone, Copy, Debug, PartialEq, Eq)]
+#[derive(Clone, Copy)]
 pub enum Refusal {
     /// A body isn't a telegram.
     Body,

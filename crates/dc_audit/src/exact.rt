@@ -8,7 +8,7 @@ ghost use Rattle.dc_audit.specs.Exact.{FitsRounded, half_up};
 const END_OF_PRINTED: u128 = 1_000_000_000_000_000_000;
 
 /// An exact number of at least 0: a fraction.
-#[derive(Clone, Copy, Debug, PartialEq, Eq)]
+#[derive(Clone, Copy)]
 pub struct Exact {
     pub num: u128,
     pub den: u128,

@@ -22,7 +22,7 @@ pub struct Span {
 }
 
 /// What is declared of a span, with the number of the use.
-#[derive(Clone, Copy, Debug, PartialEq, Eq)]
+#[derive(Clone, Copy)]
 pub enum Key {
     /// Kilowatt hours of a cubic metre or of an allocator's unit.
     Factor(u64),

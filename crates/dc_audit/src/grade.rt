@@ -8,7 +8,7 @@ ghost use Rattle.dc_audit.specs.Grade.{rank, worst};
 use crate::field::is_word;
 
 /// How reliable a number is, from the best to the worst.
-#[derive(Clone, Copy, Debug, PartialEq, Eq)]
+#[derive(Clone, Copy)]
 pub enum Grade {
     Measured,
     /// A value was put by a person.

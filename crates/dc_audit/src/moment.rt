@@ -19,7 +19,7 @@ const SECONDS_OF_MINUTE: u64 = 60;
 const MOST_OFFSET: u64 = 1_440;
 
 /// How far a local time is from UTC.
-#[derive(Clone, Copy, Debug, PartialEq, Eq)]
+#[derive(Clone, Copy)]
 pub enum Offset {
     /// Minutes ahead of UTC.
     Ahead(u64),

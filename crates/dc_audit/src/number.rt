@@ -135,7 +135,7 @@ pub fn declared_mean(average: u64, area: u64) -> Exact
 }
 
 /// A number with its sign.
-#[derive(Clone, Copy, Debug, PartialEq, Eq)]
+#[derive(Clone, Copy)]
 pub struct Signed {
     pub is_negative: bool,
     pub exact: Exact,

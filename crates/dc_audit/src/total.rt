@@ -16,7 +16,7 @@ use std::collections::BTreeMap;
 use std::marker::Model;
 
 /// What is summed: the amounts of a use in a span, of a user, of a flat, or of the house (0).
-#[derive(Clone, Copy, Debug, PartialEq, Eq, PartialOrd, Ord)]
+#[derive(Clone, Copy, PartialEq, Eq, PartialOrd, Ord)]
 pub struct Key {
     pub span: u64,
     pub used: u64,
@@ -25,7 +25,7 @@ pub struct Key {
 
 /// An amount in the smallest unit, the same times its place's weight times 10^6, and how reliable it is; both are 0
 /// where there is no number.
-#[derive(Clone, Copy, Debug, PartialEq, Eq)]
+#[derive(Clone, Copy)]
 pub struct Share {
     pub plain: u128,
     pub weighted: u128,
@@ -33,7 +33,7 @@ pub struct Share {
 }
 
 /// A sum: of the shares that have a number, the worst grade of all, how many have none, and how many there are.
-#[derive(Clone, Copy, Debug)]
+#[derive(Clone, Copy)]
 pub struct Total {
     pub sum: Share,
     pub without: u64,

@@ -9,7 +9,7 @@ use crate::field::is_word;
 use dc_record::value::Quantity;
 
 /// What a meter counts.
-#[derive(Clone, Copy, Debug, PartialEq, Eq)]
+#[derive(Clone, Copy)]
 pub enum Counted {
     Energy,
     Volume,
@@ -18,7 +18,7 @@ pub enum Counted {
 }
 
 /// The unit of a published number.
-#[derive(Clone, Copy, Debug, PartialEq, Eq)]
+#[derive(Clone, Copy)]
 pub enum Unit {
     Kwh,
     CubicMetre,

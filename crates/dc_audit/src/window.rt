@@ -73,14 +73,14 @@ impl Vib {
 }
 
 /// By whom a value was put.
-#[derive(Clone, Copy, Debug, PartialEq, Eq)]
+#[derive(Clone, Copy)]
 pub enum How {
     Hand,
     Estimated,
 }
 
 /// What a value comes from.
-#[derive(Clone, Copy, Debug, PartialEq, Eq)]
+#[derive(Clone, Copy)]
 pub enum Source {
     /// The telegrams of a readout.
     Telegram,

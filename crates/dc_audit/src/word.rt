@@ -10,7 +10,7 @@ ghost use Rattle.dc_audit.specs.Order.{leads, may_go_on, word_in, word_name};
 use crate::field::is_word;
 
 /// The word that begins a line.
-#[derive(Clone, Copy, Debug, PartialEq, Eq)]
+#[derive(Clone, Copy)]
 pub enum Word {
     Span,
     Use,
@@ -179,7 +179,7 @@ fn word_among(field: &[u8], words: &[Word]) -> Option<Word>
 }
 
 /// How far a file has come: what its last line was.
-#[derive(Clone, Copy, Debug, PartialEq, Eq)]
+#[derive(Clone, Copy)]
 pub enum Stage {
     /// There is no line yet.
     Begun,

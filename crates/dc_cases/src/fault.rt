@@ -5,7 +5,7 @@ use std::alloc::{AllocError, AllocFailed};
 use std::io;
 
 /// Why a command of a case file has no result.
-#[derive(Clone, Copy, Debug, PartialEq, Eq)]
+#[derive(Clone, Copy)]
 pub enum CaseFault {
     /// It isn't a command, or its words or its input aren't those of the command.
     Syntax,

@@ -106,7 +106,6 @@ impl Command {
     }
 }
 
-#[tactic(auto, using(crate::proofs::Lines::regroup))]
 fn fit_line(
     line: CommandLine,
     meter: &Identity,
@@ -128,7 +127,6 @@ fn fit_line(
     line
 }
 
-#[tactic(auto, using(crate::proofs::Lines::regroup))]
 fn move_line(line: CommandLine, meter: &Identity, flat: Flat) -> CommandLine
     requires { length line ≤ most_digits }
     ensures words { result ≡ join_with_byte 32
@@ -142,7 +140,6 @@ fn move_line(line: CommandLine, meter: &Identity, flat: Flat) -> CommandLine
     line
 }
 
-#[tactic(auto, using(crate::proofs::Lines::regroup))]
 fn out_line(line: CommandLine, meter: &Identity) -> CommandLine
     requires { length line ≤ most_digits }
     ensures words { result ≡ join_with_byte 32 (line ∷ command_words (Command.Out meter.now)) }
@@ -154,7 +151,6 @@ fn out_line(line: CommandLine, meter: &Identity) -> CommandLine
     line
 }
 
-#[tactic(auto, using(crate::proofs::Lines::regroup))]
 fn confirm_line(line: CommandLine, serial: u64) -> CommandLine
     requires room { length line ≤ most_digits }
     requires serial { serial < end_of_numbers }
@@ -167,7 +163,6 @@ fn confirm_line(line: CommandLine, serial: u64) -> CommandLine
     line
 }
 
-#[tactic(auto, using(crate::proofs::Lines::regroup))]
 fn swap_line(
     line: CommandLine,
     old: &Identity,

@@ -3,26 +3,28 @@
 ghost use Rattle.std.specs.Prelude.{◌≡◌};
 ghost use Rattle.dc_change.specs.Fault.{number_of, name_of};
 
+use std::fmt;
 use thiserror::Error;
 
 /// Why a change is refused.
-#[derive(Clone, Copy, Debug, PartialEq, Eq, Error)]
+#[derive(Clone, Copy, Debug, Error)]
 pub enum ChangeFault {
     /// No such meter, or a part that is neither the first nor the next.
-    #[error("{} {}", self.number(), self.name())]
     Unknown,
     /// The new meter is already registered.
-    #[error("{} {}", self.number(), self.name())]
     Known,
     /// Another meter has this primary address on the bus line.
-    #[error("{} {}", self.number(), self.name())]
     AddressTaken,
     /// The confirmed serial hasn't been given yet.
-    #[error("{} {}", self.number(), self.name())]
     Beyond,
     /// The state would exceed its budget, or the serials are exhausted.
-    #[error("{} {}", self.number(), self.name())]
     Full,
+}
+
+impl fmt::Display for ChangeFault {
+    fn fmt<W: fmt::Write>(&self, f: &mut fmt::Formatter<W>) -> fmt::Result {
+        write!(f, "{} {}", self.number(), self.name())
+    }
 }
 
 impl ChangeFault {

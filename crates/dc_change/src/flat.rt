@@ -14,7 +14,7 @@ use std::cmp::Ordering;
 use std::marker::Model;
 
 /// A flat's name: 1 to 12 bytes of `A-Z a-z 0-9 . - / _` (this product). Names are ordered as their bytes.
-#[derive(Clone, Copy, Debug)]
+#[derive(Clone, Copy)]
 pub struct Flat {
     bytes: [u8; LONGEST_FLAT],
     len: u8,

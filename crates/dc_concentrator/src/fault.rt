@@ -6,11 +6,11 @@ ghost use Rattle.dc_concentrator.specs.Fault.{start_number, start_name, hear_num
 ghost use Rattle.dc_concentrator.specs.Fault.{commit_number, commit_name, hear_fault};
 
 use crate::pending::TakeFault;
+use std::fmt;
 use thiserror::Error;
 
 /// Why no session was started: the first of NoLine, Stopped, Unknown, Busy that applies.
-#[derive(Clone, Copy, Debug, PartialEq, Eq, Error)]
-#[error("{} {}", self.number(), self.name())]
+#[derive(Clone, Copy, Debug, Error)]
 pub enum StartFault {
     /// The line doesn't exist.
     NoLine,
@@ -20,6 +20,12 @@ pub enum StartFault {
     Busy,
     /// A failure of the disk has stopped the concentrator; it must be opened again.
     Stopped,
+}
+
+impl fmt::Display for StartFault {
+    fn fmt<W: fmt::Write>(&self, f: &mut fmt::Formatter<W>) -> fmt::Result {
+        write!(f, "{} {}", self.number(), self.name())
+    }
 }
 
 impl StartFault {
@@ -50,8 +56,7 @@ impl StartFault {
 
 /// Why an answer wasn't taken: the first of NoLine, Stopped, Idle, and for a new telegram then
 /// PendingFull, Full, NoMemory that applies. The request can be answered again.
-#[derive(Clone, Copy, Debug, PartialEq, Eq, Error)]
-#[error("{} {}", self.number(), self.name())]
+#[derive(Clone, Copy, Debug, Error)]
 pub enum HearFault {
     /// The line doesn't exist.
     NoLine,
@@ -65,6 +70,12 @@ pub enum HearFault {
     PendingFull,
     /// A failure of the disk has stopped the concentrator; it must be opened again.
     Stopped,
+}
+
+impl fmt::Display for HearFault {
+    fn fmt<W: fmt::Write>(&self, f: &mut fmt::Formatter<W>) -> fmt::Result {
+        write!(f, "{} {}", self.number(), self.name())
+    }
 }
 
 impl HearFault {
@@ -112,8 +123,7 @@ impl From<TakeFault> for HearFault {
 }
 
 /// Why a commit failed; the changes stay pending.
-#[derive(Clone, Copy, Debug, PartialEq, Eq, Error)]
-#[error("{} {}", self.number(), self.name())]
+#[derive(Clone, Copy, Debug, Error)]
 pub enum CommitFault {
     /// The disk failed, and counted the failure. The concentrator is stopped from then on.
     Device,
@@ -121,6 +131,12 @@ pub enum CommitFault {
     Worn,
     /// A failure of the disk has stopped the concentrator; it must be opened again.
     Stopped,
+}
+
+impl fmt::Display for CommitFault {
+    fn fmt<W: fmt::Write>(&self, f: &mut fmt::Formatter<W>) -> fmt::Result {
+        write!(f, "{} {}", self.number(), self.name())
+    }
 }
 
 impl CommitFault {
@@ -148,6 +164,6 @@ impl CommitFault {
 }
 
 /// The writer failed, and counted the failure.
-#[derive(Clone, Copy, Debug, PartialEq, Eq, Error)]
+#[derive(Clone, Copy, Debug, Error)]
 #[error("writing failed")]
 pub struct WriteFault;

@@ -6,7 +6,7 @@ ghost use Rattle.dc_consumption.specs.Fault.{number_of, name_of};
 use thiserror::Error;
 
 /// Why a place has no amount in a period (this product).
-#[derive(Clone, Copy, Debug, PartialEq, Eq, Error)]
+#[derive(Clone, Copy, Debug, Error)]
 pub enum AmountFault {
     /// The amount is 2^64 or more.
     #[error("the amount is 2^64 or more")]

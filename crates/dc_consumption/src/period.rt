@@ -3,7 +3,7 @@
 use crate::AmountFault;
 
 /// What a place consumed in a period, with its marks.
-#[derive(Clone, Copy, Debug, PartialEq, Eq)]
+#[derive(Clone, Copy)]
 pub struct Period {
     /// Its beginning.
     pub from: u64,

@@ -1,9 +1,10 @@
 -- Lemmas for callers: what a run of calls leaves at any moment, from what each call leaves. No disk is
 -- looked into: g are the ghosts of a bound `D: Disk`.
-use Rattle.std.proofs.Common.{◌≡◌, ◌∙◌, ◌≤◌, inl, inr, ⊎_elim, ℕ, arith, subst, sym}
+use Rattle.std.proofs.Common.{◌≡◌, ◌∙◌, ◌≤◌, inl, inr, ⊎_elim, ℕ, Result, Ok, Err, ap, arith, subst, sym}
+use Rattle.std.specs.Prelude.{IsErrOf}
 use Rattle.dc_disk.specs.declared.device.Disk.{Ghosts}
-use Rattle.dc_disk.specs.Disk.{Image, IsImage}
-use Rattle.dc_disk.specs.Runs.{Passes, LeavesOnly, Counts}
+use Rattle.dc_disk.specs.Disk.{Image, Choices, IsImage}
+use Rattle.dc_disk.specs.Runs.{Passes, LeavesOnly, OnlyLooked, Counts}
 
 module _ {D : Type 0} (g : Ghosts D) where
   -- before the first call
@@ -62,3 +63,26 @@ module _ {D : Type 0} (g : Ghosts D) where
   -- a call in which nothing failed
   pub all_passed : (old new : D) (F : Type 0) → Counts g old new F → (F → ⊥) → Counts g old new ⊥
   all_passed old new F counts none = record { count = counts.count; later = counts.later; passed = λ _. counts.passed none; failed = λ is. absurd is }
+
+  -- calls in which nothing failed, and then one whose error is passed on
+  pub counts_pass : {T U E : Type 0} (old mid new : D) (r : Result U E) (fault device : E) → Counts g old mid ⊥
+      → Counts g mid new (IsErrOf {T = T} (Err fault) device) → r ≡ Err fault → Counts g old new (IsErrOf r device)
+  counts_pass old mid new r fault device first second same =
+      counted_on g old mid new ⊥ _ _ first (λ is. is) second
+      (λ is. let e : fault ≡ device = cc is in same ∙ ap Err e) (λ is. let e : fault ≡ device = cc (is, same) in ap Err e)
+
+  -- calls in which nothing failed, and then one more, where what is returned says so
+  pub counts_none : (old mid new : D) (F H : Type 0) → Counts g old mid ⊥ → Counts g mid new F → (F → ⊥) → (H → ⊥) → Counts g old new H
+  counts_none old mid new F H first second none other =
+      counted_on g old mid new ⊥ ⊥ H first (λ is. is) (all_passed g mid new F second none) (λ is. absurd is) other
+
+  -- calls that only looked, and then one more, whatever it answered
+  pub looked_next : (old mid new : D) → OnlyLooked g old mid → g.reads new ≡ g.reads mid → g.choices new ≡ g.choices mid
+      → Passes g mid new (IsImage (g.choices mid)) → (g.keeps new → g.keeps mid) → OnlyLooked g old new
+  looked_next old mid new first reads choices time before = record {
+    reads_same = reads ∙ first.reads_same;
+    choices_same = choices ∙ first.choices_same;
+    any_moment = goes_on g old mid new (IsImage (g.choices old)) (IsImage (g.choices mid)) first.any_moment time
+        (λ image is. subst (λ (c : Choices). IsImage c image) first.choices_same is);
+    before = λ kept. first.before (before kept);
+  }

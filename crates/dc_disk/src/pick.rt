@@ -1,7 +1,7 @@
 //! The contents of a sector after a crash.
 
 /// The contents, after a crash, of a sector that was written since the sync.
-#[derive(Clone, Copy, Debug, PartialEq, Eq)]
+#[derive(Clone, Copy)]
 pub enum Pick {
     /// What the sector read at the last sync.
     Old,

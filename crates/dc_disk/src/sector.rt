@@ -3,7 +3,7 @@
 use thiserror::Error;
 
 /// The contents of a sector of 512 bytes.
-#[derive(Clone, Copy, Debug, PartialEq, Eq)]
+#[derive(Clone, Copy)]
 pub enum Sector {
     /// These bytes.
     Bytes([u8; 512]),
@@ -12,12 +12,12 @@ pub enum Sector {
 }
 
 /// The device failed, and counted the failure.
-#[derive(Clone, Copy, Debug, PartialEq, Eq, Error)]
+#[derive(Clone, Copy, Debug, Error)]
 #[error("the disk failed")]
 pub struct Failed;
 
 /// Why a read returned no bytes.
-#[derive(Clone, Copy, Debug, PartialEq, Eq, Error)]
+#[derive(Clone, Copy, Debug, Error)]
 pub enum ReadFault {
     /// The sector is unreadable: a fact of the image, not a failure.
     #[error("the sector is unreadable")]

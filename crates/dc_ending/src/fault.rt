@@ -9,7 +9,7 @@ use dc_log::OpenFault;
 use thiserror::Error;
 
 /// Why an engine of the program stopped (this product).
-#[derive(Clone, Copy, Debug, PartialEq, Eq, Error)]
+#[derive(Clone, Copy, Debug, Error)]
 pub enum ProgramFault {
     /// A read failed.
     #[error("the input can't be read")]

@@ -8,7 +8,7 @@ use dc_log::{OpenFault, StoreFault};
 use thiserror::Error;
 
 /// Why a list wasn't fitted (this product).
-#[derive(Clone, Copy, Debug, PartialEq, Eq, Error)]
+#[derive(Clone, Copy, Debug, Error)]
 pub enum FitFault {
     /// The image wasn't opened.
     #[error("the image isn't opened: {0}")]

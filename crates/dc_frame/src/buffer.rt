@@ -9,7 +9,7 @@ use std::marker::Model;
 const CAPACITY: usize = 261;
 
 /// The bytes of one frame, at most 261.
-#[derive(Clone, Copy, Debug, PartialEq, Eq)]
+#[derive(Clone, Copy)]
 pub struct FrameBuf {
     bytes: [u8; CAPACITY],
     len: u16,

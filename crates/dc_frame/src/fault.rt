@@ -3,11 +3,11 @@
 ghost use Rattle.std.specs.Prelude.{◌≡◌};
 ghost use Rattle.dc_frame.specs.Fault.{number_of, name_of};
 
+use std::fmt;
 use thiserror::Error;
 
 /// Why bytes are no link frame. The first that stands, in this order, is answered.
-#[derive(Clone, Copy, Debug, PartialEq, Eq, Error)]
-#[error("{} {}", self.number(), self.name())]
+#[derive(Clone, Copy, Debug, Error)]
 pub enum FrameFault {
     /// There is no byte.
     Empty,
@@ -23,6 +23,12 @@ pub enum FrameFault {
     Stop,
     /// The checksum isn't the sum of the bytes that it covers.
     Checksum,
+}
+
+impl fmt::Display for FrameFault {
+    fn fmt<W: fmt::Write>(&self, f: &mut fmt::Formatter<W>) -> fmt::Result {
+        write!(f, "{} {}", self.number(), self.name())
+    }
 }
 
 impl FrameFault {

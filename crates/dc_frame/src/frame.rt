@@ -1,7 +1,7 @@
 //! Link frames, and the bytes that mark them.
 
 /// A link frame (EN 13757-2); the body of a long one lies in the bytes that were read.
-#[derive(Clone, Copy, Debug, PartialEq, Eq)]
+#[derive(Clone, Copy)]
 pub enum Frame<'a> {
     /// The single byte `E5`.
     Ack,

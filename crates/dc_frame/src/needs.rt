@@ -1,7 +1,7 @@
 //! What the front of a stream needs.
 
 /// What the frame at the front of some bytes needs.
-#[derive(Clone, Copy, Debug, PartialEq, Eq)]
+#[derive(Clone, Copy)]
 pub enum Need {
     /// At least this many bytes are missing.
     More(usize),

@@ -28,7 +28,7 @@ const EIGHT_BITS: u8 = 0x01;
 const BUS_ADDRESS: u8 = 0x7A;
 
 /// How the meter that gets an address is reached.
-#[derive(Clone, Copy, Debug, PartialEq, Eq)]
+#[derive(Clone, Copy)]
 pub enum Target {
     /// At the primary address that it has; 0 where it got none.
     Address(u8),
@@ -37,7 +37,7 @@ pub enum Target {
 }
 
 /// What came of setting a primary address.
-#[derive(Clone, Copy, Debug, PartialEq, Eq)]
+#[derive(Clone, Copy)]
 pub enum Addressing {
     /// The meter answers at the new address.
     Set(Identity),

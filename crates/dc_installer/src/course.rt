@@ -12,7 +12,7 @@ use dc_search::meter_of;
 
 /// How far a search is: what its requests and their answers come to so far, repeats too. Counts stay at the greatest
 /// number of 64 bits.
-#[derive(Clone, Copy, Debug, PartialEq, Eq)]
+#[derive(Clone, Copy)]
 pub struct Course {
     /// Number of selections.
     pub selections: u64,

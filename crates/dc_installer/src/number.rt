@@ -22,7 +22,7 @@ use dc_tokens::{Piece, put_pieces};
 const TRIES: u8 = 3;
 
 /// What came of asking for the meter of a number.
-#[derive(Clone, Copy, Debug, PartialEq, Eq)]
+#[derive(Clone, Copy)]
 pub enum Numbered {
     /// One meter answered, and has the number.
     One(Identity),

@@ -24,7 +24,7 @@ use dc_readout::misses::{Misses, is_missing};
 use dc_readout::{Heard, Session};
 
 /// The end of a readout.
-#[derive(Clone, Copy, Debug, PartialEq, Eq)]
+#[derive(Clone, Copy)]
 pub enum Readout {
     /// Each telegram was printed, up to the last.
     Whole,

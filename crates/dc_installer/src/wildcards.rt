@@ -13,7 +13,7 @@ use std::alloc::Allocator;
 use thiserror::Error;
 
 /// Why a scan didn't end.
-#[derive(Clone, Copy, Debug, PartialEq, Eq, Error)]
+#[derive(Clone, Copy, Debug, Error)]
 pub enum ScanFault {
     /// A write failed.
     #[error("a write failed")]
@@ -24,7 +24,7 @@ pub enum ScanFault {
 }
 
 /// How much a search found.
-#[derive(Clone, Copy, Debug, PartialEq, Eq)]
+#[derive(Clone, Copy)]
 pub struct Count {
     /// Number of meters.
     pub meters: usize,

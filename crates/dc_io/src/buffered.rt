@@ -122,7 +122,6 @@ impl<W: Sink + Drop, A: Allocator> Sink for Buffered<W, A> {
     ghost put_failures = { λ b. W.put_failures b.writer };
 
     #[inline]
-    #[tactic(auto, using(crate::proofs::Pieces::written))]
     fn put(&mut self, piece: &[u8]) -> Result<(), IoFault> {
         if self.has_place(piece.len()) {
             self.hold(piece);
@@ -134,7 +133,6 @@ impl<W: Sink + Drop, A: Allocator> Sink for Buffered<W, A> {
 
 /// Places a piece after the first `at` bytes.
 #[inline]
-#[tactic(auto, using(crate::proofs::Placed::piece_placed))]
 pub(crate) fn place(bytes: &mut [u8], at: usize, piece: &[u8])
     requires { at + length piece.now ≤ length bytes.old }
     ensures { take (at + length piece.now) bytes.new ≡ take at bytes.old ++ piece.now }

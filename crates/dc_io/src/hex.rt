@@ -127,7 +127,6 @@ pub fn put_hex<W: Sink>(out: &mut W, bytes: &[u8]) -> Result<(), IoFault>
 }
 
 /// Writes a space and a byte in two capital hex digits.
-#[tactic(auto, using(crate::proofs::Pieces::written))]
 pub fn put_byte_word<W: Sink>(out: &mut W, byte: u8) -> Result<(), IoFault>
     ensures { Wrote W.Sink result out.old out.new (byte_word byte) }
 {
@@ -136,7 +135,6 @@ pub fn put_byte_word<W: Sink>(out: &mut W, byte: u8) -> Result<(), IoFault>
 }
 
 // Writes a space and a few bytes in capital hex digits by one put.
-#[tactic(auto, using(crate::proofs::Digits::digits))]
 fn put_few<W: Sink>(out: &mut W, bytes: &[u8]) -> Result<(), IoFault>
     requires { length bytes.now ≤ 16 }
     ensures { Wrote W.Sink result out.old out.new (32 ∷ upper_hex bytes.now) }

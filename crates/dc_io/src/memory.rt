@@ -6,7 +6,7 @@ use std::alloc::{AllocError, AllocFailed, Allocator};
 use thiserror::Error;
 
 /// Out of memory.
-#[derive(Clone, Copy, Debug, PartialEq, Eq, Error)]
+#[derive(Clone, Copy, Debug, Error)]
 #[error("memory was refused")]
 pub struct NoMemory;
 

@@ -50,7 +50,6 @@ impl Sink for SliceSink<'_> {
 
     ghost put_failures = { λ s. s.failures };
 
-    #[tactic(auto, using(crate::proofs::Pieces::told))]
     fn put(&mut self, bytes: &[u8]) -> Result<(), IoFault> {
         let free = self.room.len() - self.len;
         if self.failures > 0 {

@@ -8,7 +8,7 @@ ghost use Rattle.dc_io.specs.Stream.{Takes, Puts, PutsFront, IsAtEnd};
 use thiserror::Error;
 
 /// A read or a write failed.
-#[derive(Clone, Copy, Debug, PartialEq, Eq, Error)]
+#[derive(Clone, Copy, Debug, Error)]
 #[error("reading or writing failed")]
 pub struct IoFault;
 

@@ -8,7 +8,7 @@ use crate::NoMemory;
 use thiserror::Error;
 
 /// Why an input wasn't printed (this product).
-#[derive(Clone, Copy, Debug, PartialEq, Eq, Error)]
+#[derive(Clone, Copy, Debug, Error)]
 pub enum TextFault {
     /// A read failed.
     #[error("the input can't be read")]

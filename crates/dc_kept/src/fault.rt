@@ -1,7 +1,7 @@
 //! Why bytes can't be decoded.
 
 /// Why bytes can't be decoded.
-#[derive(Clone, Copy, Debug, PartialEq, Eq)]
+#[derive(Clone, Copy)]
 pub enum DecodeFault {
     /// The bytes don't spell the expected value.
     Bad,

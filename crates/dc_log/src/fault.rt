@@ -4,11 +4,11 @@ ghost use Rattle.std.specs.Prelude.{◌≡◌};
 ghost use Rattle.dc_log.specs.Fault.{open_number, open_name, format_number, format_name};
 ghost use Rattle.dc_log.specs.Fault.{store_number, store_name};
 
+use std::fmt;
 use thiserror::Error;
 
 /// Why an image wasn't opened: the first fault in the order of the steps of opening.
 #[derive(Clone, Copy, Debug, PartialEq, Eq, Error)]
-#[error("{} {}", self.number(), self.name())]
 pub enum OpenFault {
     /// The disk has fewer than 131 sectors, or both root slots are readable and neither has a root.
     NotImage,
@@ -24,6 +24,12 @@ pub enum OpenFault {
     Device,
     /// Out of memory.
     NoMemory,
+}
+
+impl fmt::Display for OpenFault {
+    fn fmt<W: fmt::Write>(&self, f: &mut fmt::Formatter<W>) -> fmt::Result {
+        write!(f, "{} {}", self.number(), self.name())
+    }
 }
 
 impl OpenFault {
@@ -57,8 +63,7 @@ impl OpenFault {
 }
 
 /// Why a disk wasn't formatted.
-#[derive(Clone, Copy, Debug, PartialEq, Eq, Error)]
-#[error("{} {}", self.number(), self.name())]
+#[derive(Clone, Copy, Debug, Error)]
 pub enum FormatFault {
     /// The disk has fewer than 131 sectors.
     TooSmall,
@@ -66,6 +71,12 @@ pub enum FormatFault {
     AlreadyFormatted,
     /// The disk failed, and counted the failure.
     Device,
+}
+
+impl fmt::Display for FormatFault {
+    fn fmt<W: fmt::Write>(&self, f: &mut fmt::Formatter<W>) -> fmt::Result {
+        write!(f, "{} {}", self.number(), self.name())
+    }
 }
 
 impl FormatFault {
@@ -93,8 +104,7 @@ impl FormatFault {
 }
 
 /// Why a store didn't write.
-#[derive(Clone, Copy, Debug, PartialEq, Eq, Error)]
-#[error("{} {}", self.number(), self.name())]
+#[derive(Clone, Copy, Debug, Error)]
 pub enum StoreFault {
     /// The disk failed, and counted the failure. The store is stopped from then on.
     Device,
@@ -103,6 +113,12 @@ pub enum StoreFault {
     Worn,
     /// A failure of the disk stopped the store; it must be opened again.
     Stopped,
+}
+
+impl fmt::Display for StoreFault {
+    fn fmt<W: fmt::Write>(&self, f: &mut fmt::Formatter<W>) -> fmt::Result {
+        write!(f, "{} {}", self.number(), self.name())
+    }
 }
 
 impl StoreFault {

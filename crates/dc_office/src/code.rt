@@ -7,7 +7,7 @@ use dc_change::ChangeFault;
 
 /// Why a line is refused. The concentrator itself finds the first two and the last;
 /// [`judge`](crate::judge) finds the others.
-#[derive(Clone, Copy, Debug, PartialEq, Eq)]
+#[derive(Clone, Copy)]
 pub enum Code {
     /// The text is no line of the billing office.
     Syntax,

@@ -8,7 +8,7 @@ use dc_io::IoFault;
 use thiserror::Error;
 
 /// Why a reply wasn't written.
-#[derive(Clone, Copy, Debug, PartialEq, Eq, Error)]
+#[derive(Clone, Copy, Debug, Error)]
 pub enum ReplyFault {
     /// Out of memory for the table of a REPORT; nothing was written.
     #[error("{} {}", self.number(), self.name())]

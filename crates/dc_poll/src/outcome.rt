@@ -12,7 +12,7 @@ pub struct Counts {
 }
 
 /// How a poll ended.
-#[derive(Clone, Copy, Debug, PartialEq, Eq)]
+#[derive(Clone, Copy)]
 pub struct Outcome {
     /// Number of meters that were read.
     pub read: u64,

@@ -33,7 +33,7 @@ pub struct Held {
 }
 
 /// What became of a request that is held.
-#[derive(Clone, Copy, Debug, PartialEq, Eq)]
+#[derive(Clone, Copy)]
 pub enum Gone {
     /// It was sent.
     Out,

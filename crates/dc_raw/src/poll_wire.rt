@@ -58,7 +58,7 @@ pub trait Link {
 }
 
 /// When silence comes after a request.
-#[derive(Clone, Copy, Debug, PartialEq, Eq)]
+#[derive(Clone, Copy)]
 pub enum Until {
     /// Nothing came for the time-out, since the request or the last byte.
     Still,

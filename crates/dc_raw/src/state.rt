@@ -11,7 +11,7 @@ use dc_frame::control::{SELECTED, SND_NKE, SND_UD};
 use dc_frame::{Frame, FrameBuf, parse};
 
 /// What may be under way on a line.
-#[derive(Clone, Copy, Debug, PartialEq, Eq)]
+#[derive(Clone, Copy)]
 pub enum State {
     /// Nothing: nothing came for the patience since the last request and the last byte.
     Quiet,
@@ -25,7 +25,7 @@ pub enum State {
 }
 
 /// How the answer to a request is taken.
-#[derive(Clone, Copy, Debug, PartialEq, Eq)]
+#[derive(Clone, Copy)]
 pub enum Kind {
     /// The first frame: one meter answers.
     One,

@@ -11,7 +11,7 @@ use dc_io::{IoFault, one_failure_more};
 use std::marker::Model;
 
 /// An event of a tape.
-#[derive(Clone, Copy, Debug, PartialEq, Eq)]
+#[derive(Clone, Copy)]
 pub enum Event {
     /// This many bytes, in any pieces in which they are read.
     Bytes(usize),

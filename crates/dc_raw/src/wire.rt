@@ -9,7 +9,7 @@ ghost use Rattle.dc_raw.specs.declared.wire.Asking.{Asking as Asks};
 use dc_io::IoFault;
 
 /// What has arrived on a wire so far.
-#[derive(Clone, Copy, Debug, PartialEq, Eq)]
+#[derive(Clone, Copy)]
 pub enum Came {
     /// This many bytes, at least one.
     Bytes(usize),
@@ -24,7 +24,7 @@ pub enum Came {
 }
 
 /// How long a wire listens after a request.
-#[derive(Clone, Copy, Debug, PartialEq, Eq)]
+#[derive(Clone, Copy)]
 pub struct Asking {
     /// Whether several meters may answer: the wire listens while one of them may begin to, and then
     /// to the end of what comes.

@@ -4,7 +4,7 @@ use crate::why::Why;
 use dc_record::Telegram;
 
 /// What an answer was.
-#[derive(Clone, Copy, Debug, PartialEq, Eq)]
+#[derive(Clone, Copy)]
 pub enum Heard<'a> {
     /// It failed, and the same request goes out once more.
     Again,

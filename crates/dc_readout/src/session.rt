@@ -30,7 +30,7 @@ use std::marker::Model;
 const MAX_TRIES: u8 = 3;
 
 /// The readout of one meter, from the reset of its line to its last telegram.
-#[derive(Clone, Copy, Debug, PartialEq, Eq)]
+#[derive(Clone, Copy)]
 pub struct Session {
     meter: Identity,
     address: Option<Primary>,

@@ -1,6 +1,6 @@
 //! What a session waits for.
 
-#[derive(Clone, Copy, Debug, PartialEq, Eq)]
+#[derive(Clone, Copy)]
 pub(crate) enum Stage {
     // The answer to the reset.
     Resets,

@@ -4,32 +4,36 @@ ghost use Rattle.std.specs.Prelude.{◌≡◌};
 ghost use Rattle.dc_readout.specs.Why.{number_of, name_of};
 
 use dc_record::BodyFault;
+use std::fmt;
 use thiserror::Error;
 
 /// Why a readout failed. The first that stands, in this order, is answered.
-#[derive(Clone, Copy, Debug, PartialEq, Eq, Error)]
+#[derive(Clone, Copy, Debug, Error)]
 pub enum Why {
     /// The third try was answered by no byte, or by no readable frame.
-    #[error("{} {}", self.number(), self.name())]
     NoAnswer,
     /// The third try was answered by another frame than the one asked for.
-    #[error("{} {}", self.number(), self.name())]
     WrongFrame,
     /// The third try was answered from another primary address.
-    #[error("{} {}", self.number(), self.name())]
     WrongAddress,
     /// The meter answered an application error.
-    #[error("{} {}", self.number(), self.name())]
     ApplicationError,
     /// The telegram's body is refused.
-    #[error("{} {} {fault}", self.number(), self.name(), fault = .0)]
     Content(BodyFault),
     /// The telegram is another meter's.
-    #[error("{} {}", self.number(), self.name())]
     Stranger,
     /// The 32nd part says that more follow.
-    #[error("{} {}", self.number(), self.name())]
     TooManyParts,
+}
+
+impl fmt::Display for Why {
+    fn fmt<W: fmt::Write>(&self, f: &mut fmt::Formatter<W>) -> fmt::Result {
+        write!(f, "{} {}", self.number(), self.name())?;
+        match self {
+            Why::Content(fault) => write!(f, " {fault}"),
+            _ => Ok(()),
+        }
+    }
 }
 
 impl Why {

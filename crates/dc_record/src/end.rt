@@ -3,7 +3,7 @@
 ghost use Rattle.std.specs.Prelude.{◌≡◌};
 
 /// How a body ends (EN 13757-3, the special DIFs 0F and 1F).
-#[derive(Clone, Copy, Debug, PartialEq, Eq)]
+#[derive(Clone, Copy)]
 pub enum End<'a> {
     /// With its last item.
     Plain,

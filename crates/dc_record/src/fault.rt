@@ -3,11 +3,11 @@
 ghost use Rattle.std.specs.Prelude.{◌≡◌};
 ghost use Rattle.dc_record.specs.Fault.{number_of, name_of};
 
+use std::fmt;
 use thiserror::Error;
 
 /// What is wrong with a body. It prints as its number and its name.
-#[derive(Clone, Copy, Debug, PartialEq, Eq, Error)]
-#[error("{} {}", self.number(), self.name())]
+#[derive(Clone, Copy, Debug, Error)]
 pub enum BodyFault {
     /// Fewer bytes than a header has.
     Short,
@@ -27,6 +27,12 @@ pub enum BodyFault {
     PlainTextExtension,
     /// The body ends within a record.
     Cut,
+}
+
+impl fmt::Display for BodyFault {
+    fn fmt<W: fmt::Write>(&self, f: &mut fmt::Formatter<W>) -> fmt::Result {
+        write!(f, "{} {}", self.number(), self.name())
+    }
 }
 
 impl BodyFault {

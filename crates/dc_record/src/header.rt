@@ -10,7 +10,7 @@ use dc_address::Identity;
 pub const HEADER_LEN: usize = 12;
 
 /// The header of a telegram (EN 13757-3, the long data header).
-#[derive(Clone, Copy, Debug, PartialEq, Eq)]
+#[derive(Clone, Copy)]
 pub struct Header {
     /// The meter's identity: identification number, manufacturer, version and device type.
     pub identity: Identity,

@@ -3,7 +3,7 @@
 ghost use Rattle.std.specs.Prelude.{◌≡◌};
 
 /// A data record, borrowed from its body (EN 13757-3, the data record header DIF, DIFE, VIF, VIFE).
-#[derive(Clone, Copy, Debug, PartialEq, Eq)]
+#[derive(Clone, Copy)]
 pub struct Record<'a> {
     /// The storage number; 0 is the current value.
     pub storage: u64,

@@ -26,7 +26,7 @@ pub fn end_of(bytes: &[u8]) -> Result<End<'_>, BodyFault>
 
 /// The records of a body, in the order in which they were sent; fillers are left out. Contracts see the list of the
 /// records that are still to come.
-#[derive(Debug, Drop)]
+#[derive(Drop)]
 pub struct Records<'a> {
     left: &'a [u8],
 }

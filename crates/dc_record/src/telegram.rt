@@ -12,7 +12,7 @@ use crate::records::{Records, end_of};
 
 /// A telegram's body that was read: the variable data structure that follows CI 72 (EN 13757-3). It borrows the
 /// bytes, and a copy shows the same telegram.
-#[derive(Clone, Copy, Debug, PartialEq, Eq)]
+#[derive(Clone, Copy)]
 pub struct Telegram<'a> {
     body: &'a [u8],
     header: Header,

@@ -1,7 +1,7 @@
 //! A reading's serial under an index key.
 
 /// A serial under a key: ordered by key, and by serial for equal keys.
-#[derive(Clone, Copy, Debug, PartialEq, Eq, PartialOrd, Ord)]
+#[derive(Clone, Copy, PartialEq, Eq, PartialOrd, Ord)]
 pub struct Filed<K> {
     /// The key.
     pub key: K,

@@ -4,7 +4,7 @@ use dc_address::Identity;
 use dc_change::Flat;
 
 /// A meter's place by flat: ordered by the flat's bytes, and by identity within a flat.
-#[derive(Clone, Copy, Debug, PartialEq, Eq, PartialOrd, Ord)]
+#[derive(Clone, Copy, PartialEq, Eq, PartialOrd, Ord)]
 pub struct Place {
     /// The flat.
     pub flat: Flat,
@@ -13,7 +13,7 @@ pub struct Place {
 }
 
 /// A meter's place on the bus: ordered by bus line, then by primary address, and then by identity.
-#[derive(Clone, Copy, Debug, PartialEq, Eq, PartialOrd, Ord)]
+#[derive(Clone, Copy, PartialEq, Eq, PartialOrd, Ord)]
 pub(crate) struct BusPlace {
     pub(crate) line: u8,
     pub(crate) address: u8,

@@ -9,7 +9,7 @@ use dc_frame::FrameBuf;
 use dc_frame::control::{SELECTED, write_request, write_selection};
 
 /// The next step of a search.
-#[derive(Clone, Copy, Debug, PartialEq, Eq)]
+#[derive(Clone, Copy)]
 pub enum Step {
     /// Select the meters that match.
     Select(Mask),

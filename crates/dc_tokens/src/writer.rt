@@ -289,7 +289,6 @@ impl<'a, W: Sink> TokenWriter<'a, W> {
 
     /// Writes a field whose value is a whole number.
     #[inline(always)]
-    #[tactic(auto, using(std::proofs::lemmas::Fmt::decimal_digit))]
     pub fn put_count(&mut self, name: &str, number: u64)
         ensures { Added W.Sink self.old self.new
             (Token.key name.now ∷ Token.number (decimal number) ∷ []) }

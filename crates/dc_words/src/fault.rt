@@ -4,7 +4,7 @@ use clap::Error;
 use std::alloc::{AllocError, AllocFailed};
 
 /// The mistake in the word of a link.
-#[derive(Clone, Copy, Debug, PartialEq, Eq)]
+#[derive(Clone, Copy)]
 pub enum LinkFault {
     /// No bus line before a `=`.
     NoLine,
@@ -32,7 +32,7 @@ impl LinkFault {
 }
 
 /// The mistake in the words.
-#[derive(Debug, Drop)]
+#[derive(Drop)]
 pub enum WordsFault {
     /// A message of `clap`, help and the version included.
     Clap(Error),

@@ -6,7 +6,7 @@ ghost use Rattle.dc_words.specs.Link.{word_of, IsLink, IsMistake, IsPlace, IsPor
 use crate::fault::LinkFault;
 
 /// How a bus line is reached.
-#[derive(Clone, Copy, Debug, PartialEq, Eq)]
+#[derive(Clone, Copy)]
 pub enum LinkName<'a> {
     /// A transparent gateway at `HOST:PORT`: the bytes of the bus over TCP.
     Tcp(&'a str),

@@ -9,7 +9,7 @@ use dc_register::named::Named;
 use std::alloc::Global;
 
 /// How the frames of an input are printed.
-#[derive(Clone, Copy, Debug, PartialEq, Eq)]
+#[derive(Clone, Copy)]
 pub enum Form {
     /// Lines of words, one a fact.
     Text,
@@ -20,7 +20,7 @@ pub enum Form {
 }
 
 /// An engine over lines.
-#[derive(Clone, Copy, Debug, PartialEq, Eq)]
+#[derive(Clone, Copy)]
 pub enum Engine {
     /// Print each frame.
     Decode(Form),
@@ -35,7 +35,7 @@ pub enum Engine {
 }
 
 /// How the status of an image is printed.
-#[derive(Clone, Copy, Debug, PartialEq, Eq)]
+#[derive(Clone, Copy)]
 pub enum StatusForm {
     /// Lines of words, one a meter.
     Text,
@@ -46,7 +46,7 @@ pub enum StatusForm {
 }
 
 /// How meters are searched for on a bus without an image.
-#[derive(Clone, Copy, Debug, PartialEq, Eq)]
+#[derive(Clone, Copy)]
 pub enum Scan {
     /// By wildcards, with at most this many selections.
     Wildcards(u32),
@@ -55,7 +55,7 @@ pub enum Scan {
 }
 
 /// How what a search finds is printed.
-#[derive(Clone, Copy, Debug, PartialEq, Eq)]
+#[derive(Clone, Copy)]
 pub enum Listing {
     /// Lines of words.
     Text,
@@ -66,7 +66,7 @@ pub enum Listing {
 }
 
 /// How a meter is named on a bus.
-#[derive(Clone, Copy, Debug, PartialEq, Eq)]
+#[derive(Clone, Copy)]
 pub enum MeterName {
     /// By its identity: it is selected.
     Identity(Identity),
@@ -77,7 +77,7 @@ pub enum MeterName {
 }
 
 /// How a meter that gets an address is reached.
-#[derive(Clone, Copy, Debug, PartialEq, Eq)]
+#[derive(Clone, Copy)]
 pub enum Reached {
     /// By its identity: it is selected.
     Selected(Identity),

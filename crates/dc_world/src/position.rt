@@ -19,7 +19,7 @@ use std::marker::Model;
 
 /// The number of bodies a meter has advanced by, the last frame count bit, and whether it is
 /// selected.
-#[derive(Clone, Copy, Debug, PartialEq, Eq)]
+#[derive(Clone, Copy)]
 pub(crate) struct Position {
     place: usize,
     bit: Option<bool>,

@@ -11,7 +11,7 @@ use dc_frame::{Frame, parse};
 use dc_readout::Session;
 
 /// A request, as the meters read it.
-#[derive(Clone, Copy, Debug, PartialEq, Eq)]
+#[derive(Clone, Copy)]
 pub(crate) enum Request {
     /// The reset of the link at an address.
     Reset(u8),

@@ -8,7 +8,7 @@ use dc_frame::{Frame, parse};
 use dc_io::{IoFault, Sink, put_hex_word, put_number, put_number_word};
 
 /// Which way bytes went.
-#[derive(Clone, Copy, Debug, PartialEq, Eq)]
+#[derive(Clone, Copy)]
 pub enum Direction {
     /// From the master to the meters: a request.
     Out,

@@ -3,7 +3,7 @@
 use thiserror::Error;
 
 /// Why a telegram wasn't taken: the first fault that applies.
-#[derive(Clone, Copy, Debug, PartialEq, Eq, Error)]
+#[derive(Clone, Copy, Debug, Error)]
 #[error("the telegram wasn't taken")]
 pub enum TakeFault {
     /// The maximum number of changes is pending.

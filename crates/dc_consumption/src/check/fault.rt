@@ -6,7 +6,7 @@ ghost use Rattle.dc_consumption.specs.CheckFault.{number_of};
 use thiserror::Error;
 
 /// Why a period can't be checked (this product).
-#[derive(Clone, Copy, Debug, PartialEq, Eq, Error)]
+#[derive(Clone, Copy, Debug, Error)]
 pub enum CheckFault {
     /// There are more than 2,048 entries.
     #[error("there are more than 2,048 entries")]

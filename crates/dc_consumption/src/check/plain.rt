@@ -11,7 +11,7 @@ use crate::check::checking::{MOST_ENTRIES, check};
 use crate::{Entry, Period};
 
 /// An entry as C and WebAssembly lay it out.
-#[derive(Clone, Copy, Debug, PartialEq, Eq)]
+#[derive(Clone, Copy)]
 #[repr(C)]
 pub struct PlainEntry {
     /// The moment, in seconds.
@@ -42,7 +42,7 @@ impl PlainEntry {
 }
 
 /// A period as C and WebAssembly lay it out.
-#[derive(Clone, Copy, Debug, PartialEq, Eq)]
+#[derive(Clone, Copy)]
 #[repr(C)]
 pub struct PlainPeriod {
     /// 1 if the amount is known, 0 where the period isn't between the first and the last entry, 2

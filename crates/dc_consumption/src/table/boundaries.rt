@@ -7,7 +7,7 @@ use crate::are_in_order;
 use std::alloc::Allocator;
 
 /// The boundaries of periods that follow one another: moments in order.
-#[derive(Debug, Drop)]
+#[derive(Drop)]
 pub struct Boundaries<A: Allocator> {
     /// The moments, in Unix seconds.
     pub moments: Vec<u64, A>,

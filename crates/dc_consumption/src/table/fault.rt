@@ -6,7 +6,7 @@ ghost use Rattle.dc_consumption.specs.TableFault.{number_of, name_of};
 use thiserror::Error;
 
 /// Why a line of the entries is at fault (this product).
-#[derive(Clone, Copy, Debug, PartialEq, Eq, Error)]
+#[derive(Clone, Copy, Debug, Error)]
 pub enum LineFault {
     /// The first line is neither header.
     #[error("the first line isn't a header")]

@@ -11,7 +11,7 @@ use crate::{Disk, DiskOver, Failed, FileCalls, ReadFault, Sector};
 use std::alloc::Allocator;
 
 /// Why nothing can be said of what was read.
-#[derive(Clone, Copy, Debug, PartialEq, Eq)]
+#[derive(Clone, Copy)]
 pub enum SampleFault {
     /// A call of the file failed, or the sample was written.
     Failed,

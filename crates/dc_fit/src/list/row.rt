@@ -34,7 +34,7 @@ pub struct Row {
 }
 
 /// What a row doesn't spell.
-#[derive(Clone, Copy, Debug, PartialEq, Eq)]
+#[derive(Clone, Copy)]
 pub enum RowFault {
     /// Four fields.
     Columns,

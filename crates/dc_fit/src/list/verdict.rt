@@ -19,7 +19,7 @@ use dc_register::{House, Meter};
 use std::alloc::Allocator;
 
 /// What a row asks of a register.
-#[derive(Clone, Copy, Debug, PartialEq, Eq)]
+#[derive(Clone, Copy)]
 pub enum Verdict {
     /// Nothing: the meter is at this very place.
     Stands,

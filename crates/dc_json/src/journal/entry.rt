@@ -21,7 +21,7 @@ use json::{Error, Scratch, Value};
 use std::alloc::Allocator;
 
 /// What a line says of a meter.
-#[derive(Clone, Copy, Debug, PartialEq, Eq)]
+#[derive(Clone, Copy)]
 pub enum Said {
     /// It was read.
     Read {
@@ -40,7 +40,7 @@ pub enum Said {
 }
 
 /// A line of a meter.
-#[derive(Clone, Copy, Debug, PartialEq, Eq)]
+#[derive(Clone, Copy)]
 pub struct Entry {
     /// The meter.
     pub meter: Identity,

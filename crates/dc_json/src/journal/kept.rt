@@ -12,7 +12,7 @@ use json::Value;
 use std::alloc::Allocator;
 
 /// What a journal keeps of a meter's last reading.
-#[derive(Clone, Copy, Debug, PartialEq, Eq)]
+#[derive(Clone, Copy)]
 pub enum Keeps {
     /// Its moment and its status alone.
     Nothing,

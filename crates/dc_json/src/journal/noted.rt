@@ -6,7 +6,7 @@ ghost use Rattle.dc_json.specs.Noted.{failing_after, noted_after, nothing};
 use crate::journal::entry::Said;
 
 /// A reading, by its last telegram.
-#[derive(Clone, Copy, Debug, PartialEq, Eq)]
+#[derive(Clone, Copy)]
 pub struct Taken {
     /// Its time stamp, in seconds since 1970.
     pub moment: u64,
@@ -15,7 +15,7 @@ pub struct Taken {
 }
 
 /// Readouts that failed since then.
-#[derive(Clone, Copy, Debug, PartialEq, Eq)]
+#[derive(Clone, Copy)]
 pub struct Failing {
     /// When the first one was noted, in seconds since 1970.
     pub since: u64,
@@ -26,7 +26,7 @@ pub struct Failing {
 }
 
 /// What a journal says of a meter: its last reading, and how the readouts after it failed.
-#[derive(Clone, Copy, Debug, PartialEq, Eq)]
+#[derive(Clone, Copy)]
 pub struct Noted {
     /// Its last reading, if one is noted.
     pub read: Option<Taken>,

@@ -9,7 +9,7 @@ use crate::reach::connector::Connector;
 use std::alloc::Allocator;
 
 /// A link that can't be connected.
-#[derive(Debug, Drop)]
+#[derive(Drop)]
 pub struct Missed<E> {
     /// The line, from 1.
     pub line: u8,
@@ -18,7 +18,7 @@ pub struct Missed<E> {
 }
 
 /// Why the links aren't connected.
-#[derive(Debug, Drop)]
+#[derive(Drop)]
 pub enum Unconnected<E> {
     /// A link can't be connected.
     Link(Missed<E>),

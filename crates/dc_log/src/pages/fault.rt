@@ -6,7 +6,7 @@ ghost use Rattle.dc_log.specs.PagesFault.{number_of, name_of};
 use thiserror::Error;
 
 /// Why no group was read.
-#[derive(Clone, Copy, Debug, PartialEq, Eq, Error)]
+#[derive(Clone, Copy, Debug, Error)]
 #[error("{} {}", self.number(), self.name())]
 pub enum GroupFault {
     /// The group isn't complete. The value is the first sector that doesn't fit, or the number

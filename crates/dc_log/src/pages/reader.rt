@@ -4,7 +4,7 @@ ghost use Rattle.std.specs.Prelude.{◌≡◌, ◌≢◌, ◌⊎◌, ◌<◌, �
 ghost use Rattle.std.specs.Prelude.{if◌then◌else◌, ℕ, IfOk, OnOk, IsErrOf, IsTrue, length, take};
 ghost use Rattle.std.specs.Prelude.{drop};
 ghost use Rattle.dc_disk.specs.Disk.{IsImage};
-ghost use Rattle.dc_disk.specs.Runs.{Passes, LeavesOnly, Counts};
+ghost use Rattle.dc_disk.specs.Runs.{Passes, OnlyLooked, Counts};
 ghost use Rattle.dc_log.specs.Group.{IsGroup, commit_kind, page_payload, head_len};
 ghost use Rattle.dc_log.specs.Judging.{Judged, IsStep};
 ghost use Rattle.dc_log.specs.Reading.{IsBegun, IsCutAt};
@@ -173,10 +173,7 @@ pub fn read_group<A: Allocator, D: Disk>(
         → IsCutAt site n (D.reads disk.old) }
     ensures within { IfOk result (λ group.
         (1 ≤ group.sectors) × (site.first + group.sectors ≤ site.limit)) }
-    ensures reads { D.reads disk.new ≡ D.reads disk.old }
-    ensures choices { D.choices disk.new ≡ D.choices disk.old }
-    ensures any_moment { LeavesOnly D.Disk disk.old disk.new (IsImage (D.choices disk.old)) }
-    ensures before { D.keeps disk.new → D.keeps disk.old }
+    ensures looked { OnlyLooked D.Disk disk.old disk.new }
     ensures counts { Counts D.Disk disk.old disk.new (IsErrOf result GroupFault.Device) }
 {
     let mut reading = Reading {

@@ -6,7 +6,7 @@ ghost use Rattle.dc_log.specs.RootsFault.{number_of, name_of};
 use thiserror::Error;
 
 /// Why no root was chosen or written.
-#[derive(Clone, Copy, Debug, PartialEq, Eq, Error)]
+#[derive(Clone, Copy, Debug, Error)]
 #[error("{} {}", self.number(), self.name())]
 pub enum RootFault {
     /// No slot has a valid root. The value is the first unreadable slot, if any.

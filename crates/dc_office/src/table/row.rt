@@ -5,7 +5,7 @@ use dc_change::Flat;
 use dc_record::value::Point;
 
 /// A row: a point of a reading's due-date value.
-#[derive(Clone, Copy, Debug, PartialEq, Eq)]
+#[derive(Clone, Copy)]
 pub struct Row {
     /// The meter's flat when the readout ended.
     pub flat: Flat,

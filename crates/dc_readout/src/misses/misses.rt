@@ -7,7 +7,7 @@ ghost use Rattle.dc_readout.specs.Misses.{and_missed, counted, is_noise, misses_
 use dc_frame::parse;
 
 /// Number of failed tries of a readout, by what each brought. A count stays at 255.
-#[derive(Clone, Copy, Debug, PartialEq, Eq)]
+#[derive(Clone, Copy)]
 pub struct Misses {
     /// Tries that brought no byte.
     pub silent: u8,

@@ -11,7 +11,7 @@ use dc_address::Identity;
 use dc_io::{IoFault, Sink, put_number};
 
 /// Whose failed tries these are.
-#[derive(Clone, Copy, Debug, PartialEq, Eq)]
+#[derive(Clone, Copy)]
 pub enum Owner {
     /// A meter's, on the one bus of a command.
     Meter(Identity),

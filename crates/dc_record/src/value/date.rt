@@ -14,7 +14,7 @@ use std::fmt;
 use std::marker::Model;
 
 /// A day of the calendar that ISO 8601 extends to every year, in the years 0 to 9999.
-#[derive(Clone, Copy, Debug, PartialEq, Eq, PartialOrd, Ord)]
+#[derive(Clone, Copy, PartialEq, Eq, PartialOrd, Ord)]
 pub struct Date {
     year: u16,
     month: u8,

@@ -9,7 +9,7 @@ use itoa::write_digits;
 use std::fmt;
 
 /// A decimal number, `mantissa * 10^exponent`, exact to the digit.
-#[derive(Clone, Copy, Debug, PartialEq, Eq)]
+#[derive(Clone, Copy)]
 pub struct Decimal {
     pub mantissa: i64,
     pub exponent: i8,

@@ -15,7 +15,7 @@ use crate::value::table::unit_at;
 use crate::value::{Decimal, Quantity, Value, time};
 
 /// What a record says, with the numbers of its storage, function, tariff and subunit.
-#[derive(Clone, Copy, Debug, PartialEq, Eq)]
+#[derive(Clone, Copy)]
 pub struct Point {
     pub storage: u64,
     /// 0 instantaneous, 1 maximum, 2 minimum, 3 during error.
@@ -27,7 +27,7 @@ pub struct Point {
 }
 
 /// A record as the table of units sees it.
-#[derive(Clone, Copy, Debug, PartialEq, Eq)]
+#[derive(Clone, Copy)]
 pub enum Seen {
     Point(Point),
     /// The table has no row for the record, or not with its data field.

@@ -4,7 +4,7 @@ ghost use Rattle.std.specs.Prelude.{◌≡◌};
 ghost use Rattle.dc_record.specs.Quantity.{unit_of, is_time_point, takes, is_integer, is_bcd};
 
 /// What a record's value is of, with the unit in which the table of codes gives it (EN 13757-3).
-#[derive(Clone, Copy, Debug, PartialEq, Eq)]
+#[derive(Clone, Copy)]
 pub enum Quantity {
     EnergyWattHour,
     EnergyJoule,

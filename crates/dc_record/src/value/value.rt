@@ -9,7 +9,7 @@ use crate::value::{Date, Decimal};
 use std::fmt;
 
 /// The value of a data field (EN 13757-3).
-#[derive(Clone, Copy, Debug, PartialEq, Eq)]
+#[derive(Clone, Copy)]
 pub enum Value {
     Number(Decimal),
     /// Flags in this many bytes; bit 0 is the lowest bit of the first byte sent.

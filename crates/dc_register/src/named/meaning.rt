@@ -10,7 +10,7 @@ use dc_io::NoMemory;
 use std::alloc::Allocator;
 
 /// Why a name means no meter.
-#[derive(Clone, Copy, Debug, PartialEq, Eq)]
+#[derive(Clone, Copy)]
 pub enum NameFault {
     /// No registered meter has this number.
     Unknown([u8; 8]),

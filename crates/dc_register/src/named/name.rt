@@ -12,7 +12,7 @@ ghost use Rattle.dc_register.specs.declared.named.name.Named.{Named as Name};
 use dc_address::Identity;
 
 /// The name of a meter.
-#[derive(Clone, Copy, Debug, PartialEq, Eq)]
+#[derive(Clone, Copy)]
 pub enum Named {
     /// Its identity.
     Identity(Identity),

@@ -15,7 +15,7 @@ pub enum Way {
 }
 
 /// The answer of a step.
-#[derive(Clone, Copy, Debug, PartialEq, Eq)]
+#[derive(Clone, Copy, Debug)]
 pub enum Told {
     /// Its answer if nothing fails.
     Done,
