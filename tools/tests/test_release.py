@@ -6,7 +6,7 @@ from collections.abc import Callable
 
 import pytest
 
-REFUSALS = "dc_frame/FrameFault: 1 Empty, 2 Start, 3 Truncated\ndc_log/StoreFault: 1 NotImage, 2 Damaged\ndc_x/f (a)\n"
+REFUSALS = "dc_linkframe/FrameFault: 1 Empty, 2 Start, 3 Truncated\ndc_log/StoreFault: 1 NotImage, 2 Damaged\ndc_x/f (a)\n"
 CHANGES = "# Changes\n\n## Unreleased\n\nNew:\n\n* x\n\n## 0.2.0, 2026-12-01\n\n## 0.1.0\n\nfirst\n"
 
 

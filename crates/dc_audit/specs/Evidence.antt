@@ -3,17 +3,17 @@ use Rattle.std.specs.Prelude.{ℕ, ℤ, ◌+◌, ◌%◌, ◌/◌, ◌==◌, ◌
 use Rattle.std.specs.Prelude.{List, [], ◌∷◌, drop, Option, None, Some, Result, Ok, Err, is_some, codes}
 use Rattle.std.specs.Str.{bytes_eq}
 use Rattle.dc_address.specs.declared.identity.Identity.{Identity}
-use Rattle.dc_record.specs.declared.fault.BodyFault.{BodyFault}
-use Rattle.dc_record.specs.Record.{Entry}
-use Rattle.dc_record.specs.Telegram.{Parsed, telegram_at}
-use Rattle.dc_record.specs.declared.value.decimal.Decimal.{Decimal}
-use Rattle.dc_record.specs.declared.value.point.Seen.{Seen}
-use Rattle.dc_record.specs.declared.value.point.Seen.TheVariants.{Point as Known, Other}
-use Rattle.dc_record.specs.declared.value.quantity.Quantity as listed
-use Rattle.dc_record.specs.declared.value.value.Value.{Value}
-use Rattle.dc_record.specs.declared.value.value.Value.TheVariants as value
-use Rattle.dc_record.specs.Point.{seen_of}
-use Rattle.dc_record.specs.Table.{unit_at}
+use Rattle.dc_records.specs.declared.fault.BodyFault.{BodyFault}
+use Rattle.dc_records.specs.Record.{Entry}
+use Rattle.dc_records.specs.Telegram.{Parsed, telegram_at}
+use Rattle.dc_units.specs.declared.decimal.Decimal.{Decimal}
+use Rattle.dc_units.specs.declared.point.Seen.{Seen}
+use Rattle.dc_units.specs.declared.point.Seen.TheVariants.{Point as Known, Other}
+use Rattle.dc_units.specs.declared.quantity.Quantity as listed
+use Rattle.dc_units.specs.declared.value.Value.{Value}
+use Rattle.dc_units.specs.declared.value.Value.TheVariants as value
+use Rattle.dc_units.specs.Point.{seen_of}
+use Rattle.dc_units.specs.Table.{unit_at}
 use Rattle.dc_reading.specs.declared.reading.Reading.{Reading}
 use Rattle.dc_reading.specs.declared.reading.Found.{Found}
 use Rattle.dc_reading.specs.declared.reading.Found.TheVariants as found

@@ -1,9 +1,9 @@
 -- Days, and the moments at their ends (this product).
 use Rattle.std.specs.Prelude.{ℕ, ◌≤◌, ◌+◌, ◌-◌, ◌*◌, ◌/◌, ◌%◌, ◌==◌, ◌&&◌, ◌||◌, Bool, true, false, not, nat_lt, nat_le}
 use Rattle.std.specs.Prelude.{if◌then◌else◌, List, ◌∷◌, [], length, take, drop, slice_range, slice_index, option_map, Option, Some, None}
-use Rattle.dc_record.specs.Date.{Day, date_of}
-use Rattle.dc_record.specs.declared.value.value.Value.{Value}
-use Rattle.dc_record.specs.declared.value.value.Value.TheVariants as value
+use Rattle.dc_units.specs.Date.{Day, date_of}
+use Rattle.dc_units.specs.declared.value.Value.{Value}
+use Rattle.dc_units.specs.declared.value.Value.TheVariants as value
 use Rattle.dc_audit.specs.declared.moment.Offset.{Offset}
 use Rattle.dc_audit.specs.declared.moment.Offset.TheVariants.{Ahead, Behind}
 use Rattle.dc_audit.specs.Smallest.{digits_on, whole_in}

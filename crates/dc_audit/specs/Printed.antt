@@ -2,7 +2,7 @@
 use Rattle.std.specs.Prelude.{◌≡◌, ℕ, ◌==◌, ◌&&◌, ◌||◌, Bool, true, false, if◌then◌else◌, List, [], ◌∷◌}
 use Rattle.std.specs.Prelude.{Option, None, Some, Result, Ok, Err, ℤ, pos, neg_ℤ, codes, option_map}
 use Rattle.std.specs.Str.{bytes_eq}
-use Rattle.dc_record.specs.Text.{decimal_text}
+use Rattle.dc_units.specs.Text.{decimal_text}
 use Rattle.dc_audit.specs.declared.grade.Grade.{Grade}
 use Rattle.dc_audit.specs.declared.printed.Beside.{Beside}
 use Rattle.dc_audit.specs.declared.printed.Beside.TheVariants as beside
@@ -10,7 +10,7 @@ use Rattle.dc_audit.specs.declared.printed.GivenBeside.{GivenBeside}
 use Rattle.dc_audit.specs.declared.printed.GivenBeside.TheVariants as given
 use Rattle.dc_audit.specs.Field.{◌>>=◌, at_end, read_as}
 use Rattle.dc_audit.specs.Grade.{grade_named, rank}
-use Rattle.dc_record.specs.declared.value.decimal.Decimal.{Decimal}
+use Rattle.dc_units.specs.declared.decimal.Decimal.{Decimal}
 use Rattle.dc_audit.specs.declared.fault.AuditFault.{AuditFault}
 use Rattle.dc_audit.specs.declared.fault.AuditFault.TheVariants.{TooLarge}
 use Rattle.dc_audit.specs.declared.number.Signed.{Signed}

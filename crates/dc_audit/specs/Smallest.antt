@@ -4,7 +4,7 @@ use Rattle.std.specs.Prelude.{nat_lt, nat_le, if◌then◌else◌, List, [], ◌
 use Rattle.std.specs.Prelude.{ℤ, pos, negsuc}
 use Rattle.std.specs.List.{position}
 use Rattle.std.specs.Option.{option_and_then}
-use Rattle.dc_record.specs.declared.value.decimal.Decimal.{Decimal}
+use Rattle.dc_units.specs.declared.decimal.Decimal.{Decimal}
 use Rattle.dc_audit.specs.declared.smallest.Spelled.{Spelled}
 
 -- values have at most 18 digits

@@ -2,8 +2,8 @@
 -- and thousandths of a heat cost allocator's unit.
 use Rattle.std.specs.Prelude.{ℕ, Bool, true, false, List, [], ◌∷◌, codes, find, Option, Some, None, if◌then◌else◌}
 use Rattle.std.specs.Str.{bytes_eq}
-use Rattle.dc_record.specs.declared.value.quantity.Quantity as listed_type
-use Rattle.dc_record.specs.declared.value.quantity.Quantity.TheVariants as listed
+use Rattle.dc_units.specs.declared.quantity.Quantity as listed_type
+use Rattle.dc_units.specs.declared.quantity.Quantity.TheVariants as listed
 use Rattle.dc_audit.specs.declared.uses.Counted.{Counted}
 use Rattle.dc_audit.specs.declared.uses.Counted.TheVariants.{Energy, Volume, Allocation}
 use Rattle.dc_audit.specs.declared.uses.Unit.{Unit}

@@ -1,8 +1,8 @@
 //! The value that the telegrams of a readout give.
 
 ghost use Rattle.std.specs.Prelude.{◌≡◌, ◌≤◌, ◌<◌, map, option_map};
-ghost use Rattle.dc_record.specs.Record.{view};
-ghost use Rattle.dc_record.specs.Telegram.{parsed};
+ghost use Rattle.dc_records.specs.Record.{view};
+ghost use Rattle.dc_records.specs.Telegram.{parsed};
 ghost use Rattle.dc_reading.specs.Sent.{sent_at, sent_view};
 ghost use Rattle.dc_audit.specs.Evidence.{bodies_fault, body_fault, count_of, ends_so, date_of};
 ghost use Rattle.dc_audit.specs.Evidence.{dated, first_date, first_value};
@@ -17,8 +17,8 @@ use crate::smallest::of_decimal;
 use crate::uses::{Counted, size_of};
 use dc_address::Identity;
 use dc_reading::{Datum, Found, Reading, Sent, SentRecords, reading_of};
-use dc_record::value::{Decimal, Seen, Value, point_of, unit_at};
-use dc_record::{Record, Telegram};
+use dc_units::{Decimal, Seen, Value, point_of, unit_at};
+use dc_records::{Record, Telegram};
 use std::alloc::Allocator;
 
 /// Why telegrams give no value.

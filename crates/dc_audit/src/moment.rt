@@ -6,7 +6,7 @@ ghost use Rattle.dc_audit.specs.Moment.{day_in, is_leap, leap_day, leaps, since_
 ghost use Rattle.dc_audit.specs.Moment.{offset_in, offset_of};
 
 use crate::smallest::{digits_on, whole_in};
-use dc_record::value::{Date, Value};
+use dc_units::{Date, Value};
 
 // The number of 1 January 1970, counted from 1 January of the year 0.
 const EPOCH: u64 = 719_528;

@@ -14,7 +14,7 @@ use crate::grade::Grade;
 use crate::number::Signed;
 use crate::smallest::decimal_in;
 use dc_io::{IoFault, Sink};
-use dc_record::value::{Decimal, TEXT_ROOM, Value};
+use dc_units::{Decimal, TEXT_ROOM, Value};
 
 /// Most decimals of a published number.
 const MOST_DECIMALS: usize = 3;

@@ -9,7 +9,7 @@ ghost use Rattle.dc_audit.specs.Smallest.{is_point, of_decimal, of_magnitude, of
 ghost use Rattle.dc_audit.specs.Smallest.{ratio_in, ratio_of, scaled_down, scaled_up};
 ghost use Rattle.dc_audit.specs.Smallest.{spelled_after, whole_in};
 
-use dc_record::value::Decimal;
+use dc_units::Decimal;
 
 // Values and numbers have at most 18 digits.
 const END_OF_VALUES: u64 = 1_000_000_000_000_000_000;

@@ -6,7 +6,7 @@ ghost use Rattle.dc_audit.specs.Uses.{counted_named, is_counted, is_unit, size_n
 ghost use Rattle.dc_audit.specs.Uses.{unit_name, unit_named};
 
 use crate::field::is_word;
-use dc_record::value::Quantity;
+use dc_units::Quantity;
 
 /// What a meter counts.
 #[derive(Clone, Copy)]

@@ -4,7 +4,7 @@ ghost use Rattle.std.specs.Prelude.{◌≡◌};
 ghost use Rattle.dc_bench.specs.Listening.{heard_as, is_given_up, left_after};
 
 use dc_bus::{AnswerBuf, Bus};
-use dc_frame::{FrameBuf, parse};
+use dc_linkframe::{FrameBuf, parse};
 use std::cell::Cell;
 
 /// Number of answers, none of which is a frame, after which a search is given up.

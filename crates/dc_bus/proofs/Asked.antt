@@ -1,7 +1,7 @@
 -- A search asks once more.
 use Rattle.std.proofs.Common.{◌≡◌, ℕ, List, [], ◌∷◌, ◌++◌, Some, refl, subst, map}
 use Rattle.std.specs.Prelude.{option_map}
-use Rattle.dc_frame.specs.Frame.{spelling}
+use Rattle.dc_linkframe.specs.Frame.{spelling}
 use Rattle.dc_search.specs.Request.{request_by}
 use Rattle.dc_search.specs.State.{SearchState, after, new_search, step_of}
 use Rattle.dc_bus.specs.Bus.{AreAskedBy, Exchange, HasAsked, HasHeard, heard_all}

@@ -4,10 +4,10 @@ use Rattle.std.specs.Prelude.{option_map}
 use Rattle.std.proofs.lemmas.List.{take_all}
 use Rattle.dc_address.specs.Mask.{IsMask, MaskParts, mask_wire, matches}
 use Rattle.dc_address.specs.declared.identity.Identity.{Identity}
-use Rattle.dc_frame.specs.Control.{request_to, selected, selection_by}
-use Rattle.dc_frame.specs.Frame.{FrameSeen, ack, spelling}
-use Rattle.dc_frame.specs.Reading.{frame_of}
-use Rattle.dc_frame.proofs.Spellings.{frame_of-spelling}
+use Rattle.dc_linkframe.specs.Control.{request_to, selected, selection_by}
+use Rattle.dc_linkframe.specs.Frame.{FrameSeen, ack, spelling}
+use Rattle.dc_linkframe.specs.Reading.{frame_of}
+use Rattle.dc_linkframe.proofs.Spellings.{frame_of-spelling}
 use Rattle.dc_search.specs.Bus.{visited}
 use Rattle.dc_search.specs.Request.{request_by}
 use Rattle.dc_search.specs.State.{SearchState, after, after_step, is_idle, new_search, step_by, step_of}

@@ -5,8 +5,8 @@ use Rattle.std.specs.Prelude.{◌≡◌, ℕ, ◌≤◌, true, List, [], ◌∷�
 use Rattle.std.specs.Prelude.{min, option_map, take, if◌then◌else◌, nat_le}
 use Rattle.dc_address.specs.Mask.{IsMask, MaskParts, mask_wire, matches}
 use Rattle.dc_address.specs.declared.identity.Identity.{Identity}
-use Rattle.dc_frame.specs.Control.{request_to, selected, selection_by}
-use Rattle.dc_frame.specs.Frame.{ack, spelling}
+use Rattle.dc_linkframe.specs.Control.{request_to, selected, selection_by}
+use Rattle.dc_linkframe.specs.Frame.{ack, spelling}
 use Rattle.dc_search.specs.Answer.{answer_of}
 use Rattle.dc_search.specs.Request.{request_by}
 use Rattle.dc_search.specs.State.{SearchState, after, new_search, step_of}

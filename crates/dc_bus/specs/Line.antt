@@ -1,7 +1,7 @@
 -- The text of a trace (this product; the frames are those of EN 13757-2).
 use Rattle.std.specs.Prelude.{ℕ, List, [], ◌∷◌, ◌++◌, codes, decimal, Option, None, Some}
-use Rattle.dc_frame.specs.Frame.{FrameSeen, ack, short, long}
-use Rattle.dc_frame.specs.Reading.{frame_of}
+use Rattle.dc_linkframe.specs.Frame.{FrameSeen, ack, short, long}
+use Rattle.dc_linkframe.specs.Reading.{frame_of}
 use Rattle.dc_io.specs.Words.{hex_word, number_word}
 use Rattle.dc_bus.specs.declared.trace.line.Direction.{Direction}
 use Rattle.dc_bus.specs.declared.trace.line.Direction.TheVariants.{Out, In}

@@ -5,9 +5,9 @@ use Rattle.std.specs.Prelude.{◌≡◌, ◌≢◌, ◌⊎◌, ℕ, ◌<◌, ◌
 use Rattle.std.specs.Prelude.{Option, Some, None, length}
 use Rattle.dc_address.specs.Mask.{mask_wire}
 use Rattle.dc_address.specs.declared.identity.Identity.{Identity}
-use Rattle.dc_frame.specs.Control.{request_to, selected, selection_by}
-use Rattle.dc_frame.specs.Frame.{FrameSeen, ack, short, long, spelling}
-use Rattle.dc_frame.specs.Reading.{frame_of}
+use Rattle.dc_linkframe.specs.Control.{request_to, selected, selection_by}
+use Rattle.dc_linkframe.specs.Frame.{FrameSeen, ack, short, long, spelling}
+use Rattle.dc_linkframe.specs.Reading.{frame_of}
 use Rattle.dc_search.specs.Answer.{answer_of}
 use Rattle.dc_search.specs.Prefix.{mask_of_digits}
 use Rattle.dc_search.specs.State.{SearchState}

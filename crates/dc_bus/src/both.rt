@@ -8,7 +8,7 @@ ghost use Rattle.dc_bus.specs.Halves.{Runs};
 use crate::answer_buf::AnswerBuf;
 use crate::bus::Bus;
 use crate::half::HalfBus;
-use dc_frame::FrameBuf;
+use dc_linkframe::FrameBuf;
 
 /// A way to wait until a bus may have received something.
 pub trait Pause<B> {

@@ -8,7 +8,7 @@ ghost use Rattle.dc_bus.specs.Bus.{HasAsked, HasHeard, IsHeard, IsSearched};
 ghost use Rattle.dc_search.specs.State.{SearchState, is_idle, step_of};
 
 use crate::answer_buf::AnswerBuf;
-use dc_frame::FrameBuf;
+use dc_linkframe::FrameBuf;
 use dc_io::NoMemory;
 use dc_search::Search;
 use std::alloc::Allocator;

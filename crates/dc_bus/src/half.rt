@@ -6,7 +6,7 @@ ghost use Rattle.dc_bus.specs.Limits.{most_request};
 ghost use Rattle.dc_bus.specs.Halves.{most_waits};
 
 use crate::answer_buf::AnswerBuf;
-use dc_frame::FrameBuf;
+use dc_linkframe::FrameBuf;
 
 /// A bus on which a request is sent first, and its answer is taken once it is complete.
 ///

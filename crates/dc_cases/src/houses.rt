@@ -6,8 +6,8 @@ use crate::words::{bytes, small, split};
 use dc_change::Change;
 use dc_inspect::Report;
 use dc_io::{Bytes, Sink, first_line, put_fault};
-use dc_office::table::{due_table, register_table};
-use dc_register::House;
+use dc_report::{due_table, register_table};
+use dc_meters::House;
 use std::alloc::Global;
 
 // Budget of the smallest image.

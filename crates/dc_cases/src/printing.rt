@@ -3,7 +3,7 @@
 use crate::fault::CaseFault;
 use dc_ending::Ending;
 use dc_io::{Sink, put_hex, put_number, put_number_word};
-use dc_register::House;
+use dc_meters::House;
 use std::alloc::Global;
 
 /// Puts a line of hex digits.

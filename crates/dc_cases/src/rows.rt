@@ -8,13 +8,13 @@ use crate::words::{Word, bytes, small, split};
 use dc_address::Identity;
 use dc_change::{Change, Command, encode_change};
 use dc_decode::decode_lines;
-use dc_frame::control::{write_request, write_reset, write_selection};
-use dc_frame::{Frame, FrameBuf, Need, need, parse, write_long};
+use dc_linkframe::control::{write_request, write_reset, write_selection};
+use dc_linkframe::{Frame, FrameBuf, Need, need, parse, write_long};
 use dc_io::{
     Bytes, FixedSink, Sink, put_byte_word, put_fault, put_hex, put_hex_word, put_number_word,
 };
-use dc_record::Record;
-use dc_record::value::{Date, Seen, point_of};
+use dc_records::Record;
+use dc_units::{Date, Seen, point_of};
 use std::alloc::Global;
 use std::str;
 

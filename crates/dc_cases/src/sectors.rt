@@ -2,12 +2,12 @@
 
 ghost use Rattle.std.specs.Prelude.{ℕ, IfOk};
 ghost use Rattle.std.specs.List.{AllZip};
-ghost use Rattle.dc_disk.specs.Memory.{IsPickFor};
+ghost use Rattle.dc_sectors.specs.Memory.{IsPickFor};
 
 use crate::fault::CaseFault;
 use crate::printing::{put_count, put_sector};
 use crate::words::{Word, bytes, number, small, split};
-use dc_disk::{Disk, Failed, MemoryDisk, Pick, ReadFault};
+use dc_sectors::{Disk, Failed, MemoryDisk, Pick, ReadFault};
 use dc_io::{Bytes, Sink, put_number};
 use std::alloc::Global;
 

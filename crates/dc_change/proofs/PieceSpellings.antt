@@ -10,9 +10,9 @@ use Rattle.byteorder.specs.Numbers.{little_number-reads_back, little_from-lt, le
 use Rattle.dc_address.specs.declared.identity.Identity.{Identity}
 use Rattle.dc_address.specs.Identity.{IsWire, wire_of, is_identity}
 use Rattle.dc_address.proofs.Identities.{spelled_identity, same_from_wire, is_identity-wire_of, length-wire_of}
-use Rattle.dc_record.specs.declared.fault.BodyFault.{BodyFault}
-use Rattle.dc_record.specs.Telegram.{Parsed, telegram_at}
-use Rattle.dc_record.proofs.Spellings.Telegrams.{telegram_takes, telegram_again}
+use Rattle.dc_records.specs.declared.fault.BodyFault.{BodyFault}
+use Rattle.dc_records.specs.Telegram.{Parsed, telegram_at}
+use Rattle.dc_records.proofs.Spellings.Telegrams.{telegram_takes, telegram_again}
 use Rattle.dc_change.specs.State.{PartRow}
 use Rattle.dc_change.specs.Flat.{IsFlat, is_flat_byte}
 use Rattle.dc_change.specs.Body.{BodyRow, IsBody, body_of}

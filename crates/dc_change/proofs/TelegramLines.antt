@@ -5,7 +5,7 @@ use Rattle.std.specs.List.{join_with_byte}
 use Rattle.std.specs.Fmt.{decimal}
 use Rattle.std.proofs.lemmas.Fmt.{decimal_injective, decimal_is_IsNumeral}
 use Rattle.std.proofs.lemmas.Str.Parse.{digit_at}
-use Rattle.dc_record.specs.Telegram.{Parsed, IsTelegram as IsParsed}
+use Rattle.dc_records.specs.Telegram.{Parsed, IsTelegram as IsParsed}
 use Rattle.dc_io.specs.Hex.{bytes_of}
 use Rattle.dc_change.specs.Body.{BodyRow, IsBody, body_of}
 use Rattle.dc_change.specs.ChangeLine.{SpellsTelegram, IsLineOf}

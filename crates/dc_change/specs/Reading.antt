@@ -2,8 +2,8 @@
 use Rattle.std.specs.Prelude.{ℕ, Option, None, Some, List, Bool, length, ◌&&◌, Result, Ok, Err}
 use Rattle.std.specs.Prelude.{nat_lt, nat_le, ◌==◌, if◌then◌else◌}
 use Rattle.dc_address.specs.declared.identity.Identity.{Identity}
-use Rattle.dc_record.specs.declared.fault.BodyFault.{BodyFault}
-use Rattle.dc_record.specs.Telegram.{Parsed, telegram_at}
+use Rattle.dc_records.specs.declared.fault.BodyFault.{BodyFault}
+use Rattle.dc_records.specs.Telegram.{Parsed, telegram_at}
 use Rattle.dc_change.specs.declared.change.Change.{Change}
 use Rattle.dc_change.specs.declared.change.Change.TheVariants.{Telegram}
 use Rattle.dc_change.specs.Body.{BodyRow, body_of, longest_body}

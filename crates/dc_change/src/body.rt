@@ -1,12 +1,12 @@
 //! A telegram's body, as the register takes it.
 
 ghost use Rattle.std.specs.Prelude.{◌≡◌, ◌≤◌, length, Some, IfSome, SomeIff};
-ghost use Rattle.dc_record.specs.Telegram.{parsed};
+ghost use Rattle.dc_records.specs.Telegram.{parsed};
 ghost use Rattle.dc_change.specs.Body.{BodyRow, IsBody, body_of, longest_body};
 
 use crate::LONGEST_BODY;
 use dc_address::Identity;
-use dc_record::Telegram;
+use dc_records::Telegram;
 use std::marker::Model;
 
 /// A telegram's body of at most [`LONGEST_BODY`] bytes.

@@ -13,7 +13,7 @@ ghost use Rattle.dc_change.specs.declared.change.Change.{Change};
 use crate::words::{parse_number, split_word};
 use crate::{Body, Change, Command, LONGEST_CHANGE_LINE, Moment};
 use dc_io::decode_hex;
-use dc_record::one_telegram;
+use dc_records::one_telegram;
 
 impl<'a> Change<'a> {
     /// Parses the change that a line spells; `None` if it spells none, or is longer than

@@ -1,6 +1,6 @@
 //! The changes of a house's meter register (this product): the billing office's commands and their
 //! lines, meters' telegrams, and the encoding of changes and states. The register itself is in
-//! dc_register.
+//! dc_meters.
 //!
 //! A meter is on a bus line, has a primary address or is read by secondary addressing, and belongs
 //! to a flat. Its telegrams (EN 13757-3) come in parts; the part after which no more follow

@@ -2,15 +2,15 @@
 use Rattle.std.proofs.Common.{◌≡◌, ℕ, false, List, Option, Result, Ok, Err, refl}
 use Rattle.std.specs.Prelude.{IfOk}
 use Rattle.dc_commands.specs.FitOver.{FitsOver}
-use Rattle.dc_disk.proofs.Moments.{started}
-use Rattle.dc_disk.specs.Disk.{Image, IsImage}
+use Rattle.dc_sectors.proofs.Moments.{started}
+use Rattle.dc_sectors.specs.Disk.{Image, IsImage}
 use Rattle.dc_ending.specs.Unopened.{Stands}
 use Rattle.dc_ending.specs.declared.ending.Ending.TheVariants.{Memory}
 use Rattle.dc_fit.specs.declared.fault.FitFault.TheVariants.{NoMemory}
 use Rattle.dc_fit.specs.declared.list.wish.Wish.{Wish}
 use Rattle.dc_log.specs.Halves.{half_of}
-use Rattle.dc_concentrator.specs.PendingImages.{StandsForOne}
-use Rattle.dc_disk.specs.declared.device.Disk.{Ghosts}
+use Rattle.dc_core.specs.PendingImages.{StandsForOne}
+use Rattle.dc_sectors.specs.declared.device.Disk.{Ghosts}
 use Rattle.dc_fit.specs.Fit.{FitsAll}
 use Rattle.dc_fit.specs.Plan.{Outcome}
 use Rattle.dc_fit.specs.declared.fault.FitFault.{FitFault}

@@ -3,13 +3,13 @@ use Rattle.std.proofs.Common.{◌≡◌, ◌∙◌, ◌<◌, ◌≤◌, ℕ, Boo
 use Rattle.std.specs.Prelude.{nat_lt}
 use Rattle.std.proofs.lemmas.Bool.{ltb-true, ltb-false}
 use Rattle.dc_commands.specs.Guard.{IsReady}
-use Rattle.dc_disk.specs.Disk.{IsImage}
-use Rattle.dc_disk.specs.Runs.{IsSettled, LeavesOnly}
-use Rattle.dc_disk.specs.declared.device.Disk.{Ghosts}
+use Rattle.dc_sectors.specs.Disk.{IsImage}
+use Rattle.dc_sectors.specs.Runs.{IsSettled, LeavesOnly}
+use Rattle.dc_sectors.specs.declared.device.Disk.{Ghosts}
 use Rattle.dc_log.specs.Halves.{fewest_sectors, half_of}
 use Rattle.dc_log.specs.declared.fault.OpenFault.{OpenFault}
 use Rattle.dc_log.specs.declared.fault.OpenFault.TheVariants.{NotImage}
-use Rattle.dc_concentrator.specs.PendingImages.{EachStands}
+use Rattle.dc_core.specs.PendingImages.{EachStands}
 
 at_least : (a b : ℕ) → (a < b → ⊥) → b ≤ a
 at_least a b not = by (nat_lt a b) refl where

@@ -12,9 +12,9 @@ use Rattle.dc_poll.specs.Unfailing.{GoesOn}
 use Rattle.dc_poll.specs.declared.events.unfailing.Unfailing.{Unfailing}
 use Rattle.std.specs.Io.KnownBytes.{Keeps}
 use Rattle.dc_commands.specs.PollOver.{shown_text, IsNext, ArePolled, IsUnpolled, PollLeaves, StopsPoll}
-use Rattle.dc_concentrator.specs.Core.{Core, present}
-use Rattle.dc_disk.specs.Runs.{LeavesOnly}
-use Rattle.dc_disk.specs.declared.device.Disk.{Ghosts}
+use Rattle.dc_core.specs.Core.{Core, present}
+use Rattle.dc_sectors.specs.Runs.{LeavesOnly}
+use Rattle.dc_sectors.specs.declared.device.Disk.{Ghosts}
 use Rattle.dc_ending.specs.Fault.{IfOpen, IsOfImage}
 use Rattle.dc_ending.specs.declared.fault.ProgramFault.{ProgramFault}
 use Rattle.dc_ending.specs.declared.fault.ProgramFault.TheVariants.{Read, TooLong, Write, NoMemory, Open}
@@ -22,7 +22,7 @@ use Rattle.dc_io.specs.Failures.{HasRisen}
 use Rattle.dc_log.specs.Halves.{fewest_sectors, half_of}
 use Rattle.dc_log.specs.Refusal.{TellsOfImage}
 use Rattle.dc_log.specs.declared.fault.OpenFault.TheVariants.{Worn, Device}
-use Rattle.dc_concentrator.specs.PendingImages.{EachStands, IsRefused, StandsForOne}
+use Rattle.dc_core.specs.PendingImages.{EachStands, IsRefused, StandsForOne}
 use Rattle.dc_poll.proofs.Taking.{takes_both}
 use Rattle.dc_poll.specs.Bus.{Bus}
 use Rattle.dc_poll.specs.Happening.{Happening, happened_events}

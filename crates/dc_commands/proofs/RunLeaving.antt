@@ -5,7 +5,7 @@ use Rattle.std.proofs.KnownBytes.{Appends-nil}
 use Rattle.dc_commands.specs.Bytes.{IsPrinted}
 use Rattle.dc_commands.specs.Ending.{run_result}
 use Rattle.dc_commands.specs.RunOver.{Over, RunsOver}
-use Rattle.dc_disk.specs.declared.device.Disk.{Ghosts}
+use Rattle.dc_sectors.specs.declared.device.Disk.{Ghosts}
 use Rattle.dc_ending.specs.Fault.{IfOpen, IsOfReading}
 use Rattle.dc_ending.specs.Unopened.{IsUnopened}
 use Rattle.dc_ending.specs.declared.fault.ProgramFault.{ProgramFault}
@@ -13,10 +13,10 @@ use Rattle.dc_ending.specs.declared.fault.ProgramFault.TheVariants.{TooLong, Wri
 use Rattle.dc_io.specs.Lines.{most_input}
 use Rattle.dc_log.specs.Halves.{fewest_sectors}
 use Rattle.dc_log.specs.declared.fault.OpenFault.TheVariants.{NotImage}
-use Rattle.dc_script.specs.ImageRun.{ImageCut, ImageRan}
-use Rattle.dc_script.specs.Link.{LineLink}
-use Rattle.dc_script.specs.Starved.{ImageStarved, IsOfSearch}
-use Rattle.dc_script.specs.Traffic.{Traffic}
+use Rattle.dc_poller.specs.ImageRun.{ImageCut, ImageRan}
+use Rattle.dc_poller.specs.Link.{LineLink}
+use Rattle.dc_poller.specs.Starved.{ImageStarved, IsOfSearch}
+use Rattle.dc_poller.specs.Traffic.{Traffic}
 
 module _ {D : Type 0} (g : Ghosts D) (links : List LineLink) (script : Option (List ℕ)) (wrote written : List ℕ → Type 0) (carries : List Traffic → Type 0) (disk new : D)
     (shows : (text : List ℕ) → wrote text → written text) where

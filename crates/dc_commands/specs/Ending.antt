@@ -1,6 +1,6 @@
 -- How a poll and a script end (this product), where what they print may be lost: a full disk of a log.
 use Rattle.std.specs.Prelude.{◌≡◌, ◌==◌, ℕ, Bool, true, false, List, codes, Option, None, Some, Result, Ok, Err}
-use Rattle.dc_concentrator.specs.declared.fault.CommitFault.{CommitFault}
+use Rattle.dc_core.specs.declared.fault.CommitFault.{CommitFault}
 use Rattle.dc_ending.specs.Outcome.{IsOfFile, StopsAs}
 use Rattle.dc_ending.specs.declared.ending.Ending.{Ending}
 use Rattle.dc_ending.specs.declared.ending.Ending.TheVariants.{Clean, Faulty, Open, Behind, Disk}

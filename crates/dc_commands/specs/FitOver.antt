@@ -2,10 +2,10 @@
 use Rattle.std.specs.Prelude.{◌≡◌, ◌⊎◌, Bool, true, false, List, ℕ, codes, Option, Result, Ok, Err, IfOk, IfErr}
 use Rattle.std.specs.Prelude.{if◌then◌else◌}
 use Rattle.dc_commands.specs.Bytes.{IsPrinted}
-use Rattle.dc_concentrator.specs.declared.fault.CommitFault.{CommitFault}
-use Rattle.dc_concentrator.specs.declared.fault.CommitFault.TheVariants.{Device, Worn, Stopped}
-use Rattle.dc_disk.specs.Runs.{LeavesOnly}
-use Rattle.dc_disk.specs.declared.device.Disk.{Ghosts}
+use Rattle.dc_core.specs.declared.fault.CommitFault.{CommitFault}
+use Rattle.dc_core.specs.declared.fault.CommitFault.TheVariants.{Device, Worn, Stopped}
+use Rattle.dc_sectors.specs.Runs.{LeavesOnly}
+use Rattle.dc_sectors.specs.declared.device.Disk.{Ghosts}
 use Rattle.dc_ending.specs.Outcome.{IsOfFile, opening_ended}
 use Rattle.dc_ending.specs.declared.ending.Ending.{Ending}
 use Rattle.dc_ending.specs.declared.ending.Ending.TheVariants.{Clean, Faulty, Disk, Memory}
@@ -17,7 +17,7 @@ use Rattle.dc_fit.specs.declared.list.wish.Wish.{Wish}
 use Rattle.dc_log.specs.Halves.{half_of}
 use Rattle.dc_log.specs.declared.fault.StoreFault.{StoreFault}
 use Rattle.dc_log.specs.declared.fault.StoreFault.TheVariants.{Device as Failed, Worn as Exhausted, Stopped as Halted}
-use Rattle.dc_concentrator.specs.PendingImages.{StandsForOne}
+use Rattle.dc_core.specs.PendingImages.{StandsForOne}
 
 -- a fault of the store as that of a commit
 abbrev pub commit_fault : StoreFault → CommitFault

@@ -1,8 +1,8 @@
 -- The look at an image before a command opens it to write it (this product).
 use Rattle.std.specs.Prelude.{◌≡◌, ◌⊎◌, ◌≤◌, ◌<◌, ℕ, Some}
-use Rattle.dc_disk.specs.Disk.{IsImage}
-use Rattle.dc_disk.specs.Runs.{IsSettled, LeavesOnly}
-use Rattle.dc_disk.specs.declared.device.Disk.{Ghosts}
+use Rattle.dc_sectors.specs.Disk.{IsImage}
+use Rattle.dc_sectors.specs.Runs.{IsSettled, LeavesOnly}
+use Rattle.dc_sectors.specs.declared.device.Disk.{Ghosts}
 use Rattle.dc_ending.specs.Outcome.{opening_ended}
 use Rattle.dc_ending.specs.Unopened.{Stands}
 use Rattle.dc_ending.specs.declared.ending.Ending.{Ending}
@@ -11,7 +11,7 @@ use Rattle.dc_io.specs.Failures.{HasRisen}
 use Rattle.dc_log.specs.Halves.{fewest_sectors, half_of}
 use Rattle.dc_log.specs.declared.fault.OpenFault.{OpenFault}
 use Rattle.dc_log.specs.declared.fault.OpenFault.TheVariants.{Device, NotImage}
-use Rattle.dc_concentrator.specs.PendingImages.{IsBehindAt, IsUnread}
+use Rattle.dc_core.specs.PendingImages.{IsBehindAt, IsUnread}
 
 -- THE IMAGE MAY BE OPENED: what it reads as is durable, and each image that a crash may leave from here on stands for a
 -- state, whatever wrote the image and whatever became of it since.

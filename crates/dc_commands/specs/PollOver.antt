@@ -6,9 +6,9 @@ use Rattle.dc_commands.specs.Bytes.{IsPrinted}
 use Rattle.dc_commands.specs.Ending.{PollEnds}
 use Rattle.dc_commands.specs.HostClock.{IsWarned, LetsPass, TellsTime}
 use Rattle.dc_commands.specs.declared.timer.HostTimer.{HostTimer}
-use Rattle.dc_concentrator.specs.Core.{Core}
-use Rattle.dc_disk.specs.Runs.{LeavesOnly}
-use Rattle.dc_disk.specs.declared.device.Disk.{Ghosts}
+use Rattle.dc_core.specs.Core.{Core}
+use Rattle.dc_sectors.specs.Runs.{LeavesOnly}
+use Rattle.dc_sectors.specs.declared.device.Disk.{Ghosts}
 use Rattle.dc_ending.specs.Fault.{IfOpen}
 use Rattle.dc_ending.specs.declared.ending.Ending.{Ending}
 use Rattle.dc_ending.specs.declared.fault.ProgramFault.{ProgramFault}
@@ -18,7 +18,7 @@ use Rattle.dc_log.specs.Halves.{fewest_sectors, half_of}
 use Rattle.dc_log.specs.Refusal.{TellsOfImage}
 use Rattle.dc_log.specs.declared.fault.OpenFault.{OpenFault}
 use Rattle.dc_log.specs.declared.fault.OpenFault.TheVariants.{Worn, Device}
-use Rattle.dc_concentrator.specs.PendingImages.{EachStands, IsRefused, StandsForOne}
+use Rattle.dc_core.specs.PendingImages.{EachStands, IsRefused, StandsForOne}
 use Rattle.dc_poll.specs.Bus.{Bus}
 use Rattle.dc_poll.specs.Happening.{Happening}
 use Rattle.dc_poll.specs.ImagePoll.{ImageTurned, PlanPolled}

@@ -1,7 +1,7 @@
 -- What the command `rescue` leaves in a new image, and what it prints (this product).
 use Rattle.std.specs.Prelude.{◌≡◌, ◌-◌, ℕ, List, ◌++◌, codes}
-use Rattle.dc_disk.specs.Disk.{Image, IsImage}
-use Rattle.dc_disk.specs.declared.device.Disk.{Ghosts}
+use Rattle.dc_sectors.specs.Disk.{Image, IsImage}
+use Rattle.dc_sectors.specs.declared.device.Disk.{Ghosts}
 use Rattle.dc_io.specs.Words.{number_word}
 use Rattle.dc_log.specs.Greatest.{IsGreatest}
 use Rattle.dc_log.specs.Halves.{half_of}
@@ -10,9 +10,9 @@ use Rattle.dc_log.specs.declared.greatest.Greatest.{Greatest}
 use Rattle.dc_log.specs.declared.rescuing.Source.{Source}
 use Rattle.dc_log.specs.declared.rescuing.Source.TheVariants.{Whole, Without, OtherRoot}
 use Rattle.dc_change.specs.State.{State}
-use Rattle.dc_concentrator.specs.PendingImages.{Stands}
-use Rattle.dc_log.specs.declared.roots.root.Root.{Root}
-use Rattle.dc_register.specs.Language.{register}
+use Rattle.dc_core.specs.PendingImages.{Stands}
+use Rattle.dc_roots.specs.declared.root.Root.{Root}
+use Rattle.dc_meters.specs.Language.{register}
 
 -- a name and a sector
 unfoldable pub sector_line : List ℕ → ℕ → List ℕ

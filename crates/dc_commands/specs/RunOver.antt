@@ -3,17 +3,17 @@ use Rattle.std.specs.Prelude.{◌≡◌, ◌≢◌, ◌⊎◌, ◌≤◌, ◌<�
 use Rattle.std.specs.Prelude.{Result, IfOk, IfErr, OnOk, IsErrOf}
 use Rattle.dc_commands.specs.Bytes.{IsPrinted}
 use Rattle.dc_commands.specs.Ending.{run_result}
-use Rattle.dc_disk.specs.declared.device.Disk.{Ghosts}
+use Rattle.dc_sectors.specs.declared.device.Disk.{Ghosts}
 use Rattle.dc_ending.specs.Fault.{IfOpen, IsOfReading}
 use Rattle.dc_ending.specs.Unopened.{IsUnopened}
 use Rattle.dc_ending.specs.declared.fault.ProgramFault.{ProgramFault}
 use Rattle.dc_ending.specs.declared.fault.ProgramFault.TheVariants.{TooLong, Write, NoMemory}
 use Rattle.dc_io.specs.Lines.{most_input}
-use Rattle.dc_script.specs.ImageRun.{ImageCut, ImageRan}
-use Rattle.dc_script.specs.Link.{LineLink}
-use Rattle.dc_script.specs.Starved.{ImageStarved, IsOfSearch}
-use Rattle.dc_script.specs.Traffic.{AreCarried, Traffic}
-use Rattle.dc_script.specs.declared.slot.Slot.{Slot}
+use Rattle.dc_poller.specs.ImageRun.{ImageCut, ImageRan}
+use Rattle.dc_poller.specs.Link.{LineLink}
+use Rattle.dc_poller.specs.Starved.{ImageStarved, IsOfSearch}
+use Rattle.dc_poller.specs.Traffic.{AreCarried, Traffic}
+use Rattle.dc_poller.specs.declared.slot.Slot.{Slot}
 
 -- What is said of the traffic over the buses of a command, however its ways to them are left.
 abbrev pub Over : Type 1

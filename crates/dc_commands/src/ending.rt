@@ -3,7 +3,7 @@
 ghost use Rattle.std.specs.Prelude.{◌≡◌};
 ghost use Rattle.dc_commands.specs.Ending.{EndsBy, PollEnds, look_ended, run_result};
 
-use dc_concentrator::CommitFault;
+use dc_core::CommitFault;
 use dc_ending::{Ending, ProgramFault, STREAM, ending_of};
 use dc_log::OpenFault;
 use dc_poll::Outcome;

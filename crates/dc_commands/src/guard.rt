@@ -3,10 +3,10 @@
 ghost use Rattle.std.specs.Prelude.{IfErr, OnOk};
 ghost use Rattle.dc_commands.specs.Guard.{IsKeptShut, IsReady};
 
-use dc_disk::Disk;
+use dc_sectors::Disk;
 use dc_ending::Ending;
 use dc_log::{OpenFault, settled_ahead};
-use dc_register::House;
+use dc_meters::House;
 use std::alloc::Global;
 
 /// Makes what the image reads as durable, and looks at it: what each command that writes an image begins with. Nothing

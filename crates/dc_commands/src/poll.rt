@@ -17,7 +17,7 @@ use crate::timer::HostTimer;
 use crate::waiting::Waits;
 use dc_bus::HalfBus;
 use dc_change::Moment;
-use dc_disk::Disk;
+use dc_sectors::Disk;
 use dc_ending::{Ending, ProgramFault};
 use dc_poll::events::{
     JsonTeller, Notes, Progress, Shown, TextTeller, Unfailing, events_are_printed_as_json,

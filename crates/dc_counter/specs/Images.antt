@@ -1,7 +1,7 @@
 -- What an image of a counter reads as: the store's definitions, of a counter.
 use Rattle.std.specs.Prelude.{ℕ}
 use Rattle.byteorder.specs.Endian.{little_bytes}
-use Rattle.dc_disk.specs.Disk.{Image}
+use Rattle.dc_sectors.specs.Disk.{Image}
 use Rattle.dc_kept.specs.declared.kept.Language.{Ghosts as Language}
 use Rattle.dc_log.specs.Stands.{Reads}
 use Rattle.dc_counter.specs.declared.counter.Counter.{Counter}

@@ -6,7 +6,7 @@ ghost use Rattle.dc_log.specs.Stands.{Reads};
 ghost use Rattle.dc_counter.specs.Images.{ReadsCount};
 
 use crate::Counter;
-use dc_disk::Disk;
+use dc_sectors::Disk;
 use dc_kept::Language;
 use dc_log::{OpenFault, Store};
 use std::alloc::Global;

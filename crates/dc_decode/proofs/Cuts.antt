@@ -2,10 +2,10 @@
 use Rattle.std.proofs.Common.{◌≡◌, ℕ, zero, suc, ◌+◌, ◌-◌, ◌<◌, ◌≤◌, List, [], ◌∷◌, ◌++◌, length, take, drop, refl, ap, arith, length-drop, Bool, true, false, cond, lit<}
 use Rattle.std.specs.Prelude.{◌||◌, ◌==◌, nat_lt, slice_index, if◌then◌else◌}
 use Rattle.std.proofs.lemmas.Bool.{ltb-false}
-use Rattle.dc_frame.specs.declared.needs.Need.{Need}
-use Rattle.dc_frame.specs.declared.needs.Need.TheVariants.{More, Whole, Bad}
-use Rattle.dc_frame.specs.Fault.{begins_ack, begins_short, begins_long, lengths_agree}
-use Rattle.dc_frame.specs.Need.{up_to, need_of_long, need_of}
+use Rattle.dc_linkframe.specs.declared.needs.Need.{Need}
+use Rattle.dc_linkframe.specs.declared.needs.Need.TheVariants.{More, Whole, Bad}
+use Rattle.dc_linkframe.specs.Fault.{begins_ack, begins_short, begins_long, lengths_agree}
+use Rattle.dc_linkframe.specs.Need.{up_to, need_of_long, need_of}
 use Rattle.dc_decode.specs.Frames.{len_by, front_len, cut, frames_of, shown, is_bad, all_shown, any_bad}
 
 -- what is needed names a byte at least, and at most what there is

@@ -1,6 +1,6 @@
 -- The lines of records, one record more.
 use Rattle.std.proofs.Common.{◌≡◌, List, [], ◌∷◌, ◌++◌, refl}
-use Rattle.dc_record.specs.Record.{Entry}
+use Rattle.dc_records.specs.Record.{Entry}
 use Rattle.dc_decode.specs.Telegram.{record_line, record_lines}
 
 pub no_records : record_lines [] ≡ []

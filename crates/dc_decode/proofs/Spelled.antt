@@ -1,11 +1,11 @@
 -- What was parsed is what a text is read as.
 use Rattle.std.proofs.Common.{◌≡◌, List, ℕ, Option, Some, None, Result, Ok, Err, MatchResult, IfErr, option_map, ap, sym}
 use Rattle.std.specs.Result.{result_ok}
-use Rattle.dc_frame.specs.declared.fault.FrameFault.{FrameFault}
-use Rattle.dc_frame.specs.declared.frame.Frame.{Frame}
-use Rattle.dc_frame.specs.Frame.{FrameSeen, seen}
-use Rattle.dc_frame.specs.Fault.{fault_of}
-use Rattle.dc_frame.specs.Reading.{frame_of, fields_of, unless_faulty}
+use Rattle.dc_linkframe.specs.declared.fault.FrameFault.{FrameFault}
+use Rattle.dc_linkframe.specs.declared.frame.Frame.{Frame}
+use Rattle.dc_linkframe.specs.Frame.{FrameSeen, seen}
+use Rattle.dc_linkframe.specs.Fault.{fault_of}
+use Rattle.dc_linkframe.specs.Reading.{frame_of, fields_of, unless_faulty}
 use Rattle.dc_decode.specs.Frames.{read_by, read_as}
 
 read_is_parsed : (fault : Option FrameFault) (fields frame : FrameSeen) → unless_faulty fault fields ≡ Some frame → read_by fault fields ≡ Ok frame

@@ -3,10 +3,10 @@ use Rattle.std.proofs.Common.{◌≡◌, ℕ, zero, suc, ◌<◌, ◌≤◌, Lis
 use Rattle.std.specs.Prelude.{flat_map}
 use Rattle.std.specs.List.{AllByRecursion, concat}
 use Rattle.std.proofs.Math.Seq.{take-append_seam, drop-append_seam}
-use Rattle.dc_frame.specs.declared.needs.Need.TheVariants.{Whole}
-use Rattle.dc_frame.specs.Frame.{FrameSeen, ack, short, long, HasRoom, spelling, Spells}
-use Rattle.dc_frame.specs.Need.{need_of}
-use Rattle.dc_frame.proofs.Spellings.{frame_of-spelling}
+use Rattle.dc_linkframe.specs.declared.needs.Need.TheVariants.{Whole}
+use Rattle.dc_linkframe.specs.Frame.{FrameSeen, ack, short, long, HasRoom, spelling, Spells}
+use Rattle.dc_linkframe.specs.Need.{need_of}
+use Rattle.dc_linkframe.proofs.Spellings.{frame_of-spelling}
 use Rattle.dc_decode.specs.Frames.{len_by, front_len, frames_of, read_text, frame_text, shown, all_shown}
 use Rattle.dc_decode.proofs.Cuts.{first_cut, front_some, no_cut, none_shown, first_shown}
 use Rattle.dc_decode.proofs.Spelled.{frame_is_parsed}

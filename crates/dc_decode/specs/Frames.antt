@@ -2,16 +2,16 @@
 use Rattle.std.specs.Prelude.{ℕ, zero, suc, ◌==◌, ◌&&◌, ◌||◌, if◌then◌else◌, Bool, true, false}
 use Rattle.std.specs.Prelude.{List, [], ◌∷◌, ◌++◌, codes, length, take, drop, flat_map, Option}
 use Rattle.std.specs.Prelude.{Some, None, Result, Ok, Err, is_err}
-use Rattle.dc_frame.specs.declared.fault.FrameFault.{FrameFault}
-use Rattle.dc_frame.specs.declared.needs.Need.{Need}
-use Rattle.dc_frame.specs.declared.needs.Need.TheVariants.{More, Whole, Bad}
-use Rattle.dc_frame.specs.Fault as link
-use Rattle.dc_frame.specs.Frame.{FrameSeen, ack, short, long}
-use Rattle.dc_frame.specs.Need.{need_of}
-use Rattle.dc_frame.specs.Reading.{fields_of}
-use Rattle.dc_record.specs.declared.fault.BodyFault.{BodyFault}
-use Rattle.dc_record.specs.Fault as records
-use Rattle.dc_record.specs.Telegram.{Parsed, telegram_at}
+use Rattle.dc_linkframe.specs.declared.fault.FrameFault.{FrameFault}
+use Rattle.dc_linkframe.specs.declared.needs.Need.{Need}
+use Rattle.dc_linkframe.specs.declared.needs.Need.TheVariants.{More, Whole, Bad}
+use Rattle.dc_linkframe.specs.Fault as link
+use Rattle.dc_linkframe.specs.Frame.{FrameSeen, ack, short, long}
+use Rattle.dc_linkframe.specs.Need.{need_of}
+use Rattle.dc_linkframe.specs.Reading.{fields_of}
+use Rattle.dc_records.specs.declared.fault.BodyFault.{BodyFault}
+use Rattle.dc_records.specs.Fault as records
+use Rattle.dc_records.specs.Telegram.{Parsed, telegram_at}
 use Rattle.dc_io.specs.Words.{number_word, byte_word, fault_line}
 use Rattle.dc_decode.specs.Telegram.{telegram_text}
 

@@ -1,17 +1,17 @@
 -- The end of a record's line: its data point, if the table of units has one (this product; the
 -- units are those of EN 13757-3).
 use Rattle.std.specs.Prelude.{ℕ, List, [], ◌++◌, codes}
-use Rattle.dc_record.specs.Record.{Entry}
-use Rattle.dc_record.specs.declared.value.point.Point.{Point}
-use Rattle.dc_record.specs.declared.value.point.Seen.{Seen}
-use Rattle.dc_record.specs.declared.value.point.Seen.TheVariants.{Point as Known, Other}
-use Rattle.dc_record.specs.declared.value.quantity.Quantity.{Quantity}
-use Rattle.dc_record.specs.declared.value.value.Value.{Value}
-use Rattle.dc_record.specs.declared.value.value.Value.TheVariants.{Number, Flags, Day as OnDay, Minute}
-use Rattle.dc_record.specs.declared.value.value.Value.TheVariants.{None as NoValue}
-use Rattle.dc_record.specs.Point.{seen_of}
-use Rattle.dc_record.specs.Quantity.{unit_of}
-use Rattle.dc_record.specs.Text.{value_text}
+use Rattle.dc_records.specs.Record.{Entry}
+use Rattle.dc_units.specs.declared.point.Point.{Point}
+use Rattle.dc_units.specs.declared.point.Seen.{Seen}
+use Rattle.dc_units.specs.declared.point.Seen.TheVariants.{Point as Known, Other}
+use Rattle.dc_units.specs.declared.quantity.Quantity.{Quantity}
+use Rattle.dc_units.specs.declared.value.Value.{Value}
+use Rattle.dc_units.specs.declared.value.Value.TheVariants.{Number, Flags, Day as OnDay, Minute}
+use Rattle.dc_units.specs.declared.value.Value.TheVariants.{None as NoValue}
+use Rattle.dc_units.specs.Point.{seen_of}
+use Rattle.dc_units.specs.Quantity.{unit_of}
+use Rattle.dc_units.specs.Text.{value_text}
 
 -- a number and flags have a unit
 abbrev pub unit_word : Value → Quantity → List ℕ

@@ -2,10 +2,10 @@
 -- fields are those of EN 13757-3, variable data structure).
 use Rattle.std.specs.Prelude.{ℕ, List, ◌++◌, codes, length, flat_map}
 use Rattle.dc_address.specs.Text.{text_of}
-use Rattle.dc_record.specs.declared.header.Header.{Header}
-use Rattle.dc_record.specs.Record.{Entry}
-use Rattle.dc_record.specs.Body.{Ending, plain, last, more}
-use Rattle.dc_record.specs.Telegram.{Parsed}
+use Rattle.dc_records.specs.declared.header.Header.{Header}
+use Rattle.dc_records.specs.Record.{Entry}
+use Rattle.dc_records.specs.Body.{Ending, plain, last, more}
+use Rattle.dc_records.specs.Telegram.{Parsed}
 use Rattle.dc_decode.specs.Seen.{seen_word}
 use Rattle.dc_io.specs.Words.{number_word, hex_word}
 

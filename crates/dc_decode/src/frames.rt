@@ -2,7 +2,7 @@
 
 ghost use Rattle.std.specs.Prelude.{◌≡◌, ◌<◌, ◌≤◌, ◌∷◌, drop, length, Ok, Err, MatchResult};
 ghost use Rattle.std.specs.Prelude.{IfOk, OnOk, OnErr};
-ghost use Rattle.dc_frame.specs.Frame.{seen};
+ghost use Rattle.dc_linkframe.specs.Frame.{seen};
 ghost use Rattle.dc_io.specs.Written.{Wrote};
 ghost use Rattle.dc_decode.specs.Frames.{front_len, frames_of, read_as, content_text};
 ghost use Rattle.dc_decode.specs.Frames.{is_bad_content, short_line, long_line, frame_text};
@@ -10,10 +10,10 @@ ghost use Rattle.dc_decode.specs.Frames.{is_bad_frame, shown, is_bad};
 
 use crate::line::{WORDS_ROOM, put_byte_word_before, put_number_before};
 use crate::telegram::put_telegram;
-use dc_frame::{Frame, FrameFault, Need, need, parse};
+use dc_linkframe::{Frame, FrameFault, Need, need, parse};
 use dc_io::{IoFault, Sink, put_byte_word, put_fault_line};
-use dc_record::Telegram;
-use dc_record::value::{put_byte, put_piece};
+use dc_records::Telegram;
+use dc_units::{put_byte, put_piece};
 
 /// The CI field of a variable data structure (EN 13757-3).
 const VARIABLE_DATA: u8 = 0x72;

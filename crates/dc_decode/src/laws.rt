@@ -2,10 +2,10 @@
 
 ghost use Rattle.std.specs.Prelude.{◌≡◌, ℕ, List, map, flat_map};
 ghost use Rattle.std.specs.List.{AllByRecursion, concat};
-ghost use Rattle.dc_frame.specs.Frame.{FrameSeen, HasRoom, spelling};
+ghost use Rattle.dc_linkframe.specs.Frame.{FrameSeen, HasRoom, spelling};
 ghost use Rattle.dc_decode.specs.Frames.{frames_of, frame_text, all_shown};
 
-use dc_frame::need_agrees_with_parse;
+use dc_linkframe::need_agrees_with_parse;
 
 /// The bytes of a line split into frames.
 pub fn frames_are_told_in_turn()

@@ -2,16 +2,16 @@
 
 ghost use Rattle.std.specs.Prelude.{◌≡◌, ◌+◌, ◌-◌, ◌*◌, ◌≤◌, ◌++◌, codes, decimal, length, drop};
 ghost use Rattle.std.specs.Prelude.{IsTrue};
-ghost use Rattle.dc_record.specs.Quantity.{unit_of};
-ghost use Rattle.dc_record.specs.Record.{view};
+ghost use Rattle.dc_units.specs.Quantity.{unit_of};
+ghost use Rattle.dc_records.specs.Record.{view};
 ghost use Rattle.dc_io.specs.Hex.{upper_hex};
 ghost use Rattle.dc_io.specs.Words.{number_word, byte_word, hex_word};
 ghost use Rattle.dc_decode.specs.Seen.{unit_word, point_text, seen_text, seen_word};
 ghost use Rattle.dc_decode.specs.Telegram.{record_line, record_words};
 
 use dc_io::pair_of;
-use dc_record::Record;
-use dc_record::value::{Point, Quantity, Seen, TEXT_ROOM, Value, point_of, put_byte, put_piece};
+use dc_records::Record;
+use dc_units::{Point, Quantity, Seen, TEXT_ROOM, Value, point_of, put_byte, put_piece};
 use itoa::write_digits;
 
 // Most VIBs and data have no more bytes than these.

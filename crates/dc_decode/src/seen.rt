@@ -1,13 +1,13 @@
 //! The data point of a record, after its data.
 
 ghost use Rattle.std.specs.Prelude.{◌≡◌, ◌≤◌, length, OnOk, OnErr};
-ghost use Rattle.dc_record.specs.Record.{view};
+ghost use Rattle.dc_records.specs.Record.{view};
 ghost use Rattle.dc_io.specs.Written.{Wrote};
 ghost use Rattle.dc_decode.specs.Seen.{unit_word, point_text, seen_text, seen_word};
 
 use dc_io::{IoFault, Sink};
-use dc_record::Record;
-use dc_record::value::{Point, Quantity, Seen, TEXT_ROOM, Value, point_of};
+use dc_records::Record;
+use dc_units::{Point, Quantity, Seen, TEXT_ROOM, Value, point_of};
 
 // Writes the unit of a number or of flags.
 #[tactic(auto, using(dc_io::proofs::Pieces::written))]

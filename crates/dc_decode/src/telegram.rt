@@ -1,18 +1,18 @@
 //! The text of a telegram.
 
 ghost use Rattle.std.specs.Prelude.{◌≡◌, ◌≤◌, length, OnOk, OnErr};
-ghost use Rattle.dc_record.specs.Record.{view};
-ghost use Rattle.dc_record.specs.Seen.{ending};
+ghost use Rattle.dc_records.specs.Record.{view};
+ghost use Rattle.dc_records.specs.Seen.{ending};
 ghost use Rattle.dc_io.specs.Written.{Wrote};
-ghost use Rattle.dc_record.specs.Telegram.{parsed};
+ghost use Rattle.dc_records.specs.Telegram.{parsed};
 ghost use Rattle.dc_decode.specs.Telegram.{meter_line, record_words, record_line, record_lines};
 ghost use Rattle.dc_decode.specs.Telegram.{end_line, telegram_text};
 
 use crate::line::{LINE_ROOM, WORDS_ROOM, has_few, put_line_before, put_number_before};
 use crate::seen::put_seen;
 use dc_io::{IoFault, Sink, put_hex_word, put_number_word};
-use dc_record::value::{put_byte, put_piece};
-use dc_record::{End, Header, Record, Records, Telegram};
+use dc_units::{put_byte, put_piece};
+use dc_records::{End, Header, Record, Records, Telegram};
 
 // Writes the line of the meter.
 #[tactic(auto, using(dc_io::proofs::Pieces::written), unfolding(crate::specs::Telegram::meter_line))]

@@ -1,6 +1,6 @@
 -- How a run of the program ends: the exit status, and the line on standard error (this product).
 use Rattle.std.specs.Prelude.{ℕ, List, [], ◌++◌, codes, decimal, Option, None, Some}
-use Rattle.dc_concentrator.specs.Fault.{commit_number, commit_name}
+use Rattle.dc_core.specs.Fault.{commit_number, commit_name}
 use Rattle.dc_log.specs.Fault.{open_number, open_name, format_number, format_name}
 use Rattle.dc_log.specs.declared.fault.OpenFault.{OpenFault}
 use Rattle.dc_log.specs.declared.fault.OpenFault.TheVariants.{NotImage, Damaged, Version, Worn}

@@ -1,14 +1,14 @@
 -- An image that isn't opened (this product).
 use Rattle.std.specs.Prelude.{◌≡◌, ◌≢◌, ◌≤◌}
 use Rattle.dc_io.specs.Failures.{HasRisen}
-use Rattle.dc_disk.specs.Disk.{IsImage}
-use Rattle.dc_disk.specs.Runs.{LeavesOnly}
-use Rattle.dc_disk.specs.declared.device.Disk.{Ghosts}
+use Rattle.dc_sectors.specs.Disk.{IsImage}
+use Rattle.dc_sectors.specs.Runs.{LeavesOnly}
+use Rattle.dc_sectors.specs.declared.device.Disk.{Ghosts}
 use Rattle.dc_log.specs.Halves.{fewest_sectors, half_of}
 use Rattle.dc_log.specs.Refusal.{TellsOfImage}
 use Rattle.dc_log.specs.declared.fault.OpenFault.{OpenFault}
 use Rattle.dc_log.specs.declared.fault.OpenFault.TheVariants.{Worn, Device}
-use Rattle.dc_concentrator.specs.PendingImages.{IsRefused, EachStands, StandsForOne}
+use Rattle.dc_core.specs.PendingImages.{IsRefused, EachStands, StandsForOne}
 
 -- Where the disk keeps the disk model, each image that it may hold stands for some state.
 abbrev pub Stands : {D : Type 0} → Ghosts D → D → Type 0

@@ -7,7 +7,7 @@ ghost use Rattle.dc_ending.specs.Outcome.{EndsAs};
 
 use crate::ProgramFault;
 use crate::escape::put_escaped;
-use dc_concentrator::CommitFault;
+use dc_core::CommitFault;
 use dc_io::{IoFault, Sink};
 use dc_log::{FormatFault, OpenFault};
 use dc_tokens::{Piece, put_pieces};

@@ -1,13 +1,13 @@
 //! The file in which an image is built, until it is whole.
 
 ghost use Rattle.std.specs.Prelude.{[], IfErr, IfOk};
-ghost use Rattle.dc_disk.specs.File.{IsOpened};
+ghost use Rattle.dc_sectors.specs.File.{IsOpened};
 ghost use Rattle.dc_files.specs.Formatted.{IsOfFormat};
 
 use crate::host::Host;
 use crate::image::lock;
 use crate::why::{Noted, Why};
-use dc_disk::FileDisk;
+use dc_sectors::FileDisk;
 use dc_ending::Ending;
 use std::fs::{File, Metadata, OpenOptions};
 use std::io::ErrorKind;

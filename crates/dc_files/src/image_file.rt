@@ -7,7 +7,7 @@ use crate::half_made::is_same_file;
 use crate::host::Host;
 use crate::image::open_image;
 use crate::why::{Noted, unread};
-use dc_disk::FileDisk;
+use dc_sectors::FileDisk;
 use dc_ending::Ending;
 use libc::EIO;
 use std::cell::Cell;

@@ -4,14 +4,14 @@ ghost use Rattle.std.specs.Prelude.{◌≡◌, ◌⊎◌, [], IfErr, IfOk};
 ghost use Rattle.dc_ending.specs.Outcome.{IsOfFile};
 ghost use Rattle.dc_ending.specs.declared.ending.Ending.TheVariants.{Open, Memory};
 ghost use Rattle.dc_log.specs.declared.fault.OpenFault.TheVariants.{Device};
-ghost use Rattle.dc_disk.specs.File.{IsOpened};
+ghost use Rattle.dc_sectors.specs.File.{IsOpened};
 ghost use Rattle.dc_files.specs.Copied.{IsOfCopy};
 
 use crate::host::Host;
 use crate::image::{drop_cached, open_to_look, wait};
 use crate::why::{Noted, Why};
-use dc_disk::snapshot::{Sample, SampleFault};
-use dc_disk::{FileDisk, Logged};
+use dc_sectors::snapshot::{Sample, SampleFault};
+use dc_sectors::{FileDisk, Logged};
 use dc_ending::Ending;
 use dc_log::OpenFault;
 use libc::types::timespec;

@@ -7,10 +7,10 @@ use Rattle.dc_change.specs.History.{after, AcceptsAll}
 use Rattle.dc_change.specs.Spelled.{SpellsChanges}
 use Rattle.dc_change.specs.Valid.{IsChange}
 use Rattle.dc_change.specs.declared.change.Change.{Change}
-use Rattle.dc_disk.proofs.Moments.{followed, weakened}
-use Rattle.dc_disk.specs.Disk.{Image, settled}
-use Rattle.dc_disk.specs.Runs.{LeavesOnly}
-use Rattle.dc_disk.specs.declared.device.Disk.{Ghosts}
+use Rattle.dc_sectors.proofs.Moments.{followed, weakened}
+use Rattle.dc_sectors.specs.Disk.{Image, settled}
+use Rattle.dc_sectors.specs.Runs.{LeavesOnly}
+use Rattle.dc_sectors.specs.declared.device.Disk.{Ghosts}
 use Rattle.dc_fit.proofs.Copies.{same_held}
 use Rattle.dc_fit.specs.declared.fault.FitFault.{FitFault}
 use Rattle.dc_fit.specs.declared.fault.FitFault.TheVariants.{Open, NoMemory, Write, Disk}
@@ -20,8 +20,8 @@ use Rattle.dc_fit.specs.Wish.{IsMetBy}
 use Rattle.dc_fit.specs.declared.list.wish.Wish.{Wish}
 use Rattle.dc_log.specs.Halves.{budget_of, half_len_of, half_of}
 use Rattle.dc_log.specs.Store.{Opened}
-use Rattle.dc_concentrator.specs.PendingImages.{Keeps, Reads, Stands, StandsForEither, StandsForOne}
-use Rattle.dc_register.specs.Language.{one_history}
+use Rattle.dc_core.specs.PendingImages.{Keeps, Reads, Stands, StandsForEither, StandsForOne}
+use Rattle.dc_meters.specs.Language.{one_history}
 
 -- where a row is wrong the register stays as it is, and else it has the changes
 stays : (plan : Outcome) (changes : List Change) (s : State) → plan.wrong ≡ true → fitted plan changes s ≡ s

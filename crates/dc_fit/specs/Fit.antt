@@ -5,8 +5,8 @@ use Rattle.dc_change.specs.State.{State, Held}
 use Rattle.dc_change.specs.History.{after, AcceptsAll}
 use Rattle.dc_change.specs.Spelled.{SpellsChanges}
 use Rattle.dc_change.specs.declared.change.Change.{Change}
-use Rattle.dc_disk.specs.declared.device.Disk.{Ghosts}
-use Rattle.dc_disk.specs.Runs.{IsSettled, LeavesOnly}
+use Rattle.dc_sectors.specs.declared.device.Disk.{Ghosts}
+use Rattle.dc_sectors.specs.Runs.{IsSettled, LeavesOnly}
 use Rattle.dc_fit.specs.declared.fault.FitFault.{FitFault}
 use Rattle.dc_fit.specs.declared.fault.FitFault.TheVariants.{Open, NoMemory, Write, Disk}
 use Rattle.dc_fit.specs.Plan.{Outcome}
@@ -16,7 +16,7 @@ use Rattle.dc_log.specs.Halves.{budget_of, half_of}
 use Rattle.dc_log.specs.Store.{Opened}
 use Rattle.dc_log.specs.declared.fault.OpenFault.{OpenFault}
 use Rattle.dc_log.specs.declared.fault.StoreFault.{StoreFault}
-use Rattle.dc_concentrator.specs.PendingImages.{EachStands, Keeps, Reads, Stands, StandsForEither, StandsForOne}
+use Rattle.dc_core.specs.PendingImages.{EachStands, Keeps, Reads, Stands, StandsForEither, StandsForOne}
 
 -- the last line where a row is wrong
 abbrev pub nothing_done : List ℕ

@@ -9,7 +9,7 @@ use Rattle.dc_change.specs.Flat.{IsFlat}
 use Rattle.dc_change.specs.Fields.{address_word, IsOfBytes}
 use Rattle.dc_change.specs.Fields.{IsAddress, IsBusLine}
 use Rattle.dc_change.specs.Words.{IsWord, is_space}
-use Rattle.dc_register.specs.Name.{capitals}
+use Rattle.dc_meters.specs.Name.{capitals}
 use Rattle.dc_fit.specs.declared.list.row.Row.{Row}
 use Rattle.dc_fit.specs.declared.list.row.RowFault.{RowFault}
 use Rattle.dc_fit.specs.declared.list.row.RowFault.TheVariants.{Columns, Meter, Line, Address, Flat}

@@ -3,22 +3,22 @@
 ghost use Rattle.std.specs.Prelude.{◌≡◌, ◌≢◌, ◌<◌, ◌≤◌, [], if◌then◌else◌, Err, IfErr, IfOk, IsErrOf};
 ghost use Rattle.dc_io.specs.Failures.{HasRisen};
 ghost use Rattle.dc_io.specs.Written.{PutsInto, Wrote};
-ghost use Rattle.dc_disk.specs.Runs.{LeavesOnly};
+ghost use Rattle.dc_sectors.specs.Runs.{LeavesOnly};
 ghost use Rattle.dc_log.specs.Halves.{budget_of, fewest_sectors, half_of};
 ghost use Rattle.dc_log.specs.Refusal.{TellsOfImage};
 ghost use Rattle.dc_log.specs.declared.fault.OpenFault.TheVariants.{Device, NotImage, Worn};
-ghost use Rattle.dc_concentrator.specs.PendingImages.{IsRefused, StandsForOne};
+ghost use Rattle.dc_core.specs.PendingImages.{IsRefused, StandsForOne};
 ghost use Rattle.dc_fit.specs.Fit.{fit_text, Fits, FitsAll, IfDisk, IfOpen, IsBefore, IsStanding};
 ghost use Rattle.dc_fit.specs.Fit.{Lists, ListsAll, nothing_done};
 
 use crate::FitFault;
 use crate::list::{Plan, Wish, plan_wish};
 use dc_change::DecodeFault;
-use dc_concentrator::pending::write_changes;
-use dc_disk::Disk;
+use dc_core::pending::write_changes;
+use dc_sectors::Disk;
 use dc_io::{Bytes, IoFault, NoMemory, Sink};
 use dc_log::Store;
-use dc_register::House;
+use dc_meters::House;
 use std::alloc::Allocator;
 
 // A copy of a house, to plan on.

@@ -2,9 +2,9 @@
 use Rattle.std.specs.Prelude.{ℕ, List, [], ◌∷◌, ◌++◌, codes, map, if◌then◌else◌, Option, Some, None, Result, Ok, Err}
 use Rattle.json.specs.Json.{Json, string, null}
 use Rattle.dc_address.specs.declared.identity.Identity.{Identity}
-use Rattle.dc_record.specs.declared.fault.BodyFault.{BodyFault}
-use Rattle.dc_record.specs.Fault as records
-use Rattle.dc_record.specs.Body.{Ending, plain}
+use Rattle.dc_records.specs.declared.fault.BodyFault.{BodyFault}
+use Rattle.dc_records.specs.Fault as records
+use Rattle.dc_records.specs.Body.{Ending, plain}
 use Rattle.dc_reading.specs.Text.{hex_text}
 use Rattle.dc_reading.specs.declared.content.content.Head.{Head}
 use Rattle.dc_reading.specs.declared.content.reason.Reason.{Reason}

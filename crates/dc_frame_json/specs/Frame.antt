@@ -4,14 +4,14 @@ use Rattle.std.specs.Prelude.{ℕ, ◌==◌, if◌then◌else◌, List, [], ◌�
 use Rattle.std.specs.Prelude.{Result, Ok, Err}
 use Rattle.dc_io.specs.Hex.{upper_hex}
 use Rattle.json.specs.Json.{Json, string}
-use Rattle.dc_frame.specs.declared.fault.FrameFault.{FrameFault}
-use Rattle.dc_frame.specs.Fault as link
-use Rattle.dc_frame.specs.Frame.{FrameSeen, ack, short, long}
-use Rattle.dc_frame.specs.Control.{variable_data}
-use Rattle.dc_record.specs.declared.fault.BodyFault.{BodyFault}
-use Rattle.dc_record.specs.Fault as records
-use Rattle.dc_record.specs.Telegram.{Parsed, telegram_at}
-use Rattle.dc_record.specs.Fields.{control_name, ci_name}
+use Rattle.dc_linkframe.specs.declared.fault.FrameFault.{FrameFault}
+use Rattle.dc_linkframe.specs.Fault as link
+use Rattle.dc_linkframe.specs.Frame.{FrameSeen, ack, short, long}
+use Rattle.dc_linkframe.specs.Control.{variable_data}
+use Rattle.dc_records.specs.declared.fault.BodyFault.{BodyFault}
+use Rattle.dc_records.specs.Fault as records
+use Rattle.dc_records.specs.Telegram.{Parsed, telegram_at}
+use Rattle.dc_records.specs.Fields.{control_name, ci_name}
 use Rattle.dc_decode.specs.Frames.{read_as}
 use Rattle.dc_tokens.specs.Object.{Field, object_of, count}
 use Rattle.dc_reading.specs.Content.{content_of}

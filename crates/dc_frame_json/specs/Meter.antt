@@ -3,8 +3,8 @@ use Rattle.std.specs.Prelude.{ℕ, ◌/◌, ◌%◌, ◌==◌, Bool, List, [], �
 use Rattle.json.specs.Json.{string, boolean}
 use Rattle.dc_address.specs.declared.identity.Identity.{Identity}
 use Rattle.dc_address.specs.Text.{text_of}
-use Rattle.dc_record.specs.Media.{medium_name}
-use Rattle.dc_record.specs.Fields.{application_name}
+use Rattle.dc_records.specs.Media.{medium_name}
+use Rattle.dc_records.specs.Fields.{application_name}
 use Rattle.dc_tokens.specs.Object.{Field, count}
 
 -- the printed identity, and its parts: eight digits, three letters, the version and the device type

@@ -3,12 +3,12 @@ use Rattle.std.specs.Prelude.{ℕ, if◌then◌else◌, Bool, false, List, [], �
 use Rattle.std.specs.Prelude.{Option, Some, None}
 use Rattle.dc_io.specs.Hex.{upper_hex}
 use Rattle.json.specs.Json.{Json, string, boolean, null}
-use Rattle.dc_record.specs.Record.{Entry}
-use Rattle.dc_record.specs.declared.value.value.Value.{Value}
-use Rattle.dc_record.specs.declared.value.value.Value.TheVariants.{Number, Flags, Day as OnDay, Minute}
-use Rattle.dc_record.specs.declared.value.value.Value.TheVariants.{None as NoValue}
-use Rattle.dc_record.specs.Text.{value_text}
-use Rattle.dc_record.specs.Fields.{function_name}
+use Rattle.dc_records.specs.Record.{Entry}
+use Rattle.dc_units.specs.declared.value.Value.{Value}
+use Rattle.dc_units.specs.declared.value.Value.TheVariants.{Number, Flags, Day as OnDay, Minute}
+use Rattle.dc_units.specs.declared.value.Value.TheVariants.{None as NoValue}
+use Rattle.dc_units.specs.Text.{value_text}
+use Rattle.dc_records.specs.Fields.{function_name}
 use Rattle.dc_reading.specs.declared.reading.Reading.{Reading}
 use Rattle.dc_reading.specs.Codes.{code_at, number_of}
 use Rattle.dc_reading.specs.Names.{names_of, how_name, type_found, fault_found, summer_found, vife_text}

@@ -2,9 +2,9 @@
 use Rattle.std.specs.Prelude.{Bool, true, false, List, [], ◌∷◌, ◌++◌, codes, drop, map}
 use Rattle.dc_io.specs.Hex.{upper_hex}
 use Rattle.json.specs.Json.{Json, string, boolean, null}
-use Rattle.dc_record.specs.declared.header.Header.{Header}
-use Rattle.dc_record.specs.Body.{Ending, plain, last, more}
-use Rattle.dc_record.specs.Telegram.{Parsed}
+use Rattle.dc_records.specs.declared.header.Header.{Header}
+use Rattle.dc_records.specs.Body.{Ending, plain, last, more}
+use Rattle.dc_records.specs.Telegram.{Parsed}
 use Rattle.dc_tokens.specs.Object.{Field, object_of, array_of, count}
 use Rattle.dc_frame_json.specs.Meter.{identity_fields, status_fields}
 use Rattle.dc_reading.specs.Sent.{Sent, sent_at}

@@ -2,7 +2,7 @@
 
 ghost use Rattle.std.specs.Prelude.{◌≡◌, IfOk, is_err};
 ghost use Rattle.dc_io.specs.Written.{Wrote};
-ghost use Rattle.dc_record.specs.Telegram.{telegram_at};
+ghost use Rattle.dc_records.specs.Telegram.{telegram_at};
 ghost use Rattle.dc_frame_json.specs.Frame.{body_json};
 ghost use Rattle.dc_frame_json.specs.Text.{value_line};
 

@@ -2,7 +2,7 @@
 
 ghost use Rattle.std.specs.Prelude.{◌≡◌, ◌∷◌, [], codes, map, option_map};
 ghost use Rattle.json.specs.Tree.{json_tokens};
-ghost use Rattle.dc_record.specs.Seen.{ending};
+ghost use Rattle.dc_records.specs.Seen.{ending};
 ghost use Rattle.dc_tokens.specs.Object.{fields_tokens, object_of, values_tokens};
 ghost use Rattle.dc_tokens.specs.Writing.{Added};
 ghost use Rattle.dc_reading.specs.Content.{content_of, content_view, end_of, fixed, variable};
@@ -30,7 +30,7 @@ use dc_reading::content::{
     security_name,
 };
 use dc_reading::digits_text;
-use dc_record::{BodyFault, End};
+use dc_records::{BodyFault, End};
 use dc_tokens::TokenWriter;
 
 // A number's cell, or null.

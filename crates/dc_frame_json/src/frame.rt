@@ -2,7 +2,7 @@
 
 ghost use Rattle.std.specs.Prelude.{◌≡◌, ◌∷◌, [], ◌++◌, codes, Err, is_err};
 ghost use Rattle.json.specs.Tree.{json_tokens};
-ghost use Rattle.dc_frame.specs.Frame.{seen, long};
+ghost use Rattle.dc_linkframe.specs.Frame.{seen, long};
 ghost use Rattle.dc_decode.specs.Frames.{is_bad_content, is_bad_frame, is_bad};
 ghost use Rattle.dc_tokens.specs.Object.{fields_tokens};
 ghost use Rattle.dc_tokens.specs.Writing.{Added};
@@ -13,17 +13,17 @@ ghost use Rattle.dc_frame_json.specs.Frame.{place_fields, link_fields};
 ghost use Rattle.dc_frame_json.specs.Frame.{ci_fields, bytes_field, body_fields, content_fields};
 ghost use Rattle.dc_frame_json.specs.Frame.{frame_fields, read_fields, text_fields, text_json};
 ghost use Rattle.dc_frame_json.specs.Frame.{body_json, hex_fault_json};
-ghost use Rattle.dc_record.specs.Telegram.{telegram_at};
+ghost use Rattle.dc_records.specs.Telegram.{telegram_at};
 
 use crate::content::put_content_field;
 use crate::row::{Cell, put_object};
 use crate::telegram::put_telegram;
 use dc_decode::read_frame;
-use dc_frame::control::VARIABLE_DATA;
-use dc_frame::{Frame, FrameFault};
+use dc_linkframe::control::VARIABLE_DATA;
+use dc_linkframe::{Frame, FrameFault};
 use dc_io::Sink;
-use dc_record::names::{ci_name, control_name};
-use dc_record::{BodyFault, Telegram};
+use dc_records::names::{ci_name, control_name};
+use dc_records::{BodyFault, Telegram};
 use dc_tokens::TokenWriter;
 
 // The control, address and CI bytes of a long frame.

@@ -75,7 +75,7 @@ pub fn put_json_lines<W: Sink>(
 /// The whole input is read, and all memory allocated, before anything is written; many small pieces
 /// are written, so callers pass a buffered sink. The text is defined by `specs/Text.antt`, over the
 /// frames of EN 13757-2 and the telegrams of EN 13757-3; the value of a record is that of
-/// [`point_of`](dc_record::value::point_of), as `decode` prints it.
+/// [`point_of`](dc_units::point_of), as `decode` prints it.
 ///
 /// # Errors
 /// [`TextFault::Read`] and [`TextFault::Write`] if the reader or the writer failed,

@@ -8,7 +8,7 @@ ghost use Rattle.dc_frame_json.specs.Meter.{identity_fields, status_fields, has_
 
 use dc_address::Identity;
 use dc_io::Sink;
-use dc_record::names::{application_name, medium_name};
+use dc_records::names::{application_name, medium_name};
 use dc_tokens::TokenWriter;
 
 // The places of the digits and of the letters in an identity's text.

@@ -4,7 +4,7 @@ ghost use Rattle.std.specs.Prelude.{◌≤◌, ◌∷◌, [], length, map, optio
 ghost use Rattle.json.specs.Json.{string};
 ghost use Rattle.json.specs.Token as Token;
 ghost use Rattle.json.specs.Tree.{json_tokens};
-ghost use Rattle.dc_record.specs.Record.{view};
+ghost use Rattle.dc_records.specs.Record.{view};
 ghost use Rattle.dc_tokens.specs.Object.{fields_tokens, object_of, values_tokens};
 ghost use Rattle.dc_tokens.specs.Writing.{Added};
 ghost use Rattle.dc_reading.specs.Names.{names_of};
@@ -21,9 +21,9 @@ use dc_reading::{
     READING_ROOM, Reading, Sent, code_at, is_extension, label_text, maker_of, number_after,
     number_of, reading_of, told_of, unit_text, value_text, vife_at, vife_text,
 };
-use dc_record::Record;
-use dc_record::names::function_name;
-use dc_record::value::{TEXT_ROOM, Value};
+use dc_records::Record;
+use dc_records::names::function_name;
+use dc_units::{TEXT_ROOM, Value};
 use dc_tokens::TokenWriter;
 
 /// A record's unit and its other texts have room in this many bytes.

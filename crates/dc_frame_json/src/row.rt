@@ -12,7 +12,7 @@ use crate::meter::{put_meter, put_status_object};
 use crate::record::{put_unit, put_value};
 use dc_address::Identity;
 use dc_io::{IoFault, Sink};
-use dc_record::value::Value;
+use dc_units::Value;
 use dc_tokens::TokenWriter;
 
 /// A cell of a row: its name, and what it has.

@@ -1,8 +1,8 @@
 //! A telegram.
 
 ghost use Rattle.std.specs.Prelude.{◌∷◌, [], map};
-ghost use Rattle.dc_record.specs.Seen.{ending};
-ghost use Rattle.dc_record.specs.Telegram.{parsed};
+ghost use Rattle.dc_records.specs.Seen.{ending};
+ghost use Rattle.dc_records.specs.Telegram.{parsed};
 ghost use Rattle.dc_tokens.specs.Object.{fields_tokens, values_tokens};
 ghost use Rattle.dc_tokens.specs.Writing.{Added};
 ghost use Rattle.dc_frame_json.specs.Record.{record_json};
@@ -13,7 +13,7 @@ use crate::record::{RECORD_ROOM, put_record_in};
 use crate::row::{Cell, put_row};
 use dc_io::Sink;
 use dc_reading::SentRecords;
-use dc_record::{End, Header, Telegram};
+use dc_records::{End, Header, Telegram};
 use dc_tokens::TokenWriter;
 
 // Writes records, one after the other.

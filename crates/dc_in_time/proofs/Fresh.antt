@@ -4,24 +4,24 @@ use Rattle.std.proofs.Common.{◌≡◌, ℕ, ◌+◌, ◌≤◌, ◌⊎◌, inl
 use Rattle.std.specs.Prelude.{slice_get, slice_set, unwrap_or}
 use Rattle.std.specs.List.{AllByRecursion}
 use Rattle.std.proofs.lemmas.List.{length-map}
-use Rattle.dc_frame.specs.Frame.{FrameSeen}
+use Rattle.dc_linkframe.specs.Frame.{FrameSeen}
 use Rattle.dc_address.specs.declared.identity.Identity.{Identity}
 use Rattle.dc_readout.specs.declared.stage.Stage.{Stage}
 use Rattle.dc_readout.specs.declared.stage.Stage.TheVariants.{Resets, Selects, Requests, Pending, Ended}
 use Rattle.dc_readout.specs.Summary.{asked_at, asked_by, link_address, request_of, reset_of, selection_of, verdict_by}
 use Rattle.dc_readout.proofs.Requests.{selection_is_long}
-use Rattle.dc_world.specs.declared.event.Outcome.{Outcome}
-use Rattle.dc_world.specs.declared.event.Outcome.TheVariants.{RequestLost, ReplyLost, ReplyUnreadable, AsSent}
-use Rattle.dc_world.specs.declared.event.WorldEvent.{WorldEvent}
-use Rattle.dc_world.specs.declared.event.WorldEvent.TheVariants.{Start, Exchange, Commit, Stop}
-use Rattle.dc_world.specs.Meter.{Meter, Position, answer_to, hears_at, moved_by, response}
-use Rattle.dc_world.specs.World.{World, Running, Finished, AreRegular, IsWhole, all_moved, committed, committed_body, exchanged, exchanged_as, exchanged_by, heard_in, joined, kept, more_after, new_world, only_reply, positions_after, replies, running_after, started_by, world_step}
-use Rattle.dc_world.specs.InStep.{Agrees, HasGoneOn, IsAlone, IsInStep, IsNextBody, IsRegularWorld}
-use Rattle.dc_world.proofs.Commits.{commit_keeps}
-use Rattle.dc_world.proofs.Events.{at_place, exchange_keeps, start_keeps, stop_keeps, waits_none}
-use Rattle.dc_world.proofs.Exchanges.{own_goes_on, own_selected}
-use Rattle.dc_world.proofs.Moves.{answer_to-request, moved_at}
-use Rattle.dc_world.proofs.Replies.{answer_to-reset}
+use Rattle.dc_readout.specs.declared.world.event.Outcome.{Outcome}
+use Rattle.dc_readout.specs.declared.world.event.Outcome.TheVariants.{RequestLost, ReplyLost, ReplyUnreadable, AsSent}
+use Rattle.dc_readout.specs.declared.world.event.WorldEvent.{WorldEvent}
+use Rattle.dc_readout.specs.declared.world.event.WorldEvent.TheVariants.{Start, Exchange, Commit, Stop}
+use Rattle.dc_readout.specs.Meter.{Meter, Position, answer_to, hears_at, moved_by, response}
+use Rattle.dc_readout.specs.World.{World, Running, Finished, AreRegular, IsWhole, all_moved, committed, committed_body, exchanged, exchanged_as, exchanged_by, heard_in, joined, kept, more_after, new_world, only_reply, positions_after, replies, running_after, started_by, world_step}
+use Rattle.dc_readout.specs.InStep.{Agrees, HasGoneOn, IsAlone, IsInStep, IsNextBody, IsRegularWorld}
+use Rattle.dc_readout.proofs.Commits.{commit_keeps}
+use Rattle.dc_readout.proofs.Events.{at_place, exchange_keeps, start_keeps, stop_keeps, waits_none}
+use Rattle.dc_readout.proofs.Exchanges.{own_goes_on, own_selected}
+use Rattle.dc_readout.proofs.Moves.{answer_to-request, moved_at}
+use Rattle.dc_readout.proofs.Replies.{answer_to-reset}
 use Rattle.dc_in_time.specs.Fresh.{AllFit, IsMoment, IsWholeOf}
 use Rattle.dc_in_time.specs.Lives.{InTime, happens, new_born}
 use Rattle.dc_in_time.proofs.Moments.{blank, blank_is, moment_regular, moments_alike, replies_alike}

@@ -1,16 +1,16 @@
 -- Readouts over a line in time are readouts over the lossy line.
 use Rattle.std.proofs.Common.{◌≡◌, inl, inr, ℕ, List, [], ◌∷◌, Option, Some, refl, sym, ◌∙◌, ap}
-use Rattle.dc_frame.specs.Frame.{FrameSeen, spelling}
-use Rattle.dc_frame.specs.Reading.{frame_of}
+use Rattle.dc_linkframe.specs.Frame.{FrameSeen, spelling}
+use Rattle.dc_linkframe.specs.Reading.{frame_of}
 use Rattle.dc_raw.specs.declared.line.Line.{Line}
 use Rattle.dc_raw.specs.declared.wire.Wire.{Ghosts as WireGhosts}
 use Rattle.dc_readout.specs.Summary.{Summary, Verdict, asked_by, meaning_at, verdict_by, verdict_of_meaning}
-use Rattle.dc_world.specs.declared.event.Outcome.{Outcome}
-use Rattle.dc_world.specs.declared.event.Outcome.TheVariants.{RequestLost, ReplyLost, ReplyUnreadable, AsSent}
-use Rattle.dc_world.specs.declared.event.WorldEvent.TheVariants.{Exchange}
-use Rattle.dc_world.specs.Meter.{Meter, Position}
-use Rattle.dc_world.specs.World.{World, Running, all_moved, exchanged, exchanged_as, exchanged_by, heard_in, only_reply, positions_after, replies, running_after, world_step}
-use Rattle.dc_world.proofs.Moves.{no_frame_of_nothing}
+use Rattle.dc_readout.specs.declared.world.event.Outcome.{Outcome}
+use Rattle.dc_readout.specs.declared.world.event.Outcome.TheVariants.{RequestLost, ReplyLost, ReplyUnreadable, AsSent}
+use Rattle.dc_readout.specs.declared.world.event.WorldEvent.TheVariants.{Exchange}
+use Rattle.dc_readout.specs.Meter.{Meter, Position}
+use Rattle.dc_readout.specs.World.{World, Running, all_moved, exchanged, exchanged_as, exchanged_by, heard_in, only_reply, positions_after, replies, running_after, world_step}
+use Rattle.dc_readout.proofs.Moves.{no_frame_of_nothing}
 use Rattle.dc_in_time.specs.Asked.{IsToIt, Runs, asks, connects}
 use Rattle.dc_in_time.specs.Lives.{Exchanges, InTime, Lives, begins, exchanges, goes_on, happens, new_born, reconnects, reply_in, some_bytes}
 use Rattle.dc_in_time.specs.Way.{OnWay}

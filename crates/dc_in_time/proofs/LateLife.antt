@@ -9,10 +9,10 @@ use Rattle.std.proofs.lemmas.Slice.Eq.{bytes_eq-Decides}
 use Rattle.dc_address.specs.Digits.{decimal_digits}
 use Rattle.dc_address.specs.Identity.{wire_of}
 use Rattle.dc_address.specs.declared.identity.Identity.{Identity}
-use Rattle.dc_frame.specs.Control.{request_to, reset_to, variable_data}
-use Rattle.dc_frame.specs.Frame.{FrameSeen, ack, long, spelling}
-use Rattle.dc_frame.specs.Reading.{frame_of}
-use Rattle.dc_frame.proofs.Spellings.{frame_of-spelling}
+use Rattle.dc_linkframe.specs.Control.{request_to, reset_to, variable_data}
+use Rattle.dc_linkframe.specs.Frame.{FrameSeen, ack, long, spelling}
+use Rattle.dc_linkframe.specs.Reading.{frame_of}
+use Rattle.dc_linkframe.proofs.Spellings.{frame_of-spelling}
 use Rattle.dc_raw.specs.Heard.{Answers, Drains, HasByte, at_silence, has_gap, is_whole, not_yet}
 use Rattle.dc_raw.specs.Line.{GivesOne, LineSends, a_copy, gives_now, gives_one, goes_out, hold, judged, no_copy, one_answer, out_of}
 use Rattle.dc_raw.specs.Wire.{gap, nothing, piece, silence}
@@ -22,13 +22,13 @@ use Rattle.dc_raw.specs.declared.state.Kind.TheVariants.{One}
 use Rattle.dc_raw.specs.declared.state.State.TheVariants.{Quiet, Answered, Busy}
 use Rattle.dc_raw.specs.declared.wire.Wire.{Ghosts as WireGhosts}
 use Rattle.dc_readout.specs.Summary.{again, begun, heard_by, meaning_at, new, ready, verdict_by, verdict_of_meaning}
-use Rattle.dc_record.specs.Body.{plain}
-use Rattle.dc_record.specs.Telegram.{IsTelegram, Parsed, telegram_at}
-use Rattle.dc_record.proofs.Spellings.Telegrams.{telegram_again}
-use Rattle.dc_world.specs.declared.event.Outcome.TheVariants.{AsSent}
-use Rattle.dc_world.specs.declared.event.WorldEvent.TheVariants.{Start, Commit}
-use Rattle.dc_world.specs.Meter.{Meter, answer_to, moved_by, rsp_ud}
-use Rattle.dc_world.specs.World.{AreRegular, Running, World, committed, kept, new_world, positions_after, running_after, world_step}
+use Rattle.dc_records.specs.Body.{plain}
+use Rattle.dc_records.specs.Telegram.{IsTelegram, Parsed, telegram_at}
+use Rattle.dc_records.proofs.Spellings.Telegrams.{telegram_again}
+use Rattle.dc_readout.specs.declared.world.event.Outcome.TheVariants.{AsSent}
+use Rattle.dc_readout.specs.declared.world.event.WorldEvent.TheVariants.{Start, Commit}
+use Rattle.dc_readout.specs.Meter.{Meter, answer_to, moved_by, rsp_ud}
+use Rattle.dc_readout.specs.World.{AreRegular, Running, World, committed, kept, new_world, positions_after, running_after, world_step}
 use Rattle.dc_in_time.specs.Asked.{Asks}
 use Rattle.dc_in_time.specs.Fresh.{AllFit, IsMoment}
 use Rattle.dc_in_time.specs.Lives.{Exchanges, Lives, begins, exchanges, goes_on, reply_in}

@@ -2,13 +2,13 @@
 use Rattle.std.proofs.Common.{◌≡◌, ℕ, zero, suc, Bool, ◌==◌, List, [], ◌∷◌, length, map, Option, Some, cond, arith, refl, sym, ◌∙◌, ap}
 use Rattle.std.specs.Prelude.{slice_get}
 use Rattle.std.specs.List.{cons_option}
-use Rattle.dc_frame.specs.Control.{snd_nke}
-use Rattle.dc_frame.specs.Frame.{FrameSeen, ack, short, long}
+use Rattle.dc_linkframe.specs.Control.{snd_nke}
+use Rattle.dc_linkframe.specs.Frame.{FrameSeen, ack, short, long}
 use Rattle.dc_address.specs.declared.identity.Identity.{Identity}
 use Rattle.dc_address.specs.Mask.{mask_at, mask_of, matches}
-use Rattle.dc_world.specs.Meter.{Meter, Position, answer_to, at_request, at_reset, at_selection, is_selection, moved_by}
-use Rattle.dc_world.specs.World.{AreRegular, all_moved, replies}
-use Rattle.dc_world.proofs.Events.{at_place}
+use Rattle.dc_readout.specs.Meter.{Meter, Position, answer_to, at_request, at_reset, at_selection, is_selection, moved_by}
+use Rattle.dc_readout.specs.World.{AreRegular, all_moved, replies}
+use Rattle.dc_readout.proofs.Events.{at_place}
 use Rattle.dc_in_time.specs.Fresh.{AllFit, IsMoment}
 
 moved_alike : (frame : FrameSeen) (a b : Meter) (p : Position) → b.identity ≡ a.identity → b.address ≡ a.address → moved_by frame b p ≡ moved_by frame a p

@@ -4,8 +4,8 @@ use Rattle.std.proofs.Common.{◌≡◌, ◌⊎◌, inl, inr, ℕ, Bool, true, f
 use Rattle.std.specs.Str.{bytes_eq}
 use Rattle.std.proofs.lemmas.Bool.{eqb-true, false≢true}
 use Rattle.std.proofs.lemmas.Slice.Eq.{bytes_eq-Decides}
-use Rattle.dc_frame.specs.Frame.{FrameSeen}
-use Rattle.dc_frame.specs.Reading.{frame_of}
+use Rattle.dc_linkframe.specs.Frame.{FrameSeen}
+use Rattle.dc_linkframe.specs.Reading.{frame_of}
 use Rattle.dc_raw.specs.Heard.{Drains, Ends, IsGathered, state_with, has_gap, is_loud as loud_end, is_quiet, is_silent, is_whole}
 use Rattle.dc_raw.specs.Line.{behind as reopened, Gives, GivesNothing, GivesOne, GivesOver, GivesUp, Goes, LineSends, LineWaits, Looks, Skips, a_copy, gives_all, gives_nothing, gives_now, gives_one, gives_then, gives_up, goes_out, hold, no_copy, one_answer, out_of, too_loud, two_copies, waiting, waits_all, waits_held, waits_nothing, waits_on, waits_one}
 use Rattle.dc_raw.specs.Turn.{is_ack, is_answer, is_copy, is_reset, kind_of, last_behind, last_waited, may_go, quiet_by, state_by, state_taken, telegram_in}
@@ -18,7 +18,7 @@ use Rattle.dc_raw.specs.declared.state.Kind.TheVariants.{One, All, Nobody}
 use Rattle.dc_raw.specs.declared.state.State.{State}
 use Rattle.dc_raw.specs.declared.state.State.TheVariants.{Quiet, Listened, Answered, Busy}
 use Rattle.dc_raw.specs.declared.wire.Wire.{Ghosts as WireGhosts}
-use Rattle.dc_world.proofs.Moves.{no_frame_of_nothing}
+use Rattle.dc_readout.proofs.Moves.{no_frame_of_nothing}
 use Rattle.dc_in_time.specs.Asked.{Asks, GivesNoStray, IsNew, IsToIt, NoStray, Runs, SkipsNoStray, WaitsNoStray, asks, connects}
 use Rattle.dc_in_time.specs.Way.{Comes, OnWay, Passes, Puts, no_frame, oldest, on_way}
 use Rattle.dc_in_time.proofs.Under.{Copies, Own, TakenOf, Under, Way, copies_drop, copies_none, drop_none, own_of_copies, puts_under, taken, under_drop}

@@ -1,10 +1,10 @@
 -- Where the telegrams of each meter stay the same: by the theorems of dc_world.
 use Rattle.std.proofs.Common.{◌≡◌, List, [], ◌∷◌, ◌++◌, sym, ◌∙◌, ap, subst}
 use Rattle.std.specs.List.{AllByRecursion}
-use Rattle.dc_world.specs.declared.event.WorldEvent.{WorldEvent}
-use Rattle.dc_world.specs.Meter.{Meter}
-use Rattle.dc_world.specs.World.{World, AreRegular, GoesOnFromCommitted, IsWhole, new_world, world_after, world_step}
-use Rattle.dc_world.proofs.Worlds.{every_meter_goes_on_from_committed, held_is_whole, world_from-append}
+use Rattle.dc_readout.specs.declared.world.event.WorldEvent.{WorldEvent}
+use Rattle.dc_readout.specs.Meter.{Meter}
+use Rattle.dc_readout.specs.World.{World, AreRegular, GoesOnFromCommitted, IsWhole, new_world, world_after, world_step}
+use Rattle.dc_readout.proofs.Worlds.{every_meter_goes_on_from_committed, held_is_whole, world_from-append}
 use Rattle.dc_in_time.specs.Lives.{InTime, happens, new_born}
 
 module _ (meters : List Meter) where

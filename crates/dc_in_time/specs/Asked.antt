@@ -1,6 +1,6 @@
 -- One request on a line and its answer (this product), where the premises hold of what is under way.
 use Rattle.std.specs.Prelude.{◌≡◌, ◌⊎◌, ℕ, false, List, Option, Some, None}
-use Rattle.dc_frame.specs.Reading.{frame_of}
+use Rattle.dc_linkframe.specs.Reading.{frame_of}
 use Rattle.dc_raw.specs.Line.{Gives, GivesOver, LineSends, LineWaits, Skips}
 use Rattle.dc_raw.specs.Line.{a_copy, gives_all, gives_nothing, gives_now, gives_one}
 use Rattle.dc_raw.specs.Line.{gives_then, gives_up, no_copy, one_answer, two_copies, waits_all}

@@ -1,8 +1,8 @@
 -- Meters whose telegrams have other values at each repeat, and whole readouts of them (this product).
 use Rattle.std.specs.Prelude.{◌≡◌, ℕ, ◌≤◌, Bool, true, List, length, Some, slice_get}
-use Rattle.dc_frame.specs.Frame.{longest_body}
-use Rattle.dc_world.specs.Meter.{Meter}
-use Rattle.dc_world.specs.World.{Finished, whole_readout}
+use Rattle.dc_linkframe.specs.Frame.{longest_body}
+use Rattle.dc_readout.specs.Meter.{Meter}
+use Rattle.dc_readout.specs.World.{Finished, whole_readout}
 
 -- THE METERS AS THEY ARE AT ONE MOMENT: the same identities and addresses, and bodies of those that
 -- each may send, by its place on the line and the place of the body in a readout

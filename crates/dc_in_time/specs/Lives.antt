@@ -1,17 +1,17 @@
 -- Readouts over a line in time, and over the lossy line (this product).
 use Rattle.std.specs.Prelude.{◌≡◌, ℕ, List, [], ◌∷◌, Option, Some, None}
-use Rattle.dc_frame.specs.Frame.{FrameSeen, spelling}
+use Rattle.dc_linkframe.specs.Frame.{FrameSeen, spelling}
 use Rattle.dc_raw.specs.declared.line.Line.{Line}
 use Rattle.dc_raw.specs.declared.wire.Wire.{Ghosts as WireGhosts}
 use Rattle.dc_readout.specs.Summary.{asked_by, verdict_by}
-use Rattle.dc_world.specs.declared.event.Outcome.{Outcome}
-use Rattle.dc_world.specs.declared.event.Outcome.TheVariants.{RequestLost, ReplyLost}
-use Rattle.dc_world.specs.declared.event.Outcome.TheVariants.{ReplyUnreadable, AsSent}
-use Rattle.dc_world.specs.declared.event.WorldEvent.{WorldEvent}
-use Rattle.dc_world.specs.declared.event.WorldEvent.TheVariants.{Start, Exchange, Commit, Stop}
-use Rattle.dc_world.specs.Meter.{Meter, Position}
-use Rattle.dc_world.specs.World.{Running, World, all_moved, new_world, only_reply, positions_after}
-use Rattle.dc_world.specs.World.{replies, running_after, world_step}
+use Rattle.dc_readout.specs.declared.world.event.Outcome.{Outcome}
+use Rattle.dc_readout.specs.declared.world.event.Outcome.TheVariants.{RequestLost, ReplyLost}
+use Rattle.dc_readout.specs.declared.world.event.Outcome.TheVariants.{ReplyUnreadable, AsSent}
+use Rattle.dc_readout.specs.declared.world.event.WorldEvent.{WorldEvent}
+use Rattle.dc_readout.specs.declared.world.event.WorldEvent.TheVariants.{Start, Exchange, Commit, Stop}
+use Rattle.dc_readout.specs.Meter.{Meter, Position}
+use Rattle.dc_readout.specs.World.{Running, World, all_moved, new_world, only_reply, positions_after}
+use Rattle.dc_readout.specs.World.{replies, running_after, world_step}
 use Rattle.dc_in_time.specs.Asked.{Asks, IsNew}
 use Rattle.dc_in_time.specs.Way.{OnWay}
 

@@ -7,8 +7,8 @@ use Rattle.dc_address.specs.declared.identity.Identity.{Identity}
 use Rattle.dc_raw.specs.Looks.{most_looks}
 use Rattle.dc_raw.specs.declared.line.Line.{Line}
 use Rattle.dc_raw.specs.declared.wire.Wire.{Ghosts as WireGhosts}
-use Rattle.dc_world.specs.Meter.{Meter}
-use Rattle.dc_world.specs.World.{AreRegular, World}
+use Rattle.dc_readout.specs.Meter.{Meter}
+use Rattle.dc_readout.specs.World.{AreRegular, World}
 use Rattle.dc_in_time.specs.Fresh.{AllFit, IsMoment}
 use Rattle.dc_in_time.specs.Lives.{Lives}
 use Rattle.dc_in_time.specs.Way.{OnWay}

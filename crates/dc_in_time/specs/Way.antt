@@ -8,7 +8,7 @@
 --                    patience, and when the time of the reset of all selected meters is over
 --   no stray frame   Comes: what is taken as an answer is no frame, or the oldest that is under way
 use Rattle.std.specs.Prelude.{◌≡◌, ℕ, Bool, true, false, List, [], ◌∷◌, ◌++◌, drop, Option, Some, None}
-use Rattle.dc_frame.specs.Reading.{frame_of}
+use Rattle.dc_linkframe.specs.Reading.{frame_of}
 use Rattle.dc_raw.specs.Wire.{Sound, silence}
 use Rattle.dc_raw.specs.declared.wire.Wire.{Ghosts as WireGhosts}
 

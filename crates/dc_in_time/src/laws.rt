@@ -3,8 +3,8 @@
 ghost use Rattle.std.specs.Prelude.{◌≡◌, ℕ, Bool, List, Option};
 ghost use Rattle.std.specs.List.{AllByRecursion};
 ghost use Rattle.dc_raw.specs.declared.line.Line.{Line};
-ghost use Rattle.dc_world.specs.Meter.{Meter};
-ghost use Rattle.dc_world.specs.World.{AreRegular, GoesOnFromCommitted, IsWhole, World};
+ghost use Rattle.dc_readout.specs.Meter.{Meter};
+ghost use Rattle.dc_readout.specs.World.{AreRegular, GoesOnFromCommitted, IsWhole, World};
 ghost use Rattle.dc_in_time.specs.Asked.{Asks, IsToIt, Runs};
 ghost use Rattle.dc_in_time.specs.Fresh.{AllFit, IsMoment, IsWholeOf};
 ghost use Rattle.dc_in_time.specs.Lives.{InTime, Lives};

@@ -1,8 +1,8 @@
 -- The words that ask for a table: no date is spelled as the register is.
 use Rattle.std.proofs.Common.{◌≡◌, codes, length, arith, ap, ◌∙◌}
-use Rattle.dc_record.specs.Date.{Day}
-use Rattle.dc_record.specs.Text.{day_text}
-use Rattle.dc_record.proofs.DayTexts.{day_length}
+use Rattle.dc_units.specs.Date.{Day}
+use Rattle.dc_units.specs.Text.{day_text}
+use Rattle.dc_units.proofs.DayTexts.{day_length}
 
 pub register_is_no_day : (date : Day) → codes "register" ≡ day_text date → ⊥
 register_is_no_day date same =

@@ -4,11 +4,11 @@ use Rattle.json.specs.Json.{string}
 use Rattle.dc_frame_json.specs.Meter.{identity_fields}
 use Rattle.dc_frame_json.specs.Record.{unit_json, value_json}
 use Rattle.dc_frame_json.specs.Text.{value_line}
-use Rattle.dc_office.specs.declared.table.row.Row.{Row}
-use Rattle.dc_record.specs.Date.{Day}
-use Rattle.dc_record.specs.Fields.{function_name}
-use Rattle.dc_record.specs.Quantity.{unit_of}
-use Rattle.dc_record.specs.declared.value.value.Value.TheVariants.{Day as OnDay}
+use Rattle.dc_report.specs.declared.row.Row.{Row}
+use Rattle.dc_units.specs.Date.{Day}
+use Rattle.dc_records.specs.Fields.{function_name}
+use Rattle.dc_units.specs.Quantity.{unit_of}
+use Rattle.dc_units.specs.declared.value.Value.TheVariants.{Day as OnDay}
 use Rattle.dc_tokens.specs.Object.{count, object_of}
 use Rattle.dc_inspect.specs.Report.{row_json, row_line}
 

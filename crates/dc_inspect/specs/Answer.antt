@@ -1,15 +1,15 @@
 -- What is printed of an image that is looked at (this product).
 use Rattle.std.specs.Prelude.{◌≡◌, ◌⊎◌, ◌<◌, ◌≤◌, ℕ, Bool, false, List, [], ◌++◌, Option, Some, None, codes}
-use Rattle.dc_disk.specs.Disk.{Image}
+use Rattle.dc_sectors.specs.Disk.{Image}
 use Rattle.dc_change.specs.State.{Held, State}
-use Rattle.dc_log.specs.declared.roots.chooser.Held.{Held as Slot}
-use Rattle.dc_log.specs.Held.{IsHeld}
+use Rattle.dc_roots.specs.declared.chooser.Held.{Held as Slot}
+use Rattle.dc_roots.specs.Held.{IsHeld}
 use Rattle.dc_log.specs.Halves.{budget_of, half_len_of, fewest_sectors}
 use Rattle.dc_log.specs.declared.greatest.Greatest.{Greatest}
 use Rattle.dc_log.specs.declared.fault.OpenFault.TheVariants.{NotImage}
-use Rattle.dc_record.specs.Text.{day_text}
-use Rattle.dc_office.specs.DueTable.{due_text}
-use Rattle.dc_office.specs.RegisterTable.{register_text}
+use Rattle.dc_units.specs.Text.{day_text}
+use Rattle.dc_report.specs.DueTable.{due_text}
+use Rattle.dc_report.specs.RegisterTable.{register_text}
 use Rattle.dc_json.specs.Journal.{Notes}
 use Rattle.dc_inspect.specs.Report.{due_lines, register_lines}
 use Rattle.dc_json.specs.Values.{values_lines}

@@ -2,11 +2,11 @@
 use Rattle.std.specs.Prelude.{◌≡◌, ◌⊎◌, ◌≤◌, ℕ, Option, option_map, IfSome, Result}
 use Rattle.std.specs.Prelude.{IfErr, IsErrOf}
 use Rattle.dc_io.specs.Failures.{HasRisen}
-use Rattle.dc_disk.specs.Disk.{Image}
-use Rattle.dc_disk.specs.Runs.{Counts}
-use Rattle.dc_disk.specs.declared.device.Disk.{Ghosts}
+use Rattle.dc_sectors.specs.Disk.{Image}
+use Rattle.dc_sectors.specs.Runs.{Counts}
+use Rattle.dc_sectors.specs.declared.device.Disk.{Ghosts}
 use Rattle.dc_change.specs.State.{Held}
-use Rattle.dc_log.specs.Held.{IsHeld}
+use Rattle.dc_roots.specs.Held.{IsHeld}
 use Rattle.dc_ending.specs.declared.fault.ProgramFault.{ProgramFault}
 use Rattle.dc_ending.specs.declared.fault.ProgramFault.TheVariants.{Open, NoMemory as Refused}
 use Rattle.dc_log.specs.Halves.{budget_of, half_start, half_end}

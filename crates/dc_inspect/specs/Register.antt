@@ -2,7 +2,7 @@
 -- is ahead of that state, if one is.
 use Rattle.std.specs.Prelude.{◌≡◌, ◌≤◌, ℕ, Option, Some, None}
 use Rattle.dc_change.specs.State.{Held}
-use Rattle.dc_disk.specs.Disk.{Image}
+use Rattle.dc_sectors.specs.Disk.{Image}
 use Rattle.dc_log.specs.Halves.{half_len_of, budget_of, fewest_sectors}
 use Rattle.dc_log.specs.declared.greatest.Greatest.{Greatest}
 use Rattle.dc_inspect.specs.Told.{Seen, IsLook}

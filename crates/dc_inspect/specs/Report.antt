@@ -3,14 +3,14 @@ use Rattle.std.specs.Prelude.{ℕ, List, [], ◌∷◌, length, codes, Option, S
 use Rattle.std.specs.List.{flat_map}
 use Rattle.json.specs.Json.{Json, string, null}
 use Rattle.dc_change.specs.State.{State, MeterRow, row_of}
-use Rattle.dc_register.specs.declared.place.Place.{Place}
-use Rattle.dc_register.specs.Places.{by_flat}
-use Rattle.dc_record.specs.Fields.{function_name}
-use Rattle.dc_office.specs.declared.table.row.Row.{Row}
-use Rattle.dc_office.specs.DueTable.{due_rows}
-use Rattle.dc_record.specs.Date.{Day}
-use Rattle.dc_record.specs.Quantity.{unit_of}
-use Rattle.dc_record.specs.declared.value.value.Value.TheVariants.{Day as OnDay}
+use Rattle.dc_meters.specs.declared.place.Place.{Place}
+use Rattle.dc_meters.specs.Places.{by_flat}
+use Rattle.dc_records.specs.Fields.{function_name}
+use Rattle.dc_report.specs.declared.row.Row.{Row}
+use Rattle.dc_report.specs.DueTable.{due_rows}
+use Rattle.dc_units.specs.Date.{Day}
+use Rattle.dc_units.specs.Quantity.{unit_of}
+use Rattle.dc_units.specs.declared.value.Value.TheVariants.{Day as OnDay}
 use Rattle.dc_tokens.specs.Object.{object_of, count}
 use Rattle.dc_frame_json.specs.Meter.{identity_fields}
 use Rattle.dc_frame_json.specs.Record.{value_json, unit_json}

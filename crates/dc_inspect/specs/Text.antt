@@ -4,9 +4,9 @@ use Rattle.std.specs.Prelude.{option_map, ◌+◌, nat_lt, if◌then◌else◌}
 use Rattle.dc_io.specs.Words.{number_word}
 use Rattle.dc_change.specs.State.{State, ReadingRow}
 use Rattle.dc_change.specs.Size.{size_of}
-use Rattle.dc_log.specs.declared.roots.root.Root.{Root}
-use Rattle.dc_log.specs.declared.roots.chooser.Held.{Held}
-use Rattle.dc_log.specs.declared.roots.chooser.Held.TheVariants.{Valid, Other, Lost}
+use Rattle.dc_roots.specs.declared.root.Root.{Root}
+use Rattle.dc_roots.specs.declared.chooser.Held.{Held}
+use Rattle.dc_roots.specs.declared.chooser.Held.TheVariants.{Valid, Other, Lost}
 use Rattle.dc_log.specs.Fault.{open_number, open_name}
 use Rattle.dc_log.specs.declared.fault.OpenFault.{OpenFault}
 use Rattle.dc_log.specs.declared.fault.OpenFault.TheVariants.{NotImage, Damaged, Version, Worn}

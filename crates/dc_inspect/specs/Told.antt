@@ -1,12 +1,12 @@
 -- What a look finds of a disk's image (this product): the state that it reads as, by the definitions that opening follows,
 -- and what opening would make of it.
 use Rattle.std.specs.Prelude.{◌≡◌, ◌+◌, ℕ, Option, Some, None}
-use Rattle.dc_disk.specs.Disk.{Image}
+use Rattle.dc_sectors.specs.Disk.{Image}
 use Rattle.dc_change.specs.State.{State}
-use Rattle.dc_log.specs.declared.roots.root.Root.{Root}
+use Rattle.dc_roots.specs.declared.root.Root.{Root}
 use Rattle.dc_log.specs.Greatest.{IsGreatest, IsOneAhead}
 use Rattle.dc_log.specs.declared.greatest.Greatest.{Greatest}
-use Rattle.dc_concentrator.specs.PendingImages.{IsUnread, IsRead}
+use Rattle.dc_core.specs.PendingImages.{IsUnread, IsRead}
 use Rattle.dc_log.specs.Refusal.{IsSpent, TellsOfImage}
 use Rattle.dc_log.specs.declared.fault.OpenFault.{OpenFault}
 use Rattle.dc_log.specs.declared.fault.OpenFault.TheVariants.{NotImage, Worn, Device}

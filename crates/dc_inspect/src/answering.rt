@@ -4,7 +4,7 @@ ghost use Rattle.std.specs.Prelude.{◌≡◌, ◌<◌, ◌≤◌, ◌++◌, ◌
 ghost use Rattle.std.specs.Prelude.{IsErrOf, option_map};
 ghost use Rattle.dc_io.specs.Failures.{HasRisen};
 ghost use Rattle.dc_io.specs.Written.{Wrote};
-ghost use Rattle.dc_disk.specs.Runs.{OnlyLooked, Counts};
+ghost use Rattle.dc_sectors.specs.Runs.{OnlyLooked, Counts};
 ghost use Rattle.dc_log.specs.Greatest.{IsGreatest};
 ghost use Rattle.dc_log.specs.Halves.{budget_of, fewest_sectors, half_len_of, half_of, longest_half};
 ghost use Rattle.dc_log.specs.declared.fault.OpenFault.TheVariants.{Device};
@@ -17,7 +17,7 @@ use crate::asking::{Asked, Form, Report, StatusForm};
 use crate::look::{Look, Outlook, Slots, look_at, read_slots};
 use crate::report::{put_due_objects, put_register_objects};
 use crate::text::{put_image, put_number_line, put_small};
-use dc_disk::{Disk, Failed};
+use dc_sectors::{Disk, Failed};
 use dc_ending::ProgramFault;
 use dc_io::{Bytes, IoFault, NoMemory, Sink};
 use dc_json::journal::Journal;
@@ -25,8 +25,8 @@ use dc_json::latest::put_values;
 use dc_json::put_value_objects;
 use dc_json::status::{Clock, any_silent, put_metrics, put_status, put_status_objects};
 use dc_log::{FEWEST_SECTORS, Greatest, OpenFault, greatest_of, half_len_of};
-use dc_office::table::{due_table, register_table, rows};
-use dc_register::House;
+use dc_report::{due_table, register_table, rows};
+use dc_meters::House;
 use std::alloc::Allocator;
 
 /// What is printed of an image, and what the program's status says of it.

@@ -1,12 +1,12 @@
 //! What is asked of an image.
 
 ghost use Rattle.std.specs.Prelude.{◌≡◌, IsTrue, Some, codes, IfSome};
-ghost use Rattle.dc_record.specs.Date.{Day, exists};
-ghost use Rattle.dc_record.specs.Text.{day_text};
+ghost use Rattle.dc_units.specs.Date.{Day, exists};
+ghost use Rattle.dc_units.specs.Text.{day_text};
 ghost use Rattle.dc_inspect.specs.Answer.{report_word};
 
 use dc_json::status::Clock;
-use dc_record::value::Date;
+use dc_units::Date;
 
 /// What is asked of an image.
 #[derive(Clone, Copy)]

@@ -2,7 +2,7 @@
 //!
 //! [`answer`] reads an image as [`Store::open`](dc_log::Store::open) does, and returns the whole text of what is asked
 //! ([`Asked`]): its contents, one fact a line; what its meters stand at; when they were last heard,
-//! and how full the image is (dc_json); a table (dc_office; as JSON Lines `specs/Report.antt`). Nothing is written to the disk and nothing is
+//! and how full the image is (dc_json); a table (dc_upload; as JSON Lines `specs/Report.antt`). Nothing is written to the disk and nothing is
 //! synced, not even the next root. Proved: the text states the state that the image reads as, by the definitions
 //! that opening follows, or the image's one refusal; and a sector that is ahead of that state is named, where [`scan`]
 //! found one ([`Outlook`]).

@@ -1,17 +1,17 @@
 //! The contents of an image that is only read.
 
 ghost use Rattle.std.specs.Prelude.{◌≡◌, ◌<◌, ◌≤◌, ◌+◌, ◌*◌, IfOk, IfErr, IsErr};
-ghost use Rattle.dc_disk.specs.Runs.{OnlyLooked, Counts};
+ghost use Rattle.dc_sectors.specs.Runs.{OnlyLooked, Counts};
 ghost use Rattle.dc_log.specs.Halves.{longest_half};
 ghost use Rattle.dc_log.specs.Refusal.{TellsOfImage};
 ghost use Rattle.dc_inspect.specs.Look.{AreHeld, EndsLook, IsPlaced, IsSeenAs, IsStop};
 ghost use Rattle.dc_inspect.specs.Told.{IsWearOf};
 
-use dc_disk::{Disk, Failed};
+use dc_sectors::{Disk, Failed};
 use dc_ending::ProgramFault;
-use dc_log::roots::{Held, Root, read_slot};
+use dc_roots::{Held, Root, read_slot};
 use dc_log::{Found, Greatest, OpenFault, is_spent, read_chain};
-use dc_register::House;
+use dc_meters::House;
 use std::alloc::Allocator;
 
 /// The contents of the two root slots.

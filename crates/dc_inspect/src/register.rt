@@ -1,18 +1,18 @@
 //! The register of an image that is only read.
 
 ghost use Rattle.std.specs.Prelude.{◌≡◌, ◌⊎◌, ◌<◌, ◌≤◌, Err, IfErr, IfOk, IsErrOf};
-ghost use Rattle.dc_disk.specs.Runs.{OnlyLooked, Counts};
+ghost use Rattle.dc_sectors.specs.Runs.{OnlyLooked, Counts};
 ghost use Rattle.dc_ending.specs.Fault.{IfOpen};
 ghost use Rattle.dc_log.specs.Halves.{fewest_sectors, half_len_of};
 ghost use Rattle.dc_log.specs.declared.fault.OpenFault.TheVariants.{NotImage, Worn, Device};
-ghost use Rattle.dc_concentrator.specs.PendingImages.{IsUnread};
+ghost use Rattle.dc_core.specs.PendingImages.{IsUnread};
 ghost use Rattle.dc_inspect.specs.Register.{IsRegisterOf};
 
 use crate::look::wear_of;
-use dc_disk::Disk;
+use dc_sectors::Disk;
 use dc_ending::ProgramFault;
 use dc_log::{FEWEST_SECTORS, Greatest, OpenFault, half_len_of, read_chain};
-use dc_register::House;
+use dc_meters::House;
 use std::alloc::Allocator;
 
 /// Reads the register of an image, as opening reads it, and a sector that is ahead of it, if a scan of the halves found

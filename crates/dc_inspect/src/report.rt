@@ -9,10 +9,10 @@ ghost use Rattle.dc_inspect.specs.Report.{address_json, line_at, register_lines,
 use dc_address::Primary;
 use dc_frame_json::{Cell, put_line};
 use dc_io::{IoFault, Sink};
-use dc_office::table::Row;
-use dc_record::names::function_name;
-use dc_record::value::{Date, Value};
-use dc_register::{House, Place};
+use dc_report::Row;
+use dc_records::names::function_name;
+use dc_units::{Date, Value};
+use dc_meters::{House, Place};
 use std::alloc::Allocator;
 
 // The cell of a primary address, or of none.
@@ -87,7 +87,7 @@ pub(crate) fn put_register_objects<A: Allocator + Copy, W: Sink>(
 }
 
 /// Writes rows of the due-date table for a date as JSON Lines (RFC 8259), an object for each: its
-/// [`rows`](dc_office::table::rows) are the table.
+/// [`rows`](dc_report::rows) are the table.
 #[tactic(auto, using(dc_io::proofs::Pieces::written))]
 pub(crate) fn put_due_objects<W: Sink>(out: &mut W, date: Date, rows: &[Row]) -> Result<(), IoFault>
     ensures { Wrote W.Sink result out.old out.new (flat_map (row_line date) rows.now) }

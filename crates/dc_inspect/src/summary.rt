@@ -3,8 +3,8 @@
 ghost use Rattle.std.specs.Prelude.{◌≡◌, ◌-◌, length, option_copied, option_map, slice_get};
 ghost use Rattle.dc_inspect.specs.Text.{summary_of};
 
-use dc_office::table::register_rows;
-use dc_register::{House, Reading};
+use dc_report::register_rows;
+use dc_meters::{House, Reading};
 use std::alloc::Allocator;
 use std::collections::VecDeque;
 

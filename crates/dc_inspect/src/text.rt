@@ -12,9 +12,9 @@ ghost use Rattle.dc_inspect.specs.Text.{refused_line, seen_text, serial_word, sl
 use crate::look::{Look, Slots};
 use crate::summary::{Summary, summary_of};
 use dc_io::{IoFault, Sink};
-use dc_log::roots::Held;
+use dc_roots::Held;
 use dc_log::{Found, OpenFault, half_end, half_start};
-use dc_register::House;
+use dc_meters::House;
 use dc_tokens::{Piece, put_pieces};
 use std::alloc::Allocator;
 

@@ -2,8 +2,8 @@
 use Rattle.std.proofs.Common.{◌≡◌, ℕ, ◌-◌, ◌<◌, Bool, true, false, ◌&&◌, List, [], ◌∷◌, ◌++◌, Option, None, Some, sym, ◌∙◌, subst, append_assoc}
 use Rattle.dc_address.specs.declared.identity.Identity.{Identity}
 use Rattle.dc_bus.specs.Windows.{Reads}
-use Rattle.dc_frame.specs.Control.{request_to, selected}
-use Rattle.dc_frame.specs.Frame.{spelling}
+use Rattle.dc_linkframe.specs.Control.{request_to, selected}
+use Rattle.dc_linkframe.specs.Frame.{spelling}
 use Rattle.dc_readout.specs.Misses.{and_missed, is_noise, is_silent}
 use Rattle.dc_readout.specs.declared.misses.misses.Misses.{Misses}
 use Rattle.dc_installer.specs.Number.{Tries, are_over, collides, ending, finds, meets_silence, selection_to, with_number}

@@ -1,7 +1,7 @@
 -- A readout, exchange by exchange.
 use Rattle.std.proofs.Common.{◌≡◌, ℕ, ◌<◌, Bool, true, false, List, [], ◌∷◌, ◌++◌, Option, None, Some, refl, sym, ap, ◌∙◌, subst, append-nil, append_assoc, arith}
 use Rattle.std.specs.Prelude.{option_map, ◌||◌, if◌then◌else◌}
-use Rattle.dc_frame.specs.Frame.{spelling}
+use Rattle.dc_linkframe.specs.Frame.{spelling}
 use Rattle.dc_readout.specs.Summary.{Summary, asked_by, verdict_by}
 use Rattle.dc_readout.specs.Bound.{requests_left}
 use Rattle.dc_readout.specs.Misses.{and_missed, misses_of}

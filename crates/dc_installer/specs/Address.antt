@@ -5,9 +5,9 @@ use Rattle.dc_address.specs.Mask.{mask_of, mask_wire}
 use Rattle.dc_address.specs.Text.{text_of}
 use Rattle.dc_address.specs.declared.identity.Identity.{Identity}
 use Rattle.dc_bus.specs.Windows.{Insists, most_tries}
-use Rattle.dc_frame.specs.Control.{request_to, reset_to, selected, selection_by, snd_ud}
-use Rattle.dc_frame.specs.Frame.{FrameSeen, long, spelling}
-use Rattle.dc_frame.specs.Reading.{frame_of}
+use Rattle.dc_linkframe.specs.Control.{request_to, reset_to, selected, selection_by, snd_ud}
+use Rattle.dc_linkframe.specs.Frame.{FrameSeen, long, spelling}
+use Rattle.dc_linkframe.specs.Reading.{frame_of}
 use Rattle.dc_io.specs.Words.{number_word}
 use Rattle.dc_readout.specs.Answer.{is_meter}
 use Rattle.dc_search.specs.Answer.{answer_of}

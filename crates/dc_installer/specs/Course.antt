@@ -3,9 +3,9 @@ use Rattle.std.specs.Prelude.{◌≡◌, ℕ, ◌+◌, ◌-◌, ◌^◌, min, Bo
 use Rattle.std.specs.Prelude.{◌==◌, Option, None, Some, if◌then◌else◌, is_some, count_by}
 use Rattle.dc_address.specs.declared.identity.Identity.{Identity}
 use Rattle.dc_bus.specs.Bus.{Exchange}
-use Rattle.dc_frame.specs.Control.{selection, snd_nke}
-use Rattle.dc_frame.specs.Frame.{FrameSeen, ack, short, long}
-use Rattle.dc_frame.specs.Reading.{frame_of}
+use Rattle.dc_linkframe.specs.Control.{selection, snd_nke}
+use Rattle.dc_linkframe.specs.Frame.{FrameSeen, ack, short, long}
+use Rattle.dc_linkframe.specs.Reading.{frame_of}
 use Rattle.dc_readout.specs.Misses.{is_noise, is_silent}
 use Rattle.dc_search.specs.Answer.{answer_of}
 use Rattle.dc_installer.specs.declared.course.Course.{Course}

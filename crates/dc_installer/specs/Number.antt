@@ -6,8 +6,8 @@ use Rattle.dc_address.specs.Mask.{mask_wire}
 use Rattle.dc_bus.specs.Windows.{Reads}
 use Rattle.dc_address.specs.Text.{text_of}
 use Rattle.dc_address.specs.declared.identity.Identity.{Identity}
-use Rattle.dc_frame.specs.Control.{request_to, selected, selection_by}
-use Rattle.dc_frame.specs.Frame.{FrameSeen, spelling}
+use Rattle.dc_linkframe.specs.Control.{request_to, selected, selection_by}
+use Rattle.dc_linkframe.specs.Frame.{FrameSeen, spelling}
 use Rattle.dc_readout.specs.Misses.{and_missed, is_noise, is_silent, misses_of}
 use Rattle.dc_readout.specs.declared.misses.misses.Misses.{Misses}
 use Rattle.dc_search.specs.Answer.{answer_of}

@@ -1,12 +1,12 @@
 -- The readout of one meter on a bus, as its telegrams are printed (EN 13757-2, frame count bit; EN 13757-3).
 use Rattle.std.specs.Prelude.{◌≡◌, ◌≤◌, ℕ, Bool, true, false, ◌||◌, List, [], ◌∷◌, ◌++◌, None, Some}
 use Rattle.std.specs.Prelude.{length, option_map, if◌then◌else◌}
-use Rattle.dc_frame.specs.Frame.{spelling}
+use Rattle.dc_linkframe.specs.Frame.{spelling}
 use Rattle.dc_readout.specs.Summary.{Summary, Verdict, again, ready, new, failed, asked_by}
 use Rattle.dc_readout.specs.Summary.{heard_by, settled_by, verdict_by}
 use Rattle.dc_readout.specs.Bound.{requests_left}
 use Rattle.dc_bus.specs.Bus.{AreExchanged, Exchange}
-use Rattle.dc_concentrator.specs.Text.{failed_text}
+use Rattle.dc_core.specs.Text.{failed_text}
 use Rattle.dc_decode.specs.Frames.{all_shown, frames_of}
 use Rattle.dc_readout.specs.Misses.{and_missed, misses_of}
 use Rattle.dc_readout.specs.Missing.{is_missing}

@@ -6,9 +6,9 @@ use Rattle.dc_address.specs.Text.{text_of}
 use Rattle.dc_address.specs.declared.identity.Identity.{Identity}
 use Rattle.dc_bus.specs.Bus.{IsSearched}
 use Rattle.dc_bus.specs.Windows.{Insists, IsAskedAll, Reads, most_tries}
-use Rattle.dc_frame.specs.Control.{request_to, reset_to}
-use Rattle.dc_frame.specs.Frame.{FrameSeen, ack, short, long, spelling}
-use Rattle.dc_frame.specs.Reading.{frame_of}
+use Rattle.dc_linkframe.specs.Control.{request_to, reset_to}
+use Rattle.dc_linkframe.specs.Frame.{FrameSeen, ack, short, long, spelling}
+use Rattle.dc_linkframe.specs.Reading.{frame_of}
 use Rattle.dc_readout.specs.Misses.{misses_of}
 use Rattle.dc_readout.specs.declared.misses.misses.Misses.{Misses}
 use Rattle.dc_search.specs.Found.{search_text}

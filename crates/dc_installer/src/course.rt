@@ -1,13 +1,13 @@
 //! How far a search is, by what goes over its bus.
 
 ghost use Rattle.std.specs.Prelude.{◌≡◌};
-ghost use Rattle.dc_frame.specs.Reading.{frame_of};
+ghost use Rattle.dc_linkframe.specs.Reading.{frame_of};
 ghost use Rattle.dc_installer.specs.Course.{address_after, after_answer, after_request, is_reset};
 ghost use Rattle.dc_installer.specs.Course.{is_selection, last_meter, new_course, one_if};
 
 use dc_address::Identity;
-use dc_frame::control::{SELECTION, SND_NKE};
-use dc_frame::{Frame, parse};
+use dc_linkframe::control::{SELECTION, SND_NKE};
+use dc_linkframe::{Frame, parse};
 use dc_search::meter_of;
 
 /// How far a search is: what its requests and their answers come to so far, repeats too. Counts stay at the greatest

@@ -1,7 +1,7 @@
 //! Finds the one meter with an identification number.
 
 ghost use Rattle.std.specs.Prelude.{◌≡◌, ◌≤◌, ◌+◌, ◌&&◌, ◌++◌, length, map};
-ghost use Rattle.dc_frame.specs.Frame.{spelling};
+ghost use Rattle.dc_linkframe.specs.Frame.{spelling};
 ghost use Rattle.dc_installer.specs.Number.{IsFound, Tries, digit_of, ending};
 ghost use Rattle.dc_installer.specs.Number.{selection_to, unfound_text, with_number};
 ghost use Rattle.dc_io.specs.Written.{Wrote};
@@ -11,8 +11,8 @@ ghost use Rattle.dc_search.specs.Prefix.{mask_of_digits};
 use crate::primary::ask_telegram;
 use dc_address::{Identity, Mask};
 use dc_bus::{AnswerBuf, Bus};
-use dc_frame::FrameBuf;
-use dc_frame::control::{SELECTED, write_selection};
+use dc_linkframe::FrameBuf;
+use dc_linkframe::control::{SELECTED, write_selection};
 use dc_io::{IoFault, Sink};
 use dc_readout::misses::{Misses, is_noise};
 use dc_search::{Branch, meter_of};

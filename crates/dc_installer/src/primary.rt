@@ -4,9 +4,9 @@ ghost use Rattle.std.specs.Prelude.{◌≡◌, ◌≤◌, ◌+◌, ◌∷◌, []
 ghost use Rattle.std.specs.List.{range_with_len};
 ghost use Rattle.dc_bus.specs.Limits.{most_request};
 ghost use Rattle.dc_bus.specs.Windows.{Insists, Reads, most_tries};
-ghost use Rattle.dc_frame.specs.Control.{request_to, reset_to};
-ghost use Rattle.dc_frame.specs.Frame.{spelling};
-ghost use Rattle.dc_frame.specs.Reading.{frame_of};
+ghost use Rattle.dc_linkframe.specs.Control.{request_to, reset_to};
+ghost use Rattle.dc_linkframe.specs.Frame.{spelling};
+ghost use Rattle.dc_linkframe.specs.Reading.{frame_of};
 ghost use Rattle.dc_io.specs.Failures.{HasRisen};
 ghost use Rattle.dc_io.specs.Written.{PutsInto, Wrote};
 ghost use Rattle.dc_readout.specs.Misses.{misses_of};
@@ -16,8 +16,8 @@ ghost use Rattle.dc_installer.specs.Scan.{is_there, line_of, sender_at};
 
 use dc_address::Identity;
 use dc_bus::{AnswerBuf, Bus, TRIES, insist, read_twice};
-use dc_frame::control::{write_request, write_reset};
-use dc_frame::{Frame, FrameBuf, parse};
+use dc_linkframe::control::{write_request, write_reset};
+use dc_linkframe::{Frame, FrameBuf, parse};
 use dc_io::{IoFault, Sink};
 use dc_readout::misses::Misses;
 use dc_search::meter_of;

@@ -3,8 +3,8 @@
 ghost use Rattle.std.specs.Prelude.{◌≡◌, ◌<◌, ◌≤◌, ℕ, List, [], None, Some, IfOk, OnOk, OnErr, length};
 ghost use Rattle.std.specs.Prelude.{option_map};
 ghost use Rattle.dc_io.specs.Failures.{HasRisen};
-ghost use Rattle.dc_concentrator.specs.Step.{longest_request};
-ghost use Rattle.dc_frame.specs.Frame.{spelling};
+ghost use Rattle.dc_core.specs.Step.{longest_request};
+ghost use Rattle.dc_linkframe.specs.Frame.{spelling};
 ghost use Rattle.dc_readout.specs.Misses.{misses_of};
 ghost use Rattle.dc_io.specs.Stream.{PutsFront};
 ghost use Rattle.dc_io.specs.Written.{PutsInto, Wrote};
@@ -16,9 +16,9 @@ ghost use Rattle.dc_installer.specs.Read.{is_failure, is_miss, printed};
 
 use dc_address::{Identity, Primary};
 use dc_bus::Bus;
-use dc_concentrator::{LineHeard, put_heard};
+use dc_core::{LineHeard, put_heard};
 use dc_decode::put_frames;
-use dc_frame::FrameBuf;
+use dc_linkframe::FrameBuf;
 use dc_io::{IoFault, Sink};
 use dc_readout::misses::{Misses, is_missing};
 use dc_readout::{Heard, Session};

@@ -5,8 +5,8 @@ use Rattle.json.specs.Token as Token
 use Rattle.json.specs.Tree.{json_tokens}
 use Rattle.dc_address.specs.declared.identity.Identity.{Identity}
 use Rattle.dc_change.specs.State.{PartRow, ReadingRow, State}
-use Rattle.dc_register.specs.declared.place.Place.{Place}
-use Rattle.dc_record.specs.Telegram.{telegram_at}
+use Rattle.dc_meters.specs.declared.place.Place.{Place}
+use Rattle.dc_records.specs.Telegram.{telegram_at}
 use Rattle.dc_reading.specs.Sent.{Sent}
 use Rattle.dc_frame_json.specs.Meter.{identity_fields}
 use Rattle.dc_tokens.specs.Object.{Field, fields_tokens, object_of}

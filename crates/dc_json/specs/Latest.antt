@@ -4,8 +4,8 @@ use Rattle.std.specs.Prelude.{ℕ, List, ◌++◌, if◌then◌else◌, Option, 
 use Rattle.std.specs.List.{flat_map}
 use Rattle.dc_address.specs.declared.identity.Identity.{Identity}
 use Rattle.dc_change.specs.State.{State, ReadingRow}
-use Rattle.dc_register.specs.Places.{by_flat}
-use Rattle.dc_register.specs.declared.place.Place.{Place}
+use Rattle.dc_meters.specs.Places.{by_flat}
+use Rattle.dc_meters.specs.declared.place.Place.{Place}
 use Rattle.dc_json.specs.Heard.{moment_of, part_in}
 use Rattle.dc_json.specs.Journal.{Notes, noted_in, text_in}
 use Rattle.dc_json.specs.LatestValues.{held_words, last_reading, place_words}

@@ -8,18 +8,18 @@ use Rattle.std.specs.List.{flat_map}
 use Rattle.dc_io.specs.Words.{number_word, byte_word}
 use Rattle.dc_address.specs.declared.identity.Identity.{Identity}
 use Rattle.dc_address.specs.Text.{text_of}
-use Rattle.dc_record.specs.declared.fault.BodyFault.{BodyFault}
-use Rattle.dc_record.specs.Telegram.{Parsed, telegram_at}
-use Rattle.dc_record.specs.declared.value.point.Point.{Point}
-use Rattle.dc_record.specs.Text.{value_text}
-use Rattle.dc_record.specs.Fields.{application_name}
-use Rattle.dc_record.specs.Media.{medium_name}
+use Rattle.dc_records.specs.declared.fault.BodyFault.{BodyFault}
+use Rattle.dc_records.specs.Telegram.{Parsed, telegram_at}
+use Rattle.dc_units.specs.declared.point.Point.{Point}
+use Rattle.dc_units.specs.Text.{value_text}
+use Rattle.dc_records.specs.Fields.{application_name}
+use Rattle.dc_records.specs.Media.{medium_name}
 use Rattle.dc_change.specs.State.{State, ReadingRow, PartRow}
-use Rattle.dc_register.specs.Orders.{reading_of, serials_of}
-use Rattle.dc_register.specs.Points.{points_of}
-use Rattle.dc_register.specs.declared.place.Place.{Place}
+use Rattle.dc_meters.specs.Orders.{reading_of, serials_of}
+use Rattle.dc_meters.specs.Points.{points_of}
+use Rattle.dc_meters.specs.declared.place.Place.{Place}
 use Rattle.dc_decode.specs.Seen.{point_text}
-use Rattle.dc_record.specs.Record.{Entry}
+use Rattle.dc_records.specs.Record.{Entry}
 use Rattle.dc_reading.specs.Codes.{code_at, number_of}
 use Rattle.dc_reading.specs.Headline.{headline}
 use Rattle.dc_reading.specs.Names.{names_of}

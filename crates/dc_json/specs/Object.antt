@@ -4,8 +4,8 @@ use Rattle.std.specs.List.{flat_map}
 use Rattle.json.specs.Json.{Json, string, boolean, null}
 use Rattle.dc_change.specs.Size.{size_of}
 use Rattle.dc_change.specs.State.{State, Held}
-use Rattle.dc_register.specs.Places.{by_flat}
-use Rattle.dc_register.specs.declared.place.Place.{Place}
+use Rattle.dc_meters.specs.Places.{by_flat}
+use Rattle.dc_meters.specs.declared.place.Place.{Place}
 use Rattle.dc_tokens.specs.Object.{object_of, count}
 use Rattle.dc_frame_json.specs.Meter.{identity_fields, status_fields}
 use Rattle.dc_frame_json.specs.Record.{value_json}

@@ -6,10 +6,10 @@ use Rattle.dc_change.specs.Fields.{last_moment}
 use Rattle.dc_json.specs.Journal.{Notes, noted_in}
 use Rattle.dc_json.specs.declared.journal.noted.Failing.{Failing}
 use Rattle.dc_json.specs.declared.journal.noted.Taken.{Taken}
-use Rattle.dc_record.specs.declared.fault.BodyFault.{BodyFault}
-use Rattle.dc_record.specs.Telegram.{Parsed, telegram_at}
+use Rattle.dc_records.specs.declared.fault.BodyFault.{BodyFault}
+use Rattle.dc_records.specs.Telegram.{Parsed, telegram_at}
 use Rattle.dc_change.specs.State.{State, PartRow}
-use Rattle.dc_register.specs.declared.place.Place.{Place}
+use Rattle.dc_meters.specs.declared.place.Place.{Place}
 use Rattle.dc_json.specs.LatestValues.{last_reading}
 use Rattle.dc_json.specs.Heard.{ago, heard, is_silent, part_in}
 use Rattle.dc_json.specs.declared.status.row.Row.{Row}

@@ -4,7 +4,7 @@ use Rattle.std.specs.Prelude.{ℕ, Bool, true, false, ◌==◌, if◌then◌else
 use Rattle.std.specs.Option.{option_and_then}
 use Rattle.json.specs.Find.{as_array, get}
 use Rattle.json.specs.Json.{Json, null, boolean, number, string, array, object, Items, no_items, item}
-use Rattle.dc_record.specs.Text.{value_text}
+use Rattle.dc_units.specs.Text.{value_text}
 use Rattle.dc_json.specs.LatestValues.{shown, status_line, value_word}
 use Rattle.dc_shown.specs.Utc.{minute_of}
 

@@ -4,11 +4,11 @@ use Rattle.std.specs.Prelude.{codes, slice_get, Option, None, Some}
 use Rattle.std.specs.List.{flat_map, list_any}
 use Rattle.dc_io.specs.Words.{number_word}
 use Rattle.dc_address.specs.Text.{text_of}
-use Rattle.dc_record.specs.Text.{value_text}
+use Rattle.dc_units.specs.Text.{value_text}
 use Rattle.dc_change.specs.Size.{size_of, empty_size}
 use Rattle.dc_change.specs.State.{State, Held, ReadingRow}
-use Rattle.dc_register.specs.Places.{by_flat}
-use Rattle.dc_register.specs.declared.place.Place.{Place}
+use Rattle.dc_meters.specs.Places.{by_flat}
+use Rattle.dc_meters.specs.declared.place.Place.{Place}
 use Rattle.dc_json.specs.LatestValues.{byte_words}
 use Rattle.dc_json.specs.Heard.{ago, moment_of}
 use Rattle.dc_json.specs.Journal.{Notes}
@@ -18,7 +18,7 @@ use Rattle.dc_shown.specs.Utc.{minute_of}
 use Rattle.dc_readout.specs.Why.{name_of}
 use Rattle.dc_readout.specs.declared.why.Why.TheVariants.{NoAnswer, WrongFrame, WrongAddress}
 use Rattle.dc_readout.specs.declared.why.Why.TheVariants.{ApplicationError, Content, Stranger, TooManyParts}
-use Rattle.dc_record.specs.declared.fault.BodyFault.TheVariants.{Short}
+use Rattle.dc_records.specs.declared.fault.BodyFault.TheVariants.{Short}
 use Rattle.dc_json.specs.declared.status.row.Row.{Row}
 use Rattle.dc_json.specs.declared.status.row.Told.{Told}
 

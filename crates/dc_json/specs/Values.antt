@@ -5,11 +5,11 @@ use Rattle.json.specs.Json.{Json, string, null}
 use Rattle.json.specs.Print.{print}
 use Rattle.json.specs.Token as Token
 use Rattle.dc_address.specs.declared.identity.Identity.{Identity}
-use Rattle.dc_record.specs.declared.fault.BodyFault.{BodyFault}
-use Rattle.dc_record.specs.Telegram.{Parsed, telegram_at}
+use Rattle.dc_records.specs.declared.fault.BodyFault.{BodyFault}
+use Rattle.dc_records.specs.Telegram.{Parsed, telegram_at}
 use Rattle.dc_change.specs.State.{State, ReadingRow, PartRow}
-use Rattle.dc_register.specs.Places.{by_flat}
-use Rattle.dc_register.specs.declared.place.Place.{Place}
+use Rattle.dc_meters.specs.Places.{by_flat}
+use Rattle.dc_meters.specs.declared.place.Place.{Place}
 use Rattle.dc_json.specs.Journal.{Notes}
 use Rattle.dc_json.specs.Latest.{noted_text}
 use Rattle.dc_json.specs.LatestValues.{last_part, last_reading}

@@ -5,19 +5,19 @@
 ghost use Rattle.std.specs.Prelude.{◌≡◌, ◌≢◌, ◌<◌, ◌≤◌, length, IfSome, IfOk, IfErr, OnOk, IsErrOf};
 ghost use Rattle.dc_io.specs.Failures.{HasRisen};
 ghost use Rattle.dc_io.specs.Lines.{most_input};
-ghost use Rattle.dc_frame.specs.Frame.{seen};
+ghost use Rattle.dc_linkframe.specs.Frame.{seen};
 ghost use Rattle.dc_decode.specs.Frames.{is_bad, is_bad_content, is_bad_frame};
 ghost use Rattle.dc_decode.specs.Text.{has_fault};
 
 use crate::place::{body_place, frame_place};
 use crate::table::put_content;
 use dc_decode::{Input, LineForm, read_frame};
-use dc_frame::Frame;
-use dc_frame::control::VARIABLE_DATA;
+use dc_linkframe::Frame;
+use dc_linkframe::control::VARIABLE_DATA;
 use dc_io::{Bytes, IoFault, Sink, Source, TextFault, put_byte, put_fault, put_number};
 use dc_reading::content::content_of;
-use dc_record::Telegram;
-use dc_record::names::{ci_name, control_name};
+use dc_records::Telegram;
+use dc_records::names::{ci_name, control_name};
 use std::alloc::Allocator;
 
 // Number of bytes of a long frame before its body.

@@ -1,7 +1,7 @@
 //! The place of a fault, and what was expected there.
 
-use dc_frame::FrameFault;
-use dc_record::{BodyFault, Telegram};
+use dc_linkframe::FrameFault;
+use dc_records::{BodyFault, Telegram};
 
 // Number of bytes of a telegram's header, and the place of the security mode in it (EN 13757-3,
 // long data header).

@@ -10,8 +10,8 @@ use dc_reading::{
     How, READING_ROOM, Reading, Sent, SentRecords, code_at, digits_text, label_text, maker_of,
     number_of, reading_of, told_of, unit_text, value_text,
 };
-use dc_record::names::{function_name, medium_name};
-use dc_record::{End, Record};
+use dc_records::names::{function_name, medium_name};
+use dc_records::{End, Record};
 use itoa::Buffer;
 
 // The widths of the columns, in characters.

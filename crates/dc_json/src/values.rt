@@ -2,7 +2,7 @@
 
 ghost use Rattle.std.specs.Prelude.{◌≡◌, ◌++◌, codes, option_copied, option_map};
 ghost use Rattle.json.specs.Tree.{json_tokens};
-ghost use Rattle.dc_record.specs.Telegram.{telegram_at};
+ghost use Rattle.dc_records.specs.Telegram.{telegram_at};
 ghost use Rattle.dc_io.specs.Written.{Wrote};
 ghost use Rattle.dc_tokens.specs.Writing.{Added};
 ghost use Rattle.dc_frame_json.specs.Text.{value_line};
@@ -13,7 +13,7 @@ use crate::journal::Journal;
 use crate::latest::{last_reading, noted_text, part_in};
 use dc_frame_json::{Cell, put_row};
 use dc_io::{IoFault, Sink};
-use dc_register::{House, Part, Place, Reading};
+use dc_meters::{House, Part, Place, Reading};
 use dc_shown::{put_received, put_told};
 use dc_tokens::TokenWriter;
 use std::alloc::Allocator;

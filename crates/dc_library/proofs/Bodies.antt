@@ -3,7 +3,7 @@ use Rattle.std.proofs.Common.{◌≡◌, ℕ, ◌≤◌, Bool, true, false, eqb,
 use Rattle.std.specs.Prelude.{min, nat_lt, Option, Some, None}
 use Rattle.std.proofs.lemmas.Bool.{ltb-true, ltb-false}
 use Rattle.std.proofs.lemmas.Bool.Decides.{nat_tests}
-use Rattle.dc_record.proofs.Spellings.Fields.{chosen}
+use Rattle.dc_records.proofs.Spellings.Fields.{chosen}
 use Rattle.dc_reading.specs.Content.{Content, Variable, variable, fixed, content_of, long_header, short_header, no_header, sents_in}
 use Rattle.dc_reading.specs.Fixed.{Fixed, fixed_at}
 use Rattle.dc_reading.specs.Sent.{Sent}

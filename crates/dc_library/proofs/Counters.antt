@@ -2,8 +2,8 @@
 use Rattle.std.proofs.Common.{◌≡◌, ℕ, ◌+◌, ◌%◌, ◌<◌, ◌≤◌, Bool, true, false, cond, List, [], ◌∷◌, length, refl, sym, ap, subst, ◌∙◌, arith, inl, inr}
 use Rattle.std.specs.Prelude.{nat_lt, slice_index, slice_range, Option, Some, None}
 use Rattle.std.proofs.lemmas.Bool.Decides.{nat_tests}
-use Rattle.dc_record.proofs.Spellings.Fields.{chosen}
-use Rattle.dc_record.specs.Record.{Entry}
+use Rattle.dc_records.proofs.Spellings.Fields.{chosen}
+use Rattle.dc_records.specs.Record.{Entry}
 use Rattle.dc_reading.specs.Counter.{Counter, counted, counter_by, first_counter, second_counter, second_stored, second_code}
 use Rattle.dc_reading.specs.Fixed.{Fixed, fixed_at, fixed_by, shows_counters}
 use Rattle.dc_reading.specs.Units.{FixedUnit}

@@ -4,12 +4,12 @@ use Rattle.std.specs.Prelude.{nat_lt, ◌==◌}
 use Rattle.std.specs.List.{position_or_len}
 use Rattle.std.proofs.lemmas.Bool.{eqb-true, le-ltb}
 use Rattle.std.proofs.lemmas.Bool.Decides.{nat_tests}
-use Rattle.dc_record.specs.declared.fault.BodyFault.{BodyFault}
-use Rattle.dc_record.specs.declared.fault.BodyFault.TheVariants as fault
-use Rattle.dc_record.specs.Body.{plain, last, more, Front, ends, skips, gives, front_at}
-use Rattle.dc_record.specs.Record.{Entry, Extends, IsData}
-use Rattle.dc_record.specs.Reading.{◌>>=◌, chain_len, data_at, entry_of, record_at}
-use Rattle.dc_record.proofs.Spellings.Fields.{bind_ok, chosen, chain_takes, data_takes, ok_is, record_takes}
+use Rattle.dc_records.specs.declared.fault.BodyFault.{BodyFault}
+use Rattle.dc_records.specs.declared.fault.BodyFault.TheVariants as fault
+use Rattle.dc_records.specs.Body.{plain, last, more, Front, ends, skips, gives, front_at}
+use Rattle.dc_records.specs.Record.{Entry, Extends, IsData}
+use Rattle.dc_records.specs.Reading.{◌>>=◌, chain_len, data_at, entry_of, record_at}
+use Rattle.dc_records.proofs.Spellings.Fields.{bind_ok, chosen, chain_takes, data_takes, ok_is, record_takes}
 use Rattle.dc_reading.specs.Front.{text_vib_len, text_record_at, or_text, wide_front_at}
 use Rattle.dc_library.specs.Header.{flag}
 use Rattle.dc_library.specs.Walk.{dif_len}

@@ -6,10 +6,10 @@ use Rattle.std.specs.List.{position_or_len}
 use Rattle.std.proofs.lemmas.Bool.{eqb-true}
 use Rattle.std.proofs.lemmas.Bool.Decides.{nat_tests}
 use Rattle.std.proofs.lemmas.List.{take_at, drop_at, drop-drop, drop_all, drop_min}
-use Rattle.dc_record.specs.declared.fault.BodyFault.{BodyFault}
-use Rattle.dc_record.specs.Body.{Front, ends, skips, gives, front_at}
-use Rattle.dc_record.specs.Record.{Entry}
-use Rattle.dc_record.proofs.Spellings.Turns.{Left}
+use Rattle.dc_records.specs.declared.fault.BodyFault.{BodyFault}
+use Rattle.dc_records.specs.Body.{Front, ends, skips, gives, front_at}
+use Rattle.dc_records.specs.Record.{Entry}
+use Rattle.dc_records.proofs.Spellings.Turns.{Left}
 use Rattle.dc_reading.specs.Codes.{number_of}
 use Rattle.dc_reading.specs.Content.{Variable, sents_in}
 use Rattle.dc_reading.specs.Front.{wide_front_at}

@@ -1,8 +1,8 @@
 -- The link frames of bytes, as plain numbers (this product; the frames are those of EN 13757-2).
 use Rattle.std.specs.Prelude.{ℕ, ◌+◌, ◌-◌, List, length, take, drop, Result, Ok, Err}
-use Rattle.dc_frame.specs.declared.fault.FrameFault.{FrameFault}
-use Rattle.dc_frame.specs.Fault.{number_of}
-use Rattle.dc_frame.specs.Frame.{FrameSeen, ack, short, long}
+use Rattle.dc_linkframe.specs.declared.fault.FrameFault.{FrameFault}
+use Rattle.dc_linkframe.specs.Fault.{number_of}
+use Rattle.dc_linkframe.specs.Frame.{FrameSeen, ack, short, long}
 use Rattle.dc_library.specs.declared.frames.PlainFrame.{PlainFrame}
 
 -- the bytes from one place to another

@@ -1,7 +1,7 @@
 -- The header of a body as plain numbers (this product; the headers are those of EN 13757-3).
 use Rattle.std.specs.Prelude.{ℕ, Option, Some, None, is_some, Bool, if◌then◌else◌}
 use Rattle.dc_address.specs.declared.identity.Identity.{Identity}
-use Rattle.dc_record.specs.Number.{bcd_digits, number_after}
+use Rattle.dc_units.specs.Number.{bcd_digits, number_after}
 use Rattle.dc_reading.specs.declared.content.content.Head.{Head}
 use Rattle.dc_reading.specs.declared.content.content.Structure.{Structure}
 use Rattle.dc_reading.specs.declared.content.content.Structure.TheVariants.{LongHeader, ShortHeader, NoHeader}

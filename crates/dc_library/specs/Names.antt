@@ -1,7 +1,7 @@
 -- Names by their numbers (this product; the names are those of the standard's codes).
 use Rattle.std.specs.Prelude.{ℕ, ◌-◌, ◌/◌, ◌%◌, ◌==◌, nat_lt, if◌then◌else◌, List, [], ◌∷◌, map, codes, Option, Some, None}
-use Rattle.dc_record.specs.Fields.{control_name, ci_name, function_name, application_name}
-use Rattle.dc_record.specs.Media.{medium_name}
+use Rattle.dc_records.specs.Fields.{control_name, ci_name, function_name, application_name}
+use Rattle.dc_records.specs.Media.{medium_name}
 use Rattle.dc_reading.specs.Codes.{code_at}
 use Rattle.dc_reading.specs.Security.{medium_of, security_name}
 use Rattle.dc_reading.specs.Units.{FixedUnit, fixed_unit}

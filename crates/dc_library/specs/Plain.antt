@@ -1,8 +1,8 @@
 -- A record and what is read of it as plain numbers (this product; the fields are those of EN 13757-3, data record).
 use Rattle.std.specs.Prelude.{ℕ, ◌+◌, ◌-◌, ◌==◌, Bool, if◌then◌else◌, List, length, Option, Some, None, ℤ, pos}
-use Rattle.dc_record.specs.Date.{Day}
-use Rattle.dc_record.specs.Record.{Entry}
-use Rattle.dc_record.specs.declared.value.value.Value.TheVariants as value
+use Rattle.dc_units.specs.Date.{Day}
+use Rattle.dc_records.specs.Record.{Entry}
+use Rattle.dc_units.specs.declared.value.Value.TheVariants as value
 use Rattle.dc_reading.specs.declared.form.DataType.{DataType}
 use Rattle.dc_reading.specs.declared.form.DataType.TheVariants as typed
 use Rattle.dc_reading.specs.declared.reading.Reading.{Reading}

@@ -2,11 +2,11 @@
 use Rattle.std.specs.Prelude.{◌≡◌, ℕ, ◌+◌, ◌<◌, ◌≤◌, ◌%◌, ◌==◌, Bool, not, nat_lt, if◌then◌else◌}
 use Rattle.std.specs.Prelude.{List, [], ◌∷◌, length, take, drop, map, Option, Some, None, Result, Ok, Err, slice_index}
 use Rattle.std.specs.List.{position_or_len}
-use Rattle.dc_record.specs.declared.fault.BodyFault.{BodyFault}
-use Rattle.dc_record.specs.declared.fault.BodyFault.TheVariants.{Short, BadIdentity}
-use Rattle.dc_record.specs.Body.{Ending, plain, last, more}
-use Rattle.dc_record.specs.Fault as fault
-use Rattle.dc_record.specs.Record.{Entry}
+use Rattle.dc_records.specs.declared.fault.BodyFault.{BodyFault}
+use Rattle.dc_records.specs.declared.fault.BodyFault.TheVariants.{Short, BadIdentity}
+use Rattle.dc_records.specs.Body.{Ending, plain, last, more}
+use Rattle.dc_records.specs.Fault as fault
+use Rattle.dc_records.specs.Record.{Entry}
 use Rattle.dc_reading.specs.declared.reading.Reading.{Reading}
 use Rattle.dc_reading.specs.Codes.{number_of}
 use Rattle.dc_reading.specs.Content.{Content, Variable, variable, fixed, content_of, end_in, sents_in, sents_of}

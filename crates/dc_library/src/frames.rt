@@ -6,7 +6,7 @@ ghost use Rattle.dc_library.specs.Frames.{between, frame_result, plain_read};
 
 use crate::results::{DONE, END, FAULT};
 use dc_decode::{first_frame, frames_are_told_in_turn, read_frame};
-use dc_frame::Frame;
+use dc_linkframe::Frame;
 
 // Where the body of a long frame begins (EN 13757-2).
 const BODY: u64 = 7;

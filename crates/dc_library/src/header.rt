@@ -8,7 +8,7 @@ ghost use Rattle.dc_library.specs.Walk.{items_of, left};
 
 use crate::results::{DONE, NO_CI, OTHER};
 use dc_reading::content::{Content, Security, Structure, Variable, content_of};
-use dc_record::value::digits_after;
+use dc_units::digits_after;
 
 // Where the records of each structure begin (EN 13757-3).
 const AFTER_LONG: u64 = 12;

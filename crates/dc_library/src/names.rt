@@ -6,7 +6,7 @@ ghost use Rattle.dc_library.specs.Names.{byte_name, coded_name, listed_name, nam
 use crate::texts::text_into;
 use dc_reading::content::{fixed_unit, medium_of, security_name};
 use dc_reading::{code_at, vife_at};
-use dc_record::names::{application_name, ci_name, control_name, function_name, medium_name};
+use dc_records::names::{application_name, ci_name, control_name, function_name, medium_name};
 
 /// The tables of names.
 pub const CONTROLS: u64 = 0;

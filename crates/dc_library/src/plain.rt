@@ -1,15 +1,15 @@
 //! A record and what is read of it as plain numbers.
 
 ghost use Rattle.std.specs.Prelude.{◌≡◌, ◌+◌, ◌<◌, ◌^◌, ◌≤◌, length};
-ghost use Rattle.dc_record.specs.Record.{view};
+ghost use Rattle.dc_records.specs.Record.{view};
 ghost use Rattle.dc_reading.specs.Names.{summer_found};
 ghost use Rattle.dc_library.specs.Header.{count};
 ghost use Rattle.dc_library.specs.Plain.{data_place, error_of, how_number, is_summer, places_of, plain_record};
 ghost use Rattle.dc_library.specs.Plain.{plain_value, type_of, unit_of};
 
 use dc_reading::{Datum, Found, How, Reading, label_of, maker_of, told_of, vifes_of};
-use dc_record::Record;
-use dc_record::value::Value;
+use dc_records::Record;
+use dc_units::Value;
 
 /// The numbers of a record (EN 13757-3, data record header), as C lays them out.
 #[derive(Clone, Copy)]

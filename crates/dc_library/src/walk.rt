@@ -12,7 +12,7 @@ use crate::plain::{FIXED_CODES, NO_PLACES, Places, PlainRecord, places_of, plain
 use crate::results::{DONE, END, FAULT, MORE, NO_CI, OTHER};
 use dc_reading::content::{Content, Counter, FixedData, Variable, content_of};
 use dc_reading::{Sent, number_of, reading_of};
-use dc_record::{BodyFault, End};
+use dc_records::{BodyFault, End};
 
 // What fills a body between records (EN 13757-3, DIF 2F).
 const FILLER: u8 = 0x2F;

@@ -3,7 +3,7 @@
 ghost use Rattle.std.specs.Prelude.{◌≡◌, true};
 
 use dc_bus::{AnswerBuf, HalfBus};
-use dc_frame::FrameBuf;
+use dc_linkframe::FrameBuf;
 
 /// A bus of one of two kinds, or none.
 #[derive(Drop)]

@@ -1,11 +1,11 @@
 -- Sectors that are ahead of what an image reads as.
 use Rattle.std.proofs.Common.{◌≡◌, ◌⊎◌, inl, inr, ⊎_elim, ℕ, ◌<◌, ◌≤◌, ◌+◌, ◌-◌, ◌*◌, arith, sym, subst}
 use Rattle.std.proofs.lemmas.Bool.{cases_eq, cases_lt}
-use Rattle.dc_disk.specs.Disk.{Image}
-use Rattle.dc_disk.specs.declared.sector.Sector.{Sector}
-use Rattle.dc_disk.specs.declared.sector.Sector.TheVariants.{Unreadable}
-use Rattle.dc_log.specs.Group.{Carries}
-use Rattle.dc_log.proofs.OneSync.{one_stamp, lost_carries_none}
+use Rattle.dc_sectors.specs.Disk.{Image}
+use Rattle.dc_sectors.specs.declared.sector.Sector.{Sector}
+use Rattle.dc_sectors.specs.declared.sector.Sector.TheVariants.{Unreadable}
+use Rattle.dc_pages.specs.Group.{Carries}
+use Rattle.dc_pages.proofs.OneSync.{one_stamp, lost_carries_none}
 use Rattle.dc_log.specs.Stands.{IsFresh, IsAhead, IsFirst}
 
 -- by the one stamp of its sector

@@ -1,20 +1,20 @@
 -- What an image stands for when a group of changes is written.
 use Rattle.std.proofs.Common.{◌≡◌, ◌⊎◌, inl, inr, ⊎_elim, ℕ, zero, suc, ◌<◌, ◌≤◌, ◌+◌, ◌*◌, ◌-◌, List, arith, sym, subst, refl}
 use Rattle.std.proofs.lemmas.Bool.{cases_eq, cases_lt}
-use Rattle.dc_disk.specs.declared.sector.Sector.TheVariants.{Unreadable}
-use Rattle.dc_disk.specs.Disk.{Image}
-use Rattle.dc_log.specs.declared.roots.root.Root.{Root}
-use Rattle.dc_log.specs.declared.pages.site.Site.{Site}
-use Rattle.dc_log.specs.Group.{IsGroup, IsComplete, Carries}
-use Rattle.dc_log.specs.PagesWriting.{IsTorn, IsPartOf}
-use Rattle.dc_log.proofs.Choices.{same_chosen}
+use Rattle.dc_sectors.specs.declared.sector.Sector.TheVariants.{Unreadable}
+use Rattle.dc_sectors.specs.Disk.{Image}
+use Rattle.dc_roots.specs.declared.root.Root.{Root}
+use Rattle.dc_pages.specs.declared.site.Site.{Site}
+use Rattle.dc_pages.specs.Group.{IsGroup, IsComplete, Carries}
+use Rattle.dc_pages.specs.PagesWriting.{IsTorn, IsPartOf}
+use Rattle.dc_roots.proofs.Choices.{same_chosen}
 use Rattle.dc_log.specs.Halves.{half_start, half_end}
 use Rattle.dc_log.specs.Halves.{budget_of}
 use Rattle.dc_log.specs.Sites.{change_site}
 use Rattle.dc_log.specs.Stands.{IsSequence, IsFresh, Holds, ReadsBy, StandsBy, IsReady}
-use Rattle.dc_log.proofs.Agree.{same_group}
-use Rattle.dc_log.specs.Group.{IsPageKind, IsKnown}
-use Rattle.dc_log.proofs.OneSync.{page_carries, one_stamp, lost_carries_none, member, one_sync, part_incomplete}
+use Rattle.dc_pages.proofs.Agree.{same_group}
+use Rattle.dc_pages.specs.Group.{IsPageKind, IsKnown}
+use Rattle.dc_pages.proofs.OneSync.{page_carries, one_stamp, lost_carries_none, member, one_sync, part_incomplete}
 use Rattle.dc_kept.specs.declared.kept.Language.{Ghosts as Language}
 
 -- a half lies within the two

@@ -1,10 +1,10 @@
 -- What an image stands for while a group of changes is written, and then.
 use Rattle.std.proofs.Common.{◌≡◌, inl, inr, ⊎_elim, ℕ, suc, ◌+◌, List, arith, subst}
-use Rattle.dc_disk.specs.Disk.{Image}
-use Rattle.dc_log.specs.declared.roots.root.Root.{Root}
-use Rattle.dc_log.specs.declared.pages.site.Site.{Site}
-use Rattle.dc_log.specs.Group.{IsGroup}
-use Rattle.dc_log.specs.PagesWriting.{IsPartOf}
+use Rattle.dc_sectors.specs.Disk.{Image}
+use Rattle.dc_roots.specs.declared.root.Root.{Root}
+use Rattle.dc_pages.specs.declared.site.Site.{Site}
+use Rattle.dc_pages.specs.Group.{IsGroup}
+use Rattle.dc_pages.specs.PagesWriting.{IsPartOf}
 use Rattle.dc_log.specs.Sites.{change_site}
 use Rattle.dc_log.specs.Stands.{IsReady, IsAppendable, StandsForEither}
 use Rattle.dc_log.specs.Writing.{IsAttempt, IsWritten}

@@ -1,7 +1,7 @@
 -- One answer is right for an image: the first sector that is ahead, or none.
 use Rattle.std.proofs.Common.{◌≡◌, ℕ, suc, ◌+◌, ◌≤◌, Option, Some, None, ap, subst, refl}
-use Rattle.dc_disk.specs.Disk.{Image}
-use Rattle.dc_log.specs.declared.roots.root.Root.{Root}
+use Rattle.dc_sectors.specs.Disk.{Image}
+use Rattle.dc_roots.specs.declared.root.Root.{Root}
 use Rattle.dc_log.specs.Behind.{IsBehind, IsBehindAt}
 use Rattle.dc_log.specs.Stands.{IsFirst, IsFirstAhead, IsRead, StandsBy}
 use Rattle.dc_log.proofs.Ahead.{none_ahead, one_first}

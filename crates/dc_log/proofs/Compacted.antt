@@ -1,14 +1,14 @@
 -- What an image stands for while it is compacted, and then.
 use Rattle.std.proofs.Common.{◌≡◌, inl, inr, ⊎_elim, ℕ, zero, suc, ◌≤◌, ◌+◌, ◌-◌, List, arith, sym, subst, refl}
-use Rattle.dc_disk.specs.Disk.{Image, IsImage}
-use Rattle.dc_disk.specs.declared.device.Disk.{Ghosts}
-use Rattle.dc_disk.specs.Runs.{Passes, LeavesOnly}
-use Rattle.dc_disk.proofs.Moments.{weakened, followed}
-use Rattle.dc_log.specs.declared.roots.root.Root.{Root}
-use Rattle.dc_log.specs.Root.{slot}
-use Rattle.dc_log.specs.Choice.{IsRootWrite}
-use Rattle.dc_log.proofs.Choices.{slot_range}
-use Rattle.dc_log.specs.declared.pages.site.Site.{Site}
+use Rattle.dc_sectors.specs.Disk.{Image, IsImage}
+use Rattle.dc_sectors.specs.declared.device.Disk.{Ghosts}
+use Rattle.dc_sectors.specs.Runs.{Passes, LeavesOnly}
+use Rattle.dc_sectors.proofs.Moments.{weakened, followed}
+use Rattle.dc_roots.specs.declared.root.Root.{Root}
+use Rattle.dc_roots.specs.Root.{slot}
+use Rattle.dc_roots.specs.Choice.{IsRootWrite}
+use Rattle.dc_roots.proofs.Choices.{slot_range}
+use Rattle.dc_pages.specs.declared.site.Site.{Site}
 use Rattle.dc_log.specs.Halves.{budget_of}
 use Rattle.dc_log.specs.Roots.{IsRootDone, compacted}
 use Rattle.dc_log.specs.Sites.{base_site}

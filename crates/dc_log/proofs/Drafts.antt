@@ -2,14 +2,14 @@
 use Rattle.std.proofs.Common.{◌≡◌, ◌⊎◌, inl, inr, ⊎_elim, ℕ, ◌+◌, ◌*◌, List, [], length, arith, ap, sym, subst, ◌∙◌, refl}
 use Rattle.std.specs.Prelude.{Contains}
 use Rattle.std.proofs.lemmas.List.{drop_all}
-use Rattle.dc_disk.specs.Disk.{Image, Choices, IsImage}
-use Rattle.dc_disk.specs.Images.{only_one, settled_image}
-use Rattle.dc_disk.specs.declared.device.Disk.{Ghosts}
-use Rattle.dc_disk.specs.Runs.{LeavesOnly, IsSettled}
-use Rattle.dc_disk.proofs.Moments.{started, weakened}
-use Rattle.dc_log.specs.declared.pages.site.Site.{Site}
-use Rattle.dc_log.specs.Draft.{Draft}
-use Rattle.dc_log.specs.PagesWriting.{IsPartOf, IsGoing, IsClosed}
+use Rattle.dc_sectors.specs.Disk.{Image, Choices, IsImage}
+use Rattle.dc_sectors.specs.Images.{only_one, settled_image}
+use Rattle.dc_sectors.specs.declared.device.Disk.{Ghosts}
+use Rattle.dc_sectors.specs.Runs.{LeavesOnly, IsSettled}
+use Rattle.dc_sectors.proofs.Moments.{started, weakened}
+use Rattle.dc_pages.specs.declared.site.Site.{Site}
+use Rattle.dc_pages.specs.Draft.{Draft}
+use Rattle.dc_pages.specs.PagesWriting.{IsPartOf, IsGoing, IsClosed}
 use Rattle.dc_log.specs.Writing.{IsAttempt, IsWritten}
 
 -- drafts of one group

@@ -1,10 +1,10 @@
 -- What the puts of an encoder do to a group's sink, all together.
 use Rattle.std.proofs.Common.{◌≡◌, ℕ, List, ◌∙◌}
 use Rattle.dc_io.specs.Chain.{IsChain, IsBroken}
-use Rattle.dc_disk.specs.declared.device.Disk.{Ghosts}
-use Rattle.dc_log.specs.Streaming.{GoesInto, BreaksOff}
-use Rattle.dc_log.proofs.Chained.{run_keeps, chain_goes_into, chain_breaks_off}
-use Rattle.dc_log.specs.declared.pages.streaming.GroupSink.{GroupSink}
+use Rattle.dc_sectors.specs.declared.device.Disk.{Ghosts}
+use Rattle.dc_pages.specs.Streaming.{GoesInto, BreaksOff}
+use Rattle.dc_pages.proofs.Chained.{run_keeps, chain_goes_into, chain_breaks_off}
+use Rattle.dc_pages.specs.declared.streaming.GroupSink.{GroupSink}
 
 module _ {D : Type 0} (g : Ghosts D) where
   abbrev puts : GroupSink D → List ℕ → GroupSink D → Type 0

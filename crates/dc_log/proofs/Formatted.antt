@@ -2,16 +2,16 @@
 use Rattle.std.proofs.Common.{◌≡◌, inl, inr, ⊎_elim, ℕ, zero, suc, ◌<◌, ◌≤◌, ◌+◌, ◌*◌, List, replicate, arith, ap, sym, subst, ◌∙◌, refl, take}
 use Rattle.std.proofs.lemmas.Bool.{cases_eq, cases_lt}
 use Rattle.std.specs.Prelude.{slice_index}
-use Rattle.dc_disk.specs.declared.sector.Sector.{Sector}
-use Rattle.dc_disk.specs.declared.sector.Sector.TheVariants.{Bytes}
-use Rattle.dc_disk.specs.Disk.{Image}
-use Rattle.dc_disk.proofs.Texts.{one_text}
-use Rattle.dc_log.specs.declared.roots.root.Root.{Root}
-use Rattle.dc_log.specs.Root.{IsRoot, slot}
-use Rattle.dc_log.proofs.Choices.{one_generation}
-use Rattle.dc_log.specs.Group.{IsGroup, Carries, base_kind, change_kind}
-use Rattle.dc_log.proofs.OneSync.{member, one_stamp}
-use Rattle.dc_log.proofs.Agree.{same_group}
+use Rattle.dc_sectors.specs.declared.sector.Sector.{Sector}
+use Rattle.dc_sectors.specs.declared.sector.Sector.TheVariants.{Bytes}
+use Rattle.dc_sectors.specs.Disk.{Image}
+use Rattle.dc_sectors.proofs.Texts.{one_text}
+use Rattle.dc_roots.specs.declared.root.Root.{Root}
+use Rattle.dc_roots.specs.Root.{IsRoot, slot}
+use Rattle.dc_roots.proofs.Choices.{one_generation}
+use Rattle.dc_pages.specs.Group.{IsGroup, Carries, base_kind, change_kind}
+use Rattle.dc_pages.proofs.OneSync.{member, one_stamp}
+use Rattle.dc_pages.proofs.Agree.{same_group}
 use Rattle.dc_log.specs.Roots.{IsRootDone, first_root}
 use Rattle.dc_log.specs.Sites.{base_site, change_site}
 use Rattle.dc_log.specs.Writing.{IsWritten}

@@ -2,7 +2,7 @@
 use Rattle.std.proofs.Common.{⊎_elim, ◌+◌, ℕ, List, ◌++◌, length, take, ap, sym, subst, ◌∙◌, arith, length-append}
 use Rattle.std.proofs.lemmas.List.{take-append-le, take_all}
 use Rattle.std.proofs.Math.Seq.{take-append-add}
-use Rattle.dc_disk.specs.Disk.{Image, Choices, IsImage}
+use Rattle.dc_sectors.specs.Disk.{Image, Choices, IsImage}
 use Rattle.dc_log.specs.Stands.{Stands, EachStands, StandsForEither, StandsForFront}
 use Rattle.dc_kept.specs.declared.kept.Language.{Ghosts as Language}
 

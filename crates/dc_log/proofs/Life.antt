@@ -1,10 +1,10 @@
 -- What a store that keeps a state leaves, and keeps.
 use Rattle.std.proofs.Common.{◌≡◌, ◌<◌, ◌+◌, ◌^◌, ℕ, zero, suc, List, false, inl, arith, ap, sym, subst, ◌∙◌}
-use Rattle.dc_disk.specs.Disk.{Image, Choices, IsImage, settled}
-use Rattle.dc_disk.specs.Images.{settled_image}
-use Rattle.dc_disk.specs.declared.device.Disk.{Ghosts}
-use Rattle.dc_disk.specs.Runs.{IsSettled}
-use Rattle.dc_log.specs.declared.roots.root.Root.{Root}
+use Rattle.dc_sectors.specs.Disk.{Image, Choices, IsImage, settled}
+use Rattle.dc_sectors.specs.Images.{settled_image}
+use Rattle.dc_sectors.specs.declared.device.Disk.{Ghosts}
+use Rattle.dc_sectors.specs.Runs.{IsSettled}
+use Rattle.dc_roots.specs.declared.root.Root.{Root}
 use Rattle.dc_log.specs.Halves.{half_of, half_len_of, budget_of}
 use Rattle.dc_log.specs.Roots.{compacted}
 use Rattle.dc_log.specs.Sites.{change_site}

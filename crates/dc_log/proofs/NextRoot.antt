@@ -1,22 +1,22 @@
 -- What an image stands for when the next root is written, and while a base group goes into the other half.
 use Rattle.std.proofs.Common.{◌≡◌, ◌⊎◌, inl, inr, ⊎_elim, ℕ, zero, suc, ◌<◌, ◌≤◌, ◌+◌, List, arith, sym, subst, ◌≢◌, ◌-◌, refl}
 use Rattle.std.proofs.lemmas.Bool.{cases_eq, cases_lt}
-use Rattle.dc_disk.specs.declared.sector.Sector.TheVariants.{Unreadable}
-use Rattle.dc_disk.specs.Disk.{Image}
-use Rattle.dc_log.specs.declared.roots.root.Root.{Root}
-use Rattle.dc_log.specs.Group.{IsGroup, IsComplete, Carries}
-use Rattle.dc_log.specs.PagesWriting.{IsTorn, IsPartOf}
-use Rattle.dc_log.specs.Root.{IsRoot, slot}
-use Rattle.dc_log.specs.Choice.{IsChosen, IsRootWrite}
-use Rattle.dc_log.proofs.Choices.{chosen_step, slot_range}
+use Rattle.dc_sectors.specs.declared.sector.Sector.TheVariants.{Unreadable}
+use Rattle.dc_sectors.specs.Disk.{Image}
+use Rattle.dc_roots.specs.declared.root.Root.{Root}
+use Rattle.dc_pages.specs.Group.{IsGroup, IsComplete, Carries}
+use Rattle.dc_pages.specs.PagesWriting.{IsTorn, IsPartOf}
+use Rattle.dc_roots.specs.Root.{IsRoot, slot}
+use Rattle.dc_roots.specs.Choice.{IsChosen, IsRootWrite}
+use Rattle.dc_roots.proofs.Choices.{chosen_step, slot_range}
 use Rattle.dc_log.specs.Roots.{opened}
 use Rattle.dc_log.specs.Halves.{half_start, half_end}
 use Rattle.dc_log.specs.Halves.{budget_of}
 use Rattle.dc_log.specs.Sites.{base_site, change_site}
 use Rattle.dc_log.specs.Stands.{IsSequence, IsFresh, IsUnused, Holds, StandsBy, IsReady}
-use Rattle.dc_log.proofs.Agree.{same_complete}
-use Rattle.dc_log.specs.Group.{IsKnown}
-use Rattle.dc_log.proofs.OneSync.{member, page_carries, one_stamp, lost_carries_none}
+use Rattle.dc_pages.proofs.Agree.{same_complete}
+use Rattle.dc_pages.specs.Group.{IsKnown}
+use Rattle.dc_pages.proofs.OneSync.{member, page_carries, one_stamp, lost_carries_none}
 use Rattle.dc_log.proofs.Append.{half_within, place_within, same_holds, kept, torn_fresh, any_complete_carries}
 use Rattle.dc_kept.specs.declared.kept.Language.{Ghosts as Language}
 

@@ -1,16 +1,16 @@
 -- An image reads as one state.
 use Rattle.std.proofs.Common.{◌≡◌, inl, inr, ⊎_elim, ℕ, zero, suc, ◌<◌, ◌≤◌, ◌+◌, ◌-◌, List, arith, ap, sym, subst, ◌∙◌, refl}
 use Rattle.std.proofs.lemmas.Bool.{cases_lt}
-use Rattle.dc_disk.specs.Disk.{Image}
-use Rattle.dc_log.specs.declared.roots.root.Root.{Root}
-use Rattle.dc_log.specs.Group.{IsComplete, base_kind, change_kind}
-use Rattle.dc_log.proofs.Choices.{one_root}
+use Rattle.dc_sectors.specs.Disk.{Image}
+use Rattle.dc_roots.specs.declared.root.Root.{Root}
+use Rattle.dc_pages.specs.Group.{IsComplete, base_kind, change_kind}
+use Rattle.dc_roots.proofs.Choices.{one_root}
 use Rattle.dc_log.proofs.Spellings.{one_state}
 use Rattle.dc_log.specs.Halves.{budget_of}
 use Rattle.dc_log.specs.Sites.{change_site}
 use Rattle.dc_log.specs.Stands.{IsSequence, IsFresh, StandsBy, Stands, HasMore, Holds, ReadsBy, Reads}
-use Rattle.dc_log.proofs.Agree.{one_group}
-use Rattle.dc_log.proofs.OneSync.{not_commit}
+use Rattle.dc_pages.proofs.Agree.{one_group}
+use Rattle.dc_pages.proofs.OneSync.{not_commit}
 use Rattle.dc_kept.specs.declared.kept.Language.{Ghosts as Language}
 
 module _ {K : Type 0} (lang : Language K) where

@@ -1,9 +1,9 @@
 -- What opening may leave at any moment, and on Ok.
 use Rattle.std.proofs.Common.{ℕ}
-use Rattle.dc_disk.specs.Disk.{Image, Choices, IsImage}
-use Rattle.dc_disk.specs.declared.device.Disk.{Ghosts}
-use Rattle.dc_disk.specs.Runs.{LeavesOnly}
-use Rattle.dc_disk.proofs.Moments.{weakened, followed}
+use Rattle.dc_sectors.specs.Disk.{Image, Choices, IsImage}
+use Rattle.dc_sectors.specs.declared.device.Disk.{Ghosts}
+use Rattle.dc_sectors.specs.Runs.{LeavesOnly}
+use Rattle.dc_sectors.proofs.Moments.{weakened, followed}
 use Rattle.dc_log.specs.Stands.{Stands, EachStands, StandsForOne}
 use Rattle.dc_kept.specs.declared.kept.Language.{Ghosts as Language}
 

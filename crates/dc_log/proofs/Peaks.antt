@@ -1,8 +1,8 @@
 -- The greatest number that sectors carry, one sector more.
 use Rattle.std.proofs.Common.{◌≡◌, ◌⊎◌, inl, inr, ⊎_elim, ℕ, ◌<◌, ◌≤◌, ◌+◌, arith, sym, subst}
 use Rattle.std.proofs.lemmas.Bool.{cases_eq, cases_lt}
-use Rattle.dc_disk.specs.Disk.{Image}
-use Rattle.dc_disk.specs.declared.sector.Sector.{Sector}
+use Rattle.dc_sectors.specs.Disk.{Image}
+use Rattle.dc_sectors.specs.declared.sector.Sector.{Sector}
 use Rattle.dc_log.specs.Greatest.{IsPeak}
 use Rattle.dc_log.specs.declared.greatest.Peak.{Peak}
 

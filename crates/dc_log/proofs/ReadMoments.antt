@@ -1,11 +1,11 @@
 -- What calls that only read may leave at any moment: an image of the disk as it was.
 use Rattle.std.proofs.Common.{◌≡◌, ◌≤◌, ℕ, Result, Ok, Err, subst, sym, ◌∙◌, refl}
 use Rattle.std.specs.Prelude.{IfErr}
-use Rattle.dc_disk.specs.Disk.{Image, Choices, IsImage, settled}
-use Rattle.dc_disk.specs.Images.{settled_image}
-use Rattle.dc_disk.specs.declared.device.Disk.{Ghosts}
-use Rattle.dc_disk.specs.Runs.{Passes, LeavesOnly, OnlyLooked}
-use Rattle.dc_disk.proofs.Moments.{started, goes_on, followed, stopped_after}
+use Rattle.dc_sectors.specs.Disk.{Image, Choices, IsImage, settled}
+use Rattle.dc_sectors.specs.Images.{settled_image}
+use Rattle.dc_sectors.specs.declared.device.Disk.{Ghosts}
+use Rattle.dc_sectors.specs.Runs.{Passes, LeavesOnly, OnlyLooked}
+use Rattle.dc_sectors.proofs.Moments.{started, goes_on, followed, stopped_after}
 
 -- what holds of each error holds of an answer's
 pub if_err : {T E : Type 0} (P : E → Type 0) (r : Result T E) → ((fault : E) → P fault) → IfErr r P

@@ -2,16 +2,16 @@
 -- for an exhausted counter.
 use Rattle.std.proofs.Common.{◌≡◌, ◌⊎◌, inl, inr, ⊎_elim, ℕ, zero, suc, ◌<◌, ◌≤◌, ◌+◌, ◌-◌, List, None, arith, ap, sym, subst, ◌∙◌, refl}
 use Rattle.std.proofs.lemmas.Bool.{cases_lt}
-use Rattle.dc_disk.specs.Disk.{Image}
-use Rattle.dc_log.specs.declared.roots.root.Root.{Root}
-use Rattle.dc_log.specs.Root.{slot}
-use Rattle.dc_log.specs.Choice.{IsChosen, IsRootless}
-use Rattle.dc_log.proofs.Choices.{one_root}
-use Rattle.dc_log.specs.Group.{base_kind, change_kind, IsKnown, IsComplete}
-use Rattle.dc_log.proofs.Agree.{one_group}
-use Rattle.dc_log.proofs.Cut.{cut_incomplete, one_cut}
-use Rattle.dc_log.proofs.OneSync.{not_commit}
-use Rattle.dc_log.specs.Reading.{IsCutAt}
+use Rattle.dc_sectors.specs.Disk.{Image}
+use Rattle.dc_roots.specs.declared.root.Root.{Root}
+use Rattle.dc_roots.specs.Root.{slot}
+use Rattle.dc_roots.specs.Choice.{IsChosen, IsRootless}
+use Rattle.dc_roots.proofs.Choices.{one_root}
+use Rattle.dc_pages.specs.Group.{base_kind, change_kind, IsKnown, IsComplete}
+use Rattle.dc_pages.proofs.Agree.{one_group}
+use Rattle.dc_pages.proofs.Cut.{cut_incomplete, one_cut}
+use Rattle.dc_pages.proofs.OneSync.{not_commit}
+use Rattle.dc_pages.specs.Reading.{IsCutAt}
 use Rattle.dc_log.specs.declared.fault.OpenFault.{OpenFault}
 use Rattle.dc_log.specs.declared.fault.OpenFault.TheVariants.{NotImage, Damaged, Version, Worn, Device, NoMemory}
 use Rattle.dc_log.specs.Halves.{half_start, budget_of}

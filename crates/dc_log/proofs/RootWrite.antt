@@ -1,13 +1,13 @@
 -- What a write of a root to a disk that is settled may leave.
 use Rattle.std.proofs.Common.{◌≡◌, inl, inr, ⊎_elim, ℕ, List, ap, sym, subst, ◌∙◌, refl}
 use Rattle.std.specs.Prelude.{Contains}
-use Rattle.dc_disk.specs.declared.sector.Sector.{Sector}
-use Rattle.dc_disk.specs.declared.sector.Sector.TheVariants.{Bytes}
-use Rattle.dc_disk.specs.Disk.{Image, Choices, IsImage, added, settled, put}
-use Rattle.dc_disk.specs.Images.{added_elsewhere, added_cases, only_one, put_here, put_elsewhere}
-use Rattle.dc_log.specs.declared.roots.root.Root.{Root}
-use Rattle.dc_log.specs.Root.{IsRoot, slot}
-use Rattle.dc_log.specs.Choice.{IsRootWrite}
+use Rattle.dc_sectors.specs.declared.sector.Sector.{Sector}
+use Rattle.dc_sectors.specs.declared.sector.Sector.TheVariants.{Bytes}
+use Rattle.dc_sectors.specs.Disk.{Image, Choices, IsImage, added, settled, put}
+use Rattle.dc_sectors.specs.Images.{added_elsewhere, added_cases, only_one, put_here, put_elsewhere}
+use Rattle.dc_roots.specs.declared.root.Root.{Root}
+use Rattle.dc_roots.specs.Root.{IsRoot, slot}
+use Rattle.dc_roots.specs.Choice.{IsRootWrite}
 use Rattle.dc_log.specs.Roots.{IsRootDone}
 
 -- each image of the moment of the write

@@ -1,10 +1,10 @@
 -- What opening's root leaves: the state that the image stood for.
 use Rattle.std.proofs.Common.{◌≡◌, ⊎_elim, ℕ, suc, ◌+◌, arith, sym, refl}
-use Rattle.dc_disk.specs.Disk.{Image}
-use Rattle.dc_log.specs.declared.roots.root.Root.{Root}
-use Rattle.dc_log.specs.Root.{slot}
-use Rattle.dc_log.specs.Choice.{IsRootWrite}
-use Rattle.dc_log.proofs.Choices.{slot_range}
+use Rattle.dc_sectors.specs.Disk.{Image}
+use Rattle.dc_roots.specs.declared.root.Root.{Root}
+use Rattle.dc_roots.specs.Root.{slot}
+use Rattle.dc_roots.specs.Choice.{IsRootWrite}
+use Rattle.dc_roots.proofs.Choices.{slot_range}
 use Rattle.dc_log.specs.Roots.{IsRootDone, opened}
 use Rattle.dc_log.specs.Stands.{StandsBy, Stands, IsReady}
 use Rattle.dc_log.proofs.NextRoot.{root_step, root_done, open_prepared, open_unused}

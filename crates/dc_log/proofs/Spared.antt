@@ -1,9 +1,9 @@
 -- Which writes leave the sectors outside an image as they read.
 use Rattle.std.proofs.Common.{⊎_elim, ◌≡◌, ◌≢◌, ◌⊎◌, ◌<◌, ◌≤◌, ℕ, ◌+◌, ◌*◌, inl, inr, ap, ◌∙◌, arith}
-use Rattle.dc_disk.specs.Disk.{Image}
-use Rattle.dc_log.specs.declared.pages.site.Site.{Site}
-use Rattle.dc_log.specs.PagesWriting.{SameOutside}
-use Rattle.dc_log.specs.Root.{slot}
+use Rattle.dc_sectors.specs.Disk.{Image}
+use Rattle.dc_pages.specs.declared.site.Site.{Site}
+use Rattle.dc_pages.specs.PagesWriting.{SameOutside}
+use Rattle.dc_roots.specs.Root.{slot}
 use Rattle.dc_log.specs.Halves.{SparesRest}
 
 module _ (half_len : ℕ) where

@@ -1,10 +1,10 @@
 -- One step of reading an image, and why it stops.
 use Rattle.std.proofs.Common.{◌≡◌, inl, inr, ℕ, zero, suc, ◌+◌, List, arith, ap, subst}
-use Rattle.dc_disk.specs.Disk.{Image}
-use Rattle.dc_log.specs.declared.roots.root.Root.{Root}
-use Rattle.dc_log.specs.declared.pages.site.Site.{Site}
-use Rattle.dc_log.specs.Group.{IsGroup, IsComplete}
-use Rattle.dc_log.specs.Reading.{IsCutAt}
+use Rattle.dc_sectors.specs.Disk.{Image}
+use Rattle.dc_roots.specs.declared.root.Root.{Root}
+use Rattle.dc_pages.specs.declared.site.Site.{Site}
+use Rattle.dc_pages.specs.Group.{IsGroup, IsComplete}
+use Rattle.dc_pages.specs.Reading.{IsCutAt}
 use Rattle.dc_log.specs.Halves.{budget_of}
 use Rattle.dc_log.specs.Sites.{base_site, change_site}
 use Rattle.dc_log.specs.Stands.{IsSequence, IsFresh, IsFirst, IsCurrent, IsReached, IsRead, StandsBy}

@@ -3,18 +3,18 @@ use Rattle.std.proofs.Common.{◌≡◌, ◌⊎◌, inl, inr, ⊎_elim, ℕ, zer
 use Rattle.std.specs.Prelude.{Contains}
 use Rattle.std.proofs.lemmas.Bool.{cases_eq}
 use Rattle.std.proofs.lemmas.List.Elements.{Contains-append_cases, Contains-push_cases}
-use Rattle.dc_disk.specs.declared.sector.Sector.{Sector}
-use Rattle.dc_disk.specs.declared.sector.Sector.TheVariants.{Bytes, Unreadable}
-use Rattle.dc_disk.specs.Disk.{Image, Choices, added, settled}
-use Rattle.dc_disk.specs.Images.{added_here, added_elsewhere, only_one}
-use Rattle.dc_disk.specs.declared.device.Disk.{Ghosts}
-use Rattle.dc_disk.specs.Runs.{LeavesOnly, IsSettled}
-use Rattle.dc_disk.proofs.Moments.{weakened, followed}
-use Rattle.dc_log.specs.declared.roots.root.Root.{Root}
-use Rattle.dc_log.specs.Root.{IsRoot, slot, next_of}
-use Rattle.dc_log.specs.Choice.{IsRootWrite}
-use Rattle.dc_log.proofs.Choices.{slot_range}
-use Rattle.dc_log.specs.declared.pages.site.Site.{Site}
+use Rattle.dc_sectors.specs.declared.sector.Sector.{Sector}
+use Rattle.dc_sectors.specs.declared.sector.Sector.TheVariants.{Bytes, Unreadable}
+use Rattle.dc_sectors.specs.Disk.{Image, Choices, added, settled}
+use Rattle.dc_sectors.specs.Images.{added_here, added_elsewhere, only_one}
+use Rattle.dc_sectors.specs.declared.device.Disk.{Ghosts}
+use Rattle.dc_sectors.specs.Runs.{LeavesOnly, IsSettled}
+use Rattle.dc_sectors.proofs.Moments.{weakened, followed}
+use Rattle.dc_roots.specs.declared.root.Root.{Root}
+use Rattle.dc_roots.specs.Root.{IsRoot, slot, next_of}
+use Rattle.dc_roots.specs.Choice.{IsRootWrite}
+use Rattle.dc_roots.proofs.Choices.{slot_range}
+use Rattle.dc_pages.specs.declared.site.Site.{Site}
 use Rattle.dc_log.specs.Halves.{half_start, budget_of}
 use Rattle.dc_log.specs.Roots.{IsRootDone, first_root}
 use Rattle.dc_log.specs.Sites.{base_site}

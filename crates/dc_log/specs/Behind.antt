@@ -1,8 +1,8 @@
 -- Whether a sector is ahead of the state that an image reads as (this product's image format). Opening doesn't depend
 -- on it; a program looks before it opens an image.
 use Rattle.std.specs.Prelude.{◌≡◌, ◌≤◌, ℕ, suc, ◌+◌, Option, Some, None}
-use Rattle.dc_disk.specs.Disk.{Image}
-use Rattle.dc_log.specs.declared.roots.root.Root.{Root}
+use Rattle.dc_sectors.specs.Disk.{Image}
+use Rattle.dc_roots.specs.declared.root.Root.{Root}
 use Rattle.dc_log.specs.Halves.{longest_half}
 use Rattle.dc_log.specs.Stands.{IsFirst, ReadsBy, Stands}
 use Rattle.dc_kept.specs.declared.kept.Language.{Ghosts as Language}

@@ -1,8 +1,8 @@
 -- The greatest session and the greatest sequence that sectors of an image carry (this product's image format).
 use Rattle.std.specs.Prelude.{◌≡◌, ◌⊎◌, ◌<◌, ◌≤◌, ℕ, ◌+◌, ◌*◌, Option, Some, None}
-use Rattle.dc_disk.specs.Disk.{Image}
-use Rattle.dc_disk.specs.declared.sector.Sector.{Sector}
-use Rattle.dc_log.specs.Group.{Carries}
+use Rattle.dc_sectors.specs.Disk.{Image}
+use Rattle.dc_sectors.specs.declared.sector.Sector.{Sector}
+use Rattle.dc_pages.specs.Group.{Carries}
 use Rattle.dc_log.specs.Stands.{IsAhead, IsFresh}
 use Rattle.dc_log.specs.declared.greatest.Peak.{Peak}
 use Rattle.dc_log.specs.declared.greatest.Greatest.{Greatest}

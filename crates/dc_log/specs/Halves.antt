@@ -1,8 +1,8 @@
 -- The place of the two halves of an image, and the capacity of a half: this product's image format.
 use Rattle.std.specs.Prelude.{◌≡◌, ◌⊎◌, ◌<◌, ◌≤◌, ℕ, ◌+◌, ◌-◌, ◌*◌, ◌/◌, min}
-use Rattle.dc_disk.specs.declared.device.Disk.{Ghosts}
-use Rattle.dc_disk.specs.Disk.{Image}
-use Rattle.dc_log.specs.Group.{page_payload}
+use Rattle.dc_sectors.specs.declared.device.Disk.{Ghosts}
+use Rattle.dc_sectors.specs.Disk.{Image}
+use Rattle.dc_pages.specs.Group.{page_payload}
 
 -- minimum number of sectors of an image, and minimum and maximum number of sectors of a half
 abbrev pub fewest_sectors : ℕ

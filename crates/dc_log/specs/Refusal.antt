@@ -2,12 +2,12 @@
 -- roots, checks the version and the half length of the one in force, reads the base group, and then
 -- each group of changes; the first step that fails gives the fault.
 use Rattle.std.specs.Prelude.{◌≡◌, ◌≢◌, ◌⊎◌, ◌≤◌, ◌^◌, ◌-◌, ℕ, suc, ◌+◌, List, Some, None}
-use Rattle.dc_disk.specs.Disk.{Image}
-use Rattle.dc_log.specs.declared.roots.root.Root.{Root}
-use Rattle.dc_log.specs.Root.{slot}
-use Rattle.dc_log.specs.Choice.{IsChosen, IsRootless}
-use Rattle.dc_log.specs.Group.{IsKnown, IsGroup}
-use Rattle.dc_log.specs.Reading.{IsCutAt}
+use Rattle.dc_sectors.specs.Disk.{Image}
+use Rattle.dc_roots.specs.declared.root.Root.{Root}
+use Rattle.dc_roots.specs.Root.{slot}
+use Rattle.dc_roots.specs.Choice.{IsChosen, IsRootless}
+use Rattle.dc_pages.specs.Group.{IsKnown, IsGroup}
+use Rattle.dc_pages.specs.Reading.{IsCutAt}
 use Rattle.dc_log.specs.declared.fault.OpenFault.{OpenFault}
 use Rattle.dc_log.specs.declared.fault.OpenFault.TheVariants.{NotImage, Damaged, Version, Worn}
 use Rattle.dc_log.specs.declared.fault.OpenFault.TheVariants.{Device, NoMemory}

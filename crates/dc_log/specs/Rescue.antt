@@ -1,9 +1,9 @@
 -- What is rescued of a damaged image (this product): what it reads as without the sector where reading stops.
 use Rattle.std.specs.Prelude.{◌≡◌, ℕ, replicate}
-use Rattle.dc_disk.specs.Disk.{Image, put}
-use Rattle.dc_log.specs.declared.roots.root.Root.{Root}
-use Rattle.dc_log.specs.Root.{slot}
-use Rattle.dc_log.specs.Choice.{IsChosen}
+use Rattle.dc_sectors.specs.Disk.{Image, put}
+use Rattle.dc_roots.specs.declared.root.Root.{Root}
+use Rattle.dc_roots.specs.Root.{slot}
+use Rattle.dc_roots.specs.Choice.{IsChosen}
 use Rattle.dc_log.specs.declared.fault.OpenFault.{OpenFault}
 use Rattle.dc_log.specs.declared.fault.OpenFault.TheVariants.{Damaged}
 use Rattle.dc_log.specs.declared.rescuing.Source.{Source}

@@ -1,8 +1,8 @@
 -- The roots that are written, and when the next one is in force: this product's image format.
 use Rattle.std.specs.Prelude.{◌≡◌, ◌≢◌, ◌⊎◌, ℕ, ◌+◌, ◌-◌}
-use Rattle.dc_disk.specs.Disk.{Image}
-use Rattle.dc_log.specs.declared.roots.root.Root.{Root}
-use Rattle.dc_log.specs.Root.{IsRoot, slot}
+use Rattle.dc_sectors.specs.Disk.{Image}
+use Rattle.dc_roots.specs.declared.root.Root.{Root}
+use Rattle.dc_roots.specs.Root.{IsRoot, slot}
 use Rattle.dc_log.specs.Stands.{image_version}
 
 -- the image is the old one, but the slot of that root holds it

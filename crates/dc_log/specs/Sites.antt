@@ -1,8 +1,8 @@
 -- Where the groups of an image lie: this product's image format.
 use Rattle.std.specs.Prelude.{ℕ}
-use Rattle.dc_log.specs.declared.roots.root.Root.{Root}
-use Rattle.dc_log.specs.declared.pages.site.Site.{Site}
-use Rattle.dc_log.specs.Group.{base_kind, change_kind}
+use Rattle.dc_roots.specs.declared.root.Root.{Root}
+use Rattle.dc_pages.specs.declared.site.Site.{Site}
+use Rattle.dc_pages.specs.Group.{base_kind, change_kind}
 use Rattle.dc_log.specs.Halves.{half_start, half_end}
 
 -- the site of a root's base group: its half begins with it

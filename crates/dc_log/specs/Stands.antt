@@ -1,13 +1,13 @@
 -- The state that an image reads as, and stands for: this product's image format.
 use Rattle.std.specs.Prelude.{◌≡◌, ◌⊎◌, ◌<◌, ℕ, zero, suc, ◌+◌, ◌*◌, ◌^◌, ◌≤◌, List, length, take}
 use Rattle.std.specs.Prelude.{replicate, Option, Some, None}
-use Rattle.dc_disk.specs.Disk.{Image, Choices, IsImage}
-use Rattle.dc_disk.specs.declared.sector.Sector.{Sector}
-use Rattle.dc_disk.specs.declared.sector.Sector.TheVariants.{Bytes, Unreadable}
-use Rattle.dc_log.specs.declared.roots.root.Root.{Root}
-use Rattle.dc_log.specs.Choice.{HasRoot, IsChosen}
-use Rattle.dc_log.specs.declared.pages.site.Site.{Site}
-use Rattle.dc_log.specs.Group.{IsKnown, IsGroup, IsComplete, Carries}
+use Rattle.dc_sectors.specs.Disk.{Image, Choices, IsImage}
+use Rattle.dc_sectors.specs.declared.sector.Sector.{Sector}
+use Rattle.dc_sectors.specs.declared.sector.Sector.TheVariants.{Bytes, Unreadable}
+use Rattle.dc_roots.specs.declared.root.Root.{Root}
+use Rattle.dc_roots.specs.Choice.{HasRoot, IsChosen}
+use Rattle.dc_pages.specs.declared.site.Site.{Site}
+use Rattle.dc_pages.specs.Group.{IsKnown, IsGroup, IsComplete, Carries}
 use Rattle.dc_log.specs.Halves.{half_start, budget_of, longest_half}
 use Rattle.dc_log.specs.Sites.{base_site, change_site}
 use Rattle.dc_kept.specs.declared.kept.Language.{Ghosts as Language}

@@ -1,9 +1,9 @@
 -- What a store keeps beside its disk: this product.
 use Rattle.std.specs.Prelude.{◌≡◌, ◌≤◌, ◌+◌, ℕ, Bool, false}
-use Rattle.dc_disk.specs.declared.device.Disk.{Ghosts}
-use Rattle.dc_disk.specs.Runs.{IsSettled}
-use Rattle.dc_log.specs.declared.roots.root.Root.{Root}
-use Rattle.dc_log.specs.Draft.{FitsAt}
+use Rattle.dc_sectors.specs.declared.device.Disk.{Ghosts}
+use Rattle.dc_sectors.specs.Runs.{IsSettled}
+use Rattle.dc_roots.specs.declared.root.Root.{Root}
+use Rattle.dc_pages.specs.Draft.{FitsAt}
 use Rattle.dc_log.specs.Halves.{half_of, half_len_of, half_start, half_end, fewest_sectors}
 use Rattle.dc_log.specs.Stands.{image_version, IsReady}
 use Rattle.dc_kept.specs.declared.kept.Language.{Ghosts as Language}

@@ -1,9 +1,9 @@
 -- What a crash may leave while one group is written to a disk that was settled: this product's image format.
 use Rattle.std.specs.Prelude.{◌≡◌, ◌⊎◌, ◌<◌, ◌≤◌, ℕ, ◌+◌, List}
-use Rattle.dc_disk.specs.Disk.{Image}
-use Rattle.dc_log.specs.declared.pages.site.Site.{Site}
-use Rattle.dc_log.specs.Group.{IsGroup}
-use Rattle.dc_log.specs.PagesWriting.{IsTorn, IsPartOf}
+use Rattle.dc_sectors.specs.Disk.{Image}
+use Rattle.dc_pages.specs.declared.site.Site.{Site}
+use Rattle.dc_pages.specs.Group.{IsGroup}
+use Rattle.dc_pages.specs.PagesWriting.{IsTorn, IsPartOf}
 
 -- each sector of a whole group with that payload is as before, as written, or unreadable
 pub record IsTornGroup (site : Site) (session : ℕ) (payload : List ℕ)

@@ -1,15 +1,15 @@
 //! Appends a group of changes.
 
 ghost use Rattle.std.specs.Prelude.{◌<◌, ◌≤◌, ◌+◌, ◌*◌, List, ℕ, suc, length, IfOk, OnOk, IsErr};
-ghost use Rattle.dc_disk.specs.Runs.{LeavesOnly, Counts, IsSettled};
-ghost use Rattle.dc_log.specs.Draft.{FitsAt};
-ghost use Rattle.dc_log.specs.PagesWriting.{SameOutside};
+ghost use Rattle.dc_sectors.specs.Runs.{LeavesOnly, Counts, IsSettled};
+ghost use Rattle.dc_pages.specs.Draft.{FitsAt};
+ghost use Rattle.dc_pages.specs.PagesWriting.{SameOutside};
 ghost use Rattle.dc_log.specs.Stands.{IsReady, IsAppendable, StandsForEither};
 
-use crate::pages::Site;
-use crate::roots::Root;
+use dc_pages::Site;
+use dc_roots::Root;
 use crate::writing::write_group;
-use dc_disk::{Disk, Failed};
+use dc_sectors::{Disk, Failed};
 use dc_kept::Kept;
 
 /// Writes a group of changes and syncs, and returns its number of sectors.

@@ -1,7 +1,7 @@
 //! Writes the whole state into the other half.
 
 ghost use Rattle.std.specs.Prelude.{◌≡◌, ◌<◌, ◌≤◌, ◌+◌, ◌-◌, ◌*◌, ◌^◌, ℕ, zero, suc, IfOk, OnOk, IsErr};
-ghost use Rattle.dc_disk.specs.Runs.{LeavesOnly, Counts, IsSettled};
+ghost use Rattle.dc_sectors.specs.Runs.{LeavesOnly, Counts, IsSettled};
 ghost use Rattle.dc_log.specs.Halves.{half_start, half_end, budget_of, shortest_half};
 ghost use Rattle.dc_log.specs.Halves.{longest_half, SparesRest};
 ghost use Rattle.dc_log.specs.Roots.{compacted};
@@ -9,10 +9,10 @@ ghost use Rattle.dc_log.specs.Stands.{IsReady, StandsForEither};
 
 use crate::reading::VERSION;
 use crate::rooting::put_root;
-use crate::roots::Root;
+use dc_roots::Root;
 use crate::sites::base_site;
 use crate::writing::write_state;
-use dc_disk::{Disk, Failed};
+use dc_sectors::{Disk, Failed};
 use dc_kept::Kept;
 
 /// Writes a base group of this version with the state of `kept` into the other half and syncs, and

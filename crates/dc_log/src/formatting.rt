@@ -2,10 +2,10 @@
 
 ghost use Rattle.std.specs.Prelude.{◌≡◌, ◌⊎◌, ◌<◌, ◌≤◌, ◌+◌, ◌*◌, ◌^◌, ◌↔◌, ℕ, OnOk, IsErr};
 ghost use Rattle.std.specs.Prelude.{IsErrOf};
-ghost use Rattle.dc_disk.specs.Disk.{IsImage};
-ghost use Rattle.dc_disk.specs.Runs.{LeavesOnly, Counts, IsSettled};
-ghost use Rattle.dc_log.specs.declared.roots.root.Root.{Root};
-ghost use Rattle.dc_log.specs.Choice.{HasRoot};
+ghost use Rattle.dc_sectors.specs.Disk.{IsImage};
+ghost use Rattle.dc_sectors.specs.Runs.{LeavesOnly, Counts, IsSettled};
+ghost use Rattle.dc_roots.specs.declared.root.Root.{Root};
+ghost use Rattle.dc_roots.specs.Choice.{HasRoot};
 ghost use Rattle.dc_log.specs.declared.fault.FormatFault.TheVariants.{TooSmall};
 ghost use Rattle.dc_log.specs.declared.fault.FormatFault.TheVariants.{AlreadyFormatted};
 ghost use Rattle.dc_log.specs.declared.fault.FormatFault.TheVariants.{Device};
@@ -19,10 +19,10 @@ use crate::FormatFault;
 use crate::halves::{FEWEST_SECTORS, half_end, half_len_of};
 use crate::reading::VERSION;
 use crate::rooting::put_root;
-use crate::roots::{Root, RootFault, choose};
+use dc_roots::{Root, RootFault, choose};
 use crate::sites::base_site;
 use crate::writing::write_group;
-use dc_disk::{Disk, Failed};
+use dc_sectors::{Disk, Failed};
 use dc_kept::Kept;
 
 /// The session of the first groups and of the first root.

@@ -2,9 +2,9 @@
 
 ghost use Rattle.std.specs.Prelude.{◌≡◌, ◌<◌, ◌≤◌, ◌+◌, ◌*◌, ◌-◌, ◌↔◌, IfOk, IfErr, IsErr, IsErrOf};
 ghost use Rattle.std.specs.Prelude.{IsTrue, OnOk, Ok, Err, None};
-ghost use Rattle.dc_disk.specs.declared.sector.Sector.TheVariants.{Bytes};
-ghost use Rattle.dc_disk.specs.Disk.{IsImage};
-ghost use Rattle.dc_disk.specs.Runs.{OnlyLooked, LeavesOnly, Counts, IsSettled};
+ghost use Rattle.dc_sectors.specs.declared.sector.Sector.TheVariants.{Bytes};
+ghost use Rattle.dc_sectors.specs.Disk.{IsImage};
+ghost use Rattle.dc_sectors.specs.Runs.{OnlyLooked, LeavesOnly, Counts, IsSettled};
 ghost use Rattle.dc_log.specs.Behind.{IsBehindAt};
 ghost use Rattle.dc_log.specs.Halves.{fewest_sectors, half_of, longest_half};
 ghost use Rattle.dc_log.specs.Refusal.{IsUnread};
@@ -13,9 +13,9 @@ ghost use Rattle.dc_log.specs.declared.fault.OpenFault.TheVariants.{NotImage, De
 
 use crate::OpenFault;
 use crate::halves::{FEWEST_SECTORS, FIRST_SECTOR, half_end, half_len_of};
-use crate::pages::stamp_of;
+use dc_pages::stamp_of;
 use crate::reading::{Found, read_image};
-use dc_disk::{Disk, Failed, ReadFault};
+use dc_sectors::{Disk, Failed, ReadFault};
 use dc_kept::Kept;
 
 /// Whether bytes are those of a sector that is ahead of a session and of the sequence after the last one.

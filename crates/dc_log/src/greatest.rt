@@ -1,15 +1,15 @@
 //! The greatest session and the greatest sequence of an image's sectors.
 
 ghost use Rattle.std.specs.Prelude.{◌≡◌, ◌<◌, ◌≤◌, ◌+◌, ◌*◌, ℕ, IfOk, IsErr};
-ghost use Rattle.dc_disk.specs.Disk.{Image};
-ghost use Rattle.dc_disk.specs.Runs.{OnlyLooked, Counts};
+ghost use Rattle.dc_sectors.specs.Disk.{Image};
+ghost use Rattle.dc_sectors.specs.Runs.{OnlyLooked, Counts};
 ghost use Rattle.dc_log.specs.Greatest.{IsGreatest, IsGreatestBefore, IsOneAhead};
 ghost use Rattle.dc_log.specs.Halves.{longest_half};
-ghost use Rattle.dc_log.specs.Stamp.{IsStampOf};
+ghost use Rattle.dc_pages.specs.Stamp.{IsStampOf};
 
 use crate::halves::{FIRST_SECTOR, half_end};
-use crate::pages::{Stamp, stamp_of};
-use dc_disk::{Disk, Failed, ReadFault};
+use dc_pages::{Stamp, stamp_of};
+use dc_sectors::{Disk, Failed, ReadFault};
 
 /// The greatest of some numbers that sectors carry, and a sector that carries it; 0 where no sector carries one.
 #[derive(Clone, Copy)]

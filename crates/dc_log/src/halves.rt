@@ -4,7 +4,7 @@ ghost use Rattle.std.specs.Prelude.{◌≡◌, ◌<◌, ◌≤◌, ◌^◌, ◌+
 ghost use Rattle.dc_log.specs.Halves.{half_len_of, half_start, half_end, budget_of};
 ghost use Rattle.dc_log.specs.Halves.{shortest_half, longest_half, fewest_sectors};
 
-use crate::pages::PAYLOAD;
+use dc_pages::PAYLOAD;
 
 /// Minimum number of sectors of an image: halves of 64.
 pub const FEWEST_SECTORS: u32 = 131;

@@ -2,24 +2,24 @@
 
 ghost use Rattle.std.specs.Prelude.{◌≡◌, ◌≢◌, ◌⊎◌, ◌<◌, ◌≤◌, ◌+◌, ◌-◌, ◌*◌, ◌^◌, ◌↔◌, ℕ, IsTrue};
 ghost use Rattle.std.specs.Prelude.{IfOk, IfErr, OnOk, IsErrOf};
-ghost use Rattle.dc_disk.specs.Disk.{IsImage};
-ghost use Rattle.dc_disk.specs.Runs.{LeavesOnly, Counts, IsSettled};
+ghost use Rattle.dc_sectors.specs.Disk.{IsImage};
+ghost use Rattle.dc_sectors.specs.Runs.{LeavesOnly, Counts, IsSettled};
 ghost use Rattle.dc_log.specs.declared.fault.OpenFault.TheVariants.{Device};
 ghost use Rattle.dc_log.specs.Halves.{half_start, half_end, budget_of, shortest_half};
 ghost use Rattle.dc_log.specs.Halves.{longest_half, SparesRest};
 ghost use Rattle.dc_log.specs.Roots.{opened, IsOpenedRoot};
 ghost use Rattle.dc_log.specs.Stands.{image_version, IsRead, IsReady, IsBegun, StandsBy};
 ghost use Rattle.dc_log.specs.Stands.{Stands, ReadsBy, Reads, EachStands, StandsForOne};
-ghost use Rattle.dc_log.specs.declared.roots.root.Root.{Root};
-ghost use Rattle.dc_log.specs.Root.{slot};
+ghost use Rattle.dc_roots.specs.declared.root.Root.{Root};
+ghost use Rattle.dc_roots.specs.Root.{slot};
 ghost use Rattle.dc_log.specs.Refusal.{IsRefused, IsSpent, IsWorn};
 
 use crate::OpenFault;
 use crate::compacting::compact_into_other_half;
 use crate::reading::{Found, VERSION, read_chain};
 use crate::rooting::put_root;
-use crate::roots::Root;
-use dc_disk::{Disk, Failed};
+use dc_roots::Root;
+use dc_sectors::{Disk, Failed};
 use dc_kept::Kept;
 
 /// Begins a session: writes the next root, which differs only in generation and session.

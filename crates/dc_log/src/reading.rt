@@ -2,24 +2,24 @@
 
 ghost use Rattle.std.specs.Prelude.{true, false, ◌≡◌, ◌≢◌, ◌⊎◌, ◌<◌, ◌≤◌, ◌+◌, ◌-◌, ◌*◌, ◌^◌, List};
 ghost use Rattle.std.specs.Prelude.{ℕ, zero, suc, IfOk, IfErr, OnOk, OnErr, IsErrOf};
-ghost use Rattle.dc_disk.specs.Runs.{OnlyLooked, Counts};
-ghost use Rattle.dc_log.specs.declared.roots.root.Root.{Root};
+ghost use Rattle.dc_sectors.specs.Runs.{OnlyLooked, Counts};
+ghost use Rattle.dc_roots.specs.declared.root.Root.{Root};
 ghost use Rattle.dc_log.specs.declared.fault.OpenFault.{OpenFault};
 ghost use Rattle.dc_log.specs.declared.fault.OpenFault.TheVariants.{Device};
 ghost use Rattle.dc_log.specs.Halves.{half_start, half_end, budget_of, longest_half};
 ghost use Rattle.dc_log.specs.Stands.{IsSequence, IsCurrent, IsReached, IsRead, Holds};
 ghost use Rattle.dc_log.specs.Stands.{ReadsBy, Reads, IsFirstAhead};
-ghost use Rattle.dc_log.specs.Group.{IsKnown, IsComplete};
+ghost use Rattle.dc_pages.specs.Group.{IsKnown, IsComplete};
 ghost use Rattle.dc_log.specs.Sites.{change_site};
 ghost use Rattle.dc_log.specs.Refusal.{IsUnread};
 
 use crate::OpenFault;
 use crate::freshness::first_ahead_of;
 use crate::halves::budget_of;
-use crate::pages::{GroupFault, read_group};
-use crate::roots::{Root, RootFault, choose};
+use dc_pages::{GroupFault, read_group};
+use dc_roots::{Root, RootFault, choose};
 use crate::sites::{base_site, change_site};
-use dc_disk::{Disk, Failed};
+use dc_sectors::{Disk, Failed};
 use dc_kept::{DecodeFault, Kept};
 
 /// The version of the sectors that are written.

@@ -2,8 +2,8 @@
 
 ghost use Rattle.std.specs.Prelude.{◌≡◌, ◌≢◌, ◌⊎◌, ◌<◌, ◌≤◌, ◌+◌, ◌*◌, true, false, Err};
 ghost use Rattle.std.specs.Prelude.{IfOk, IfErr, IsErrOf};
-ghost use Rattle.dc_disk.specs.Disk.{Image, IsImage};
-ghost use Rattle.dc_disk.specs.Runs.{Counts, IsSettled};
+ghost use Rattle.dc_sectors.specs.Disk.{Image, IsImage};
+ghost use Rattle.dc_sectors.specs.Runs.{Counts, IsSettled};
 ghost use Rattle.dc_log.specs.declared.fault.OpenFault.TheVariants.{NotImage, Damaged, Device, NoMemory};
 ghost use Rattle.dc_log.specs.Greatest.{IsGreatest};
 ghost use Rattle.dc_log.specs.Halves.{budget_of, fewest_sectors, half_of, longest_half};
@@ -14,9 +14,9 @@ ghost use Rattle.dc_log.specs.Stands.{IsRead, Stands};
 use crate::greatest::{Greatest, greatest_of};
 use crate::halves::{FEWEST_SECTORS, FIRST_SECTOR, half_len_of};
 use crate::reading::{Found, read_chain};
-use crate::roots::{RootFault, choose};
+use dc_roots::{RootFault, choose};
 use crate::{FormatFault, OpenFault, Store, StoreFault};
-use dc_disk::{Disk, Failed};
+use dc_sectors::{Disk, Failed};
 use dc_kept::Kept;
 
 /// The part of an image that a rescued state is read from.

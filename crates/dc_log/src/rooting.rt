@@ -2,13 +2,13 @@
 
 ghost use Rattle.std.specs.Prelude.{◌≡◌, ◌≢◌, ◌<◌, ◌≤◌, ◌-◌, ◌^◌, ◌↔◌, ℕ, Option, IfOk, OnOk};
 ghost use Rattle.std.specs.Prelude.{IsErrOf};
-ghost use Rattle.dc_disk.specs.Runs.{LeavesOnly, Counts, IsSettled};
-ghost use Rattle.dc_log.specs.Root.{next_of, slot};
-ghost use Rattle.dc_log.specs.Choice.{IsRootWrite};
+ghost use Rattle.dc_sectors.specs.Runs.{LeavesOnly, Counts, IsSettled};
+ghost use Rattle.dc_roots.specs.Root.{next_of, slot};
+ghost use Rattle.dc_roots.specs.Choice.{IsRootWrite};
 ghost use Rattle.dc_log.specs.Roots.{IsRootDone};
 
-use crate::roots::{Root, RootFault, write_next};
-use dc_disk::{Disk, Failed};
+use dc_roots::{Root, RootFault, write_next};
+use dc_sectors::{Disk, Failed};
 
 /// Writes that root with its generation + 1 into the other slot, and syncs. Until then the old root
 /// or the next one is in force.

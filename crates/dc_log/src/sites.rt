@@ -5,8 +5,8 @@ ghost use Rattle.dc_log.specs.Halves.{longest_half};
 ghost use Rattle.dc_log.specs.Sites.{base_site, change_site};
 
 use crate::halves::{half_end, half_start};
-use crate::pages::{BASE, CHANGES, Site};
-use crate::roots::Root;
+use dc_pages::{BASE, CHANGES, Site};
+use dc_roots::Root;
 
 /// The site of a root's base group: its half begins with it.
 pub(crate) fn base_site(half_len: u32, root: &Root) -> Site

@@ -1,14 +1,14 @@
 //! Writes a group, without the sync that makes it durable.
 
 ghost use Rattle.std.specs.Prelude.{◌≡◌, ◌<◌, ◌≤◌, ◌+◌, ◌*◌, length, IfOk, OnOk, OnErr, IsErr};
-ghost use Rattle.dc_disk.specs.Runs.{LeavesOnly, Counts, IsSettled};
-ghost use Rattle.dc_log.specs.Draft.{FitsAt};
-ghost use Rattle.dc_log.specs.PagesWriting.{SameOutside};
-ghost use Rattle.dc_log.specs.Streaming.{GoesInto, BreaksOff};
+ghost use Rattle.dc_sectors.specs.Runs.{LeavesOnly, Counts, IsSettled};
+ghost use Rattle.dc_pages.specs.Draft.{FitsAt};
+ghost use Rattle.dc_pages.specs.PagesWriting.{SameOutside};
+ghost use Rattle.dc_pages.specs.Streaming.{GoesInto, BreaksOff};
 ghost use Rattle.dc_log.specs.Writing.{IsAttempt, IsWritten};
 
-use crate::pages::{GroupSink, GroupWriter, Site};
-use dc_disk::{Disk, Failed};
+use dc_pages::{GroupSink, GroupWriter, Site};
+use dc_sectors::{Disk, Failed};
 use dc_io::IoFault;
 use dc_kept::Kept;
 

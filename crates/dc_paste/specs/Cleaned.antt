@@ -2,9 +2,9 @@
 use Rattle.std.specs.Prelude.{ℕ, if◌then◌else◌, Bool, true, false, List, [], ◌∷◌, ◌++◌, codes, flat_map}
 use Rattle.dc_io.specs.Hex.{upper_hex}
 use Rattle.dc_io.specs.Lines.{lines_of}
-use Rattle.dc_frame.specs.declared.needs.Need.{Need}
-use Rattle.dc_frame.specs.declared.needs.Need.TheVariants.{More, Whole, Bad}
-use Rattle.dc_frame.specs.Need.{need_of}
+use Rattle.dc_linkframe.specs.declared.needs.Need.{Need}
+use Rattle.dc_linkframe.specs.declared.needs.Need.TheVariants.{More, Whole, Bad}
+use Rattle.dc_linkframe.specs.Need.{need_of}
 use Rattle.dc_decode.specs.Frames.{frames_of}
 use Rattle.dc_paste.specs.Line.{begins_anew, line_bytes}
 

@@ -9,7 +9,7 @@ ghost use Rattle.dc_paste.specs.Cleaned.{still_left, whole_lines, with_left};
 
 use crate::line::{begins_anew, line_bytes};
 use dc_decode::first_frame;
-use dc_frame::{Need, need};
+use dc_linkframe::{Need, need};
 use dc_io::{Bytes, IoFault, NoMemory, Sink, first_line, put_hex, room};
 use std::alloc::Allocator;
 

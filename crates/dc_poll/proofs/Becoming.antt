@@ -3,11 +3,11 @@ use Rattle.std.proofs.Common.{◌≡◌, ◌⊎◌, inl, inr, ℕ, zero, suc, �
 use Rattle.std.proofs.lemmas.Bool.{ltb-true, ltb-false}
 use Rattle.std.specs.Prelude.{IfSome, IfNone, IfErr, OnOk, nat_lt, slice_get}
 use Rattle.dc_address.specs.declared.identity.Identity.{Identity}
-use Rattle.dc_concentrator.specs.Event.{starts, asks, hears, started, asked, heard}
-use Rattle.dc_concentrator.specs.declared.fault.HearFault.{HearFault}
-use Rattle.dc_concentrator.specs.declared.fault.StartFault.{StartFault}
-use Rattle.dc_concentrator.specs.declared.line_heard.LineHeard.{LineHeard}
-use Rattle.dc_concentrator.specs.declared.line_heard.LineHeard.TheVariants.{Again, Ready, Accepted, Failed as HasFailed}
+use Rattle.dc_core.specs.Event.{starts, asks, hears, started, asked, heard}
+use Rattle.dc_core.specs.declared.fault.HearFault.{HearFault}
+use Rattle.dc_core.specs.declared.fault.StartFault.{StartFault}
+use Rattle.dc_core.specs.declared.line_heard.LineHeard.{LineHeard}
+use Rattle.dc_core.specs.declared.line_heard.LineHeard.TheVariants.{Again, Ready, Accepted, Failed as HasFailed}
 use Rattle.dc_bus.specs.Halves.{most_waits}
 use Rattle.dc_poll.specs.Bus.{Bus}
 use Rattle.dc_readout.specs.declared.why.Why.{Why}

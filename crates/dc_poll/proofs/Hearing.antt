@@ -2,11 +2,11 @@
 use Rattle.std.proofs.Common.{◌≡◌, ℕ, ◌+◌, ◌<◌, inl, inr, Bool, List, [], ◌∷◌, ◌++◌, Result, Ok, Err, length, set, get_or, refl, sym, subst}
 use Rattle.std.specs.List.{All}
 use Rattle.std.proofs.lemmas.List.Elements.{All-nil, All-cons, All-append}
-use Rattle.dc_concentrator.specs.Event.{commits, committed, hears, heard}
-use Rattle.dc_concentrator.specs.Transcript.{Turn}
-use Rattle.dc_concentrator.specs.declared.fault.HearFault.{HearFault}
-use Rattle.dc_concentrator.specs.declared.line_heard.LineHeard.{LineHeard}
-use Rattle.dc_concentrator.specs.declared.line_heard.LineHeard.TheVariants.{Again, Ready, Accepted, Failed}
+use Rattle.dc_core.specs.Event.{commits, committed, hears, heard}
+use Rattle.dc_core.specs.Transcript.{Turn}
+use Rattle.dc_core.specs.declared.fault.HearFault.{HearFault}
+use Rattle.dc_core.specs.declared.line_heard.LineHeard.{LineHeard}
+use Rattle.dc_core.specs.declared.line_heard.LineHeard.TheVariants.{Again, Ready, Accepted, Failed}
 use Rattle.dc_poll.specs.Bus.{Bus}
 use Rattle.dc_poll.specs.Happening.{Happening, does, happened_turns}
 use Rattle.dc_poll.specs.Keeping.{AllFindRoom, AreHeard, IsHearing, is_accepted, most_pending, waiting_after}

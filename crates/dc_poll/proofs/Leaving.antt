@@ -2,10 +2,10 @@
 use Rattle.std.proofs.Common.{◌≡◌, ℕ, Bool, List, [], ◌∷◌, ◌++◌, None, Some, refl, sym, subst}
 use Rattle.std.specs.List.{All}
 use Rattle.std.proofs.lemmas.List.Elements.{All-head, All-tail}
-use Rattle.dc_concentrator.specs.Core.{Core}
-use Rattle.dc_concentrator.specs.Event.{Event, Answer, starts, asks, hears, commits, offices, started, asked, heard, committed, replied}
-use Rattle.dc_concentrator.specs.Step.{next}
-use Rattle.dc_concentrator.specs.Transcript.{Turn}
+use Rattle.dc_core.specs.Core.{Core}
+use Rattle.dc_core.specs.Event.{Event, Answer, starts, asks, hears, commits, offices, started, asked, heard, committed, replied}
+use Rattle.dc_core.specs.Step.{next}
+use Rattle.dc_core.specs.Transcript.{Turn}
 use Rattle.dc_poll.specs.declared.event.Event.{Event as Told}
 use Rattle.dc_poll.specs.Happening.{Happening, does, tells, happened_turns}
 use Rattle.dc_poll.specs.Keeping.{AreTrue, InRounds, IsAsking, IsAskingBy, IsCommit, IsHearing, IsHearingBy, IsRound, IsSettled, Store, all_kept, at_first, and_round, behind_answer, some_wait, store_behind}

@@ -3,18 +3,18 @@ use Rattle.std.proofs.Common.{◌≡◌, ◌⊎◌, ⊎_elim, sym, ℕ, Bool, tr
 use Rattle.std.specs.Prelude.{is_some}
 use Rattle.dc_change.specs.declared.change.Change.{Change}
 use Rattle.dc_readout.specs.Summary.{Summary, Verdict, again, ready, new, failed, asked_by, verdict_by}
-use Rattle.dc_record.specs.Body.{continues}
-use Rattle.dc_concentrator.specs.Lines.{is_line}
-use Rattle.dc_concentrator.specs.Taking.{change_of, refuses}
-use Rattle.dc_concentrator.specs.declared.pending.fault.TakeFault.{TakeFault}
-use Rattle.dc_concentrator.specs.Core.{Core, session_of, present}
-use Rattle.dc_concentrator.specs.Event.{Event, Answer, Reply, starts, asks, hears, commits, offices, started, asked, heard, committed, replied, unread, unstored, repeated, refused, shown, out_of_memory, obeyed, uncommitted}
-use Rattle.dc_concentrator.specs.Step.{May, MayHear, next, unless_refused, verdict_answer, answer_on, hear_answer, and_pending, heard_on, after_hear, settled_core, after_reply}
-use Rattle.dc_concentrator.specs.Transcript.{Turn, leads, IsChain}
-use Rattle.dc_concentrator.specs.declared.fault.HearFault.{HearFault}
-use Rattle.dc_concentrator.specs.declared.fault.HearFault.TheVariants.{NoLine, Idle, Stopped}
-use Rattle.dc_concentrator.specs.declared.line_heard.LineHeard.{LineHeard}
-use Rattle.dc_concentrator.specs.declared.line_heard.LineHeard.TheVariants.{Again, Ready, Accepted, Failed}
+use Rattle.dc_records.specs.Body.{continues}
+use Rattle.dc_core.specs.Lines.{is_line}
+use Rattle.dc_core.specs.Taking.{change_of, refuses}
+use Rattle.dc_core.specs.declared.pending.fault.TakeFault.{TakeFault}
+use Rattle.dc_core.specs.Core.{Core, session_of, present}
+use Rattle.dc_core.specs.Event.{Event, Answer, Reply, starts, asks, hears, commits, offices, started, asked, heard, committed, replied, unread, unstored, repeated, refused, shown, out_of_memory, obeyed, uncommitted}
+use Rattle.dc_core.specs.Step.{May, MayHear, next, unless_refused, verdict_answer, answer_on, hear_answer, and_pending, heard_on, after_hear, settled_core, after_reply}
+use Rattle.dc_core.specs.Transcript.{Turn, leads, IsChain}
+use Rattle.dc_core.specs.declared.fault.HearFault.{HearFault}
+use Rattle.dc_core.specs.declared.fault.HearFault.TheVariants.{NoLine, Idle, Stopped}
+use Rattle.dc_core.specs.declared.line_heard.LineHeard.{LineHeard}
+use Rattle.dc_core.specs.declared.line_heard.LineHeard.TheVariants.{Again, Ready, Accepted, Failed}
 use Rattle.dc_poll.specs.Keeping.{Store, all_kept, behind_answer, is_accepted, some_wait, store_behind}
 
 -- ---- an answer that isn't accepted adds nothing

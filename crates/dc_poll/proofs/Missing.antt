@@ -1,8 +1,8 @@
 -- What the tries of a line's readout brought, by what happens.
 use Rattle.std.proofs.Common.{◌≡◌, ℕ, Bool, true, false, List, [], ◌∷◌, ◌++◌, Ok, take, refl, ap, sym, subst, ◌∙◌, append-nil, append_assoc, if◌then◌else◌, arith}
 use Rattle.dc_address.specs.declared.identity.Identity.{Identity}
-use Rattle.dc_concentrator.specs.Event.{Event, Answer, starts, asks, hears, commits, offices, started, asked, heard, committed, replied}
-use Rattle.dc_concentrator.specs.Transcript.{Turn}
+use Rattle.dc_core.specs.Event.{Event, Answer, starts, asks, hears, commits, offices, started, asked, heard, committed, replied}
+use Rattle.dc_core.specs.Transcript.{Turn}
 use Rattle.dc_readout.specs.Misses.{and_missed, misses_of}
 use Rattle.dc_readout.specs.declared.misses.misses.Misses.{Misses}
 use Rattle.dc_readout.proofs.Counting.{are_counted}

@@ -7,7 +7,7 @@ use Rattle.dc_address.specs.Text.{text_of}
 use Rattle.dc_address.specs.declared.identity.Identity.{Identity}
 use Rattle.dc_readout.specs.declared.why.Why.{Why}
 use Rattle.dc_readout.specs.declared.why.Why.TheVariants.{NoAnswer, WrongFrame, WrongAddress, ApplicationError, Content, Stranger, TooManyParts}
-use Rattle.dc_record.specs.declared.fault.BodyFault.{BodyFault}
+use Rattle.dc_records.specs.declared.fault.BodyFault.{BodyFault}
 use Rattle.dc_tokens.specs.Object.{Field, fields_tokens, object_of as object_with}
 use Rattle.dc_tokens.proofs.Objects.{fields-append, members_are}
 use Rattle.dc_poll.specs.Object.{body_fields, event_field, fault_fields, meter_field, text_field}

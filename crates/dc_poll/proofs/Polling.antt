@@ -2,11 +2,11 @@
 use Rattle.std.proofs.Common.{◌≡◌, ℕ, ◌+◌, ◌-◌, inl, inr, Bool, List, [], ◌∷◌, ◌++◌, Option, None, Some, Result, Ok, Err, length, refl, ap, sym, subst, ◌∙◌, arith, append-nil, append_assoc}
 use Rattle.std.specs.List.{All}
 use Rattle.std.specs.Prelude.{◌^◌, IfOk, OnOk, min}
-use Rattle.dc_concentrator.specs.Core.{Core}
-use Rattle.dc_concentrator.specs.Event.{commits, committed}
-use Rattle.dc_concentrator.specs.declared.fault.CommitFault.{CommitFault}
-use Rattle.dc_concentrator.specs.Step.{next}
-use Rattle.dc_concentrator.specs.Transcript.{Turn, leads}
+use Rattle.dc_core.specs.Core.{Core}
+use Rattle.dc_core.specs.Event.{commits, committed}
+use Rattle.dc_core.specs.declared.fault.CommitFault.{CommitFault}
+use Rattle.dc_core.specs.Step.{next}
+use Rattle.dc_core.specs.Transcript.{Turn, leads}
 use Rattle.dc_poll.specs.Telling.{TakesAll}
 use Rattle.dc_poll.proofs.Taking.{takes_both, takes_none}
 use Rattle.dc_poll.specs.declared.event.Event.{Event as Told}

@@ -4,8 +4,8 @@ use Rattle.std.specs.List.{All}
 use Rattle.std.proofs.lemmas.Bool.{eq-eqb, ne_eqb}
 use Rattle.std.proofs.lemmas.List.Elements.{All-nil, All-cons, All-append}
 use Rattle.dc_address.specs.declared.identity.Identity.{Identity}
-use Rattle.dc_concentrator.specs.Event.{Event, Answer}
-use Rattle.dc_concentrator.specs.Transcript.{Turn}
+use Rattle.dc_core.specs.Event.{Event, Answer}
+use Rattle.dc_core.specs.Transcript.{Turn}
 use Rattle.dc_poll.specs.Bus.{Bus}
 use Rattle.dc_poll.specs.declared.event.Event.{Event as Told}
 use Rattle.dc_poll.specs.Happening.{Happening, does, tells, is_on, kept_on, happened_on, happened_turns}

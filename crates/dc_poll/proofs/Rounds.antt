@@ -3,7 +3,7 @@ use Rattle.std.proofs.Common.{◌≡◌, ◌≢◌, ℕ, zero, suc, ◌+◌, ◌
 use Rattle.std.specs.List.{All}
 use Rattle.std.proofs.lemmas.Bool.{cases_eq}
 use Rattle.std.proofs.lemmas.List.Elements.{All-nil, All-append}
-use Rattle.dc_concentrator.specs.Transcript.{Turn}
+use Rattle.dc_core.specs.Transcript.{Turn}
 use Rattle.dc_poll.specs.Bus.{Bus}
 use Rattle.dc_poll.specs.Happening.{Happening, happened_on, happened_turns}
 use Rattle.dc_poll.specs.Round.{LineGoes, Moves, Steps, Rounds, AllSteps, EachFewer, IsCommitTurn}

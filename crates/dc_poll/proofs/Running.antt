@@ -1,15 +1,15 @@
 -- Turns that were run, one after the other, and what is said of them.
 use Rattle.std.proofs.Common.{◌≡◌, ℕ, List, [], ◌∷◌, ◌++◌, ap, sym, subst}
-use Rattle.dc_disk.specs.Disk.{Image, IsImage}
-use Rattle.dc_disk.specs.declared.device.Disk.{Ghosts}
+use Rattle.dc_sectors.specs.Disk.{Image, IsImage}
+use Rattle.dc_sectors.specs.declared.device.Disk.{Ghosts}
 use Rattle.dc_change.specs.State.{State}
-use Rattle.dc_concentrator.specs.Core.{Core, opened, present}
-use Rattle.dc_concentrator.specs.Event.{Event, Answer}
-use Rattle.dc_concentrator.specs.Images.{Machine, IsAt}
-use Rattle.dc_concentrator.specs.Transcript.{Turn, leads, IsChain}
-use Rattle.dc_concentrator.proofs.Going.{leads_append}
-use Rattle.dc_concentrator.specs.Went.{Went, TurnWent}
-use Rattle.dc_concentrator.proofs.Wents.{went_chain, went_at, went_none, went_both}
+use Rattle.dc_core.specs.Core.{Core, opened, present}
+use Rattle.dc_core.specs.Event.{Event, Answer}
+use Rattle.dc_core.specs.Images.{Machine, IsAt}
+use Rattle.dc_core.specs.Transcript.{Turn, leads, IsChain}
+use Rattle.dc_core.proofs.Going.{leads_append}
+use Rattle.dc_core.specs.Went.{Went, TurnWent}
+use Rattle.dc_core.proofs.Wents.{went_chain, went_at, went_none, went_both}
 use Rattle.dc_poll.specs.Happening.{Happening, does, happened_turns}
 use Rattle.dc_poll.specs.Round.{Happens, Runs}
 use Rattle.dc_poll.proofs.Happenings.{turns_append}

@@ -2,8 +2,8 @@
 use Rattle.std.proofs.Common.{◌≡◌, ◌≢◌, ℕ, ◌+◌, ◌≤◌, Bool, true, false, List, [], ◌∷◌, ◌++◌, Result, Ok, Err, length, take, drop, refl, ap, sym, subst, ◌∙◌, arith}
 use Rattle.std.specs.Prelude.{OnErr, OnOk}
 use Rattle.dc_change.specs.State.{State}
-use Rattle.dc_concentrator.specs.Core.{Core, present}
-use Rattle.dc_concentrator.specs.Transcript.{Turn, leads}
+use Rattle.dc_core.specs.Core.{Core, present}
+use Rattle.dc_core.specs.Transcript.{Turn, leads}
 use Rattle.dc_poll.specs.Telling.{TakesAll}
 use Rattle.dc_poll.specs.Bus.{Bus}
 use Rattle.dc_poll.specs.Happening.{Happening, does, tells, happened_events, happened_turns, reads_in, failures_in}

@@ -1,7 +1,7 @@
 -- Where a readout ends, what was accepted is committed (this product).
 use Rattle.std.specs.Prelude.{ℕ, Bool, None, List, ◌∷◌, ◌++◌}
-use Rattle.dc_concentrator.specs.Event.{asks, asked}
-use Rattle.dc_concentrator.specs.Transcript.{Turn}
+use Rattle.dc_core.specs.Event.{asks, asked}
+use Rattle.dc_core.specs.Transcript.{Turn}
 use Rattle.dc_poll.specs.Keeping.{InRounds, IsSettled, some_wait, store_behind}
 
 -- In rounds, once a line has no request any more, all is committed, unless a commit answered a fault.

@@ -1,10 +1,10 @@
 -- What an answer says that the register doesn't take (this product; the frames of EN 13757-2, the bodies of EN 13757-3).
 use Rattle.std.specs.Prelude.{ℕ, ◌==◌, ◌&&◌, if◌then◌else◌, List, Option, None, Some, is_ok}
-use Rattle.dc_frame.specs.Control.{variable_data}
-use Rattle.dc_frame.specs.Frame.{FrameSeen, ack, short, long}
-use Rattle.dc_frame.specs.Reading.{frame_of}
+use Rattle.dc_linkframe.specs.Control.{variable_data}
+use Rattle.dc_linkframe.specs.Frame.{FrameSeen, ack, short, long}
+use Rattle.dc_linkframe.specs.Reading.{frame_of}
 use Rattle.dc_reading.specs.Content.{Content, content_of}
-use Rattle.dc_record.specs.Telegram.{telegram_at}
+use Rattle.dc_records.specs.Telegram.{telegram_at}
 
 -- a telegram of variable data with a long header is taken
 unfoldable pub untaken_body : ℕ → List ℕ → Option Content

@@ -5,7 +5,7 @@ use Rattle.std.specs.Prelude.{flat_map, slice_index_or, if◌then◌else◌, Opt
 use Rattle.dc_address.specs.Text.{text_of}
 use Rattle.dc_address.specs.declared.identity.Identity.{Identity}
 use Rattle.dc_change.specs.State.{State, MeterRow}
-use Rattle.dc_concentrator.specs.declared.fault.StartFault.{StartFault}
+use Rattle.dc_core.specs.declared.fault.StartFault.{StartFault}
 use Rattle.dc_io.specs.Words.{number_word}
 use Rattle.dc_poll.specs.Planned.{asked_for, is_queued, queue_on, refusal_of}
 use Rattle.dc_poll.specs.Queue.{most_asks}

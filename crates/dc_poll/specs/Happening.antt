@@ -3,9 +3,9 @@ use Rattle.std.specs.Prelude.{ℕ, ◌+◌, ◌-◌, Bool, false, ◌==◌, true
 use Rattle.std.specs.Prelude.{flat_map, length, slice_get, if◌then◌else◌, Option, None, Some}
 use Rattle.dc_address.specs.declared.identity.Identity.{Identity}
 use Rattle.dc_change.specs.State.{State, ReadingRow, PartRow}
-use Rattle.dc_concentrator.specs.Event.{Event, starts, asks, hears, commits, offices}
-use Rattle.dc_concentrator.specs.Transcript.{Turn}
-use Rattle.dc_register.specs.Orders.{reading_of, serials_of}
+use Rattle.dc_core.specs.Event.{Event, starts, asks, hears, commits, offices}
+use Rattle.dc_core.specs.Transcript.{Turn}
+use Rattle.dc_meters.specs.Orders.{reading_of, serials_of}
 use Rattle.dc_poll.specs.declared.event.Event.{Event as Told}
 use Rattle.dc_poll.specs.declared.event.Event.TheVariants.{Read as was_read, Failed as has_failed}
 use Rattle.dc_poll.specs.declared.event.Event.TheVariants.{Refused as was_refused, Lost as is_lost}

@@ -2,10 +2,10 @@
 use Rattle.std.specs.Prelude.{◌≡◌, ℕ, ◌-◌, ◌^◌, min, Bool, List, [], take}
 use Rattle.dc_address.specs.declared.identity.Identity.{Identity}
 use Rattle.dc_change.specs.State.{State}
-use Rattle.dc_concentrator.specs.Core.{Core, present}
-use Rattle.dc_concentrator.specs.Images.{Machine}
-use Rattle.dc_concentrator.specs.OpenedOn.{IsOpenedOn}
-use Rattle.dc_disk.specs.declared.device.Disk.{Ghosts}
+use Rattle.dc_core.specs.Core.{Core, present}
+use Rattle.dc_core.specs.Images.{Machine}
+use Rattle.dc_core.specs.OpenedOn.{IsOpenedOn}
+use Rattle.dc_sectors.specs.declared.device.Disk.{Ghosts}
 use Rattle.dc_poll.specs.Bus.{Bus}
 use Rattle.dc_poll.specs.Clock.{ComparesClock}
 use Rattle.dc_poll.specs.Happening.{Happening}

@@ -4,15 +4,15 @@ use Rattle.std.specs.Prelude.{Ok}
 use Rattle.std.specs.Prelude.{Err}
 use Rattle.std.specs.List.{All}
 use Rattle.dc_change.specs.State.{State}
-use Rattle.dc_concentrator.specs.Core.{Core, present, session_of}
-use Rattle.dc_concentrator.specs.Event.{Event, Answer, starts, asks, hears, commits, started, asked, heard}
-use Rattle.dc_concentrator.specs.Event.{committed, replied, unread, unstored, uncommitted}
-use Rattle.dc_concentrator.specs.Step.{next}
-use Rattle.dc_concentrator.specs.Transcript.{Turn}
-use Rattle.dc_concentrator.specs.declared.fault.CommitFault.{CommitFault}
-use Rattle.dc_concentrator.specs.declared.fault.HearFault.{HearFault}
-use Rattle.dc_concentrator.specs.declared.line_heard.LineHeard.{LineHeard}
-use Rattle.dc_concentrator.specs.declared.line_heard.LineHeard.TheVariants.{Accepted}
+use Rattle.dc_core.specs.Core.{Core, present, session_of}
+use Rattle.dc_core.specs.Event.{Event, Answer, starts, asks, hears, commits, started, asked, heard}
+use Rattle.dc_core.specs.Event.{committed, replied, unread, unstored, uncommitted}
+use Rattle.dc_core.specs.Step.{next}
+use Rattle.dc_core.specs.Transcript.{Turn}
+use Rattle.dc_core.specs.declared.fault.CommitFault.{CommitFault}
+use Rattle.dc_core.specs.declared.fault.HearFault.{HearFault}
+use Rattle.dc_core.specs.declared.line_heard.LineHeard.{LineHeard}
+use Rattle.dc_core.specs.declared.line_heard.LineHeard.TheVariants.{Accepted}
 use Rattle.dc_poll.specs.Happening.{Happening, does, tells, newest_serial, newest_parts, newest_last}
 use Rattle.dc_poll.specs.declared.event.Event.{Event as Told}
 use Rattle.dc_poll.specs.declared.event.Event.TheVariants.{Read as was_read, Failed as has_failed}

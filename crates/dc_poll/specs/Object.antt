@@ -11,7 +11,7 @@ use Rattle.dc_readout.specs.declared.why.Why.TheVariants.{NoAnswer, WrongFrame, 
 use Rattle.dc_readout.specs.declared.why.Why.TheVariants.{ApplicationError, Content, Stranger}
 use Rattle.dc_readout.specs.declared.why.Why.TheVariants.{TooManyParts}
 use Rattle.dc_readout.specs.Why.{number_of as why_number, name_of as why_name}
-use Rattle.dc_record.specs.Fault.{number_of as content_number, name_of as content_name}
+use Rattle.dc_records.specs.Fault.{number_of as content_number, name_of as content_name}
 use Rattle.dc_tokens.specs.Object.{Field, object_of as object_with, count}
 use Rattle.dc_poll.specs.Content.{untaken}
 use Rattle.dc_poll.specs.Read.{last_fields}

@@ -1,12 +1,12 @@
 -- Each answer of a poll finds room among the pending changes (this product).
 use Rattle.std.specs.Prelude.{◌≡◌, ◌≢◌, ℕ, ◌<◌, Bool, List, [], ◌∷◌, ◌++◌, length, Result, Err}
-use Rattle.dc_concentrator.specs.Waiting.{most_waiting}
-use Rattle.dc_concentrator.specs.Core.{Core}
-use Rattle.dc_concentrator.specs.Event.{hears, heard}
-use Rattle.dc_concentrator.specs.Transcript.{Turn, leads, IsChain}
-use Rattle.dc_concentrator.specs.declared.fault.HearFault.{HearFault}
-use Rattle.dc_concentrator.specs.declared.fault.HearFault.TheVariants.{PendingFull}
-use Rattle.dc_concentrator.specs.declared.line_heard.LineHeard.{LineHeard}
+use Rattle.dc_core.specs.Waiting.{most_waiting}
+use Rattle.dc_core.specs.Core.{Core}
+use Rattle.dc_core.specs.Event.{hears, heard}
+use Rattle.dc_core.specs.Transcript.{Turn, leads, IsChain}
+use Rattle.dc_core.specs.declared.fault.HearFault.{HearFault}
+use Rattle.dc_core.specs.declared.fault.HearFault.TheVariants.{PendingFull}
+use Rattle.dc_core.specs.declared.line_heard.LineHeard.{LineHeard}
 use Rattle.dc_poll.specs.Keeping.{InRounds}
 
 -- In rounds of a concentrator with nothing pending, each answer is received with fewer changes

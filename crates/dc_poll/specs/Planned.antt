@@ -8,8 +8,8 @@ use Rattle.std.specs.Ordering.{is_eq}
 use Rattle.dc_address.specs.Identity.{identity_cmp}
 use Rattle.dc_address.specs.declared.identity.Identity.{Identity}
 use Rattle.dc_change.specs.State.{State, MeterRow, row_of}
-use Rattle.dc_concentrator.specs.declared.fault.StartFault.{StartFault}
-use Rattle.dc_concentrator.specs.declared.fault.StartFault.TheVariants.{NoLine, Unknown}
+use Rattle.dc_core.specs.declared.fault.StartFault.{StartFault}
+use Rattle.dc_core.specs.declared.fault.StartFault.TheVariants.{NoLine, Unknown}
 use Rattle.dc_poll.specs.declared.event.Event.{Event as Told}
 use Rattle.dc_poll.specs.declared.event.Event.TheVariants.{Refused as was_refused}
 use Rattle.dc_poll.specs.Round.{IsFresh, most_lines}

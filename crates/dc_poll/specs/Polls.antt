@@ -3,10 +3,10 @@ use Rattle.std.specs.Prelude.{◌≡◌, ◌⊎◌, ℕ, ◌+◌, ◌-◌, ◌^�
 use Rattle.std.specs.Prelude.{Option, None, Some, Result, Ok, Err}
 use Rattle.std.specs.Result.{result_err}
 use Rattle.std.specs.List.{All}
-use Rattle.dc_concentrator.specs.Core.{Core}
-use Rattle.dc_concentrator.specs.Event.{commits, committed}
-use Rattle.dc_concentrator.specs.Transcript.{Turn}
-use Rattle.dc_concentrator.specs.declared.fault.CommitFault.{CommitFault}
+use Rattle.dc_core.specs.Core.{Core}
+use Rattle.dc_core.specs.Event.{commits, committed}
+use Rattle.dc_core.specs.Transcript.{Turn}
+use Rattle.dc_core.specs.declared.fault.CommitFault.{CommitFault}
 use Rattle.dc_poll.specs.Bus.{Bus}
 use Rattle.dc_poll.specs.Happening.{Happening, happened_events, happened_turns, reads_in}
 use Rattle.dc_poll.specs.Happening.{failures_in}

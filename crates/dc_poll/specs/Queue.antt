@@ -4,14 +4,14 @@ use Rattle.std.specs.Prelude.{Bool, Option, None, Some, Result, Ok, Err}
 use Rattle.std.specs.List.{AllByRecursion}
 use Rattle.dc_address.specs.declared.identity.Identity.{Identity}
 use Rattle.dc_change.specs.State.{PartRow}
-use Rattle.dc_concentrator.specs.Event.{Event, Answer, starts, asks, hears, commits, started, asked}
-use Rattle.dc_concentrator.specs.Event.{heard, committed, replied}
-use Rattle.dc_concentrator.specs.declared.fault.CommitFault.{CommitFault}
-use Rattle.dc_concentrator.specs.declared.fault.HearFault.{HearFault}
-use Rattle.dc_concentrator.specs.declared.fault.StartFault.{StartFault}
-use Rattle.dc_concentrator.specs.declared.line_heard.LineHeard.{LineHeard}
-use Rattle.dc_concentrator.specs.declared.line_heard.LineHeard.TheVariants.{Again, Ready, Accepted}
-use Rattle.dc_concentrator.specs.declared.line_heard.LineHeard.TheVariants.{Failed as HasFailed}
+use Rattle.dc_core.specs.Event.{Event, Answer, starts, asks, hears, commits, started, asked}
+use Rattle.dc_core.specs.Event.{heard, committed, replied}
+use Rattle.dc_core.specs.declared.fault.CommitFault.{CommitFault}
+use Rattle.dc_core.specs.declared.fault.HearFault.{HearFault}
+use Rattle.dc_core.specs.declared.fault.StartFault.{StartFault}
+use Rattle.dc_core.specs.declared.line_heard.LineHeard.{LineHeard}
+use Rattle.dc_core.specs.declared.line_heard.LineHeard.TheVariants.{Again, Ready, Accepted}
+use Rattle.dc_core.specs.declared.line_heard.LineHeard.TheVariants.{Failed as HasFailed}
 use Rattle.dc_readout.specs.declared.why.Why.{Why}
 use Rattle.dc_readout.specs.declared.why.Why.TheVariants.{NoAnswer}
 use Rattle.dc_poll.specs.Happening.{Happening, does, tells}

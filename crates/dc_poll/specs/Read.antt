@@ -2,8 +2,8 @@
 use Rattle.std.specs.Prelude.{ℕ, List, [], Option, None, Some, Result, Ok, Err}
 use Rattle.dc_change.specs.State.{PartRow}
 use Rattle.dc_shown.specs.Reported.{reported_fields}
-use Rattle.dc_record.specs.Telegram.{Parsed, telegram_at}
-use Rattle.dc_record.specs.declared.fault.BodyFault.{BodyFault}
+use Rattle.dc_records.specs.Telegram.{Parsed, telegram_at}
+use Rattle.dc_records.specs.declared.fault.BodyFault.{BodyFault}
 use Rattle.dc_tokens.specs.Object.{Field}
 
 -- what a telegram reports, which a part always is

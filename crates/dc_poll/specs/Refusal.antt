@@ -1,7 +1,7 @@
 -- The fault of a call that refused, by number and by name (this product).
 use Rattle.std.specs.Prelude.{ℕ, List}
-use Rattle.dc_concentrator.specs.Fault.{start_number, start_name, hear_number, hear_name, commit_number}
-use Rattle.dc_concentrator.specs.Fault.{commit_name}
+use Rattle.dc_core.specs.Fault.{start_number, start_name, hear_number, hear_name, commit_number}
+use Rattle.dc_core.specs.Fault.{commit_name}
 use Rattle.dc_poll.specs.declared.end.Refusal.{Refusal}
 use Rattle.dc_poll.specs.declared.end.Refusal.TheVariants.{Start, Hear, Commit}
 

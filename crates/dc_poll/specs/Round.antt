@@ -3,13 +3,13 @@ use Rattle.std.specs.Prelude.{◌≡◌, ◌≢◌, ◌⊎◌, ℕ, zero, suc, �
 use Rattle.std.specs.Prelude.{length, sum, map, slice_index_or, Result, Ok, Err, Bool, true, false}
 use Rattle.std.specs.List.{All}
 use Rattle.dc_change.specs.State.{State}
-use Rattle.dc_concentrator.specs.Core.{Core, opened}
-use Rattle.dc_concentrator.specs.Event.{commits, committed}
-use Rattle.dc_concentrator.specs.declared.fault.CommitFault.{CommitFault}
-use Rattle.dc_concentrator.specs.Images.{Machine}
-use Rattle.dc_concentrator.specs.Transcript.{Turn, leads}
+use Rattle.dc_core.specs.Core.{Core, opened}
+use Rattle.dc_core.specs.Event.{commits, committed}
+use Rattle.dc_core.specs.declared.fault.CommitFault.{CommitFault}
+use Rattle.dc_core.specs.Images.{Machine}
+use Rattle.dc_core.specs.Transcript.{Turn, leads}
 use Rattle.dc_poll.specs.Bus.{Bus}
-use Rattle.dc_concentrator.specs.Went.{BehindAnyRun, Went}
+use Rattle.dc_core.specs.Went.{BehindAnyRun, Went}
 use Rattle.dc_poll.specs.Happening.{Happening, does, tells, happened_on, happened_events}
 use Rattle.dc_poll.specs.Happening.{happened_turns, reads_in}
 use Rattle.dc_poll.specs.Happening.{failures_in, newest_serial, newest_parts, newest_last}
@@ -21,7 +21,7 @@ use Rattle.dc_poll.specs.declared.event.Event.{Event as Told}
 use Rattle.dc_poll.specs.declared.event.Event.TheVariants.{Read as was_read, Failed as has_failed}
 use Rattle.dc_poll.specs.declared.event.Event.TheVariants.{Refused as was_refused}
 use Rattle.dc_poll.specs.declared.event.Event.TheVariants.{Late as came_late}
-use Rattle.dc_disk.specs.declared.device.Disk.{Ghosts}
+use Rattle.dc_sectors.specs.declared.device.Disk.{Ghosts}
 use Rattle.dc_poll.specs.Keeping.{AllFindRoom, AreHeard, AreTrue, IsHearing, IsSettled, Store}
 use Rattle.dc_poll.specs.Keeping.{most_pending}
 use Rattle.dc_poll.specs.Missed.{Brings}

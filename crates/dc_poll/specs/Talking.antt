@@ -1,11 +1,11 @@
 -- The exchanges over the bus of a line (this product).
 use Rattle.std.specs.Prelude.{◌≡◌, ◌≢◌, ℕ, Bool, true, false, List, [], ◌∷◌, None, Some, Result}
 use Rattle.dc_address.specs.declared.identity.Identity.{Identity}
-use Rattle.dc_concentrator.specs.Event.{starts, asks, hears, commits, started, asked, heard, committed}
-use Rattle.dc_concentrator.specs.declared.fault.CommitFault.{CommitFault}
-use Rattle.dc_concentrator.specs.declared.fault.HearFault.{HearFault}
-use Rattle.dc_concentrator.specs.declared.fault.StartFault.{StartFault}
-use Rattle.dc_concentrator.specs.declared.line_heard.LineHeard.{LineHeard}
+use Rattle.dc_core.specs.Event.{starts, asks, hears, commits, started, asked, heard, committed}
+use Rattle.dc_core.specs.declared.fault.CommitFault.{CommitFault}
+use Rattle.dc_core.specs.declared.fault.HearFault.{HearFault}
+use Rattle.dc_core.specs.declared.fault.StartFault.{StartFault}
+use Rattle.dc_core.specs.declared.line_heard.LineHeard.{LineHeard}
 use Rattle.dc_poll.specs.Bus.{Bus}
 use Rattle.dc_poll.specs.Happening.{Happening, does, tells}
 use Rattle.dc_poll.specs.declared.event.Event.{Event as Told}

@@ -12,7 +12,7 @@ use Rattle.dc_readout.specs.declared.why.Why.TheVariants.{NoAnswer, WrongFrame, 
 use Rattle.dc_readout.specs.declared.why.Why.TheVariants.{ApplicationError, Content, Stranger}
 use Rattle.dc_readout.specs.declared.why.Why.TheVariants.{TooManyParts}
 use Rattle.dc_readout.specs.Why.{number_of as why_number, name_of as why_name}
-use Rattle.dc_record.specs.Fault.{number_of as content_number, name_of as content_name}
+use Rattle.dc_records.specs.Fault.{number_of as content_number, name_of as content_name}
 
 -- the end of the line of a failed readout: why it failed, and after a fault of content the fault of the body
 unfoldable pub why_end : Why → List ℕ

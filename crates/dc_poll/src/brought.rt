@@ -4,7 +4,7 @@ ghost use Rattle.std.specs.Prelude.{◌≡◌};
 ghost use Rattle.dc_poll.specs.Missed.{and_heard, is_miss, nothing_brought};
 
 use dc_bus::AnswerBuf;
-use dc_concentrator::{HearFault, LineHeard};
+use dc_core::{HearFault, LineHeard};
 use dc_readout::misses::{Misses, is_missing};
 
 /// What the tries of a readout brought.

@@ -1,17 +1,17 @@
 //! Single events of a concentrator.
 
 ghost use Rattle.std.specs.Prelude.{◌≡◌, ◌≤◌, ℕ, List, [], ◌∷◌, IfSome, length};
-ghost use Rattle.dc_concentrator.specs.Event.{starts, asks, hears, commits, started, asked, heard};
-ghost use Rattle.dc_concentrator.specs.Event.{committed};
-ghost use Rattle.dc_concentrator.specs.Step.{longest_request};
+ghost use Rattle.dc_core.specs.Event.{starts, asks, hears, commits, started, asked, heard};
+ghost use Rattle.dc_core.specs.Event.{committed};
+ghost use Rattle.dc_core.specs.Step.{longest_request};
 ghost use Rattle.dc_poll.specs.Happening.{does};
 ghost use Rattle.dc_poll.specs.Round.{Runs};
 
 use dc_address::Identity;
 use dc_change::Moment;
-use dc_concentrator::{CommitFault, Concentrator, HearFault, LineHeard, StartFault};
-use dc_disk::Disk;
-use dc_frame::FrameBuf;
+use dc_core::{CommitFault, Concentrator, HearFault, LineHeard, StartFault};
+use dc_sectors::Disk;
+use dc_linkframe::FrameBuf;
 use std::alloc::Allocator;
 
 /// Begins a readout.

@@ -7,7 +7,7 @@ ghost use Rattle.dc_poll.specs.Clock.{ComparesClock, has_later, is_behind};
 use crate::timer::Timer;
 use dc_bus::HalfBus;
 use dc_change::Moment;
-use dc_register::{House, Part};
+use dc_meters::{House, Part};
 use std::alloc::Allocator;
 
 /// Warns the timer where its moment lies before the newest time stamp of the register.

@@ -4,7 +4,7 @@ ghost use Rattle.std.specs.Prelude.{◌≡◌};
 ghost use Rattle.dc_poll.specs.Refusal.{refusal_number, refusal_name};
 
 use dc_address::Identity;
-use dc_concentrator::{CommitFault, HearFault, StartFault};
+use dc_core::{CommitFault, HearFault, StartFault};
 use dc_readout::Why;
 
 /// The call that refused.

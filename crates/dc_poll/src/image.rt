@@ -5,7 +5,7 @@ ghost use Rattle.std.specs.Prelude.{MatchResult, length, map, min};
 ghost use Rattle.dc_io.specs.Failures.{HasRisen};
 ghost use Rattle.dc_ending.specs.Fault.{IfOpen, IsOfImage};
 ghost use Rattle.dc_log.specs.Halves.{half_of};
-ghost use Rattle.dc_concentrator.specs.PendingImages.{IsRefused, EachStands, StandsForOne};
+ghost use Rattle.dc_core.specs.PendingImages.{IsRefused, EachStands, StandsForOne};
 ghost use Rattle.dc_log.specs.Refusal.{TellsOfImage};
 ghost use Rattle.dc_log.specs.declared.fault.OpenFault.TheVariants.{NotImage, Worn, Device};
 ghost use Rattle.dc_poll.specs.ImagePoll.{ImageTurned, PlanPolled};
@@ -16,7 +16,7 @@ ghost use Rattle.dc_poll.specs.Planned.{refusal_event, refusal_of, refused_count
 ghost use Rattle.dc_poll.specs.Planned.{wanted_on};
 ghost use Rattle.dc_poll.specs.Round.{Runs, most_lines};
 ghost use Rattle.dc_poll.specs.Telling.{CountsFailures, HasTold, TakesAll};
-ghost use Rattle.dc_disk.specs.Runs.{LeavesOnly};
+ghost use Rattle.dc_sectors.specs.Runs.{LeavesOnly};
 
 use crate::clock::compare_clock;
 use crate::end::Refusal;
@@ -30,11 +30,11 @@ use crate::telling::tell_one;
 use crate::timer::Timer;
 use dc_address::Identity;
 use dc_bus::HalfBus;
-use dc_concentrator::{Concentrator, StartFault};
-use dc_disk::Disk;
+use dc_core::{Concentrator, StartFault};
+use dc_sectors::Disk;
 use dc_ending::ProgramFault;
 use dc_io::{IoFault, NoMemory};
-use dc_register::House;
+use dc_meters::House;
 use std::alloc::Allocator;
 
 // There are eight lines.

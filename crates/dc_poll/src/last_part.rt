@@ -1,11 +1,11 @@
 //! The last part of a reading.
 
 ghost use Rattle.std.specs.Prelude.{◌≡◌, Ok};
-ghost use Rattle.dc_record.specs.Telegram.{parsed, telegram_at};
+ghost use Rattle.dc_records.specs.Telegram.{parsed, telegram_at};
 ghost use Rattle.dc_change.specs.Valid.{IsPart};
 
-use dc_record::Telegram;
-use dc_register::Part;
+use dc_records::Telegram;
+use dc_meters::Part;
 use std::alloc::Allocator;
 use std::marker::Model;
 

@@ -13,8 +13,8 @@ use crate::station::Station;
 use crate::stepping::{hear, step};
 use dc_bus::HalfBus;
 use dc_change::Moment;
-use dc_concentrator::{CommitFault, Concentrator};
-use dc_disk::Disk;
+use dc_core::{CommitFault, Concentrator};
+use dc_sectors::Disk;
 use std::alloc::Allocator;
 
 // Maximum number of pending telegrams.

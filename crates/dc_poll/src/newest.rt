@@ -8,7 +8,7 @@ ghost use Rattle.dc_poll.specs.declared.event.Event.TheVariants.{Read};
 use crate::event::Event;
 use crate::last_part::LastPart;
 use dc_address::Identity;
-use dc_register::{House, Reading};
+use dc_meters::{House, Reading};
 use std::alloc::Allocator;
 
 /// The event of a meter that was read, with its newest reading.

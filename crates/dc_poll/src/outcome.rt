@@ -1,6 +1,6 @@
 //! The counts of a poll, and how it ended.
 
-use dc_concentrator::CommitFault;
+use dc_core::CommitFault;
 
 /// The numbers of meters that a poll has read and not read so far.
 #[derive(Clone, Copy)]

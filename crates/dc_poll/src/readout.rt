@@ -20,8 +20,8 @@ use crate::telling::{tell_all, tell_one};
 use crate::timer::Timer;
 use crate::waiting::{is_done, may_sleep};
 use dc_bus::HalfBus;
-use dc_concentrator::{CommitFault, Concentrator};
-use dc_disk::Disk;
+use dc_core::{CommitFault, Concentrator};
+use dc_sectors::Disk;
 use dc_io::IoFault;
 use std::alloc::Allocator;
 

@@ -2,7 +2,7 @@
 
 ghost use Rattle.std.specs.Prelude.{◌≡◌, ◌⊎◌, ◌<◌, ◌≤◌, ◌+◌, ◌-◌, ℕ, List, [], IfNone, IfSome, OnOk};
 ghost use Rattle.std.specs.Prelude.{IfErr, length, nat_lt, slice_get, true, false};
-ghost use Rattle.dc_concentrator.specs.Step.{longest_request};
+ghost use Rattle.dc_core.specs.Step.{longest_request};
 ghost use Rattle.dc_bus.specs.Halves.{most_waits};
 ghost use Rattle.dc_poll.specs.Missed.{and_heard, nothing_brought};
 ghost use Rattle.dc_poll.specs.Queue.{most_asks};
@@ -18,8 +18,8 @@ use crate::end::{End, Refusal};
 use crate::phase::{Phase, Request};
 use dc_address::Identity;
 use dc_bus::{AnswerBuf, HalfBus};
-use dc_concentrator::{CommitFault, HearFault, LineHeard, StartFault};
-use dc_frame::FrameBuf;
+use dc_core::{CommitFault, HearFault, LineHeard, StartFault};
+use dc_linkframe::FrameBuf;
 use std::mem;
 
 // No readout asks more often: three tries at a reset, a selection and each of 32 parts, and once more where nothing

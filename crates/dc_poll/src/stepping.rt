@@ -15,8 +15,8 @@ use crate::station::{MOST_ASKS, Station, taken_of};
 use dc_address::Identity;
 use dc_bus::HalfBus;
 use dc_change::Moment;
-use dc_concentrator::{Concentrator, HearFault, LineHeard};
-use dc_disk::Disk;
+use dc_core::{Concentrator, HearFault, LineHeard};
+use dc_sectors::Disk;
 use dc_readout::Why;
 use std::alloc::Allocator;
 

@@ -18,10 +18,10 @@ use crate::phase::Phase;
 use crate::station::Station;
 use crate::teller::Teller;
 use dc_bus::HalfBus;
-use dc_concentrator::Concentrator;
-use dc_disk::Disk;
+use dc_core::Concentrator;
+use dc_sectors::Disk;
 use dc_io::IoFault;
-use dc_register::House;
+use dc_meters::House;
 use std::alloc::Allocator;
 
 // Tells one event.

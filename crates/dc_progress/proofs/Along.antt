@@ -5,37 +5,37 @@ use Rattle.std.specs.List.{AllByRecursion}
 use Rattle.std.proofs.lemmas.List.{length-map, length-set}
 use Rattle.std.proofs.lemmas.Bool.{false≢true}
 use Rattle.std.proofs.lemmas.Bool.Decides.{nat_tests}
-use Rattle.dc_frame.specs.Frame.{FrameSeen, spelling}
-use Rattle.dc_frame.specs.Reading.{frame_of}
-use Rattle.dc_frame.proofs.Spellings.{frame_of-spelling}
-use Rattle.dc_record.specs.Body.{continues}
-use Rattle.dc_record.specs.Telegram.{Parsed, telegram_at}
-use Rattle.dc_record.proofs.Spellings.Telegrams.{telegram_takes}
+use Rattle.dc_linkframe.specs.Frame.{FrameSeen, spelling}
+use Rattle.dc_linkframe.specs.Reading.{frame_of}
+use Rattle.dc_linkframe.proofs.Spellings.{frame_of-spelling}
+use Rattle.dc_records.specs.Body.{continues}
+use Rattle.dc_records.specs.Telegram.{Parsed, telegram_at}
+use Rattle.dc_records.proofs.Spellings.Telegrams.{telegram_takes}
 use Rattle.dc_readout.specs.declared.stage.Stage.{Stage}
 use Rattle.dc_readout.specs.declared.stage.Stage.TheVariants.{Resets, Selects, Requests, Pending, Ended}
 use Rattle.dc_readout.specs.Answer.{max_parts}
 use Rattle.dc_readout.specs.Session.{commands}
 use Rattle.dc_readout.specs.Summary.{Summary, Verdict, again, ready, new, begun, reset_of, selection_of, request_of, asked_at, asked_by, verdict_by, heard_by, after_command, settled_by, stage_settled}
-use Rattle.dc_world.specs.declared.event.Outcome.{Outcome}
-use Rattle.dc_world.specs.declared.event.Outcome.TheVariants.{RequestLost, ReplyLost, ReplyUnreadable, AsSent}
-use Rattle.dc_world.specs.Meter.{Meter, Position}
-use Rattle.dc_world.specs.World.{World, Running, positions_after, heard_in, running_after, exchanged_as, started_by, more_in, more_after, joined, kept, whole_readout}
-use Rattle.dc_world.specs.InStep.{Agrees, IsRegularWorld}
-use Rattle.dc_world.proofs.Asked.{sent_frame}
-use Rattle.dc_world.proofs.Commits.{commit_keeps}
-use Rattle.dc_world.proofs.Events.{exchange_keeps, start_keeps}
+use Rattle.dc_readout.specs.declared.world.event.Outcome.{Outcome}
+use Rattle.dc_readout.specs.declared.world.event.Outcome.TheVariants.{RequestLost, ReplyLost, ReplyUnreadable, AsSent}
+use Rattle.dc_readout.specs.Meter.{Meter, Position}
+use Rattle.dc_readout.specs.World.{World, Running, positions_after, heard_in, running_after, exchanged_as, started_by, more_in, more_after, joined, kept, whole_readout}
+use Rattle.dc_readout.specs.InStep.{Agrees, IsRegularWorld}
+use Rattle.dc_readout.proofs.Asked.{sent_frame}
+use Rattle.dc_readout.proofs.Commits.{commit_keeps}
+use Rattle.dc_readout.proofs.Events.{exchange_keeps, start_keeps}
 use Rattle.dc_change.specs.declared.change.Change.{Change}
 use Rattle.dc_change.specs.History.{after}
 use Rattle.dc_change.specs.State.{State, MeterRow, row_of}
 use Rattle.dc_change.proofs.History.{after_of_push}
-use Rattle.dc_concentrator.specs.Lines.{is_line, line_count, settled_at, settled_on}
-use Rattle.dc_concentrator.specs.Taking.{change_of}
-use Rattle.dc_concentrator.specs.declared.fault.StartFault.{StartFault}
-use Rattle.dc_concentrator.specs.declared.fault.StartFault.TheVariants.{NoLine as StartNoLine, Unknown, Busy, Stopped as StartStopped}
-use Rattle.dc_concentrator.specs.declared.line_heard.LineHeard.{LineHeard}
-use Rattle.dc_concentrator.specs.declared.line_heard.LineHeard.TheVariants.{Again, Ready, Accepted}
-use Rattle.dc_concentrator.specs.Core.{Core, present, session_of}
-use Rattle.dc_concentrator.specs.Step.{is_on, address_in, ask_answer, hear_answer, session_after, judged, after_hear}
+use Rattle.dc_core.specs.Lines.{is_line, line_count, settled_at, settled_on}
+use Rattle.dc_core.specs.Taking.{change_of}
+use Rattle.dc_core.specs.declared.fault.StartFault.{StartFault}
+use Rattle.dc_core.specs.declared.fault.StartFault.TheVariants.{NoLine as StartNoLine, Unknown, Busy, Stopped as StartStopped}
+use Rattle.dc_core.specs.declared.line_heard.LineHeard.{LineHeard}
+use Rattle.dc_core.specs.declared.line_heard.LineHeard.TheVariants.{Again, Ready, Accepted}
+use Rattle.dc_core.specs.Core.{Core, present, session_of}
+use Rattle.dc_core.specs.Step.{is_on, address_in, ask_answer, hear_answer, session_after, judged, after_hear}
 use Rattle.dc_progress.specs.Needs.{IsOwnTelegram, MayBeRead}
 use Rattle.dc_progress.specs.Progress.{IsRead, requests_of, GoesWell, ReadoutsEnd, RunsThrough, UndisturbedReadoutsEnd}
 use Rattle.dc_progress.specs.Rounds.{Scene, Round, IsRound, scene_after, AreRounds, scene_behind, begun_on, losses_by, losses_in, row_after, LoseFew}

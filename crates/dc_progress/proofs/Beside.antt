@@ -6,38 +6,38 @@ use Rattle.std.proofs.Math.ListN.{set}
 use Rattle.std.proofs.Math.Seq.{drop-append_seam}
 use Rattle.std.proofs.lemmas.List.{length-map, length-set}
 use Rattle.std.proofs.lemmas.Bool.{cases_eq}
-use Rattle.dc_frame.specs.Frame.{FrameSeen, spelling}
-use Rattle.dc_frame.specs.Reading.{frame_of}
-use Rattle.dc_frame.proofs.Spellings.{frame_of-spelling}
+use Rattle.dc_linkframe.specs.Frame.{FrameSeen, spelling}
+use Rattle.dc_linkframe.specs.Reading.{frame_of}
+use Rattle.dc_linkframe.proofs.Spellings.{frame_of-spelling}
 use Rattle.dc_address.specs.declared.identity.Identity.{Identity}
-use Rattle.dc_record.specs.Body.{continues}
+use Rattle.dc_records.specs.Body.{continues}
 use Rattle.dc_readout.specs.declared.stage.Stage.{Stage}
 use Rattle.dc_readout.specs.declared.stage.Stage.TheVariants.{Resets, Selects, Requests, Pending, Ended}
 use Rattle.dc_readout.specs.Session.{commands}
 use Rattle.dc_readout.specs.Summary.{Summary, Verdict, again, ready, new, failed, begun, asked_at, asked_by, verdict_by, heard_by, after_command, settled_by, stage_settled}
 use Rattle.dc_readout.proofs.Taken.{taken}
-use Rattle.dc_world.specs.declared.event.Outcome.{Outcome}
-use Rattle.dc_world.specs.declared.event.Outcome.TheVariants.{RequestLost, ReplyLost, ReplyUnreadable, AsSent}
-use Rattle.dc_world.specs.Meter.{Meter, Position}
-use Rattle.dc_world.specs.World.{World, Running, positions_after, heard_in, running_after, exchanged_as, started_by, more_after, joined, kept, whole_readout}
-use Rattle.dc_world.specs.InStep.{Agrees, IsRegularWorld}
-use Rattle.dc_world.proofs.Asked.{sent_frame}
-use Rattle.dc_world.proofs.Commits.{commit_keeps}
-use Rattle.dc_world.proofs.Events.{exchange_keeps, start_keeps}
+use Rattle.dc_readout.specs.declared.world.event.Outcome.{Outcome}
+use Rattle.dc_readout.specs.declared.world.event.Outcome.TheVariants.{RequestLost, ReplyLost, ReplyUnreadable, AsSent}
+use Rattle.dc_readout.specs.Meter.{Meter, Position}
+use Rattle.dc_readout.specs.World.{World, Running, positions_after, heard_in, running_after, exchanged_as, started_by, more_after, joined, kept, whole_readout}
+use Rattle.dc_readout.specs.InStep.{Agrees, IsRegularWorld}
+use Rattle.dc_readout.proofs.Asked.{sent_frame}
+use Rattle.dc_readout.proofs.Commits.{commit_keeps}
+use Rattle.dc_readout.proofs.Events.{exchange_keeps, start_keeps}
 use Rattle.dc_change.specs.Apply.{applied}
 use Rattle.dc_change.specs.declared.change.Change.{Change}
 use Rattle.dc_change.specs.State.{State, MeterRow, row_of}
 use Rattle.dc_change.proofs.History.{after_of_push}
-use Rattle.dc_concentrator.specs.Lines.{is_line, line_count, settled_at, settled_on, settled_lines}
-use Rattle.dc_concentrator.specs.Taking.{change_of}
-use Rattle.dc_concentrator.specs.Waiting.{most_waiting}
+use Rattle.dc_core.specs.Lines.{is_line, line_count, settled_at, settled_on, settled_lines}
+use Rattle.dc_core.specs.Taking.{change_of}
+use Rattle.dc_core.specs.Waiting.{most_waiting}
 use Rattle.dc_change.specs.Accepts.{refusal}
-use Rattle.dc_concentrator.specs.declared.fault.HearFault.TheVariants.{Stopped}
-use Rattle.dc_concentrator.specs.declared.line_heard.LineHeard.{LineHeard}
-use Rattle.dc_concentrator.specs.Core.{Core, present, session_of, with_session}
-use Rattle.dc_concentrator.specs.Event.{Event, Answer, starts, asks, hears, commits, offices, started, asked, heard, committed, replied}
-use Rattle.dc_concentrator.specs.Step.{May, next, MayHear, is_on, address_in, ask_answer, hear_answer, answer_on, verdict_answer, session_after, judged, heard_on, settled_core}
-use Rattle.dc_concentrator.specs.Transcript.{Turn, leads, IsChain}
+use Rattle.dc_core.specs.declared.fault.HearFault.TheVariants.{Stopped}
+use Rattle.dc_core.specs.declared.line_heard.LineHeard.{LineHeard}
+use Rattle.dc_core.specs.Core.{Core, present, session_of, with_session}
+use Rattle.dc_core.specs.Event.{Event, Answer, starts, asks, hears, commits, offices, started, asked, heard, committed, replied}
+use Rattle.dc_core.specs.Step.{May, next, MayHear, is_on, address_in, ask_answer, hear_answer, answer_on, verdict_answer, session_after, judged, heard_on, settled_core}
+use Rattle.dc_core.specs.Transcript.{Turn, leads, IsChain}
 use Rattle.dc_progress.specs.Beside.{Bus, bus_at_first, bus_after, IsElsewhere, Serves, rests, asks_it, has_none, gives_it, commits_it, goes_by, IsOnlyOn, HasRead, IsHeardOn, IsNoFailure, IsNextPart, IsTakenUnlessFull, GoesBeside, ReadoutsEndBesideOthers}
 use Rattle.dc_progress.specs.Needs.{IsOwnTelegram, CanBegin}
 use Rattle.dc_progress.specs.Progress.{requests_of}

@@ -3,27 +3,27 @@ use Rattle.std.proofs.Common.{◌≡◌, ℕ, Bool, true, false, ◌+◌, ◌*�
 use Rattle.std.specs.Prelude.{is_some}
 use Rattle.std.proofs.lemmas.Bool.{eq-eqb}
 use Rattle.std.specs.List.{AllByRecursion}
-use Rattle.dc_frame.specs.Frame.{FrameSeen}
-use Rattle.dc_frame.specs.Reading.{frame_of}
+use Rattle.dc_linkframe.specs.Frame.{FrameSeen}
+use Rattle.dc_linkframe.specs.Reading.{frame_of}
 use Rattle.dc_address.specs.declared.identity.Identity.{Identity}
 use Rattle.dc_readout.specs.Session.{commands}
 use Rattle.dc_readout.specs.Summary.{Summary, verdict_by}
-use Rattle.dc_world.specs.declared.event.Outcome.{Outcome}
-use Rattle.dc_world.specs.Meter.{Meter, Position}
-use Rattle.dc_world.proofs.Events.{length-after}
+use Rattle.dc_readout.specs.declared.world.event.Outcome.{Outcome}
+use Rattle.dc_readout.specs.Meter.{Meter, Position}
+use Rattle.dc_readout.proofs.Events.{length-after}
 use Rattle.dc_change.specs.State.{State, MeterRow, PartRow, row_of, ReadingRow}
-use Rattle.dc_concentrator.specs.Lines.{is_line}
-use Rattle.dc_concentrator.specs.declared.line_heard.LineHeard.{LineHeard}
-use Rattle.dc_concentrator.specs.declared.fault.HearFault.{HearFault}
-use Rattle.dc_concentrator.specs.declared.fault.HearFault.TheVariants.{Full, Idle, NoLine, NoMemory, PendingFull, Stopped}
-use Rattle.dc_concentrator.specs.declared.fault.StartFault.{StartFault}
-use Rattle.dc_concentrator.specs.declared.fault.CommitFault.{CommitFault}
-use Rattle.dc_concentrator.specs.Core.{Core, present, opened, session_of}
-use Rattle.dc_concentrator.specs.Event.{starts, asks, hears, commits, started, asked, heard, committed}
-use Rattle.dc_concentrator.specs.Step.{ask_answer, hear_answer, is_on, next}
-use Rattle.dc_concentrator.specs.Transcript.{Turn, leads, IsChain}
-use Rattle.dc_concentrator.proofs.Going.{leads_append, leads_push}
-use Rattle.dc_concentrator.proofs.Told.{chain_parts}
+use Rattle.dc_core.specs.Lines.{is_line}
+use Rattle.dc_core.specs.declared.line_heard.LineHeard.{LineHeard}
+use Rattle.dc_core.specs.declared.fault.HearFault.{HearFault}
+use Rattle.dc_core.specs.declared.fault.HearFault.TheVariants.{Full, Idle, NoLine, NoMemory, PendingFull, Stopped}
+use Rattle.dc_core.specs.declared.fault.StartFault.{StartFault}
+use Rattle.dc_core.specs.declared.fault.CommitFault.{CommitFault}
+use Rattle.dc_core.specs.Core.{Core, present, opened, session_of}
+use Rattle.dc_core.specs.Event.{starts, asks, hears, commits, started, asked, heard, committed}
+use Rattle.dc_core.specs.Step.{ask_answer, hear_answer, is_on, next}
+use Rattle.dc_core.specs.Transcript.{Turn, leads, IsChain}
+use Rattle.dc_core.proofs.Going.{leads_append, leads_push}
+use Rattle.dc_core.proofs.Told.{chain_parts}
 use Rattle.dc_progress.specs.Beside.{Bus as Line, bus_at_first, bus_after, IsElsewhere, HasRead, IsHeardOn, IsNextPart, IsNoFailure, IsOfLines, readings_of, Serves, GoesBeside, rests as none_more, asks_it, has_none as asks_none, gives_it, commits_it, goes_by}
 use Rattle.dc_progress.specs.Needs.{IsThere}
 use Rattle.dc_progress.specs.Rounds.{IsHeard, row_after}

@@ -5,17 +5,17 @@ use Rattle.dc_address.specs.declared.identity.Identity.{Identity}
 use Rattle.dc_readout.specs.Summary.{Summary, begun, verdict_by}
 use Rattle.dc_change.specs.State.{row_of}
 use Rattle.dc_change.specs.declared.change.Change.{Change}
-use Rattle.dc_concentrator.specs.Lines.{settled_on, unless_of}
-use Rattle.dc_concentrator.specs.declared.fault.StartFault.{StartFault}
-use Rattle.dc_concentrator.specs.declared.fault.HearFault.{HearFault}
-use Rattle.dc_concentrator.specs.declared.line_heard.LineHeard.{LineHeard}
-use Rattle.dc_concentrator.specs.declared.fault.CommitFault.{CommitFault}
-use Rattle.dc_concentrator.specs.declared.fault.CommitFault.TheVariants.{Device, Worn, Stopped}
-use Rattle.dc_concentrator.specs.Core.{Core, present, session_of, opened}
-use Rattle.dc_concentrator.specs.Event.{Event, Answer, starts, hears, commits, offices, started, heard, committed, replied}
-use Rattle.dc_concentrator.specs.Event.{Reply, unread, unstored, repeated, refused, shown, out_of_memory, obeyed, uncommitted}
-use Rattle.dc_concentrator.specs.Step.{next, address_in, after_start, session_after, heard_on, after_hear, settled_core, settled, removed_by, lines_after, ordered, after_commit, after_reply}
-use Rattle.dc_concentrator.specs.Transcript.{Turn, leads}
+use Rattle.dc_core.specs.Lines.{settled_on, unless_of}
+use Rattle.dc_core.specs.declared.fault.StartFault.{StartFault}
+use Rattle.dc_core.specs.declared.fault.HearFault.{HearFault}
+use Rattle.dc_core.specs.declared.line_heard.LineHeard.{LineHeard}
+use Rattle.dc_core.specs.declared.fault.CommitFault.{CommitFault}
+use Rattle.dc_core.specs.declared.fault.CommitFault.TheVariants.{Device, Worn, Stopped}
+use Rattle.dc_core.specs.Core.{Core, present, session_of, opened}
+use Rattle.dc_core.specs.Event.{Event, Answer, starts, hears, commits, offices, started, heard, committed, replied}
+use Rattle.dc_core.specs.Event.{Reply, unread, unstored, repeated, refused, shown, out_of_memory, obeyed, uncommitted}
+use Rattle.dc_core.specs.Step.{next, address_in, after_start, session_after, heard_on, after_hear, settled_core, settled, removed_by, lines_after, ordered, after_commit, after_reply}
+use Rattle.dc_core.specs.Transcript.{Turn, leads}
 use Rattle.dc_progress.specs.Progress.{LinesAreKept}
 
 abbrev Keeps : Core → Core → Type 0

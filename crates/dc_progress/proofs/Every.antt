@@ -9,15 +9,15 @@ use Rattle.std.proofs.lemmas.List.Elements.{recursion_from_All}
 use Rattle.std.proofs.lemmas.List.Sums.{sum_by-cons}
 use Rattle.dc_address.specs.declared.identity.Identity.{Identity}
 use Rattle.dc_change.specs.State.{State, MeterRow, row_of}
-use Rattle.dc_concentrator.specs.Lines.{is_line}
-use Rattle.dc_concentrator.specs.Core.{opened}
-use Rattle.dc_concentrator.specs.Event.{asks, asked}
-use Rattle.dc_concentrator.specs.Transcript.{Turn, leads, IsChain}
-use Rattle.dc_concentrator.specs.Images.{IsAt}
-use Rattle.dc_disk.specs.Disk.{IsImage}
-use Rattle.dc_disk.specs.declared.device.Disk.{Ghosts}
+use Rattle.dc_core.specs.Lines.{is_line}
+use Rattle.dc_core.specs.Core.{opened}
+use Rattle.dc_core.specs.Event.{asks, asked}
+use Rattle.dc_core.specs.Transcript.{Turn, leads, IsChain}
+use Rattle.dc_core.specs.Images.{IsAt}
+use Rattle.dc_sectors.specs.Disk.{IsImage}
+use Rattle.dc_sectors.specs.declared.device.Disk.{Ghosts}
 use Rattle.dc_log.specs.Halves.{half_of}
-use Rattle.dc_concentrator.specs.PendingImages.{Stands}
+use Rattle.dc_core.specs.PendingImages.{Stands}
 use Rattle.dc_progress.specs.Beside.{IsOfLines, bus_at_first}
 use Rattle.dc_poll.specs.Bus.{Bus}
 use Rattle.dc_poll.specs.Happening.{Happening, does, tells, failures_in, happened_on, happened_turns, reads_in, happened_events}

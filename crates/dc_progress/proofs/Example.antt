@@ -9,14 +9,14 @@ use Rattle.dc_address.specs.declared.identity.Identity.{Identity}
 use Rattle.dc_address.specs.Identity.{identity_cmp, wire_of}
 use Rattle.dc_address.proofs.Identities.{length-wire_of}
 use Rattle.dc_address.proofs.Order.{equal_to_itself}
-use Rattle.dc_record.specs.declared.header.Header.{Header}
-use Rattle.dc_record.specs.Body.{Ending, plain, more, IsEnd, continues}
-use Rattle.dc_record.specs.Header.{BeginsWithHeader}
-use Rattle.dc_record.specs.Telegram.{Parsed, IsTelegram, telegram_at}
-use Rattle.dc_record.proofs.Spellings.Telegrams.{telegram_again}
-use Rattle.dc_world.specs.Meter.{Meter, Position}
-use Rattle.dc_world.specs.Regular.{IsOwnOnly}
-use Rattle.dc_world.specs.World.{AreRegular, more_in, more_after, whole_readout}
+use Rattle.dc_records.specs.declared.header.Header.{Header}
+use Rattle.dc_records.specs.Body.{Ending, plain, more, IsEnd, continues}
+use Rattle.dc_records.specs.Header.{BeginsWithHeader}
+use Rattle.dc_records.specs.Telegram.{Parsed, IsTelegram, telegram_at}
+use Rattle.dc_records.proofs.Spellings.Telegrams.{telegram_again}
+use Rattle.dc_readout.specs.Meter.{Meter, Position}
+use Rattle.dc_readout.specs.Regular.{IsOwnOnly}
+use Rattle.dc_readout.specs.World.{AreRegular, more_in, more_after, whole_readout}
 use Rattle.dc_change.specs.State.{State, MeterRow, row_of}
 use Rattle.dc_change.specs.Size.{size_of}
 use Rattle.dc_progress.specs.Needs.{IsOwnTelegram, IsThere, MayBeMet, PremisesAreMet, room_for}

@@ -2,12 +2,12 @@
 use Rattle.std.proofs.Common.{◌≡◌, ℕ, Bool, true, false, ◌+◌, ◌≤◌, Option, Some, Result, Ok, Err, List, [], ◌∷◌, arith, refl, sym, subst}
 use Rattle.std.specs.List.{AllByRecursion}
 use Rattle.dc_address.specs.declared.identity.Identity.{Identity}
-use Rattle.dc_concentrator.specs.declared.line_heard.LineHeard.{LineHeard}
-use Rattle.dc_concentrator.specs.declared.line_heard.LineHeard.TheVariants.{Again, Ready, Accepted, Failed as HasFailed}
-use Rattle.dc_concentrator.specs.declared.fault.CommitFault.{CommitFault}
-use Rattle.dc_concentrator.specs.declared.fault.HearFault.{HearFault}
-use Rattle.dc_concentrator.specs.declared.fault.HearFault.TheVariants.{Full, Idle, NoLine, NoMemory, PendingFull, Stopped}
-use Rattle.dc_concentrator.specs.Event.{hears, commits, heard, committed}
+use Rattle.dc_core.specs.declared.line_heard.LineHeard.{LineHeard}
+use Rattle.dc_core.specs.declared.line_heard.LineHeard.TheVariants.{Again, Ready, Accepted, Failed as HasFailed}
+use Rattle.dc_core.specs.declared.fault.CommitFault.{CommitFault}
+use Rattle.dc_core.specs.declared.fault.HearFault.{HearFault}
+use Rattle.dc_core.specs.declared.fault.HearFault.TheVariants.{Full, Idle, NoLine, NoMemory, PendingFull, Stopped}
+use Rattle.dc_core.specs.Event.{hears, commits, heard, committed}
 use Rattle.dc_poll.specs.Happening.{Happening, does, tells}
 use Rattle.dc_poll.specs.declared.event.Event.{Event as Told}
 use Rattle.dc_poll.specs.declared.event.Event.TheVariants.{Read as told_read, Failed as has_failed}

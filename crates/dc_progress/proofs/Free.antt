@@ -4,17 +4,17 @@ use Rattle.std.specs.Prelude.{is_some, replicate, if◌then◌else◌}
 use Rattle.std.specs.List.{AllByRecursion}
 use Rattle.dc_readout.specs.Summary.{Summary, begun, verdict_by}
 use Rattle.dc_change.specs.declared.change.Change.{Change}
-use Rattle.dc_concentrator.specs.Lines.{is_line, line_count, settled_on}
+use Rattle.dc_core.specs.Lines.{is_line, line_count, settled_on}
 use Rattle.dc_change.specs.State.{State, row_of}
-use Rattle.dc_concentrator.specs.declared.fault.StartFault.{StartFault}
-use Rattle.dc_concentrator.specs.declared.fault.StartFault.TheVariants.{NoLine as StartNoLine, Unknown, Busy, Stopped as StartStopped}
-use Rattle.dc_concentrator.specs.declared.fault.HearFault.{HearFault}
-use Rattle.dc_concentrator.specs.declared.fault.HearFault.TheVariants.{Full, Idle, NoLine, NoMemory, PendingFull, Stopped}
-use Rattle.dc_concentrator.specs.declared.line_heard.LineHeard.{LineHeard}
-use Rattle.dc_concentrator.specs.Core.{Core, present, session_of, opened}
-use Rattle.dc_concentrator.specs.Event.{Event, Answer, starts, hears, commits, offices, started, heard, committed}
-use Rattle.dc_concentrator.specs.Step.{May, MayHear, next, is_on, address_in, answer_on, session_after, heard_on, settled_core}
-use Rattle.dc_concentrator.specs.Transcript.{Turn, leads, IsChain}
+use Rattle.dc_core.specs.declared.fault.StartFault.{StartFault}
+use Rattle.dc_core.specs.declared.fault.StartFault.TheVariants.{NoLine as StartNoLine, Unknown, Busy, Stopped as StartStopped}
+use Rattle.dc_core.specs.declared.fault.HearFault.{HearFault}
+use Rattle.dc_core.specs.declared.fault.HearFault.TheVariants.{Full, Idle, NoLine, NoMemory, PendingFull, Stopped}
+use Rattle.dc_core.specs.declared.line_heard.LineHeard.{LineHeard}
+use Rattle.dc_core.specs.Core.{Core, present, session_of, opened}
+use Rattle.dc_core.specs.Event.{Event, Answer, starts, hears, commits, offices, started, heard, committed}
+use Rattle.dc_core.specs.Step.{May, MayHear, next, is_on, address_in, answer_on, session_after, heard_on, settled_core}
+use Rattle.dc_core.specs.Transcript.{Turn, leads, IsChain}
 use Rattle.dc_progress.specs.Beside.{IsElsewhere, IsTakenUnlessFull}
 use Rattle.dc_progress.proofs.Others.{heard_line, places_differ, start_parts}
 use Rattle.dc_progress.proofs.Rounds.{get_settled}

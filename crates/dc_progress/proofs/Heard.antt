@@ -2,30 +2,30 @@
 use Rattle.std.proofs.Common.{◌≡◌, ◌⊎◌, ℕ, ◌+◌, ◌-◌, ◌≤◌, ◌<◌, Bool, true, false, not, ◌&&◌, List, Option, Some, None, Ok, cond, ◌==◌, arith, refl, sym, ◌∙◌, ap, subst}
 use Rattle.std.specs.Prelude.{slice_get, unwrap_or, if◌then◌else◌}
 use Rattle.std.proofs.lemmas.Bool.{eq-eqb, eqb-true, lt-ltb}
-use Rattle.dc_frame.specs.Control.{variable_data}
-use Rattle.dc_frame.specs.Frame.{FrameSeen, ack, long}
-use Rattle.dc_frame.specs.Reading.{frame_of}
-use Rattle.dc_frame.proofs.Spellings.{frame_of-spelling}
+use Rattle.dc_linkframe.specs.Control.{variable_data}
+use Rattle.dc_linkframe.specs.Frame.{FrameSeen, ack, long}
+use Rattle.dc_linkframe.specs.Reading.{frame_of}
+use Rattle.dc_linkframe.proofs.Spellings.{frame_of-spelling}
 use Rattle.dc_address.specs.declared.identity.Identity.{Identity}
 use Rattle.dc_address.specs.Mask.{mask_of, matches}
 use Rattle.dc_address.proofs.Masks.{matches-mask_of}
-use Rattle.dc_record.specs.Body.{continues}
-use Rattle.dc_record.specs.Telegram.{Parsed, telegram_at}
+use Rattle.dc_records.specs.Body.{continues}
+use Rattle.dc_records.specs.Telegram.{Parsed, telegram_at}
 use Rattle.dc_readout.specs.declared.stage.Stage.{Stage}
 use Rattle.dc_readout.specs.declared.stage.Stage.TheVariants.{Resets, Selects, Requests}
 use Rattle.dc_readout.specs.declared.why.Why.TheVariants.{NoAnswer, Stranger, TooManyParts}
 use Rattle.dc_readout.specs.Answer.{Meaning, acknowledged, answered, missed, broken, max_parts, is_meter, to_command, by_telegram, by_body, to_request}
 use Rattle.dc_readout.specs.Summary.{Verdict, again, ready, new, failed, link_address, reset_of, selection_of, request_of, asked_at, asked_by, to_reset, meaning_at, verdict_of_meaning, verdict_by}
-use Rattle.dc_world.specs.declared.event.Outcome.{Outcome}
-use Rattle.dc_world.specs.declared.event.Outcome.TheVariants.{RequestLost, ReplyLost, ReplyUnreadable, AsSent}
-use Rattle.dc_world.specs.Meter.{Meter, Position, is_own, hears_at, moved_by, answer_to, body_at, rsp_ud, response}
-use Rattle.dc_world.specs.World.{World, Running, heard_in, AreRegular}
-use Rattle.dc_world.specs.Reply.{bytes_of}
-use Rattle.dc_world.specs.InStep.{HasGoneOn, HasNotGoneOn, IsInStep, IsAlone, Agrees}
-use Rattle.dc_world.proofs.Asked.{body_there}
-use Rattle.dc_world.proofs.Exchanges.{alone_at, own_goes_on}
-use Rattle.dc_world.proofs.Moves.{answer_to-request, selected_kept, no_frame_of_nothing, no_frame_of_zero}
-use Rattle.dc_world.proofs.Replies.{answer_to-reset, answer_to-selection, heard_as_sent}
+use Rattle.dc_readout.specs.declared.world.event.Outcome.{Outcome}
+use Rattle.dc_readout.specs.declared.world.event.Outcome.TheVariants.{RequestLost, ReplyLost, ReplyUnreadable, AsSent}
+use Rattle.dc_readout.specs.Meter.{Meter, Position, is_own, hears_at, moved_by, answer_to, body_at, rsp_ud, response}
+use Rattle.dc_readout.specs.World.{World, Running, heard_in, AreRegular}
+use Rattle.dc_readout.specs.Reply.{bytes_of}
+use Rattle.dc_readout.specs.InStep.{HasGoneOn, HasNotGoneOn, IsInStep, IsAlone, Agrees}
+use Rattle.dc_readout.proofs.Asked.{body_there}
+use Rattle.dc_readout.proofs.Exchanges.{alone_at, own_goes_on}
+use Rattle.dc_readout.proofs.Moves.{answer_to-request, selected_kept, no_frame_of_nothing, no_frame_of_zero}
+use Rattle.dc_readout.proofs.Replies.{answer_to-reset, answer_to-selection, heard_as_sent}
 use Rattle.dc_progress.specs.Rounds.{losses_by}
 
 -- ---- the meter's own telegram

@@ -9,27 +9,27 @@ use Rattle.std.proofs.lemmas.Bool.Decides.{nat_tests}
 use Rattle.dc_address.specs.declared.identity.Identity.{Identity}
 use Rattle.dc_address.specs.Identity.{identity_cmp}
 use Rattle.dc_address.proofs.Order.{same_from_tie}
-use Rattle.dc_record.specs.Body.{continues}
-use Rattle.dc_record.specs.Telegram.{Parsed}
+use Rattle.dc_records.specs.Body.{continues}
+use Rattle.dc_records.specs.Telegram.{Parsed}
 use Rattle.dc_readout.specs.Summary.{Summary, Verdict, again, ready, new, failed, begun, verdict_by, heard_by}
 use Rattle.dc_readout.proofs.Taken.{taken}
 use Rattle.dc_change.specs.Apply.{applied, heard as told_at, joined}
 use Rattle.dc_change.specs.declared.change.Change.{Change}
 use Rattle.dc_change.specs.State.{State, MeterRow, PartRow, row_of}
 use Rattle.dc_change.proofs.History.{after_of_push}
-use Rattle.dc_concentrator.specs.Lines.{is_line}
-use Rattle.dc_concentrator.specs.Taking.{change_of}
-use Rattle.dc_concentrator.specs.declared.fault.StartFault.{StartFault}
-use Rattle.dc_concentrator.specs.declared.fault.HearFault.{HearFault}
-use Rattle.dc_concentrator.specs.declared.fault.HearFault.TheVariants.{Stopped}
-use Rattle.dc_concentrator.specs.declared.fault.CommitFault.{CommitFault}
-use Rattle.dc_concentrator.specs.declared.fault.CommitFault.TheVariants.{Device, Worn, Stopped as CommitStopped}
-use Rattle.dc_concentrator.specs.declared.line_heard.LineHeard.{LineHeard}
-use Rattle.dc_concentrator.specs.Core.{Core, present, session_of, with_session}
-use Rattle.dc_concentrator.specs.Event.{Event, Answer, starts, asks, hears, commits, offices, started, heard, committed}
-use Rattle.dc_concentrator.specs.Step.{May, next, is_on, address_in, answer_on, judged, heard_on, settled_core, after_commit}
-use Rattle.dc_concentrator.specs.Transcript.{Turn, leads, IsChain}
-use Rattle.dc_concentrator.proofs.Registered.{row_of_same, row_of_other}
+use Rattle.dc_core.specs.Lines.{is_line}
+use Rattle.dc_core.specs.Taking.{change_of}
+use Rattle.dc_core.specs.declared.fault.StartFault.{StartFault}
+use Rattle.dc_core.specs.declared.fault.HearFault.{HearFault}
+use Rattle.dc_core.specs.declared.fault.HearFault.TheVariants.{Stopped}
+use Rattle.dc_core.specs.declared.fault.CommitFault.{CommitFault}
+use Rattle.dc_core.specs.declared.fault.CommitFault.TheVariants.{Device, Worn, Stopped as CommitStopped}
+use Rattle.dc_core.specs.declared.line_heard.LineHeard.{LineHeard}
+use Rattle.dc_core.specs.Core.{Core, present, session_of, with_session}
+use Rattle.dc_core.specs.Event.{Event, Answer, starts, asks, hears, commits, offices, started, heard, committed}
+use Rattle.dc_core.specs.Step.{May, next, is_on, address_in, answer_on, judged, heard_on, settled_core, after_commit}
+use Rattle.dc_core.specs.Transcript.{Turn, leads, IsChain}
+use Rattle.dc_core.proofs.Registered.{row_of_same, row_of_other}
 use Rattle.dc_progress.specs.Beside.{IsOfLines}
 use Rattle.dc_progress.proofs.Others.{start_parts, heard_line, low_place, settled_meter, Keeps, other_keeps}
 use Rattle.dc_progress.proofs.Rounds.{get_settled}

@@ -3,9 +3,9 @@ use Rattle.std.proofs.Common.{◌≡◌, ℕ, ◌+◌, ◌*◌, ◌≤◌, ◌<�
 use Rattle.dc_readout.specs.declared.stage.Stage.{Stage}
 use Rattle.dc_readout.specs.declared.stage.Stage.TheVariants.{Resets, Selects, Requests, Pending, Ended}
 use Rattle.dc_readout.specs.Session.{commands}
-use Rattle.dc_world.specs.declared.event.Outcome.{Outcome}
+use Rattle.dc_readout.specs.declared.world.event.Outcome.{Outcome}
 use Rattle.dc_progress.specs.Rounds.{losses_by, row_after}
-use Rattle.dc_frame.specs.Frame.{FrameSeen}
+use Rattle.dc_linkframe.specs.Frame.{FrameSeen}
 use Rattle.dc_address.specs.declared.identity.Identity.{Identity}
 use Rattle.dc_readout.specs.Summary.{reset_of, selection_of, request_of, asked_at}
 

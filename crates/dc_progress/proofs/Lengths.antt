@@ -1,12 +1,12 @@
 -- How long an answer of a meter is.
 use Rattle.std.proofs.Common.{◌≡◌, ℕ, ◌-◌, ◌≤◌, Bool, true, false, List, [], ◌∷◌, length, Option, Some, None, cond, ◌==◌, arith, refl, length-append}
 use Rattle.std.specs.Prelude.{slice_get, unwrap_or, ◌&&◌}
-use Rattle.dc_frame.specs.Control.{snd_nke, variable_data}
-use Rattle.dc_frame.specs.Frame.{FrameSeen, ack, short, long, spelling, checksum}
+use Rattle.dc_linkframe.specs.Control.{snd_nke, variable_data}
+use Rattle.dc_linkframe.specs.Frame.{FrameSeen, ack, short, long, spelling, checksum}
 use Rattle.dc_address.specs.Mask.{mask_at, matches}
-use Rattle.dc_world.specs.Meter.{Meter, Position, is_own, is_request, is_selection, hears_at, body_at, rsp_ud, response, answer_to}
-use Rattle.dc_world.specs.Regular.{Fits}
-use Rattle.dc_world.specs.Reply.{bytes_of}
+use Rattle.dc_readout.specs.Meter.{Meter, Position, is_own, is_request, is_selection, hears_at, body_at, rsp_ud, response, answer_to}
+use Rattle.dc_readout.specs.Regular.{Fits}
+use Rattle.dc_readout.specs.Reply.{bytes_of}
 
 long_short : (control address ci : ℕ) (body : List ℕ) → length body ≤ 252 → length (spelling (long control address ci body)) ≤ 300
 long_short control address ci body fits =

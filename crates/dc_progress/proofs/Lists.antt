@@ -3,10 +3,10 @@ use Rattle.std.proofs.Common.{◌≡◌, ℕ, Bool, true, false, List, [], ◌�
 use Rattle.std.specs.Prelude.{if◌then◌else◌, ◌==◌}
 use Rattle.std.specs.List.{AllByRecursion}
 use Rattle.std.proofs.lemmas.Bool.{eq-eqb}
-use Rattle.dc_concentrator.specs.Event.{starts, asks, hears, commits, offices}
-use Rattle.dc_concentrator.specs.Core.{Core}
-use Rattle.dc_concentrator.specs.Step.{next}
-use Rattle.dc_concentrator.specs.Transcript.{Turn, leads}
+use Rattle.dc_core.specs.Event.{starts, asks, hears, commits, offices}
+use Rattle.dc_core.specs.Core.{Core}
+use Rattle.dc_core.specs.Step.{next}
+use Rattle.dc_core.specs.Transcript.{Turn, leads}
 use Rattle.dc_progress.specs.Beside.{IsElsewhere, IsOfLines}
 use Rattle.dc_poll.specs.Keeping.{AreTrue, Store, behind_answer, store_behind}
 use Rattle.dc_poll.specs.Happening.{Happening, does, tells, is_on, happened_on, happened_turns, turns_of}

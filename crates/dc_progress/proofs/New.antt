@@ -8,13 +8,13 @@ use Rattle.dc_readout.specs.Summary.{Summary}
 use Rattle.dc_change.specs.History.{after}
 use Rattle.dc_change.specs.State.{State, MeterRow, ReadingRow, row_of}
 use Rattle.dc_change.specs.declared.change.Change.{Change}
-use Rattle.dc_concentrator.specs.Lines.{is_line, line_count}
-use Rattle.dc_concentrator.specs.Core.{Core, present, opened, session_of}
-use Rattle.dc_concentrator.specs.Event.{starts, started}
-use Rattle.dc_concentrator.specs.Step.{is_on}
-use Rattle.dc_concentrator.specs.Transcript.{Turn, leads, IsChain}
-use Rattle.dc_concentrator.proofs.Going.{leads_append}
-use Rattle.dc_concentrator.proofs.Told.{chain_parts}
+use Rattle.dc_core.specs.Lines.{is_line, line_count}
+use Rattle.dc_core.specs.Core.{Core, present, opened, session_of}
+use Rattle.dc_core.specs.Event.{starts, started}
+use Rattle.dc_core.specs.Step.{is_on}
+use Rattle.dc_core.specs.Transcript.{Turn, leads, IsChain}
+use Rattle.dc_core.proofs.Going.{leads_append}
+use Rattle.dc_core.proofs.Told.{chain_parts}
 use Rattle.dc_progress.specs.Beside.{IsOfLines, readings_of}
 use Rattle.dc_progress.proofs.Others.{Keeps, start_parts}
 use Rattle.dc_progress.proofs.Rows.{on_their_rows}

@@ -8,11 +8,11 @@ use Rattle.dc_address.specs.Identity.{identity_cmp, wire_of}
 use Rattle.dc_address.specs.declared.identity.Identity.{Identity}
 use Rattle.dc_change.specs.Body.{IsBody, body_of}
 use Rattle.dc_change.specs.State.{State, MeterRow, row_of}
-use Rattle.dc_record.specs.Body.{plain}
-use Rattle.dc_record.specs.Telegram.{IsTelegram, Parsed, telegram_at}
-use Rattle.dc_record.proofs.Spellings.Telegrams.{telegram_again}
-use Rattle.dc_world.specs.Meter.{Meter, first_position}
-use Rattle.dc_world.specs.World.{AreRegular, more_in, whole_readout}
+use Rattle.dc_records.specs.Body.{plain}
+use Rattle.dc_records.specs.Telegram.{IsTelegram, Parsed, telegram_at}
+use Rattle.dc_records.proofs.Spellings.Telegrams.{telegram_again}
+use Rattle.dc_readout.specs.Meter.{Meter, first_position}
+use Rattle.dc_readout.specs.World.{AreRegular, more_in, whole_readout}
 use Rattle.dc_progress.specs.Needs.{IsThere}
 use Rattle.dc_progress.specs.Carried.{Wire}
 use Rattle.dc_progress.specs.Every.{IsWired}

@@ -13,10 +13,10 @@ use Rattle.dc_change.specs.State.{PartRow, ReadingRow, State}
 use Rattle.dc_change.specs.Valid.{IsChange, IsMeter, IsOpenSerial, IsPart, IsReading, IsState}
 use Rattle.dc_change.specs.declared.change.Change.{Change}
 use Rattle.dc_change.proofs.Lengths.{state_fits, state_some}
-use Rattle.dc_disk.specs.Disk.{Image, put}
-use Rattle.dc_disk.specs.Fields.{number_bytes}
-use Rattle.dc_disk.specs.Images.{put_elsewhere}
-use Rattle.dc_disk.specs.declared.sector.Sector.TheVariants.{Bytes}
+use Rattle.dc_sectors.specs.Disk.{Image, put}
+use Rattle.dc_sectors.specs.Fields.{number_bytes}
+use Rattle.dc_sectors.specs.Images.{put_elsewhere}
+use Rattle.dc_sectors.specs.declared.sector.Sector.TheVariants.{Bytes}
 use Rattle.dc_log.specs.Halves.{budget_of, fewest_sectors, half_len_of}
 use Rattle.dc_log.specs.Roots.{first_root}
 use Rattle.dc_log.specs.Sites.{base_site, change_site}
@@ -24,13 +24,13 @@ use Rattle.dc_log.specs.Stands.{IsReady, blank}
 use Rattle.dc_log.specs.Writing.{IsWritten}
 use Rattle.dc_log.proofs.Appended.{appended_ready}
 use Rattle.dc_log.proofs.Formatted.{IsFormatted, formatted_ready}
-use Rattle.dc_log.specs.Group.{IsCommit, IsGroup, IsPage, commit_bytes, head_bytes, page_bytes, piece}
-use Rattle.dc_log.specs.declared.pages.site.Site.{Site}
-use Rattle.dc_concentrator.specs.Taking.{change_of}
-use Rattle.dc_register.specs.Language.{register}
-use Rattle.dc_log.specs.Root.{root_bytes}
-use Rattle.dc_log.specs.declared.roots.root.Root.{Root}
-use Rattle.dc_log.proofs.Spelled.{root_bytes-is_root}
+use Rattle.dc_pages.specs.Group.{IsCommit, IsGroup, IsPage, commit_bytes, head_bytes, page_bytes, piece}
+use Rattle.dc_pages.specs.declared.site.Site.{Site}
+use Rattle.dc_core.specs.Taking.{change_of}
+use Rattle.dc_meters.specs.Language.{register}
+use Rattle.dc_roots.specs.Root.{root_bytes}
+use Rattle.dc_roots.specs.declared.root.Root.{Root}
+use Rattle.dc_roots.proofs.Spelled.{root_bytes-is_root}
 use Rattle.dc_progress.proofs.OneHouse.{ascends, body, house, is_body, one, read_as, row}
 
 abbrev pub half : ℕ

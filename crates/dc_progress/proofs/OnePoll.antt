@@ -4,12 +4,12 @@ use Rattle.std.specs.Prelude.{if◌then◌else◌, slice_index_or, ◌==◌}
 use Rattle.std.specs.List.{All}
 use Rattle.std.proofs.lemmas.Bool.Decides.{nat_tests}
 use Rattle.std.proofs.lemmas.List.Elements.{All-cons, All-nil}
-use Rattle.dc_concentrator.specs.Core.{Core, present}
-use Rattle.dc_concentrator.specs.Transcript.{Turn, leads}
-use Rattle.dc_frame.proofs.Spellings.{frame_of-spelling}
-use Rattle.dc_world.specs.declared.event.Outcome.TheVariants.{AsSent}
-use Rattle.dc_world.specs.Meter.{answer_to, first_position, moved_by}
-use Rattle.dc_world.specs.World.{heard_in}
+use Rattle.dc_core.specs.Core.{Core, present}
+use Rattle.dc_core.specs.Transcript.{Turn, leads}
+use Rattle.dc_linkframe.proofs.Spellings.{frame_of-spelling}
+use Rattle.dc_readout.specs.declared.world.event.Outcome.TheVariants.{AsSent}
+use Rattle.dc_readout.specs.Meter.{answer_to, first_position, moved_by}
+use Rattle.dc_readout.specs.World.{heard_in}
 use Rattle.dc_progress.specs.Beside.{Bus as Line, bus_after, bus_at_first}
 use Rattle.dc_poll.specs.Happening.{Happening, does, tells, happened_on}
 use Rattle.dc_poll.specs.ImagePoll.{ImageTurned}
@@ -33,7 +33,7 @@ use Rattle.dc_progress.specs.Every.{EachIsRead, HasRoom, IsInOrder}
 use Rattle.dc_progress.specs.Met.{AnyPoll, IsMet, any_bus, durable_disk}
 use Rattle.dc_progress.proofs.Every.{each_is_read}
 use Rattle.dc_progress.proofs.OneHouse.{ascends, house, meter, one, wire, wired}
-use Rattle.dc_disk.specs.Images.{settled_is_image}
+use Rattle.dc_sectors.specs.Images.{settled_is_image}
 use Rattle.dc_poll.specs.Telling.{TakesAll}
 use Rattle.dc_progress.proofs.OneImage.{budget, image_0, image_1, part}
 use Rattle.dc_progress.proofs.OneRun.{acked, asks_none, commits_it, commits_none, core_0, hears_ack, hears_it, leads_is, machine_0, machine_1, opening, request, requests_it, reset, resets_it, sent, starts_it, turns, went}

@@ -7,32 +7,32 @@ use Rattle.dc_change.specs.History.{AcceptsAll, after}
 use Rattle.dc_change.specs.State.{State}
 use Rattle.dc_change.specs.Valid.{IsChange}
 use Rattle.dc_change.specs.declared.change.Change.{Change}
-use Rattle.dc_concentrator.specs.Core.{Core, opened, present, with_session}
-use Rattle.dc_concentrator.specs.Event.{starts, asks, hears, commits, started, asked, heard, committed}
-use Rattle.dc_concentrator.specs.Images.{IsAt, Machine, StandsForPromised}
-use Rattle.dc_concentrator.specs.OpenedOn.{IsOpenedOn}
-use Rattle.dc_concentrator.specs.Promised.{HoldsFront, promised_in}
-use Rattle.dc_concentrator.specs.Run.{DidAll, IsShown, fault_in}
-use Rattle.dc_concentrator.specs.Step.{May, judged, next, verdict_answer}
-use Rattle.dc_concentrator.specs.Transcript.{IsChain, Turn, accepted_by, accepted_in, leads}
-use Rattle.dc_concentrator.specs.Went.{Went}
-use Rattle.dc_concentrator.specs.declared.line_heard.LineHeard.TheVariants.{Accepted, Ready}
-use Rattle.dc_concentrator.proofs.Followed.{none_is_unknown}
-use Rattle.dc_concentrator.proofs.Fronts.{promised_is_committed}
-use Rattle.dc_concentrator.proofs.Headline.{stopped_reads}
-use Rattle.dc_disk.specs.Disk.{Image, IsImage, settled}
-use Rattle.dc_disk.specs.Images.{settled_image, settled_is_image}
-use Rattle.dc_disk.specs.Runs.{LeavesOnly}
-use Rattle.dc_frame.specs.Control.{request_to, reset_to, variable_data}
-use Rattle.dc_frame.specs.Frame.{FrameSeen, ack, long, spelling}
-use Rattle.dc_frame.specs.Reading.{frame_of}
-use Rattle.dc_frame.proofs.Spellings.{frame_of-spelling}
+use Rattle.dc_core.specs.Core.{Core, opened, present, with_session}
+use Rattle.dc_core.specs.Event.{starts, asks, hears, commits, started, asked, heard, committed}
+use Rattle.dc_core.specs.Images.{IsAt, Machine, StandsForPromised}
+use Rattle.dc_core.specs.OpenedOn.{IsOpenedOn}
+use Rattle.dc_core.specs.Promised.{HoldsFront, promised_in}
+use Rattle.dc_core.specs.Run.{DidAll, IsShown, fault_in}
+use Rattle.dc_core.specs.Step.{May, judged, next, verdict_answer}
+use Rattle.dc_core.specs.Transcript.{IsChain, Turn, accepted_by, accepted_in, leads}
+use Rattle.dc_core.specs.Went.{Went}
+use Rattle.dc_core.specs.declared.line_heard.LineHeard.TheVariants.{Accepted, Ready}
+use Rattle.dc_core.proofs.Followed.{none_is_unknown}
+use Rattle.dc_core.proofs.Fronts.{promised_is_committed}
+use Rattle.dc_core.proofs.Headline.{stopped_reads}
+use Rattle.dc_sectors.specs.Disk.{Image, IsImage, settled}
+use Rattle.dc_sectors.specs.Images.{settled_image, settled_is_image}
+use Rattle.dc_sectors.specs.Runs.{LeavesOnly}
+use Rattle.dc_linkframe.specs.Control.{request_to, reset_to, variable_data}
+use Rattle.dc_linkframe.specs.Frame.{FrameSeen, ack, long, spelling}
+use Rattle.dc_linkframe.specs.Reading.{frame_of}
+use Rattle.dc_linkframe.proofs.Spellings.{frame_of-spelling}
 use Rattle.dc_log.specs.Stands.{IsReady}
-use Rattle.dc_concentrator.specs.PendingImages.{Reads, Stands, StandsForFront, StandsForOne}
-use Rattle.dc_concentrator.specs.Lines.{settled_lines}
+use Rattle.dc_core.specs.PendingImages.{Reads, Stands, StandsForFront, StandsForOne}
+use Rattle.dc_core.specs.Lines.{settled_lines}
 use Rattle.dc_readout.specs.Summary.{Summary, Verdict, begun, heard_by, meaning_at, new, ready, verdict_of_meaning}
-use Rattle.dc_register.specs.Language.{register}
-use Rattle.dc_world.specs.Meter.{rsp_ud}
+use Rattle.dc_meters.specs.Language.{register}
+use Rattle.dc_readout.specs.Meter.{rsp_ud}
 use Rattle.dc_progress.specs.Met.{durable_disk}
 use Rattle.dc_progress.proofs.OneHouse.{body, house, one, read_as, reads}
 use Rattle.dc_progress.proofs.OneImage.{accepted, are_changes, budget, change, half, house_read, image_0, image_1, ready_0, ready_1, root}

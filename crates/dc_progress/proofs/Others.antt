@@ -14,16 +14,16 @@ use Rattle.dc_readout.specs.declared.stage.Stage.TheVariants.{Resets, Selects, R
 use Rattle.dc_readout.specs.Summary.{Summary, settled_by}
 use Rattle.dc_change.specs.Apply.{heard as told_at, joined as joined_rows}
 use Rattle.dc_change.specs.State.{State, MeterRow, PartRow, ReadingRow, row_of}
-use Rattle.dc_register.specs.Orders.{is_of}
-use Rattle.dc_concentrator.specs.Lines.{is_line, line_count, settled_at, settled_on}
-use Rattle.dc_concentrator.specs.declared.fault.StartFault.{StartFault}
-use Rattle.dc_concentrator.specs.declared.fault.StartFault.TheVariants.{NoLine as StartNoLine, Unknown, Busy, Stopped as StartStopped}
-use Rattle.dc_concentrator.specs.declared.fault.HearFault.{HearFault}
-use Rattle.dc_concentrator.specs.declared.fault.HearFault.TheVariants.{NoLine}
-use Rattle.dc_concentrator.specs.declared.line_heard.LineHeard.{LineHeard}
-use Rattle.dc_concentrator.specs.Step.{MayHear, is_on}
-use Rattle.dc_concentrator.proofs.Registered.{row_of_other}
-use Rattle.dc_concentrator.specs.Event.{Event, starts, asks, hears, commits, offices}
+use Rattle.dc_meters.specs.Orders.{is_of}
+use Rattle.dc_core.specs.Lines.{is_line, line_count, settled_at, settled_on}
+use Rattle.dc_core.specs.declared.fault.StartFault.{StartFault}
+use Rattle.dc_core.specs.declared.fault.StartFault.TheVariants.{NoLine as StartNoLine, Unknown, Busy, Stopped as StartStopped}
+use Rattle.dc_core.specs.declared.fault.HearFault.{HearFault}
+use Rattle.dc_core.specs.declared.fault.HearFault.TheVariants.{NoLine}
+use Rattle.dc_core.specs.declared.line_heard.LineHeard.{LineHeard}
+use Rattle.dc_core.specs.Step.{MayHear, is_on}
+use Rattle.dc_core.proofs.Registered.{row_of_other}
+use Rattle.dc_core.specs.Event.{Event, starts, asks, hears, commits, offices}
 use Rattle.dc_progress.specs.Beside.{IsElsewhere, IsHeardOn}
 use Rattle.dc_progress.specs.Beside.{readings_of}
 

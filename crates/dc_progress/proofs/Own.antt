@@ -5,17 +5,17 @@ use Rattle.std.specs.Ordering.{is_eq}
 use Rattle.std.proofs.lemmas.List.Elements.{filter-append}
 use Rattle.dc_address.specs.declared.identity.Identity.{Identity}
 use Rattle.dc_address.proofs.Order.{equal_to_itself}
-use Rattle.dc_record.specs.Body.{continues}
-use Rattle.dc_record.specs.Telegram.{Parsed, telegram_at}
-use Rattle.dc_record.proofs.Spellings.Telegrams.{telegram_takes}
+use Rattle.dc_records.specs.Body.{continues}
+use Rattle.dc_records.specs.Telegram.{Parsed, telegram_at}
+use Rattle.dc_records.proofs.Spellings.Telegrams.{telegram_takes}
 use Rattle.dc_readout.specs.Answer.{max_parts}
-use Rattle.dc_world.specs.Meter.{Meter}
-use Rattle.dc_world.specs.World.{more_in, more_after, whole_readout}
+use Rattle.dc_readout.specs.Meter.{Meter}
+use Rattle.dc_readout.specs.World.{more_in, more_after, whole_readout}
 use Rattle.dc_change.specs.Apply.{applied, heard as told_at, joined as joined_rows}
 use Rattle.dc_change.specs.State.{State, MeterRow, PartRow, ReadingRow, row_of}
-use Rattle.dc_register.specs.Orders.{is_of}
-use Rattle.dc_concentrator.specs.Taking.{change_of}
-use Rattle.dc_concentrator.proofs.Registered.{row_of_same}
+use Rattle.dc_meters.specs.Orders.{is_of}
+use Rattle.dc_core.specs.Taking.{change_of}
+use Rattle.dc_core.proofs.Registered.{row_of_same}
 use Rattle.dc_progress.specs.Beside.{readings_of, HasRead}
 use Rattle.dc_progress.specs.Needs.{IsOwnTelegram}
 use Rattle.dc_progress.proofs.Parts.{Next, next_of}

@@ -3,11 +3,11 @@
 use Rattle.std.proofs.Common.{◌≡◌, ◌≢◌, ℕ, Some, Err, List, [], ◌∷◌, ◌++◌, drop}
 use Rattle.std.specs.List.{AllByRecursion}
 use Rattle.dc_readout.specs.Summary.{Summary, verdict_by}
-use Rattle.dc_concentrator.specs.declared.fault.HearFault.TheVariants.{Full}
-use Rattle.dc_concentrator.specs.Core.{Core, session_of}
-use Rattle.dc_concentrator.specs.Event.{Event, Answer, starts, asks, hears, commits, offices, started, heard}
-use Rattle.dc_concentrator.specs.Step.{next}
-use Rattle.dc_concentrator.specs.Transcript.{Turn, leads}
+use Rattle.dc_core.specs.declared.fault.HearFault.TheVariants.{Full}
+use Rattle.dc_core.specs.Core.{Core, session_of}
+use Rattle.dc_core.specs.Event.{Event, Answer, starts, asks, hears, commits, offices, started, heard}
+use Rattle.dc_core.specs.Step.{next}
+use Rattle.dc_core.specs.Transcript.{Turn, leads}
 use Rattle.dc_progress.specs.Beside.{IsElsewhere, IsNextPart}
 use Rattle.dc_progress.specs.Carried.{Wire}
 

@@ -2,7 +2,7 @@
 use Rattle.std.proofs.Common.{◌≡◌, ℕ, zero, suc, ◌+◌, Bool, true, false, List, [], ◌∷◌, drop, Option, Some, None, cond, arith, refl, sym, ◌∙◌, ap}
 use Rattle.std.specs.Prelude.{slice_get, option_map}
 use Rattle.std.proofs.lemmas.Bool.{false≢true, true≢false}
-use Rattle.dc_world.specs.World.{more_after, whole_readout}
+use Rattle.dc_readout.specs.World.{more_after, whole_readout}
 
 -- the first of what is left, and what is left after it
 record First (body : List ℕ) (bodies left : List (List ℕ)) : Type 0 where

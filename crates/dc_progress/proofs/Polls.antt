@@ -1,29 +1,29 @@
 -- A poll, one thing after the other (the theorem of specs/Polled).
 use Rattle.std.proofs.Common.{◌≡◌, ◌≢◌, ◌<◌, inl, inr, ℕ, ◌+◌, ◌*◌, ◌≤◌, false, Option, Some, None, Result, Ok, Err, List, [], ◌∷◌, length, arith, refl, sym, ◌∙◌, ap, subst}
-use Rattle.dc_frame.specs.Frame.{FrameSeen}
-use Rattle.dc_frame.specs.Reading.{frame_of}
+use Rattle.dc_linkframe.specs.Frame.{FrameSeen}
+use Rattle.dc_linkframe.specs.Reading.{frame_of}
 use Rattle.dc_readout.specs.Summary.{asked_by}
-use Rattle.dc_world.specs.declared.event.Outcome.{Outcome}
-use Rattle.dc_world.specs.Meter.{Meter}
-use Rattle.dc_world.specs.World.{heard_in}
-use Rattle.dc_world.proofs.Asked.{sent_frame}
+use Rattle.dc_readout.specs.declared.world.event.Outcome.{Outcome}
+use Rattle.dc_readout.specs.Meter.{Meter}
+use Rattle.dc_readout.specs.World.{heard_in}
+use Rattle.dc_readout.proofs.Asked.{sent_frame}
 use Rattle.dc_change.specs.State.{MeterRow}
-use Rattle.dc_concentrator.specs.declared.line_heard.LineHeard.{LineHeard}
-use Rattle.dc_concentrator.specs.declared.line_heard.LineHeard.TheVariants.{Again, Ready, Accepted, Failed}
-use Rattle.dc_concentrator.specs.declared.fault.HearFault.{HearFault}
-use Rattle.dc_concentrator.specs.declared.fault.HearFault.TheVariants.{NoMemory}
-use Rattle.dc_concentrator.specs.Core.{Core}
-use Rattle.dc_concentrator.specs.Event.{Event, Answer, starts, asks, hears, commits, started, asked, heard, committed, replied}
-use Rattle.dc_concentrator.specs.Step.{May, next, MayHear, ask_answer, hear_answer, after_hear, settled_core}
-use Rattle.dc_concentrator.specs.Transcript.{Turn, leads, IsChain}
+use Rattle.dc_core.specs.declared.line_heard.LineHeard.{LineHeard}
+use Rattle.dc_core.specs.declared.line_heard.LineHeard.TheVariants.{Again, Ready, Accepted, Failed}
+use Rattle.dc_core.specs.declared.fault.HearFault.{HearFault}
+use Rattle.dc_core.specs.declared.fault.HearFault.TheVariants.{NoMemory}
+use Rattle.dc_core.specs.Core.{Core}
+use Rattle.dc_core.specs.Event.{Event, Answer, starts, asks, hears, commits, started, asked, heard, committed, replied}
+use Rattle.dc_core.specs.Step.{May, next, MayHear, ask_answer, hear_answer, after_hear, settled_core}
+use Rattle.dc_core.specs.Transcript.{Turn, leads, IsChain}
 use Rattle.dc_progress.specs.Needs.{MayBeRead}
 use Rattle.dc_progress.specs.Progress.{IsRead, requests_of}
 use Rattle.dc_progress.specs.Rounds.{Scene, Round, IsRound, losses_by, row_after, begun_on}
 use Rattle.dc_progress.proofs.Rounds.{Told, GoesOn, asks_nothing, right_answer, still_running}
 use Rattle.dc_progress.proofs.Along.{Runs, Behind, asks_here, asked_for, asks_some, thrice_less, step, step_told, at_first}
-use Rattle.dc_script.specs.Link.{Link, linked}
-use Rattle.dc_script.specs.Poll.{Happening, does, talks, loses, Due, to_start, to_ask, to_send, to_hear, to_commit, to_make_room, to_hear_again, is_over, Phase, IsDueEvent, IsWay, behind, behind_turn, behind_first_heard, happened_turns}
-use Rattle.dc_script.specs.declared.port.Port.{Port}
+use Rattle.dc_poller.specs.Link.{Link, linked}
+use Rattle.dc_poller.specs.Poll.{Happening, does, talks, loses, Due, to_start, to_ask, to_send, to_hear, to_commit, to_make_room, to_hear_again, is_over, Phase, IsDueEvent, IsWay, behind, behind_turn, behind_first_heard, happened_turns}
+use Rattle.dc_poller.specs.declared.port.Port.{Port}
 use Rattle.dc_progress.specs.Polled.{Bus, asks_by, bus_after, rounds_in, GivesTo, Works, IsServed, bus_at_first, EndsRead, PollsEnd}
 use Rattle.dc_progress.proofs.Quiet.{IsCommand, quiet_heard, nothing_left}
 

@@ -1,20 +1,20 @@
 -- An answer without a telegram leaves the pending changes, and a commit leaves none.
 use Rattle.std.proofs.Common.{◌≡◌, ℕ, Bool, true, false, not, Option, Some, None, Result, Ok, Err, List, [], ◌∷◌, length, cond, refl, sym, subst}
 use Rattle.std.specs.Prelude.{is_some, nat_le, if◌then◌else◌}
-use Rattle.dc_record.specs.Body.{continues}
+use Rattle.dc_records.specs.Body.{continues}
 use Rattle.dc_readout.specs.Summary.{Summary, Verdict, again, ready, new, failed, asked_by, verdict_by}
 use Rattle.dc_change.specs.declared.change.Change.{Change}
 use Rattle.dc_change.specs.Accepts.{refusal}
-use Rattle.dc_concentrator.specs.declared.pending.fault.TakeFault.TheVariants.{PendingFull, Full}
-use Rattle.dc_concentrator.specs.Lines.{is_line}
-use Rattle.dc_concentrator.specs.Taking.{change_of}
-use Rattle.dc_concentrator.specs.Waiting.{most_waiting}
-use Rattle.dc_concentrator.specs.declared.line_heard.LineHeard.{LineHeard}
-use Rattle.dc_concentrator.specs.declared.line_heard.LineHeard.TheVariants.{Again, Ready, Accepted, Failed}
-use Rattle.dc_concentrator.specs.declared.fault.HearFault.{HearFault}
-use Rattle.dc_concentrator.specs.declared.fault.HearFault.TheVariants.{NoLine, Idle, Stopped}
-use Rattle.dc_concentrator.specs.Core.{Core, present, session_of}
-use Rattle.dc_concentrator.specs.Step.{hear_answer, answer_on, verdict_answer, unless_refused, and_pending, heard_on, after_hear, settled_core}
+use Rattle.dc_core.specs.declared.pending.fault.TakeFault.TheVariants.{PendingFull, Full}
+use Rattle.dc_core.specs.Lines.{is_line}
+use Rattle.dc_core.specs.Taking.{change_of}
+use Rattle.dc_core.specs.Waiting.{most_waiting}
+use Rattle.dc_core.specs.declared.line_heard.LineHeard.{LineHeard}
+use Rattle.dc_core.specs.declared.line_heard.LineHeard.TheVariants.{Again, Ready, Accepted, Failed}
+use Rattle.dc_core.specs.declared.fault.HearFault.{HearFault}
+use Rattle.dc_core.specs.declared.fault.HearFault.TheVariants.{NoLine, Idle, Stopped}
+use Rattle.dc_core.specs.Core.{Core, present, session_of}
+use Rattle.dc_core.specs.Step.{hear_answer, answer_on, verdict_answer, unless_refused, and_pending, heard_on, after_hear, settled_core}
 
 abbrev pub IsCommand : LineHeard → Type 0
 IsCommand Again = Unit {0}

@@ -8,8 +8,8 @@ use Rattle.std.specs.BTreeMap.{is_at}
 use Rattle.std.specs.Map.{lookup, set_value}
 use Rattle.dc_address.specs.declared.identity.Identity.{Identity}
 use Rattle.dc_address.specs.Identity.{identity_cmp}
-use Rattle.dc_record.specs.Body.{continues}
-use Rattle.dc_record.specs.Telegram.{Parsed}
+use Rattle.dc_records.specs.Body.{continues}
+use Rattle.dc_records.specs.Telegram.{Parsed}
 use Rattle.dc_change.specs.declared.fault.ChangeFault.TheVariants.{Full}
 use Rattle.dc_change.specs.Accepts.{continues as is_continued, refusal, telegram_stands}
 use Rattle.dc_change.specs.Apply.{applied, told, heard, joined, with_row}
@@ -17,9 +17,9 @@ use Rattle.dc_change.specs.Body.{body_of}
 use Rattle.dc_change.specs.Size.{part_size, parts_size, size_of}
 use Rattle.dc_change.specs.State.{State, MeterRow, PartRow, row_of}
 use Rattle.dc_change.specs.Fields.{end_of_numbers}
-use Rattle.dc_register.proofs.Sizes.{size_of-heard_open, size_of-heard_last, parts_size-joined}
-use Rattle.dc_concentrator.specs.Taking.{change_of}
-use Rattle.dc_concentrator.proofs.Registered.{row_of_same}
+use Rattle.dc_meters.proofs.Sizes.{size_of-heard_open, size_of-heard_last, parts_size-joined}
+use Rattle.dc_core.specs.Taking.{change_of}
+use Rattle.dc_core.proofs.Registered.{row_of_same}
 use Rattle.dc_progress.specs.Needs.{body_size, room_for}
 use Rattle.dc_progress.specs.Progress.{with_reading}
 

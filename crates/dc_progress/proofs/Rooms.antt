@@ -11,8 +11,8 @@ use Rattle.std.specs.Ordering.{is_eq}
 use Rattle.dc_address.specs.declared.identity.Identity.{Identity}
 use Rattle.dc_address.specs.Identity.{identity_cmp}
 use Rattle.dc_address.proofs.Order.{same_from_tie}
-use Rattle.dc_record.specs.Body.{continues}
-use Rattle.dc_record.specs.Telegram.{Parsed}
+use Rattle.dc_records.specs.Body.{continues}
+use Rattle.dc_records.specs.Telegram.{Parsed}
 use Rattle.dc_readout.proofs.Taken.{taken}
 use Rattle.dc_readout.specs.Summary.{Summary, Verdict, again, ready, new, failed, asked_by, begun, heard_by, verdict_by}
 use Rattle.dc_change.specs.Accepts.{continues as is_continued, refusal, telegram_stands}
@@ -24,21 +24,21 @@ use Rattle.dc_change.specs.Fields.{end_of_numbers}
 use Rattle.dc_change.specs.declared.change.Change.{Change}
 use Rattle.dc_change.specs.declared.fault.ChangeFault.TheVariants.{Full as RegisterFull, Unknown as RegisterUnknown}
 use Rattle.dc_change.proofs.History.{after_of_push}
-use Rattle.dc_concentrator.specs.Lines.{is_line, line_count, settled_on}
-use Rattle.dc_concentrator.specs.Taking.{change_of}
-use Rattle.dc_concentrator.specs.declared.fault.StartFault.{StartFault}
-use Rattle.dc_concentrator.specs.declared.fault.HearFault.{HearFault}
-use Rattle.dc_concentrator.specs.declared.fault.HearFault.TheVariants.{Full, Idle, NoLine, NoMemory, PendingFull, Stopped}
-use Rattle.dc_concentrator.specs.declared.line_heard.LineHeard.{LineHeard}
-use Rattle.dc_concentrator.specs.Core.{Core, present, session_of, opened}
-use Rattle.dc_concentrator.specs.Event.{Event, Answer, starts, asks, hears, commits, offices, started, asked, heard, committed}
-use Rattle.dc_concentrator.specs.Known.{IsForWantOfRoom}
-use Rattle.dc_concentrator.specs.Step.{May, MayHear, next, is_on, address_in, answer_on, hear_answer, judged, heard_on, settled_core, session_after}
-use Rattle.dc_concentrator.specs.Transcript.{Turn, leads, IsChain}
-use Rattle.dc_concentrator.proofs.Followed.{none_is_unknown}
-use Rattle.dc_concentrator.proofs.Going.{leads_push}
-use Rattle.dc_concentrator.proofs.Registered.{row_of_same, row_of_other}
-use Rattle.dc_concentrator.proofs.Told.{chain_parts}
+use Rattle.dc_core.specs.Lines.{is_line, line_count, settled_on}
+use Rattle.dc_core.specs.Taking.{change_of}
+use Rattle.dc_core.specs.declared.fault.StartFault.{StartFault}
+use Rattle.dc_core.specs.declared.fault.HearFault.{HearFault}
+use Rattle.dc_core.specs.declared.fault.HearFault.TheVariants.{Full, Idle, NoLine, NoMemory, PendingFull, Stopped}
+use Rattle.dc_core.specs.declared.line_heard.LineHeard.{LineHeard}
+use Rattle.dc_core.specs.Core.{Core, present, session_of, opened}
+use Rattle.dc_core.specs.Event.{Event, Answer, starts, asks, hears, commits, offices, started, asked, heard, committed}
+use Rattle.dc_core.specs.Known.{IsForWantOfRoom}
+use Rattle.dc_core.specs.Step.{May, MayHear, next, is_on, address_in, answer_on, hear_answer, judged, heard_on, settled_core, session_after}
+use Rattle.dc_core.specs.Transcript.{Turn, leads, IsChain}
+use Rattle.dc_core.proofs.Followed.{none_is_unknown}
+use Rattle.dc_core.proofs.Going.{leads_push}
+use Rattle.dc_core.proofs.Registered.{row_of_same, row_of_other}
+use Rattle.dc_core.proofs.Told.{chain_parts}
 use Rattle.dc_progress.specs.Beside.{IsNextPart, IsOfLines}
 use Rattle.dc_progress.proofs.Eight.{lines_are_kept}
 use Rattle.dc_progress.proofs.Others.{start_parts, heard_line, low_place, places_differ}

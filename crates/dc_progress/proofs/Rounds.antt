@@ -3,26 +3,26 @@ use Rattle.std.proofs.Common.{◌≡◌, ⊎_elim, ℕ, zero, suc, ◌-◌, ◌<
 use Rattle.std.specs.Prelude.{is_some, nat_le, option_map, if◌then◌else◌, ◌≢◌}
 use Rattle.std.proofs.lemmas.List.{length-set, length-map}
 use Rattle.std.proofs.lemmas.Bool.Decides.{nat_tests}
-use Rattle.dc_frame.specs.Frame.{FrameSeen, spelling}
-use Rattle.dc_record.specs.Body.{continues}
-use Rattle.dc_record.specs.Telegram.{Parsed}
+use Rattle.dc_linkframe.specs.Frame.{FrameSeen, spelling}
+use Rattle.dc_records.specs.Body.{continues}
+use Rattle.dc_records.specs.Telegram.{Parsed}
 use Rattle.dc_readout.specs.Summary.{Summary, Verdict, again, ready, new, failed, asked_by, verdict_by}
 use Rattle.dc_change.specs.declared.change.Change.{Change}
 use Rattle.dc_change.specs.declared.fault.ChangeFault.{ChangeFault}
 use Rattle.dc_change.specs.Accepts.{refusal}
 use Rattle.dc_change.specs.History.{after}
-use Rattle.dc_concentrator.specs.declared.pending.fault.TakeFault.{TakeFault}
-use Rattle.dc_concentrator.specs.declared.pending.fault.TakeFault.TheVariants.{PendingFull as TakePendingFull, Full as TakeFull}
-use Rattle.dc_concentrator.specs.Lines.{is_line, line_count, settled_on, settled_lines}
-use Rattle.dc_concentrator.specs.Taking.{change_of, refuses}
-use Rattle.dc_concentrator.specs.Waiting.{most_waiting}
-use Rattle.dc_concentrator.specs.declared.line_heard.LineHeard.{LineHeard}
-use Rattle.dc_concentrator.specs.declared.line_heard.LineHeard.TheVariants.{Again, Ready, Accepted, Failed}
-use Rattle.dc_concentrator.specs.declared.fault.HearFault.{HearFault}
-use Rattle.dc_concentrator.specs.declared.fault.HearFault.TheVariants.{NoLine, Idle, NoMemory, Stopped}
-use Rattle.dc_concentrator.specs.Core.{Core, present, session_of}
-use Rattle.dc_concentrator.specs.Step.{ask_answer, asked_on, hear_answer, answer_on, verdict_answer, unless_refused, MayHear, session_after, judged, heard_on, after_hear, settled_core}
-use Rattle.dc_concentrator.proofs.Refused.{answer_is}
+use Rattle.dc_core.specs.declared.pending.fault.TakeFault.{TakeFault}
+use Rattle.dc_core.specs.declared.pending.fault.TakeFault.TheVariants.{PendingFull as TakePendingFull, Full as TakeFull}
+use Rattle.dc_core.specs.Lines.{is_line, line_count, settled_on, settled_lines}
+use Rattle.dc_core.specs.Taking.{change_of, refuses}
+use Rattle.dc_core.specs.Waiting.{most_waiting}
+use Rattle.dc_core.specs.declared.line_heard.LineHeard.{LineHeard}
+use Rattle.dc_core.specs.declared.line_heard.LineHeard.TheVariants.{Again, Ready, Accepted, Failed}
+use Rattle.dc_core.specs.declared.fault.HearFault.{HearFault}
+use Rattle.dc_core.specs.declared.fault.HearFault.TheVariants.{NoLine, Idle, NoMemory, Stopped}
+use Rattle.dc_core.specs.Core.{Core, present, session_of}
+use Rattle.dc_core.specs.Step.{ask_answer, asked_on, hear_answer, answer_on, verdict_answer, unless_refused, MayHear, session_after, judged, heard_on, after_hear, settled_core}
+use Rattle.dc_core.proofs.Refused.{answer_is}
 use Rattle.dc_progress.specs.Beside.{IsTakenUnlessFull}
 
 -- ---- a commit

@@ -1,34 +1,34 @@
 -- A poll that is served (the theorem of specs/Polled).
 use Rattle.std.proofs.Common.{◌≡◌, inl, inr, ℕ, zero, suc, ◌+◌, ◌*◌, ◌≤◌, Some, None, Result, Ok, Err, List, [], ◌∷◌, length, arith, refl, sym, ◌∙◌, ap, subst}
 use Rattle.std.specs.Prelude.{slice_get, option_map}
-use Rattle.dc_frame.specs.Frame.{spelling}
-use Rattle.dc_frame.proofs.Spellings.{frame_of-spelling}
+use Rattle.dc_linkframe.specs.Frame.{spelling}
+use Rattle.dc_linkframe.proofs.Spellings.{frame_of-spelling}
 use Rattle.dc_readout.specs.Summary.{asked_by}
-use Rattle.dc_world.specs.declared.event.Outcome.TheVariants.{AsSent}
-use Rattle.dc_world.specs.Meter.{Meter, moved_by, answer_to}
-use Rattle.dc_world.specs.Reply.{bytes_of}
-use Rattle.dc_world.specs.World.{heard_in}
-use Rattle.dc_world.proofs.Asked.{sent_frame}
-use Rattle.dc_world.proofs.Replies.{heard_as_sent}
+use Rattle.dc_readout.specs.declared.world.event.Outcome.TheVariants.{AsSent}
+use Rattle.dc_readout.specs.Meter.{Meter, moved_by, answer_to}
+use Rattle.dc_readout.specs.Reply.{bytes_of}
+use Rattle.dc_readout.specs.World.{heard_in}
+use Rattle.dc_readout.proofs.Asked.{sent_frame}
+use Rattle.dc_readout.proofs.Replies.{heard_as_sent}
 use Rattle.dc_bus.specs.Limits.{most_answer}
 use Rattle.dc_bus.specs.Bus.{Exchange}
 use Rattle.dc_change.specs.State.{MeterRow}
-use Rattle.dc_concentrator.specs.declared.line_heard.LineHeard.{LineHeard}
-use Rattle.dc_concentrator.specs.declared.line_heard.LineHeard.TheVariants.{Again, Ready, Accepted, Failed}
-use Rattle.dc_concentrator.specs.declared.fault.HearFault.{HearFault}
-use Rattle.dc_concentrator.specs.declared.fault.HearFault.TheVariants.{NoLine, Idle, Full, NoMemory, PendingFull, Stopped}
-use Rattle.dc_concentrator.specs.Core.{Core}
-use Rattle.dc_concentrator.specs.Event.{Event, Answer, starts, asks, hears, commits, started, asked, heard, committed}
-use Rattle.dc_concentrator.specs.Step.{May, next, ask_answer, hear_answer, after_hear, settled_core}
-use Rattle.dc_concentrator.specs.Transcript.{IsChain}
+use Rattle.dc_core.specs.declared.line_heard.LineHeard.{LineHeard}
+use Rattle.dc_core.specs.declared.line_heard.LineHeard.TheVariants.{Again, Ready, Accepted, Failed}
+use Rattle.dc_core.specs.declared.fault.HearFault.{HearFault}
+use Rattle.dc_core.specs.declared.fault.HearFault.TheVariants.{NoLine, Idle, Full, NoMemory, PendingFull, Stopped}
+use Rattle.dc_core.specs.Core.{Core}
+use Rattle.dc_core.specs.Event.{Event, Answer, starts, asks, hears, commits, started, asked, heard, committed}
+use Rattle.dc_core.specs.Step.{May, next, ask_answer, hear_answer, after_hear, settled_core}
+use Rattle.dc_core.specs.Transcript.{IsChain}
 use Rattle.dc_progress.specs.Needs.{MayBeRead}
 use Rattle.dc_progress.specs.Progress.{requests_of}
 use Rattle.dc_progress.specs.Rounds.{Scene}
 use Rattle.dc_progress.proofs.Rounds.{asks_nothing, never_memory}
 use Rattle.dc_progress.proofs.Along.{asks_here, asked_for, thrice_less}
-use Rattle.dc_script.specs.Link.{linked}
-use Rattle.dc_script.specs.Poll.{happened_exchanges, Happening, does, talks, Due, to_start, to_ask, to_send, to_hear, to_commit, to_make_room, to_hear_again, is_over, Phase, IsDueEvent, IsWay, behind_turn, behind_first_heard, happened_turns, happened_text}
-use Rattle.dc_script.specs.declared.port.Port.{Port}
+use Rattle.dc_poller.specs.Link.{linked}
+use Rattle.dc_poller.specs.Poll.{happened_exchanges, Happening, does, talks, Due, to_start, to_ask, to_send, to_hear, to_commit, to_make_room, to_hear_again, is_over, Phase, IsDueEvent, IsWay, behind_turn, behind_first_heard, happened_turns, happened_text}
+use Rattle.dc_poller.specs.declared.port.Port.{Port}
 use Rattle.dc_progress.specs.Polled.{Bus, bus_after, GivesTo, Works, IsServed, bus_at_first, ServedPoll, PollsAreServed}
 use Rattle.dc_progress.proofs.Lengths.{answer_short}
 use Rattle.dc_progress.proofs.Polls.{Asking, Sending, Hearing, Committing, At, Stands, scene_of, bound, sent_at, heard_at, asking_first, begun}

@@ -4,16 +4,16 @@ use Rattle.std.proofs.Common.{◌≡◌, ℕ, zero, suc, ◌+◌, ◌≤◌, Boo
 use Rattle.std.specs.Prelude.{sum_by}
 use Rattle.std.proofs.lemmas.List.Sums.{sum_by-cons}
 use Rattle.dc_address.specs.declared.identity.Identity.{Identity}
-use Rattle.dc_record.specs.Body.{continues}
-use Rattle.dc_record.specs.Telegram.{Parsed}
+use Rattle.dc_records.specs.Body.{continues}
+use Rattle.dc_records.specs.Telegram.{Parsed}
 use Rattle.dc_readout.specs.declared.stage.Stage.{Stage}
 use Rattle.dc_readout.specs.declared.stage.Stage.TheVariants.{Resets, Selects, Requests, Pending, Ended}
 use Rattle.dc_readout.specs.Summary.{Summary, ready, new, after_command, asked_at, heard_by, stage_settled}
 use Rattle.dc_change.specs.Apply.{applied, heard as told_at}
 use Rattle.dc_change.specs.Size.{part_size, size_of}
 use Rattle.dc_change.specs.State.{State, MeterRow, PartRow, row_of}
-use Rattle.dc_concentrator.specs.Lines.{settled_at, settled_on}
-use Rattle.dc_concentrator.specs.Taking.{change_of}
+use Rattle.dc_core.specs.Lines.{settled_at, settled_on}
+use Rattle.dc_core.specs.Taking.{change_of}
 use Rattle.dc_progress.specs.Beside.{IsNextPart}
 use Rattle.dc_progress.specs.Needs.{body_size, room_for}
 use Rattle.dc_progress.proofs.Register.{size_open, size_last}

@@ -2,9 +2,9 @@
 -- register at most.
 use Rattle.std.specs.Prelude.{Err, List}
 use Rattle.std.specs.List.{AllByRecursion}
-use Rattle.dc_concentrator.specs.declared.fault.HearFault.TheVariants.{Full, NoMemory, PendingFull}
-use Rattle.dc_concentrator.specs.Event.{Answer, heard, committed}
-use Rattle.dc_concentrator.specs.Transcript.{Turn}
+use Rattle.dc_core.specs.declared.fault.HearFault.TheVariants.{Full, NoMemory, PendingFull}
+use Rattle.dc_core.specs.Event.{Answer, heard, committed}
+use Rattle.dc_core.specs.Transcript.{Turn}
 use Rattle.dc_poll.specs.Happening.{Happening, does, tells, happened_turns}
 
 abbrev pub IsSupplied : Answer → Type 0

@@ -2,9 +2,9 @@
 use Rattle.std.proofs.Common.{◌≡◌, ◌≢◌, ◌⊎◌, inl, inr, ℕ, ◌+◌, ◌≤◌, ◌<◌, Bool, true, false, not, ◌&&◌, ◌==◌, List, Option, Some, None, cond, arith, refl, sym, ◌∙◌, ap, subst}
 use Rattle.std.specs.Prelude.{if◌then◌else◌}
 use Rattle.std.proofs.lemmas.Bool.{eqb-true, lt-ltb}
-use Rattle.dc_frame.specs.Control.{req_ud2, request_to, reset_to, selected, snd_nke}
-use Rattle.dc_frame.specs.Frame.{FrameSeen, ack, short, long}
-use Rattle.dc_frame.specs.Reading.{frame_of}
+use Rattle.dc_linkframe.specs.Control.{req_ud2, request_to, reset_to, selected, snd_nke}
+use Rattle.dc_linkframe.specs.Frame.{FrameSeen, ack, short, long}
+use Rattle.dc_linkframe.specs.Reading.{frame_of}
 use Rattle.dc_address.specs.declared.identity.Identity.{Identity}
 use Rattle.dc_readout.specs.declared.stage.Stage.{Stage}
 use Rattle.dc_readout.specs.declared.stage.Stage.TheVariants.{Resets, Selects, Requests, Pending, Ended}
@@ -13,10 +13,10 @@ use Rattle.dc_readout.specs.declared.why.Why.TheVariants.{NoAnswer, WrongFrame}
 use Rattle.dc_readout.specs.Answer.{Meaning, acknowledged, missed, to_command, to_request}
 use Rattle.dc_readout.specs.Summary.{Summary, Verdict, again, ready, failed, asked_at, asked_by, link_address, meaning_at, request_bit, request_of, reset_of, selection_of, to_reset, verdict_by, verdict_of_meaning}
 use Rattle.dc_readout.proofs.Requests.{selection_is_long}
-use Rattle.dc_world.specs.declared.event.Outcome.{Outcome}
-use Rattle.dc_world.specs.declared.event.Outcome.TheVariants.{RequestLost, ReplyLost, ReplyUnreadable, AsSent}
-use Rattle.dc_world.specs.Meter.{Meter, Position}
-use Rattle.dc_world.specs.World.{heard_in}
+use Rattle.dc_readout.specs.declared.world.event.Outcome.{Outcome}
+use Rattle.dc_readout.specs.declared.world.event.Outcome.TheVariants.{RequestLost, ReplyLost, ReplyUnreadable, AsSent}
+use Rattle.dc_readout.specs.Meter.{Meter, Position}
+use Rattle.dc_readout.specs.World.{heard_in}
 use Rattle.dc_progress.specs.Answering.{clear_after, has_answer, is_command}
 use Rattle.dc_progress.specs.Rounds.{IsHeard, IsUnanswered, is_answered, losses_by, row_after}
 use Rattle.dc_progress.proofs.Heard.{nothing_read}

@@ -6,10 +6,10 @@ use Rattle.std.proofs.lemmas.Bool.{eq-eqb}
 use Rattle.std.proofs.lemmas.List.Sums.{sum_by-cons}
 use Rattle.dc_change.specs.declared.change.Change.{Change}
 use Rattle.dc_readout.specs.Summary.{Summary}
-use Rattle.dc_concentrator.specs.Core.{Core, session_of}
-use Rattle.dc_concentrator.specs.Event.{Event, Answer, starts, asks, hears, commits, offices, started, asked, heard, committed, replied}
-use Rattle.dc_concentrator.specs.Step.{May, next, heard_on, settled_core}
-use Rattle.dc_concentrator.specs.Transcript.{Turn, leads, IsChain}
+use Rattle.dc_core.specs.Core.{Core, session_of}
+use Rattle.dc_core.specs.Event.{Event, Answer, starts, asks, hears, commits, offices, started, asked, heard, committed, replied}
+use Rattle.dc_core.specs.Step.{May, next, heard_on, settled_core}
+use Rattle.dc_core.specs.Transcript.{Turn, leads, IsChain}
 use Rattle.dc_progress.specs.Beside.{IsOfLines}
 use Rattle.dc_poll.specs.Happening.{Happening, does, tells, is_on, kept_on, happened_on, happened_turns, counts_failed, failures_in}
 use Rattle.dc_poll.specs.declared.event.Event.{Event as Told}

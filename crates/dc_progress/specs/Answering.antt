@@ -1,7 +1,7 @@
 -- Which answers end an exchange (EN 13757-2).
 use Rattle.std.specs.Prelude.{ℕ, Bool, true, false, not, ◌&&◌, ◌==◌, if◌then◌else◌, Option, Some, None}
-use Rattle.dc_frame.specs.Control.{selected, snd_nke, snd_ud}
-use Rattle.dc_frame.specs.Frame.{FrameSeen, ack, short, long}
+use Rattle.dc_linkframe.specs.Control.{selected, snd_nke, snd_ud}
+use Rattle.dc_linkframe.specs.Frame.{FrameSeen, ack, short, long}
 
 -- whether an acknowledgement answers a request: SND_NKE or SND_UD
 abbrev pub is_command : Option FrameSeen → Bool

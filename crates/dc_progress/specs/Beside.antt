@@ -3,25 +3,25 @@
 use Rattle.std.specs.List.{AllByRecursion}
 use Rattle.std.specs.Prelude.{◌≡◌, ◌≢◌, ℕ, ◌+◌, ◌*◌, ◌≤◌, ◌<◌, Option, None, Some, IsSome, Ok, List}
 use Rattle.std.specs.Prelude.{[], ◌∷◌, ◌++◌, map, filter, drop, false, Result, Err}
-use Rattle.dc_frame.specs.Frame.{FrameSeen}
-use Rattle.dc_frame.specs.Reading.{frame_of}
+use Rattle.dc_linkframe.specs.Frame.{FrameSeen}
+use Rattle.dc_linkframe.specs.Reading.{frame_of}
 use Rattle.dc_address.specs.declared.identity.Identity.{Identity}
-use Rattle.dc_record.specs.Body.{continues}
+use Rattle.dc_records.specs.Body.{continues}
 use Rattle.dc_readout.specs.Summary.{Summary, Verdict, again, ready, new, failed, verdict_by}
-use Rattle.dc_world.specs.declared.event.Outcome.{Outcome}
-use Rattle.dc_world.specs.Meter.{Meter, Position}
-use Rattle.dc_world.specs.World.{positions_after}
+use Rattle.dc_readout.specs.declared.world.event.Outcome.{Outcome}
+use Rattle.dc_readout.specs.Meter.{Meter, Position}
+use Rattle.dc_readout.specs.World.{positions_after}
 use Rattle.dc_change.specs.State.{State, MeterRow, PartRow, ReadingRow, row_of}
-use Rattle.dc_register.specs.Orders.{is_of}
-use Rattle.dc_concentrator.specs.declared.line_heard.LineHeard.{LineHeard}
-use Rattle.dc_concentrator.specs.declared.line_heard.LineHeard.TheVariants.{Failed}
-use Rattle.dc_concentrator.specs.declared.fault.HearFault.{HearFault}
-use Rattle.dc_concentrator.specs.declared.fault.HearFault.TheVariants.{Full, PendingFull}
-use Rattle.dc_concentrator.specs.Core.{Core, present, session_of, opened}
-use Rattle.dc_concentrator.specs.Event.{Event, Answer, starts, asks, hears, commits, offices, started}
-use Rattle.dc_concentrator.specs.Event.{asked, heard, committed}
-use Rattle.dc_concentrator.specs.Step.{ask_answer, hear_answer}
-use Rattle.dc_concentrator.specs.Transcript.{Turn, leads, IsChain}
+use Rattle.dc_meters.specs.Orders.{is_of}
+use Rattle.dc_core.specs.declared.line_heard.LineHeard.{LineHeard}
+use Rattle.dc_core.specs.declared.line_heard.LineHeard.TheVariants.{Failed}
+use Rattle.dc_core.specs.declared.fault.HearFault.{HearFault}
+use Rattle.dc_core.specs.declared.fault.HearFault.TheVariants.{Full, PendingFull}
+use Rattle.dc_core.specs.Core.{Core, present, session_of, opened}
+use Rattle.dc_core.specs.Event.{Event, Answer, starts, asks, hears, commits, offices, started}
+use Rattle.dc_core.specs.Event.{asked, heard, committed}
+use Rattle.dc_core.specs.Step.{ask_answer, hear_answer}
+use Rattle.dc_core.specs.Transcript.{Turn, leads, IsChain}
 use Rattle.dc_progress.specs.Needs.{IsThere, CanBegin}
 use Rattle.dc_progress.specs.Progress.{requests_of}
 use Rattle.dc_progress.specs.Rounds.{IsHeard, Scene, begun_on, losses_by, row_after}

@@ -3,11 +3,11 @@
 use Rattle.std.specs.Prelude.{ℕ, Err, List}
 use Rattle.std.specs.List.{AllByRecursion}
 use Rattle.dc_address.specs.declared.identity.Identity.{Identity}
-use Rattle.dc_frame.specs.Reading.{frame_of}
-use Rattle.dc_world.specs.Meter.{Meter, Position}
-use Rattle.dc_concentrator.specs.Event.{Answer, heard, committed}
-use Rattle.dc_concentrator.specs.Transcript.{Turn}
-use Rattle.dc_concentrator.specs.declared.fault.HearFault.TheVariants.{NoMemory}
+use Rattle.dc_linkframe.specs.Reading.{frame_of}
+use Rattle.dc_readout.specs.Meter.{Meter, Position}
+use Rattle.dc_core.specs.Event.{Answer, heard, committed}
+use Rattle.dc_core.specs.Transcript.{Turn}
+use Rattle.dc_core.specs.declared.fault.HearFault.TheVariants.{NoMemory}
 use Rattle.dc_progress.specs.Beside.{Bus as Line, bus_at_first}
 use Rattle.dc_poll.specs.Bus.{Bus}
 use Rattle.dc_poll.specs.Happening.{Happening, happened_turns}

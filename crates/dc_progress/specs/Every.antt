@@ -10,13 +10,13 @@ use Rattle.dc_address.specs.declared.identity.Identity.{Identity}
 use Rattle.dc_change.specs.Size.{size_of}
 use Rattle.dc_change.specs.State.{State, MeterRow, row_of}
 use Rattle.dc_change.specs.Fields.{end_of_numbers}
-use Rattle.dc_concentrator.specs.Core.{Core, opened}
-use Rattle.dc_concentrator.specs.Transcript.{leads}
-use Rattle.dc_disk.specs.Disk.{Image, IsImage}
-use Rattle.dc_disk.specs.declared.device.Disk.{Ghosts}
+use Rattle.dc_core.specs.Core.{Core, opened}
+use Rattle.dc_core.specs.Transcript.{leads}
+use Rattle.dc_sectors.specs.Disk.{Image, IsImage}
+use Rattle.dc_sectors.specs.declared.device.Disk.{Ghosts}
 use Rattle.dc_log.specs.Halves.{half_of}
-use Rattle.dc_concentrator.specs.PendingImages.{Stands}
-use Rattle.dc_world.specs.Meter.{Meter}
+use Rattle.dc_core.specs.PendingImages.{Stands}
+use Rattle.dc_readout.specs.Meter.{Meter}
 use Rattle.dc_progress.specs.Beside.{HasRead, bus_at_first}
 use Rattle.dc_progress.specs.Needs.{IsThere, room_for}
 use Rattle.dc_poll.specs.Bus.{Bus}

@@ -7,12 +7,12 @@ use Rattle.std.specs.List.Sorted.{IsStrictlySortedBy}
 use Rattle.std.specs.Map.{keys_of}
 use Rattle.dc_address.specs.Identity.{identity_cmp}
 use Rattle.dc_address.specs.declared.identity.Identity.{Identity}
-use Rattle.dc_concentrator.specs.Core.{Core, opened}
-use Rattle.dc_concentrator.specs.Transcript.{leads}
-use Rattle.dc_disk.specs.Disk.{Image, IsImage, settled}
-use Rattle.dc_disk.specs.declared.device.Disk.{Ghosts as DiskGhosts}
+use Rattle.dc_core.specs.Core.{Core, opened}
+use Rattle.dc_core.specs.Transcript.{leads}
+use Rattle.dc_sectors.specs.Disk.{Image, IsImage, settled}
+use Rattle.dc_sectors.specs.declared.device.Disk.{Ghosts as DiskGhosts}
 use Rattle.dc_log.specs.Halves.{fewest_sectors, half_of}
-use Rattle.dc_concentrator.specs.PendingImages.{Stands}
+use Rattle.dc_core.specs.PendingImages.{Stands}
 use Rattle.dc_poll.specs.Bus.{Bus}
 use Rattle.dc_poll.specs.Happening.{Happening, happened_turns}
 use Rattle.dc_poll.specs.ImagePoll.{ImageTurned, PlanPolled}

@@ -4,17 +4,17 @@ use Rattle.std.specs.Prelude.{◌≡◌, ℕ, ◌+◌, ◌≤◌, ◌<◌, Optio
 use Rattle.std.specs.Prelude.{slice_get, sum_by}
 use Rattle.std.specs.List.{AllByRecursion}
 use Rattle.dc_address.specs.declared.identity.Identity.{Identity}
-use Rattle.dc_record.specs.Telegram.{Parsed, telegram_at}
+use Rattle.dc_records.specs.Telegram.{Parsed, telegram_at}
 use Rattle.dc_readout.specs.Answer.{max_parts}
-use Rattle.dc_world.specs.Meter.{Meter, Position}
-use Rattle.dc_world.specs.Regular.{IsOwnOnly}
-use Rattle.dc_world.specs.World.{AreRegular, whole_readout}
+use Rattle.dc_readout.specs.Meter.{Meter, Position}
+use Rattle.dc_readout.specs.Regular.{IsOwnOnly}
+use Rattle.dc_readout.specs.World.{AreRegular, whole_readout}
 use Rattle.dc_change.specs.State.{State, MeterRow, row_of}
 use Rattle.dc_change.specs.Size.{size_of}
 use Rattle.dc_change.specs.Fields.{end_of_numbers}
-use Rattle.dc_concentrator.specs.Lines.{line_count}
-use Rattle.dc_concentrator.specs.Core.{present, opened}
-use Rattle.dc_concentrator.specs.Step.{start_answer}
+use Rattle.dc_core.specs.Lines.{line_count}
+use Rattle.dc_core.specs.Core.{present, opened}
+use Rattle.dc_core.specs.Step.{start_answer}
 use Rattle.dc_progress.specs.Rounds.{Scene}
 
 -- a telegram of this meter that can be read: whole, in security mode 0, with the meter's identity

@@ -2,23 +2,23 @@
 -- the bus isn't lost, nothing is lost three times in a row, the disk doesn't fail, and memory is
 -- available.
 use Rattle.std.specs.Prelude.{◌≡◌, ◌≢◌, ℕ, ◌+◌, ◌*◌, ◌≤◌, ◌<◌, Some, Err, List, [], ◌∷◌}
-use Rattle.dc_frame.specs.Frame.{FrameSeen}
-use Rattle.dc_frame.specs.Reading.{frame_of}
-use Rattle.dc_world.specs.declared.event.Outcome.{Outcome}
-use Rattle.dc_world.specs.Meter.{Meter, Position}
-use Rattle.dc_world.specs.World.{positions_after, heard_in}
+use Rattle.dc_linkframe.specs.Frame.{FrameSeen}
+use Rattle.dc_linkframe.specs.Reading.{frame_of}
+use Rattle.dc_readout.specs.declared.world.event.Outcome.{Outcome}
+use Rattle.dc_readout.specs.Meter.{Meter, Position}
+use Rattle.dc_readout.specs.World.{positions_after, heard_in}
 use Rattle.dc_bus.specs.Bus.{Exchange}
 use Rattle.dc_change.specs.State.{MeterRow}
-use Rattle.dc_concentrator.specs.declared.fault.HearFault.TheVariants.{NoMemory}
-use Rattle.dc_concentrator.specs.Core.{Core}
-use Rattle.dc_concentrator.specs.Event.{Event, Answer, asks, hears, commits, heard, committed}
-use Rattle.dc_concentrator.specs.Transcript.{Turn, leads, IsChain}
+use Rattle.dc_core.specs.declared.fault.HearFault.TheVariants.{NoMemory}
+use Rattle.dc_core.specs.Core.{Core}
+use Rattle.dc_core.specs.Event.{Event, Answer, asks, hears, commits, heard, committed}
+use Rattle.dc_core.specs.Transcript.{Turn, leads, IsChain}
 use Rattle.dc_progress.specs.Needs.{MayBeRead}
 use Rattle.dc_progress.specs.Progress.{IsRead, requests_of}
 use Rattle.dc_progress.specs.Rounds.{Scene, row_after}
-use Rattle.dc_script.specs.declared.port.Port.{Port}
-use Rattle.dc_script.specs.Link.{Link, linked}
-use Rattle.dc_script.specs.Poll.{Happening, does, talks, loses, Polls}
+use Rattle.dc_poller.specs.declared.port.Port.{Port}
+use Rattle.dc_poller.specs.Link.{Link, linked}
+use Rattle.dc_poller.specs.Poll.{Happening, does, talks, loses, Polls}
 
 -- ---- what the line and the machine do
 

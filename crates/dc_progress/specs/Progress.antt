@@ -5,15 +5,15 @@ use Rattle.std.specs.Prelude.{length, map}
 use Rattle.std.specs.List.{AllByRecursion}
 use Rattle.dc_address.specs.declared.identity.Identity.{Identity}
 use Rattle.dc_readout.specs.Session.{commands}
-use Rattle.dc_world.specs.declared.event.Outcome.{Outcome}
-use Rattle.dc_world.specs.declared.event.Outcome.TheVariants.{AsSent}
-use Rattle.dc_world.specs.Meter.{Meter}
+use Rattle.dc_readout.specs.declared.world.event.Outcome.{Outcome}
+use Rattle.dc_readout.specs.declared.world.event.Outcome.TheVariants.{AsSent}
+use Rattle.dc_readout.specs.Meter.{Meter}
 use Rattle.dc_change.specs.Apply.{with_row}
 use Rattle.dc_change.specs.State.{State, MeterRow, PartRow}
-use Rattle.dc_concentrator.specs.Lines.{line_count}
-use Rattle.dc_concentrator.specs.Core.{Core, present, session_of, opened}
-use Rattle.dc_concentrator.specs.Step.{ask_answer}
-use Rattle.dc_concentrator.specs.Transcript.{Turn, leads, IsChain}
+use Rattle.dc_core.specs.Lines.{line_count}
+use Rattle.dc_core.specs.Core.{Core, present, session_of, opened}
+use Rattle.dc_core.specs.Step.{ask_answer}
+use Rattle.dc_core.specs.Transcript.{Turn, leads, IsChain}
 use Rattle.dc_progress.specs.Needs.{MayBeRead}
 use Rattle.dc_progress.specs.Rounds.{Scene, Round, IsRound, AreRounds, scene_behind, begun_on}
 use Rattle.dc_progress.specs.Rounds.{losses_in, LoseFew}

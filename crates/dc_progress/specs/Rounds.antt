@@ -3,22 +3,22 @@
 -- until 2013, since then EN 13757-7).
 use Rattle.std.specs.Prelude.{◌≡◌, ◌≢◌, ◌⊎◌, ℕ, ◌+◌, ◌<◌, Bool, true, false, Some, Result, Ok, Err}
 use Rattle.std.specs.Prelude.{List, [], ◌∷◌, if◌then◌else◌}
-use Rattle.dc_frame.specs.Frame.{FrameSeen}
-use Rattle.dc_frame.specs.Reading.{frame_of}
+use Rattle.dc_linkframe.specs.Frame.{FrameSeen}
+use Rattle.dc_linkframe.specs.Reading.{frame_of}
 use Rattle.dc_address.specs.declared.identity.Identity.{Identity}
-use Rattle.dc_world.specs.declared.event.Outcome.{Outcome}
-use Rattle.dc_world.specs.declared.event.Outcome.TheVariants.{RequestLost, ReplyLost}
-use Rattle.dc_world.specs.declared.event.Outcome.TheVariants.{ReplyUnreadable, AsSent}
-use Rattle.dc_world.specs.Meter.{Meter, Position}
-use Rattle.dc_world.specs.World.{positions_after, heard_in}
+use Rattle.dc_readout.specs.declared.world.event.Outcome.{Outcome}
+use Rattle.dc_readout.specs.declared.world.event.Outcome.TheVariants.{RequestLost, ReplyLost}
+use Rattle.dc_readout.specs.declared.world.event.Outcome.TheVariants.{ReplyUnreadable, AsSent}
+use Rattle.dc_readout.specs.Meter.{Meter, Position}
+use Rattle.dc_readout.specs.World.{positions_after, heard_in}
 use Rattle.dc_progress.specs.Answering.{clear_after, has_answer}
-use Rattle.dc_concentrator.specs.declared.line_heard.LineHeard.{LineHeard}
-use Rattle.dc_concentrator.specs.declared.fault.HearFault.{HearFault}
-use Rattle.dc_concentrator.specs.declared.fault.HearFault.TheVariants.{NoMemory}
-use Rattle.dc_concentrator.specs.Core.{Core}
-use Rattle.dc_concentrator.specs.Event.{starts, asks, hears, commits, started, asked, heard, committed}
-use Rattle.dc_concentrator.specs.Step.{next}
-use Rattle.dc_concentrator.specs.Transcript.{Turn, leads, IsChain}
+use Rattle.dc_core.specs.declared.line_heard.LineHeard.{LineHeard}
+use Rattle.dc_core.specs.declared.fault.HearFault.{HearFault}
+use Rattle.dc_core.specs.declared.fault.HearFault.TheVariants.{NoMemory}
+use Rattle.dc_core.specs.Core.{Core}
+use Rattle.dc_core.specs.Event.{starts, asks, hears, commits, started, asked, heard, committed}
+use Rattle.dc_core.specs.Step.{next}
+use Rattle.dc_core.specs.Transcript.{Turn, leads, IsChain}
 
 -- ---- rounds
 

@@ -2,14 +2,14 @@
 -- served.
 use Rattle.std.specs.Prelude.{◌≡◌, ℕ, ◌<◌, Some, Result, Ok, Err, List, ◌∷◌, ◌++◌}
 use Rattle.std.specs.List.{AllByRecursion}
-use Rattle.dc_frame.specs.Frame.{FrameSeen}
-use Rattle.dc_frame.specs.Reading.{frame_of}
-use Rattle.dc_world.specs.declared.event.Outcome.{Outcome}
-use Rattle.dc_world.specs.Meter.{Meter, Position}
+use Rattle.dc_linkframe.specs.Frame.{FrameSeen}
+use Rattle.dc_linkframe.specs.Reading.{frame_of}
+use Rattle.dc_readout.specs.declared.world.event.Outcome.{Outcome}
+use Rattle.dc_readout.specs.Meter.{Meter, Position}
 use Rattle.dc_change.specs.State.{State, MeterRow, row_of}
-use Rattle.dc_concentrator.specs.Core.{present, opened}
-use Rattle.dc_concentrator.specs.Event.{starts, started}
-use Rattle.dc_concentrator.specs.Transcript.{Turn, leads, IsChain}
+use Rattle.dc_core.specs.Core.{present, opened}
+use Rattle.dc_core.specs.Event.{starts, started}
+use Rattle.dc_core.specs.Transcript.{Turn, leads, IsChain}
 use Rattle.dc_progress.specs.Beside.{Bus as Line, bus_at_first, bus_after, IsOfLines, GoesBeside}
 use Rattle.dc_progress.specs.Needs.{IsThere}
 use Rattle.dc_progress.specs.Rounds.{IsHeard, row_after}

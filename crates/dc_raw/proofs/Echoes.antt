@@ -5,9 +5,9 @@ use Rattle.std.proofs.lemmas.Bool.Decides.{Decides-eqb}
 use Rattle.std.proofs.lemmas.List.{length-append, take_all, take-append-le, take-append-drop}
 use Rattle.std.proofs.lemmas.Slice.Eq.{starts_is}
 use Rattle.std.proofs.Math.Seq.{drop-append_seam, take-append_seam}
-use Rattle.dc_frame.specs.declared.needs.Need.{Need}
-use Rattle.dc_frame.specs.declared.needs.Need.TheVariants.{More, Whole, Bad}
-use Rattle.dc_frame.specs.Need.{need_of}
+use Rattle.dc_linkframe.specs.declared.needs.Need.{Need}
+use Rattle.dc_linkframe.specs.declared.needs.Need.TheVariants.{More, Whole, Bad}
+use Rattle.dc_linkframe.specs.Need.{need_of}
 use Rattle.dc_bus.specs.Limits.{most_answer}
 use Rattle.dc_raw.specs.Heard.{Hearing, IsKept, came_by, begins, echo_room, past_echo, missing_of, missing_by, wanted_of, heard_of}
 use Rattle.dc_raw.proofs.Pieces.{exact_more}

@@ -5,9 +5,9 @@ use Rattle.std.proofs.lemmas.Bool.{ne_eqb}
 use Rattle.std.proofs.lemmas.List.Elements.{All-nil, All-push}
 use Rattle.std.proofs.lemmas.Bool.Decides.{nat_tests}
 use Rattle.std.proofs.lemmas.List.{length-append, take_all, take-append-le, length-take-le, map-append}
-use Rattle.dc_frame.specs.declared.needs.Need.{Need}
-use Rattle.dc_frame.specs.declared.needs.Need.TheVariants.{More, Whole, Bad}
-use Rattle.dc_frame.specs.Need.{need_of, up_to}
+use Rattle.dc_linkframe.specs.declared.needs.Need.{Need}
+use Rattle.dc_linkframe.specs.declared.needs.Need.TheVariants.{More, Whole, Bad}
+use Rattle.dc_linkframe.specs.Need.{need_of, up_to}
 use Rattle.dc_bus.specs.Limits.{most_answer}
 use Rattle.dc_raw.specs.Wire.{Sound, AreHeard, piece, gap, silence, pieces}
 use Rattle.dc_raw.specs.Heard.{Answers, Ends, Hearing, HasByte, Lasts, Waits, answer_of, and_bytes, heard_of, front_by, is_over, missing_of, missing_by, is_whole, is_silent, has_gap}

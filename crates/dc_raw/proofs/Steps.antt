@@ -4,9 +4,9 @@ use Rattle.std.specs.List.{All, concat}
 use Rattle.std.proofs.lemmas.Bool.{false≢true}
 use Rattle.std.proofs.lemmas.Bool.Decides.{nat_tests}
 use Rattle.std.proofs.lemmas.List.{length-append, take_all, take-append-le, length-take-le}
-use Rattle.dc_frame.specs.declared.needs.Need.{Need}
-use Rattle.dc_frame.specs.declared.needs.Need.TheVariants.{More, Whole, Bad}
-use Rattle.dc_frame.specs.Need.{need_of}
+use Rattle.dc_linkframe.specs.declared.needs.Need.{Need}
+use Rattle.dc_linkframe.specs.declared.needs.Need.TheVariants.{More, Whole, Bad}
+use Rattle.dc_linkframe.specs.Need.{need_of}
 use Rattle.dc_bus.specs.Limits.{most_answer}
 use Rattle.dc_raw.specs.declared.line.Line.{Line}
 use Rattle.dc_raw.specs.declared.wire.Wire.{Ghosts as WireGhosts}

@@ -3,9 +3,9 @@
 use Rattle.std.specs.Prelude.{◌≡◌, ℕ, ◌-◌, ◌<◌, ◌≤◌, Bool, true, false, List, [], ◌∷◌, ◌++◌, drop}
 use Rattle.std.specs.Prelude.{length, take, min, ◌==◌, nat_eq, if◌then◌else◌, Option, Some, None}
 use Rattle.std.specs.List.{All, concat, starts_with}
-use Rattle.dc_frame.specs.declared.needs.Need.{Need}
-use Rattle.dc_frame.specs.declared.needs.Need.TheVariants.{More, Whole, Bad}
-use Rattle.dc_frame.specs.Need.{need_of}
+use Rattle.dc_linkframe.specs.declared.needs.Need.{Need}
+use Rattle.dc_linkframe.specs.declared.needs.Need.TheVariants.{More, Whole, Bad}
+use Rattle.dc_linkframe.specs.Need.{need_of}
 use Rattle.dc_bus.specs.Limits.{most_answer}
 use Rattle.dc_raw.specs.Turn.{late_by, state_by}
 use Rattle.dc_raw.specs.Wire.{Sound, nothing, gap, silence, pieces, bytes_in, AreHeard}

@@ -2,7 +2,7 @@
 use Rattle.std.specs.Prelude.{◌≡◌, ℕ, ◌+◌, Bool, true, false, ◌==◌, length, List, []}
 use Rattle.std.specs.Prelude.{Option, Some, None, bytes_eq, if◌then◌else◌}
 use Rattle.dc_io.specs.Failures.{HasRisen}
-use Rattle.dc_frame.specs.Reading.{frame_of}
+use Rattle.dc_linkframe.specs.Reading.{frame_of}
 use Rattle.dc_raw.specs.Looks.{most_looks}
 use Rattle.dc_raw.specs.Heard.{Answers, Drains, Gathers, Waits, past_echo}
 use Rattle.dc_raw.specs.Turn.{is_answer, is_copy, is_wrong, kind_of, last_behind, last_waited}

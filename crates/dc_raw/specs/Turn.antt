@@ -1,9 +1,9 @@
 -- When a request may go out on a line, and what answers it (this product; the frames of EN 13757-2).
 use Rattle.std.specs.Prelude.{ℕ, ◌+◌, ◌-◌, ◌^◌, min, Bool, true, false, not, ◌&&◌, ◌==◌, List}
 use Rattle.std.specs.Prelude.{Option, Some, None, bytes_eq, if◌then◌else◌}
-use Rattle.dc_frame.specs.Control.{selected, snd_nke, snd_ud}
-use Rattle.dc_frame.specs.Frame.{FrameSeen, ack, short, long}
-use Rattle.dc_frame.specs.Reading.{frame_of}
+use Rattle.dc_linkframe.specs.Control.{selected, snd_nke, snd_ud}
+use Rattle.dc_linkframe.specs.Frame.{FrameSeen, ack, short, long}
+use Rattle.dc_linkframe.specs.Reading.{frame_of}
 use Rattle.dc_raw.specs.Wire.{Sound, piece, nothing, gap, silence}
 use Rattle.dc_raw.specs.declared.state.State.{State}
 use Rattle.dc_raw.specs.declared.state.State.TheVariants.{Quiet, Listened, Answered, Busy}

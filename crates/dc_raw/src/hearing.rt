@@ -5,7 +5,7 @@ ghost use Rattle.dc_bus.specs.Limits.{most_answer};
 ghost use Rattle.dc_raw.specs.Heard.{answer_of, heard_of, missing_of, wanted_of};
 
 use dc_bus::{AnswerBuf, MOST_ANSWER};
-use dc_frame::{FrameBuf, Need, need};
+use dc_linkframe::{FrameBuf, Need, need};
 use std::marker::Model;
 use std::mem;
 

@@ -20,7 +20,7 @@ use crate::state::{
 };
 use crate::wire::{Asking, Wire};
 use dc_bus::{AnswerBuf, HalfBus};
-use dc_frame::FrameBuf;
+use dc_linkframe::FrameBuf;
 use dc_io::IoFault;
 
 /// A request that isn't sent yet.

@@ -10,7 +10,7 @@ use crate::hearing::Hearing;
 use crate::state::State;
 use crate::wire::{Came, Wire};
 use dc_bus::{AnswerBuf, MOST_ANSWER};
-use dc_frame::FrameBuf;
+use dc_linkframe::FrameBuf;
 use dc_io::IoFault;
 
 // Maximum number of pieces taken in one call.

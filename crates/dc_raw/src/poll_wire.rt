@@ -7,7 +7,7 @@ ghost use Rattle.dc_raw.specs.Pace.{patience_after};
 ghost use Rattle.dc_raw.specs.PollWire.{Ends, IsHeard, IsStill, WireHears, WireSends, limit_by, takes_all};
 ghost use Rattle.dc_raw.specs.PollWire.{IsDeserted, WireReopens, until_by, waited_then};
 ghost use Rattle.dc_raw.specs.Turn.{is_reset, wants_ack};
-ghost use Rattle.dc_frame.specs.Reading.{frame_of};
+ghost use Rattle.dc_linkframe.specs.Reading.{frame_of};
 ghost use Rattle.dc_raw.specs.declared.poll_wire.Until.TheVariants.{Still};
 ghost use Rattle.dc_raw.specs.Wire.{FitsRoom, Wanes, sound_of};
 

@@ -1,14 +1,14 @@
 //! What may be under way on a line, and which frame answers a request.
 
 ghost use Rattle.std.specs.Prelude.{◌≡◌, bytes_eq};
-ghost use Rattle.dc_frame.specs.Reading.{frame_of};
+ghost use Rattle.dc_linkframe.specs.Reading.{frame_of};
 ghost use Rattle.dc_raw.specs.Turn.{is_answer, is_copy, is_reset, is_wrong, kind_of};
 ghost use Rattle.dc_raw.specs.Turn.{last_behind, last_waited, may_go, quiet_by, telegram_in};
 ghost use Rattle.dc_raw.specs.Turn.{wants_ack};
 
 use dc_bus::AnswerBuf;
-use dc_frame::control::{SELECTED, SND_NKE, SND_UD};
-use dc_frame::{Frame, FrameBuf, parse};
+use dc_linkframe::control::{SELECTED, SND_NKE, SND_UD};
+use dc_linkframe::{Frame, FrameBuf, parse};
 
 /// What may be under way on a line.
 #[derive(Clone, Copy)]

@@ -1,14 +1,14 @@
 -- What is read agrees with the due-date table, tells each VIFE, and nothing that isn't certain.
 use Rattle.std.proofs.Common.{◌≡◌, ◌≢◌, ◌%◌, ◌==◌, ◌||◌, ℕ, zero, suc, ◌+◌, ◌-◌, ◌<◌, ◌≤◌, Bool, cond, List, [], ◌∷◌, ◌++◌, length, take, Option, None, Some, false, true, refl, sym, ap, subst, ◌∙◌, arith, append-nil}
 use Rattle.std.proofs.lemmas.List.{length-take}
-use Rattle.dc_record.specs.Record.{Entry}
-use Rattle.dc_record.specs.declared.value.point.Seen.{Seen}
-use Rattle.dc_record.specs.declared.value.point.Seen.TheVariants.{Point as Known, Other}
-use Rattle.dc_record.specs.declared.value.point.Point.{Point}
-use Rattle.dc_record.specs.declared.value.value.Value.{Value}
-use Rattle.dc_record.specs.declared.value.value.Value.TheVariants as value
-use Rattle.dc_record.specs.Point.{seen_of}
-use Rattle.dc_record.specs.Quantity.{unit_of}
+use Rattle.dc_records.specs.Record.{Entry}
+use Rattle.dc_units.specs.declared.point.Seen.{Seen}
+use Rattle.dc_units.specs.declared.point.Seen.TheVariants.{Point as Known, Other}
+use Rattle.dc_units.specs.declared.point.Point.{Point}
+use Rattle.dc_units.specs.declared.value.Value.{Value}
+use Rattle.dc_units.specs.declared.value.Value.TheVariants as value
+use Rattle.dc_units.specs.Point.{seen_of}
+use Rattle.dc_units.specs.Quantity.{unit_of}
 use Rattle.dc_reading.specs.declared.codes.Kind.{Kind}
 use Rattle.dc_reading.specs.declared.codes.Kind.TheVariants.{Number}
 use Rattle.dc_reading.specs.declared.form.DataType.{DataType}

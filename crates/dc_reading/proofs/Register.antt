@@ -1,14 +1,14 @@
 -- A body after CI 72 says what the register reads.
 use Rattle.std.proofs.Common.{◌≡◌, ◌≢◌, ℕ, Bool, true, false, cond, eqb, List, [], drop, Option, Some, None, Result, Ok, Err, refl, ap, ◌∙◌, arith, inl}
 use Rattle.std.proofs.lemmas.Bool.Decides.{nat_tests}
-use Rattle.dc_record.specs.declared.fault.BodyFault.{BodyFault}
-use Rattle.dc_record.specs.declared.fault.BodyFault.TheVariants.{Encrypted}
-use Rattle.dc_record.specs.declared.header.Header.{Header}
-use Rattle.dc_record.specs.Record.{Entry}
-use Rattle.dc_record.specs.Reading.{◌>>=◌}
-use Rattle.dc_record.specs.Body.{Ending, content_at, front_at}
-use Rattle.dc_record.specs.Header.{header_at, security_mode}
-use Rattle.dc_record.specs.Telegram.{parsed_of, telegram_at}
+use Rattle.dc_records.specs.declared.fault.BodyFault.{BodyFault}
+use Rattle.dc_records.specs.declared.fault.BodyFault.TheVariants.{Encrypted}
+use Rattle.dc_records.specs.declared.header.Header.{Header}
+use Rattle.dc_records.specs.Record.{Entry}
+use Rattle.dc_records.specs.Reading.{◌>>=◌}
+use Rattle.dc_records.specs.Body.{Ending, content_at, front_at}
+use Rattle.dc_records.specs.Header.{header_at, security_mode}
+use Rattle.dc_records.specs.Telegram.{parsed_of, telegram_at}
 use Rattle.dc_reading.specs.Front.{wide_front_at}
 use Rattle.dc_reading.specs.Sent.{read_at, sent_at}
 use Rattle.dc_reading.proofs.Telegrams.{same_records, same_fault}

@@ -1,9 +1,9 @@
 -- What a telegram has after its header is read the same.
 use Rattle.std.proofs.Common.{◌≡◌, ℕ, zero, suc, ◌<◌, List, [], ◌∷◌, length, map, Result, Ok, Err, refl, sym, ap, subst, ◌∙◌, arith, ◌⊎◌, inl, inr}
-use Rattle.dc_record.specs.declared.fault.BodyFault.{BodyFault}
-use Rattle.dc_record.specs.declared.fault.BodyFault.TheVariants as fault
-use Rattle.dc_record.specs.Record.{Entry}
-use Rattle.dc_record.specs.Body.{Ending, Front, ends, skips, gives, front_at, with_record, turns, after, content_at}
+use Rattle.dc_records.specs.declared.fault.BodyFault.{BodyFault}
+use Rattle.dc_records.specs.declared.fault.BodyFault.TheVariants as fault
+use Rattle.dc_records.specs.Record.{Entry}
+use Rattle.dc_records.specs.Body.{Ending, Front, ends, skips, gives, front_at, with_record, turns, after, content_at}
 use Rattle.dc_reading.specs.Front.{or_text, wide_front_at}
 use Rattle.dc_reading.specs.Sent.{Sent, Read, entries_of, with_sent, sent_of, sent_turn, sent_turns, read_at, sent_at, end_at}
 

@@ -2,15 +2,15 @@
 use Rattle.std.proofs.Common.{◌≡◌, ℕ, zero, suc, ◌-◌, ◌%◌, ◌<◌, ◌≤◌, List, [], ◌∷◌, ◌++◌, length, take, drop, Result, Ok, Err, refl, sym, ap, subst, ◌∙◌, arith, length-append}
 use Rattle.std.specs.Prelude.{MatchResult}
 use Rattle.std.proofs.lemmas.List.{length-drop}
-use Rattle.dc_record.specs.declared.fault.BodyFault.{BodyFault}
-use Rattle.dc_record.specs.declared.fault.BodyFault.TheVariants as fault
-use Rattle.dc_record.specs.Body.{Front, ends, skips, gives, front_at}
-use Rattle.dc_record.specs.Record.{Entry}
-use Rattle.dc_record.specs.Reading.{◌>>=◌, Gives, chain_len, data_at, entry_of}
-use Rattle.dc_record.specs.Seen.{front}
-use Rattle.dc_record.specs.declared.front.Front as code
-use Rattle.dc_record.proofs.Spellings.Fields.{bind_ok, data_takes, ok_is}
-use Rattle.dc_record.proofs.Spellings.Turns.{Left, reads_front}
+use Rattle.dc_records.specs.declared.fault.BodyFault.{BodyFault}
+use Rattle.dc_records.specs.declared.fault.BodyFault.TheVariants as fault
+use Rattle.dc_records.specs.Body.{Front, ends, skips, gives, front_at}
+use Rattle.dc_records.specs.Record.{Entry}
+use Rattle.dc_records.specs.Reading.{◌>>=◌, Gives, chain_len, data_at, entry_of}
+use Rattle.dc_records.specs.Seen.{front}
+use Rattle.dc_records.specs.declared.front.Front as code
+use Rattle.dc_records.proofs.Spellings.Fields.{bind_ok, data_takes, ok_is}
+use Rattle.dc_records.proofs.Spellings.Turns.{Left, reads_front}
 use Rattle.dc_reading.specs.Front.{text_vib_len, text_record_at, or_text, wide_front_at}
 use Rattle.dc_reading.specs.Sent.{Sent, Read, SentBy, with_sent, sent_of, sent_turn, sent_turns, read_at}
 

@@ -1,8 +1,8 @@
 -- The units of the due-date table are short.
 use Rattle.std.proofs.Common.{ℕ, ◌≤◌, length, lit≤}
-use Rattle.dc_record.specs.declared.value.quantity.Quantity.{Quantity}
-use Rattle.dc_record.specs.declared.value.quantity.Quantity.TheVariants as listed
-use Rattle.dc_record.specs.Quantity.{unit_of}
+use Rattle.dc_units.specs.declared.quantity.Quantity.{Quantity}
+use Rattle.dc_units.specs.declared.quantity.Quantity.TheVariants as listed
+use Rattle.dc_units.specs.Quantity.{unit_of}
 
 pub short_unit : (quantity : Quantity) → length (unit_of quantity) ≤ 16
 short_unit listed.EnergyWattHour = lit≤ tt

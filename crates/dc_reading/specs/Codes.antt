@@ -2,10 +2,10 @@
 use Rattle.std.specs.Prelude.{◌≡◌, ℕ, ◌+◌, ◌-◌, ◌*◌, ◌/◌, ◌%◌, ◌&&◌, ◌||◌, ◌==◌, Bool, true, nat_le, if◌then◌else◌}
 use Rattle.std.specs.Prelude.{List, [], ◌∷◌, length, map, codes, Option, Some, None, ℤ, pos, ◌+ℤ◌, int_le}
 use Rattle.std.specs.List.{list_all}
-use Rattle.dc_record.specs.declared.value.quantity.Quantity.{Quantity}
-use Rattle.dc_record.specs.declared.value.quantity.Quantity.TheVariants as listed
-use Rattle.dc_record.specs.Quantity.{unit_of}
-use Rattle.dc_record.specs.Table as table
+use Rattle.dc_units.specs.declared.quantity.Quantity.{Quantity}
+use Rattle.dc_units.specs.declared.quantity.Quantity.TheVariants as listed
+use Rattle.dc_units.specs.Quantity.{unit_of}
+use Rattle.dc_units.specs.Table as table
 use Rattle.dc_reading.specs.declared.codes.Code as written
 use Rattle.dc_reading.specs.declared.codes.Kind.{Kind}
 use Rattle.dc_reading.specs.declared.codes.Kind.TheVariants.{Number, Flags, Date, DateTime, Listed, Unread}

@@ -2,12 +2,12 @@
 use Rattle.std.specs.Prelude.{◌≡◌, ◌⊎◌, ℕ, ◌+◌, ◌*◌, ◌==◌, if◌then◌else◌, List, [], ◌∷◌, codes, drop, Option, Some, None, Result, Ok, Err}
 use Rattle.std.specs.Option.{option_map}
 use Rattle.dc_address.specs.declared.identity.Identity.{Identity}
-use Rattle.dc_record.specs.declared.fault.BodyFault.{BodyFault}
-use Rattle.dc_record.specs.declared.fault.BodyFault.TheVariants.{Short, Encrypted, BadIdentity, PlainTextExtension}
-use Rattle.dc_record.specs.declared.header.Header.{Header}
-use Rattle.dc_record.specs.Body.{Ending}
-use Rattle.dc_record.specs.Header.{header_at}
-use Rattle.dc_record.specs.Telegram.{Parsed}
+use Rattle.dc_records.specs.declared.fault.BodyFault.{BodyFault}
+use Rattle.dc_records.specs.declared.fault.BodyFault.TheVariants.{Short, Encrypted, BadIdentity, PlainTextExtension}
+use Rattle.dc_records.specs.declared.header.Header.{Header}
+use Rattle.dc_records.specs.Body.{Ending}
+use Rattle.dc_records.specs.Header.{header_at}
+use Rattle.dc_records.specs.Telegram.{Parsed}
 use Rattle.dc_reading.specs.Sent as sent
 use Rattle.dc_reading.specs.declared.content.content.Structure.{Structure}
 use Rattle.dc_reading.specs.declared.content.content.Structure.TheVariants as structure

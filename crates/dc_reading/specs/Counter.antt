@@ -1,6 +1,6 @@
 -- The counters of fixed data (EN 13757-3, fixed data structure).
 use Rattle.std.specs.Prelude.{ℕ, ◌/◌, ◌%◌, ◌==◌, ◌||◌, Bool, false, if◌then◌else◌, List, [], codes, Option, Some, None}
-use Rattle.dc_record.specs.Record.{Entry, view}
+use Rattle.dc_records.specs.Record.{Entry, view}
 use Rattle.dc_reading.specs.declared.form.Form.{Form}
 use Rattle.dc_reading.specs.declared.form.Form.TheVariants as form
 use Rattle.dc_reading.specs.declared.form.DataType.TheVariants as typed

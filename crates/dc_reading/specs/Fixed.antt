@@ -2,7 +2,7 @@
 -- counters of four bytes.
 use Rattle.std.specs.Prelude.{ℕ, ◌+◌, ◌*◌, ◌/◌, ◌&&◌, Bool, nat_lt, if◌then◌else◌, List, [], ◌∷◌, length}
 use Rattle.std.specs.Prelude.{slice_index, slice_range, Option, Some, None, is_some}
-use Rattle.dc_record.specs.Number.{bcd_digits, number_after}
+use Rattle.dc_units.specs.Number.{bcd_digits, number_after}
 use Rattle.dc_reading.specs.declared.content.fixed.FixedData as written
 use Rattle.dc_reading.specs.Counter.{Counter, counter_view, first_counter, second_counter}
 

@@ -1,6 +1,6 @@
 -- The forms of data fields, and the types of values in them (EN 13757-3, data field of the DIF, variable length data, data types).
 use Rattle.std.specs.Prelude.{ℕ, ◌&&◌, ◌||◌, ◌==◌, Bool, true, false, nat_le, nat_lt, if◌then◌else◌, Option, Some, None}
-use Rattle.dc_record.specs.Quantity.{is_integer, is_bcd}
+use Rattle.dc_units.specs.Quantity.{is_integer, is_bcd}
 use Rattle.dc_reading.specs.declared.codes.Kind.{Kind}
 use Rattle.dc_reading.specs.declared.codes.Kind.TheVariants as kind
 use Rattle.dc_reading.specs.declared.form.Form.{Form}

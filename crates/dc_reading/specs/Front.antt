@@ -2,11 +2,11 @@
 -- the length byte and the text before the VIFEs.
 use Rattle.std.specs.Prelude.{ℕ, ◌+◌, ◌%◌, ◌&&◌, ◌||◌, Bool, nat_le, if◌then◌else◌, List, [], ◌∷◌, length, take, drop, Result, Ok, Err}
 use Rattle.std.specs.List.{list_all}
-use Rattle.dc_record.specs.declared.fault.BodyFault.{BodyFault}
-use Rattle.dc_record.specs.declared.fault.BodyFault.TheVariants.{TooManyDife, TooManyVife, PlainTextExtension, Cut}
-use Rattle.dc_record.specs.Record.{Entry}
-use Rattle.dc_record.specs.Reading.{◌>>=◌, chain_len, counted_at, data_at, entry_of}
-use Rattle.dc_record.specs.Body.{Front, gives, front_at}
+use Rattle.dc_records.specs.declared.fault.BodyFault.{BodyFault}
+use Rattle.dc_records.specs.declared.fault.BodyFault.TheVariants.{TooManyDife, TooManyVife, PlainTextExtension, Cut}
+use Rattle.dc_records.specs.Record.{Entry}
+use Rattle.dc_records.specs.Reading.{◌>>=◌, chain_len, counted_at, data_at, entry_of}
+use Rattle.dc_records.specs.Body.{Front, gives, front_at}
 
 -- a character of ISO 8859-1 that isn't a control character
 abbrev pub is_printed : ℕ → Bool

@@ -2,7 +2,7 @@
 use Rattle.std.specs.Prelude.{ℕ, zero, suc, ◌%◌, ◌==◌, ◌&&◌, ◌||◌, not, Bool, true, false, nat_le, nat_lt}
 use Rattle.std.specs.Prelude.{if◌then◌else◌, List, [], ◌∷◌, fold, length, Option, Some, None, is_some}
 use Rattle.std.specs.List.{list_all, list_any}
-use Rattle.dc_record.specs.declared.value.value.Value.TheVariants as value
+use Rattle.dc_units.specs.declared.value.Value.TheVariants as value
 use Rattle.dc_reading.specs.declared.form.DataType.TheVariants as typed
 use Rattle.dc_reading.specs.declared.reading.Found.{Found}
 use Rattle.dc_reading.specs.declared.reading.Found.TheVariants as found

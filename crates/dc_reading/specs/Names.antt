@@ -1,7 +1,7 @@
 -- The names of what is read (this product).
 use Rattle.std.specs.Prelude.{ℕ, ◌/◌, ◌%◌, ◌==◌, nat_le, Bool, List, [], ◌∷◌, codes, get_or, Option, Some, None}
-use Rattle.dc_record.specs.declared.value.value.Value.{Value}
-use Rattle.dc_record.specs.declared.value.value.Value.TheVariants as value
+use Rattle.dc_units.specs.declared.value.Value.{Value}
+use Rattle.dc_units.specs.declared.value.Value.TheVariants as value
 use Rattle.dc_reading.specs.declared.form.DataType.{DataType}
 use Rattle.dc_reading.specs.declared.form.DataType.TheVariants as typed
 use Rattle.dc_reading.specs.declared.reading.How.{How}

@@ -1,14 +1,14 @@
 -- What is read of a record (this product; EN 13757-3).
 use Rattle.std.specs.Prelude.{ℕ, List, [], ◌∷◌, length, Option, Some, None, ℤ, pos, false}
-use Rattle.dc_record.specs.Record.{Entry}
-use Rattle.dc_record.specs.declared.value.point.Seen.{Seen}
-use Rattle.dc_record.specs.declared.value.point.Seen.TheVariants.{Point as Known, Other}
-use Rattle.dc_record.specs.declared.value.point.Point.{Point}
-use Rattle.dc_record.specs.declared.value.quantity.Quantity.{Quantity}
-use Rattle.dc_record.specs.declared.value.quantity.Quantity.TheVariants as listed
-use Rattle.dc_record.specs.declared.value.value.Value.{Value}
-use Rattle.dc_record.specs.declared.value.value.Value.TheVariants as value
-use Rattle.dc_record.specs.Point.{seen_of}
+use Rattle.dc_records.specs.Record.{Entry}
+use Rattle.dc_units.specs.declared.point.Seen.{Seen}
+use Rattle.dc_units.specs.declared.point.Seen.TheVariants.{Point as Known, Other}
+use Rattle.dc_units.specs.declared.point.Point.{Point}
+use Rattle.dc_units.specs.declared.quantity.Quantity.{Quantity}
+use Rattle.dc_units.specs.declared.quantity.Quantity.TheVariants as listed
+use Rattle.dc_units.specs.declared.value.Value.{Value}
+use Rattle.dc_units.specs.declared.value.Value.TheVariants as value
+use Rattle.dc_units.specs.Point.{seen_of}
 use Rattle.dc_reading.specs.declared.form.Form.{Form}
 use Rattle.dc_reading.specs.declared.form.DataType.{DataType}
 use Rattle.dc_reading.specs.declared.form.DataType.TheVariants as typed

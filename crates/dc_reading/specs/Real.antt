@@ -4,8 +4,8 @@ use Rattle.std.specs.Prelude.{List, [], ◌∷◌, Option, Some, None, ℤ, pos,
 use Rattle.std.specs.Float.{binary32}
 use Rattle.std.specs.Float.Ieee.{Float}
 use Rattle.fast_float.specs.Parse.{parse_float}
-use Rattle.dc_record.specs.declared.value.decimal.Decimal.{Decimal}
-use Rattle.dc_record.specs.Text.{decimal_text}
+use Rattle.dc_units.specs.declared.decimal.Decimal.{Decimal}
+use Rattle.dc_units.specs.Text.{decimal_text}
 use Rattle.dc_reading.specs.declared.real.TheConstants.{CUTS}
 
 -- ---- reading back

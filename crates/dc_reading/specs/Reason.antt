@@ -1,8 +1,8 @@
 -- Why the register doesn't take what a body says (this product).
 use Rattle.std.specs.Prelude.{ℕ, nat_lt, if◌then◌else◌, List, ◌++◌, codes, Option, Some, None}
-use Rattle.dc_record.specs.declared.fault.BodyFault.{BodyFault}
-use Rattle.dc_record.specs.declared.fault.BodyFault.TheVariants as fault
-use Rattle.dc_record.specs.Text.{last_digits}
+use Rattle.dc_records.specs.declared.fault.BodyFault.{BodyFault}
+use Rattle.dc_records.specs.declared.fault.BodyFault.TheVariants as fault
+use Rattle.dc_units.specs.Text.{last_digits}
 use Rattle.dc_reading.specs.declared.content.content.Structure.{Structure}
 use Rattle.dc_reading.specs.declared.content.content.Structure.TheVariants as structure
 use Rattle.dc_reading.specs.declared.content.content.Head.{Head}

@@ -1,9 +1,9 @@
 -- The records of a body with the length bytes of their data (EN 13757-3, variable length data).
 use Rattle.std.specs.Prelude.{◌≡◌, ℕ, zero, suc, ◌-◌, ◌<◌, ◌==◌, if◌then◌else◌, List, [], ◌∷◌, length, get_or, map, Result, Ok, Err}
-use Rattle.dc_record.specs.declared.fault.BodyFault.{BodyFault}
-use Rattle.dc_record.specs.declared.fault.BodyFault.TheVariants.{Cut}
-use Rattle.dc_record.specs.Record.{Entry, view}
-use Rattle.dc_record.specs.Body.{Ending, Front, ends, skips, gives}
+use Rattle.dc_records.specs.declared.fault.BodyFault.{BodyFault}
+use Rattle.dc_records.specs.declared.fault.BodyFault.TheVariants.{Cut}
+use Rattle.dc_records.specs.Record.{Entry, view}
+use Rattle.dc_records.specs.Body.{Ending, Front, ends, skips, gives}
 use Rattle.dc_reading.specs.Front.{wide_front_at}
 use Rattle.dc_reading.specs.declared.sent.Sent as written
 

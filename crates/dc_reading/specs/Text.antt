@@ -3,9 +3,9 @@ use Rattle.std.specs.Prelude.{ℕ, ◌+◌, ◌/◌, ◌%◌, ◌==◌, nat_lt, 
 use Rattle.std.specs.Prelude.{Option, Some, None, Bool, true, false, slice_range}
 use Rattle.std.specs.Option.{option_map}
 use Rattle.dc_address.specs.Text.{text_of}
-use Rattle.dc_record.specs.Date.{Day}
-use Rattle.dc_record.specs.Quantity.{unit_of}
-use Rattle.dc_record.specs.Text.{last_digits, minute_text, value_text}
+use Rattle.dc_units.specs.Date.{Day}
+use Rattle.dc_units.specs.Quantity.{unit_of}
+use Rattle.dc_units.specs.Text.{last_digits, minute_text, value_text}
 use Rattle.dc_reading.specs.declared.form.DataType.{DataType}
 use Rattle.dc_reading.specs.declared.form.DataType.TheVariants as typed
 use Rattle.dc_reading.specs.declared.reading.Reading.{Reading}

@@ -2,16 +2,16 @@
 use Rattle.std.specs.Prelude.{ℕ, ◌+◌, ◌*◌, ◌%◌, ◌==◌, ◌||◌, ◌&&◌, Bool, nat_le, nat_lt, if◌then◌else◌, List, [], ◌∷◌, ◌++◌, length, get_or}
 use Rattle.std.specs.Prelude.{Option, Some, None, Result, Ok, Err, ℤ, pos, negsuc, neg_ℤ, ◌+ℤ◌}
 use Rattle.dc_address.specs.declared.identity.Identity.{Identity}
-use Rattle.dc_record.specs.declared.fault.BodyFault.{BodyFault}
-use Rattle.dc_record.specs.declared.header.Header.{Header}
-use Rattle.dc_record.specs.Header.{header_at}
-use Rattle.dc_record.specs.declared.value.decimal.Decimal.{Decimal}
-use Rattle.dc_record.specs.declared.value.value.Value.{Value}
-use Rattle.dc_record.specs.declared.value.value.Value.TheVariants as value
-use Rattle.dc_record.specs.Number.{unsigned, integer, bcd, bcd_digits, number_after}
-use Rattle.dc_record.specs.Date.{type_g}
-use Rattle.dc_record.specs.Time.{type_f}
-use Rattle.dc_record.specs.Value.{on_day, at_minute}
+use Rattle.dc_records.specs.declared.fault.BodyFault.{BodyFault}
+use Rattle.dc_records.specs.declared.header.Header.{Header}
+use Rattle.dc_records.specs.Header.{header_at}
+use Rattle.dc_units.specs.declared.decimal.Decimal.{Decimal}
+use Rattle.dc_units.specs.declared.value.Value.{Value}
+use Rattle.dc_units.specs.declared.value.Value.TheVariants as value
+use Rattle.dc_units.specs.Number.{unsigned, integer, bcd, bcd_digits, number_after}
+use Rattle.dc_units.specs.Date.{type_g}
+use Rattle.dc_units.specs.Time.{type_f}
+use Rattle.dc_units.specs.Value.{on_day, at_minute}
 use Rattle.dc_reading.specs.Real.{real_of}
 use Rattle.dc_reading.specs.declared.form.Form.{Form}
 use Rattle.dc_reading.specs.declared.form.Form.TheVariants as form

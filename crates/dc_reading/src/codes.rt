@@ -5,7 +5,7 @@ ghost use Rattle.dc_reading.specs.Codes.{AreNarrow, code_in, code_at, code_view,
 ghost use Rattle.dc_reading.specs.Codes.{listed_at};
 ghost use Rattle.dc_reading.specs.Codes.{kind_of};
 
-use dc_record::value::Quantity;
+use dc_units::Quantity;
 
 /// How the data of a code are read.
 #[derive(Clone, Copy)]
@@ -516,9 +516,9 @@ fn listed_at(number: u16) -> Option<(Quantity, i8)>
     let high = (number / 256) as u8;
     let low = (number % 256) as u8;
     if high == 0 {
-        dc_record::value::unit_at(&[low])
+        dc_units::unit_at(&[low])
     } else {
-        dc_record::value::unit_at(&[high, low])
+        dc_units::unit_at(&[high, low])
     }
 }
 

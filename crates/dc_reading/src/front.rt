@@ -2,18 +2,18 @@
 
 ghost use Rattle.std.specs.Prelude.{◌≡◌, ◌≤◌, ◌<◌, ◌^◌, ◌*◌, length, map, IfOk};
 ghost use Rattle.std.specs.List.{list_all};
-ghost use Rattle.dc_record.specs.Record.{number, storage_digit, tariff_digit, subunit_digit, view};
-ghost use Rattle.dc_record.specs.Reading.{Gives, chain_len, counted_at, data_at};
-ghost use Rattle.dc_record.specs.Seen.{front};
+ghost use Rattle.dc_records.specs.Record.{number, storage_digit, tariff_digit, subunit_digit, view};
+ghost use Rattle.dc_records.specs.Reading.{Gives, chain_len, counted_at, data_at};
+ghost use Rattle.dc_records.specs.Seen.{front};
 ghost use Rattle.dc_reading.specs.Front.{is_printed, text_vib_len, text_record_at, wide_front_at};
 
-use dc_record::{BodyFault, Front, Record, front_of};
+use dc_records::{BodyFault, Front, Record, front_of};
 
 // The most DIFEs, and the most VIFEs.
 const MOST_EXTENSIONS: usize = 10;
 
 // How many bytes follow `last`, each announced by bit 7 of the one before it: at most `room`, else `many`.
-#[tactic(auto, using(dc_record::proofs::Spellings::Chain::chain_ends, dc_record::proofs::Spellings::Chain::chain_full))]
+#[tactic(auto, using(dc_records::proofs::Spellings::Chain::chain_ends, dc_records::proofs::Spellings::Chain::chain_full))]
 fn chain_len(many: BodyFault, room: usize, last: u8, bytes: &[u8]) -> Result<usize, BodyFault>
     ensures exact { result ≡ chain_len many room last bytes.now }
     ensures room { IfOk result (λ n. n ≤ room) }

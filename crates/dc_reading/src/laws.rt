@@ -2,15 +2,15 @@
 
 ghost use Rattle.std.specs.Prelude.{◌≡◌, ◌≢◌, ◌+◌, ◌<◌, ◌∷◌, ◌⊎◌, ℕ, Bool, List, length};
 ghost use Rattle.std.specs.Prelude.{None, Ok, Err, true, false};
-ghost use Rattle.dc_record.specs.declared.fault.BodyFault.{BodyFault};
-ghost use Rattle.dc_record.specs.declared.fault.BodyFault.TheVariants.{PlainTextExtension};
-ghost use Rattle.dc_record.specs.Record.{Entry};
-ghost use Rattle.dc_record.specs.Body.{Ending, content_at};
-ghost use Rattle.dc_record.specs.declared.value.point.Seen.TheVariants.{Point as Known, Other};
-ghost use Rattle.dc_record.specs.declared.value.point.Point.{Point};
-ghost use Rattle.dc_record.specs.declared.value.value.Value.TheVariants as value;
-ghost use Rattle.dc_record.specs.Point.{seen_of};
-ghost use Rattle.dc_record.specs.Quantity.{unit_of};
+ghost use Rattle.dc_records.specs.declared.fault.BodyFault.{BodyFault};
+ghost use Rattle.dc_records.specs.declared.fault.BodyFault.TheVariants.{PlainTextExtension};
+ghost use Rattle.dc_records.specs.Record.{Entry};
+ghost use Rattle.dc_records.specs.Body.{Ending, content_at};
+ghost use Rattle.dc_units.specs.declared.point.Seen.TheVariants.{Point as Known, Other};
+ghost use Rattle.dc_units.specs.declared.point.Point.{Point};
+ghost use Rattle.dc_units.specs.declared.value.Value.TheVariants as value;
+ghost use Rattle.dc_units.specs.Point.{seen_of};
+ghost use Rattle.dc_units.specs.Quantity.{unit_of};
 ghost use Rattle.dc_reading.specs.declared.codes.Kind.TheVariants.{Number};
 ghost use Rattle.dc_reading.specs.declared.meaning.Meaning.{Meaning};
 ghost use Rattle.dc_reading.specs.declared.reading.Found.TheVariants as found;

@@ -8,7 +8,7 @@ use crate::form::DataType;
 use crate::reading::{Found, How};
 use crate::value::{Datum, NoValue};
 use crate::vifes::vife_at;
-use dc_record::value::Value;
+use dc_units::Value;
 
 impl How {
     /// Its name.

@@ -1,7 +1,7 @@
 //! What is read of a record.
 
 ghost use Rattle.std.specs.Prelude.{◌≡◌, IsTrue, length};
-ghost use Rattle.dc_record.specs.Record.{view};
+ghost use Rattle.dc_records.specs.Record.{view};
 ghost use Rattle.dc_reading.specs.Form.{fits, type_of};
 ghost use Rattle.dc_reading.specs.Reading.{reading_of, read, meant_by, pointed, type_at, read_point};
 ghost use Rattle.dc_reading.specs.Reading.{reading_with, valued};
@@ -11,8 +11,8 @@ use crate::form::{DataType, Form, form_of, type_of};
 use crate::meaning::{Meaning, meaning_of};
 use crate::parts::vifes_of;
 use crate::value::{Datum, NoValue, value_of};
-use dc_record::Record;
-use dc_record::value::{Point, Quantity, Seen, Value, point_of};
+use dc_records::Record;
+use dc_units::{Point, Quantity, Seen, Value, point_of};
 
 /// By which table a record is read.
 #[derive(Clone, Copy)]

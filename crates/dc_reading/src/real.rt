@@ -9,7 +9,7 @@ ghost use Rattle.std.specs.List.{list_all};
 ghost use Rattle.dc_reading.specs.Real.{real_of, reads_back, scaled, halved, doubled, rounds_up, candidate, tried};
 ghost use Rattle.dc_reading.specs.Real.{first_of, is_cut};
 
-use dc_record::value::{Decimal, TEXT_ROOM, Value};
+use dc_units::{Decimal, TEXT_ROOM, Value};
 
 /// Powers of ten, the greatest first, by which the digits of a number are cut.
 pub const CUTS: [u64; 18] = [

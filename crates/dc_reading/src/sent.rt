@@ -1,14 +1,14 @@
 //! The records of a body with the length bytes of their data.
 
 ghost use Rattle.std.specs.Prelude.{◌≡◌, [], drop, Err, MatchResult};
-ghost use Rattle.dc_record.specs.Reading.{Gives};
-ghost use Rattle.dc_record.specs.Record.{view};
-ghost use Rattle.dc_record.specs.Seen.{ending, front};
+ghost use Rattle.dc_records.specs.Reading.{Gives};
+ghost use Rattle.dc_records.specs.Record.{view};
+ghost use Rattle.dc_records.specs.Seen.{ending, front};
 ghost use Rattle.dc_reading.specs.Sent.{SentBy, end_at, length_byte, read_at, sent_at};
 
 use crate::front::wide_front;
 use crate::names::byte_at;
-use dc_record::{BodyFault, End, Front, Record};
+use dc_records::{BodyFault, End, Front, Record};
 use std::marker::Model;
 
 // How many bytes a header has (EN 13757-3, long data header).

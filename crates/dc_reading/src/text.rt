@@ -10,7 +10,7 @@ use crate::parts::label_of;
 use crate::reading::{Found, How, Reading};
 use crate::value::Datum;
 use crate::vifes::vife_at;
-use dc_record::value::{Value, put_byte, put_digits, put_piece};
+use dc_units::{Value, put_byte, put_digits, put_piece};
 
 /// The longest text of a reading has this many bytes at most.
 pub const READING_ROOM: usize = 1024;

@@ -9,8 +9,8 @@ ghost use Rattle.dc_reading.specs.Value.{second_in, time_in, identity_at, identi
 use crate::form::{DataType, Form};
 use crate::meaning::fitting;
 use dc_address::Identity;
-use dc_record::Header;
-use dc_record::value::{Date, Decimal, Value, bcd, digits_after, integer, unsigned};
+use dc_records::Header;
+use dc_units::{Date, Decimal, Value, bcd, digits_after, integer, unsigned};
 
 /// Why data have no value.
 #[derive(Clone, Copy)]
@@ -143,7 +143,7 @@ fn day_in(content: &[u8]) -> Datum
     requires { length content.now ≡ 2 }
     ensures { result ≡ day_in content.now }
 {
-    match dc_record::value::day(content) {
+    match dc_units::day(content) {
         Value::None => Datum::None(NoValue::NoDate),
         day => Datum::Known(day),
     }
@@ -157,7 +157,7 @@ fn minute_in(content: &[u8]) -> Datum
     let (first, second) = (content[0], content[1]);
     match clock_fault(first >= 0x80, second % 32, first % 64, 0) {
         Some(fault) => Datum::None(fault),
-        None => match dc_record::value::minute(content) {
+        None => match dc_units::minute(content) {
             Value::None => Datum::None(NoValue::NoDate),
             minute => Datum::Known(minute),
         },
@@ -174,7 +174,7 @@ fn second_in(content: &[u8]) -> Datum
     let (hour, minute, seconds) = (*third % 32, *second % 64, *first % 64);
     match clock_fault(*second >= 0x80, hour, minute, seconds) {
         Some(fault) => Datum::None(fault),
-        None => match dc_record::value::day(&[*low, *high]) {
+        None => match dc_units::day(&[*low, *high]) {
             Value::Day(date) => Datum::Second(date, hour, minute, seconds),
             _ => Datum::None(NoValue::NoDate),
         },

@@ -1,6 +1,6 @@
 -- How many failed tries of a readout brought what (this product; the frames of EN 13757-2).
 use Rattle.std.specs.Prelude.{ℕ, ◌+◌, ◌==◌, min, Bool, true, false, not, ◌&&◌, List, length, is_some, count_by}
-use Rattle.dc_frame.specs.Reading.{frame_of}
+use Rattle.dc_linkframe.specs.Reading.{frame_of}
 use Rattle.dc_readout.specs.declared.misses.misses.Misses.{Misses}
 
 -- no byte

@@ -1,5 +1,5 @@
 -- What code answers, without where a telegram lies in memory.
-use Rattle.dc_record.specs.Telegram.{parsed}
+use Rattle.dc_records.specs.Telegram.{parsed}
 use Rattle.dc_readout.specs.declared.answers.Meaning as declared
 use Rattle.dc_readout.specs.declared.answers.Meaning.TheVariants as code
 use Rattle.dc_readout.specs.declared.heard.Heard.{Heard}

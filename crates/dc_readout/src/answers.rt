@@ -1,18 +1,18 @@
 //! What an answer is to the request that waits for it.
 
 ghost use Rattle.std.specs.Prelude.{◌≡◌, ◌≤◌, length};
-ghost use Rattle.dc_frame.specs.Frame.{longest_body};
-ghost use Rattle.dc_frame.specs.Reading.{frame_of};
-ghost use Rattle.dc_record.specs.Telegram.{Parsed, telegram_at};
+ghost use Rattle.dc_linkframe.specs.Frame.{longest_body};
+ghost use Rattle.dc_linkframe.specs.Reading.{frame_of};
+ghost use Rattle.dc_records.specs.Telegram.{Parsed, telegram_at};
 ghost use Rattle.dc_readout.specs.Answer.{answered, to_command, to_request, by_body, is_understood};
 ghost use Rattle.dc_readout.specs.Answer.{is_from};
 ghost use Rattle.dc_readout.specs.Seen.{meaning};
 
 use crate::why::Why;
 use dc_address::{Identity, Primary};
-use dc_frame::control::{APPLICATION_ERROR, VARIABLE_DATA, is_rsp_ud};
-use dc_frame::{Frame, parse};
-use dc_record::Telegram;
+use dc_linkframe::control::{APPLICATION_ERROR, VARIABLE_DATA, is_rsp_ud};
+use dc_linkframe::{Frame, parse};
+use dc_records::Telegram;
 
 // The parts that a readout has at most.
 const MAX_PARTS: u8 = 32;

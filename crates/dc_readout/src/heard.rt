@@ -1,7 +1,7 @@
 //! What `hear` answers.
 
 use crate::why::Why;
-use dc_record::Telegram;
+use dc_records::Telegram;
 
 /// What an answer was.
 #[derive(Clone, Copy)]

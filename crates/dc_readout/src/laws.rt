@@ -2,9 +2,9 @@
 
 ghost use Rattle.std.specs.Prelude.{◌≡◌, ◌≢◌, ◌↔◌, ◌+◌, ◌%◌, ◌<◌, ◌≤◌, ℕ, List, [], Option, Some};
 ghost use Rattle.std.specs.Prelude.{true, false, IsSome};
-ghost use Rattle.dc_frame.specs.Frame.{FrameSeen};
-ghost use Rattle.dc_record.specs.Body.{continues};
-ghost use Rattle.dc_record.specs.Telegram.{Parsed};
+ghost use Rattle.dc_linkframe.specs.Frame.{FrameSeen};
+ghost use Rattle.dc_records.specs.Body.{continues};
+ghost use Rattle.dc_records.specs.Telegram.{Parsed};
 ghost use Rattle.dc_readout.specs.declared.why.Why.{Why};
 ghost use Rattle.dc_readout.specs.Why.{number_of};
 ghost use Rattle.dc_address.specs.declared.identity.Identity.{Identity};

@@ -17,6 +17,7 @@ pub mod misses;
 mod session;
 mod stage;
 mod why;
+pub mod world;
 
 pub use heard::Heard;
 pub use laws::{
@@ -26,3 +27,4 @@ pub use laws::{
 };
 pub use session::Session;
 pub use why::Why;
+pub use world::{Bodies, Body, Outcome, WorldEvent, Held, a_meter_goes_on_from_what_is_committed, what_is_held_is_whole, play, SimulatedMeter, Reply, MeterScript, are_regular};

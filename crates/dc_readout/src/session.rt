@@ -2,10 +2,10 @@
 
 ghost use Rattle.std.specs.Prelude.{◌≡◌, ◌+◌, ◌<◌, ◌≤◌, ◌↔◌, ℕ, length, false, IsSome, IsTrue};
 ghost use Rattle.std.specs.Prelude.{option_map};
-ghost use Rattle.dc_frame.specs.Frame.{spelling, longest_body};
-ghost use Rattle.dc_frame.specs.Reading.{frame_of};
-ghost use Rattle.dc_record.specs.Body.{continues};
-ghost use Rattle.dc_record.specs.Telegram.{Parsed, parsed};
+ghost use Rattle.dc_linkframe.specs.Frame.{spelling, longest_body};
+ghost use Rattle.dc_linkframe.specs.Reading.{frame_of};
+ghost use Rattle.dc_records.specs.Body.{continues};
+ghost use Rattle.dc_records.specs.Telegram.{Parsed, parsed};
 ghost use Rattle.dc_readout.specs.Answer.{max_parts, missed, answered};
 ghost use Rattle.dc_readout.specs.Bound.{requests_left};
 ghost use Rattle.dc_readout.specs.declared.stage.Stage.TheVariants.{Ended};
@@ -21,9 +21,9 @@ use crate::heard::Heard;
 use crate::stage::Stage;
 use crate::why::Why;
 use dc_address::{Identity, Mask, Primary};
-use dc_frame::FrameBuf;
-use dc_frame::control::{SELECTED, write_request, write_reset, write_selection};
-use dc_record::Telegram;
+use dc_linkframe::FrameBuf;
+use dc_linkframe::control::{SELECTED, write_request, write_reset, write_selection};
+use dc_records::Telegram;
 use std::marker::Model;
 
 // A request is tried at most three times.

@@ -3,7 +3,7 @@
 ghost use Rattle.std.specs.Prelude.{◌≡◌};
 ghost use Rattle.dc_readout.specs.Why.{number_of, name_of};
 
-use dc_record::BodyFault;
+use dc_records::BodyFault;
 use std::fmt;
 use thiserror::Error;
 

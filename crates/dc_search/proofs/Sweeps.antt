@@ -9,7 +9,7 @@ use Rattle.std.specs.List.{cons_option, flat_map}
 use Rattle.std.specs.Int.Digits.{number_from_digits}
 use Rattle.dc_address.specs.Mask.{MaskParts, matches}
 use Rattle.dc_address.specs.declared.identity.Identity.{Identity}
-use Rattle.dc_frame.specs.Reading.{frame_of}
+use Rattle.dc_linkframe.specs.Reading.{frame_of}
 use Rattle.dc_search.specs.Answer.{answer_of}
 use Rattle.dc_search.specs.Bus.{visited}
 use Rattle.dc_search.proofs.Matching.{Has-filter}

@@ -2,12 +2,12 @@
 use Rattle.std.specs.Prelude.{ℕ, ◌&&◌, List, Option, Some, None, Result, Ok, Err, ◌==◌}
 use Rattle.std.specs.Prelude.{if◌then◌else◌}
 use Rattle.dc_address.specs.declared.identity.Identity.{Identity}
-use Rattle.dc_frame.specs.Control.{is_rsp_ud, variable_data}
-use Rattle.dc_frame.specs.Frame.{FrameSeen, ack, short, long}
-use Rattle.dc_frame.specs.Reading.{frame_of}
-use Rattle.dc_record.specs.Header.{header_at}
-use Rattle.dc_record.specs.declared.fault.BodyFault.{BodyFault}
-use Rattle.dc_record.specs.declared.header.Header.{Header}
+use Rattle.dc_linkframe.specs.Control.{is_rsp_ud, variable_data}
+use Rattle.dc_linkframe.specs.Frame.{FrameSeen, ack, short, long}
+use Rattle.dc_linkframe.specs.Reading.{frame_of}
+use Rattle.dc_records.specs.Header.{header_at}
+use Rattle.dc_records.specs.declared.fault.BodyFault.{BodyFault}
+use Rattle.dc_records.specs.declared.header.Header.{Header}
 
 -- the identity in the header of a telegram's body
 abbrev pub identity_of : Result Header BodyFault → Option Identity

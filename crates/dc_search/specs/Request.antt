@@ -1,7 +1,7 @@
 -- What a search sends for each of its steps (EN 13757-3, selection with wildcards; EN 13757-2, REQ_UD2).
 use Rattle.std.specs.Prelude.{true, Option, Some, None}
-use Rattle.dc_frame.specs.Control.{request_to, selected, selection_by}
-use Rattle.dc_frame.specs.Frame.{FrameSeen}
+use Rattle.dc_linkframe.specs.Control.{request_to, selected, selection_by}
+use Rattle.dc_linkframe.specs.Frame.{FrameSeen}
 use Rattle.dc_address.specs.Mask.{mask_wire}
 use Rattle.dc_search.specs.declared.step.Step.{Step}
 use Rattle.dc_search.specs.declared.step.Step.TheVariants.{Select, Request, Done, Budget}

@@ -2,12 +2,12 @@
 
 ghost use Rattle.std.specs.Prelude.{◌≡◌, Some};
 ghost use Rattle.dc_search.specs.Answer.{answer_of, identity_at, identity_in};
-ghost use Rattle.dc_frame.specs.Frame.{seen};
+ghost use Rattle.dc_linkframe.specs.Frame.{seen};
 
 use dc_address::Identity;
-use dc_frame::control::{VARIABLE_DATA, is_rsp_ud};
-use dc_frame::{Frame, parse};
-use dc_record::Header;
+use dc_linkframe::control::{VARIABLE_DATA, is_rsp_ud};
+use dc_linkframe::{Frame, parse};
+use dc_records::Header;
 
 /// The identity in the header of a telegram's body.
 fn identity_at(body: &[u8]) -> Option<Identity>

@@ -14,8 +14,8 @@ use crate::fault::SearchFault;
 use crate::search::Search;
 use crate::step::Step;
 use dc_address::{Identity, Mask};
-use dc_frame::control::{RSP_UD, VARIABLE_DATA};
-use dc_frame::{ACK, FrameBuf, write_long};
+use dc_linkframe::control::{RSP_UD, VARIABLE_DATA};
+use dc_linkframe::{ACK, FrameBuf, write_long};
 use dc_io::NoMemory;
 use std::alloc::Allocator;
 

@@ -1,12 +1,12 @@
 //! The steps of a search, and the frames that it sends.
 
 ghost use Rattle.std.specs.Prelude.{◌≡◌, ◌≤◌, IfSome, length, option_map};
-ghost use Rattle.dc_frame.specs.Frame.{spelling};
+ghost use Rattle.dc_linkframe.specs.Frame.{spelling};
 ghost use Rattle.dc_search.specs.Request.{request_by};
 
 use dc_address::Mask;
-use dc_frame::FrameBuf;
-use dc_frame::control::{SELECTED, write_request, write_selection};
+use dc_linkframe::FrameBuf;
+use dc_linkframe::control::{SELECTED, write_request, write_selection};
 
 /// The next step of a search.
 #[derive(Clone, Copy)]

@@ -6,9 +6,9 @@ use Rattle.dc_address.specs.Identity.{wire_of}
 use Rattle.dc_address.specs.Mask.{MaskParts, matches}
 use Rattle.dc_address.specs.declared.identity.Identity.{Identity}
 use Rattle.dc_address.proofs.Identities.{length-wire_of}
-use Rattle.dc_frame.specs.Frame.{FrameSeen, ack, long, spelling}
-use Rattle.dc_frame.proofs.Spellings.{frame_of-spelling}
-use Rattle.dc_record.proofs.Spellings.Headers.{at_found}
+use Rattle.dc_linkframe.specs.Frame.{FrameSeen, ack, long, spelling}
+use Rattle.dc_linkframe.proofs.Spellings.{frame_of-spelling}
+use Rattle.dc_records.proofs.Spellings.Headers.{at_found}
 use Rattle.dc_search.specs.Answer.{answer_of, identity_at, identity_in, identity_of}
 use Rattle.dc_search.specs.Prefix.{mask_of_digits}
 use Rattle.dc_search.specs.State.{SearchState, after, is_idle, new_search, step_of}

@@ -10,7 +10,7 @@
 use Rattle.std.specs.Prelude.{◌≡◌, ◌≢◌, ℕ, ◌+◌, false, IsTrue, List, [], ◌∷◌, Some, None, filter}
 use Rattle.dc_address.specs.Mask.{MaskParts, matches}
 use Rattle.dc_address.specs.declared.identity.Identity.{Identity}
-use Rattle.dc_frame.specs.Frame.{ack, spelling}
+use Rattle.dc_linkframe.specs.Frame.{ack, spelling}
 use Rattle.dc_search.specs.Answer.{answer_of}
 use Rattle.dc_search.specs.State.{SearchState, after, is_idle, new_search, step_of}
 use Rattle.dc_search.specs.declared.step.Step.TheVariants.{Select}

@@ -8,7 +8,7 @@ use Rattle.jiff_core.specs.Date.{epoch_day}
 use Rattle.jiff_core.proofs.SignedLemmas.{signed_arith}
 use Rattle.jiff_core.proofs.CalendarLemmas.{days_from_civil-day_count, day_count-epoch, day_count-lt_year, days_in_month_bounds}
 use Rattle.jiff_core.proofs.DateLemmas.{days_from_civil-day, days_from_civil-next_month, days_from_civil-next_year, days_from_civil-max, epoch_day_injective}
-use Rattle.dc_record.specs.Date.{Day}
+use Rattle.dc_units.specs.Date.{Day}
 use Rattle.dc_shown.specs.Utc.{next_day, day_number, last_day}
 
 -- a day of the calendar with this number

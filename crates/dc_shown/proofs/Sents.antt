@@ -2,7 +2,7 @@
 use Rattle.std.proofs.Common.{◌≡◌, ◌≢◌, ℕ, zero, suc, ◌+◌, ◌-◌, ◌<◌, ◌≤◌, Bool, true, false, cond, eqb, List, [], ◌∷◌, ◌++◌, length, get_or, drop, Option, Some, None, refl, ap, sym, ◌∙◌, append-nil, arith}
 use Rattle.std.proofs.lemmas.List.{drop_all, drop_more}
 use Rattle.dc_change.specs.State.{PartRow}
-use Rattle.dc_record.specs.Body.{front_at}
+use Rattle.dc_records.specs.Body.{front_at}
 use Rattle.dc_reading.specs.Front.{wide_front_at}
 use Rattle.dc_reading.specs.Sent.{Sent, read_at}
 use Rattle.dc_reading.specs.declared.content.headline.Main.{Main}

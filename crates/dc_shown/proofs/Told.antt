@@ -1,8 +1,8 @@
 -- What one telegram reports: its fields, one after the other.
 use Rattle.std.proofs.Common.{◌≡◌, ℕ, List, [], ◌∷◌, ◌++◌, codes, ap, sym, ◌∙◌, append-nil}
 use Rattle.json.specs.Token as Token
-use Rattle.dc_record.specs.Telegram.{Parsed}
-use Rattle.dc_record.specs.declared.header.Header.{Header}
+use Rattle.dc_records.specs.Telegram.{Parsed}
+use Rattle.dc_records.specs.declared.header.Header.{Header}
 use Rattle.dc_reading.specs.Headline.{headline}
 use Rattle.dc_reading.specs.Sent.{Sent}
 use Rattle.dc_tokens.specs.Object.{Field, fields_tokens}

@@ -1,6 +1,6 @@
 -- What one telegram reports, as JSON (this product): the fields of a reading but its serial.
 use Rattle.std.specs.Prelude.{ℕ, List, [], ◌∷◌, ◌++◌, codes, map}
-use Rattle.dc_record.specs.Telegram.{Parsed}
+use Rattle.dc_records.specs.Telegram.{Parsed}
 use Rattle.dc_reading.specs.Headline.{headline}
 use Rattle.dc_reading.specs.Sent.{Sent}
 use Rattle.dc_tokens.specs.Object.{Field, object_of, array_of, count}

@@ -1,9 +1,9 @@
 -- The day and the minute of a time stamp in UTC, on the calendar that ISO 8601 extends (this product).
 use Rattle.std.specs.Prelude.{ℕ, zero, suc, ◌+◌, ◌/◌, ◌%◌, nat_lt, if◌then◌else◌, pos}
 use Rattle.jiff_core.specs.Calendar.{days_in_month}
-use Rattle.dc_record.specs.Date.{Day}
-use Rattle.dc_record.specs.declared.value.value.Value.{Value}
-use Rattle.dc_record.specs.declared.value.value.Value.TheVariants.{Minute}
+use Rattle.dc_units.specs.Date.{Day}
+use Rattle.dc_units.specs.declared.value.Value.{Value}
+use Rattle.dc_units.specs.declared.value.Value.TheVariants.{Minute}
 
 -- the day after a day
 abbrev pub next_day : Day → Day

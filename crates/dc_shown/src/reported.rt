@@ -1,7 +1,7 @@
 //! What one telegram reports, as fields of an object.
 
 ghost use Rattle.std.specs.Prelude.{◌≡◌, ◌≤◌, ◌∷◌, [], codes};
-ghost use Rattle.dc_record.specs.Telegram.{parsed};
+ghost use Rattle.dc_records.specs.Telegram.{parsed};
 ghost use Rattle.dc_change.specs.Fields.{last_moment};
 ghost use Rattle.dc_tokens.specs.Writing.{Added};
 ghost use Rattle.dc_tokens.specs.Object.{fields_tokens};
@@ -12,8 +12,8 @@ use crate::stand::{Current, Headline, Listed};
 use crate::utc::minute;
 use dc_frame_json::{Cell, put_record, put_row};
 use dc_io::Sink;
-use dc_record::Telegram;
-use dc_register::Part;
+use dc_records::Telegram;
+use dc_meters::Part;
 use dc_tokens::TokenWriter;
 use std::alloc::{Allocator, Global};
 

@@ -5,7 +5,7 @@ ghost use Rattle.dc_io.specs.Written.{Wrote};
 ghost use Rattle.dc_shown.specs.Room.{bytes_a_reading, number_line, readings_left, room_words};
 
 use dc_io::{IoFault, Sink};
-use dc_register::House;
+use dc_meters::House;
 use dc_tokens::{Piece, put_pieces};
 use std::alloc::Allocator;
 

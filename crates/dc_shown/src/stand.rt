@@ -8,7 +8,7 @@ ghost use Rattle.dc_shown.specs.Stand.{all_sent, is_in, left_after, listed};
 
 use dc_reading::content::{Key, MOST_TARIFFS, Main, key_of, next_in};
 use dc_reading::{How, Sent, SentRecords, reading_of};
-use dc_register::Part;
+use dc_meters::Part;
 use std::alloc::Allocator;
 use std::marker::Model;
 

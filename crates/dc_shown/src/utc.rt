@@ -2,10 +2,10 @@
 
 ghost use Rattle.std.specs.Prelude.{◌≡◌, ◌≤◌};
 ghost use Rattle.dc_change.specs.Fields.{last_moment};
-ghost use Rattle.dc_record.specs.Date.{Day};
+ghost use Rattle.dc_units.specs.Date.{Day};
 ghost use Rattle.dc_shown.specs.Utc.{day_number, last_day, minute_of};
 
-use dc_record::value::{Date, Value};
+use dc_units::{Date, Value};
 use jiff_core::civil;
 
 const SECONDS_A_DAY: u64 = 86_400;

@@ -5,7 +5,7 @@ use crate::links::Links;
 use dc_address::{Identity, Primary};
 use dc_change::Flat;
 use dc_consumption::table::Boundaries;
-use dc_register::named::Named;
+use dc_meters::named::Named;
 use std::alloc::Global;
 
 /// How the frames of an input are printed.

@@ -13,7 +13,7 @@ use clap::ArgMatches;
 use dc_address::Primary;
 use dc_change::{Flat, parse_number};
 use dc_consumption::table::Boundaries;
-use dc_register::named::{Named, identity_of};
+use dc_meters::named::{Named, identity_of};
 use std::alloc::Global;
 
 // The greatest primary address.

@@ -10,7 +10,7 @@ use Rattle.dc_io.proofs.Pieces.{puts-both, takes-both}
 use Rattle.dc_bus.specs.Blocks.{Answers, IsBlock, block, blocks_bytes, most_block, most_blocks}
 use Rattle.dc_bus.specs.Limits.{most_answer}
 use Rattle.dc_bus.specs.Talk.{IsContent}
-use Rattle.dc_world.specs.Standing.{Standing}
+use Rattle.dc_readout.specs.Standing.{Standing}
 use Rattle.dc_world.specs.Line.{Hears}
 use Rattle.dc_world.specs.Serving.{PutsAnswer, Serves, blocks_with}
 

@@ -2,7 +2,7 @@
 -- are put.
 use Rattle.std.specs.Prelude.{◌≡◌, ℕ, List, [], ◌∷◌, Option, length}
 use Rattle.dc_bus.specs.Blocks.{Answers}
-use Rattle.dc_world.specs.Standing.{Standing}
+use Rattle.dc_readout.specs.Standing.{Standing}
 use Rattle.dc_world.specs.Line.{Hears}
 use Rattle.dc_io.specs.Stream.{Puts, Takes}
 

@@ -17,33 +17,13 @@
 //! A [`ListedBus`] is a bus of meters with one telegram each, for searches.
 #![tactic(auto)]
 
-mod body;
-mod event;
-mod held;
-mod laws;
 mod line;
 mod listed;
-mod lives;
 mod looped;
-mod meter;
 mod order;
-mod position;
-mod reply;
-mod request;
-mod running;
-mod script;
 mod serving;
-mod world;
 
-pub use body::{Bodies, Body};
-pub use event::{Outcome, WorldEvent};
-pub use held::Held;
-pub use laws::{a_meter_goes_on_from_what_is_committed, what_is_held_is_whole};
 pub use line::SimulatedBus;
 pub use listed::ListedBus;
-pub use lives::play;
 pub use looped::Looped;
-pub use meter::SimulatedMeter;
-pub use reply::Reply;
-pub use script::{MeterScript, are_regular};
 pub use serving::serve;

@@ -1,15 +1,15 @@
 //! Several meters on one line.
 
 ghost use Rattle.std.specs.Prelude.{◌≡◌, ◌++◌, ◌∷◌, [], OnOk, OnErr, None, Some, bytes_eq, map};
-ghost use Rattle.dc_frame.specs.Frame.{FrameSeen, ack, spelling};
-ghost use Rattle.dc_frame.specs.Reading.{frame_of};
-ghost use Rattle.dc_world.specs.Reply.{bytes_heard};
-ghost use Rattle.dc_world.specs.Standing.{SelectsByMask};
+ghost use Rattle.dc_linkframe.specs.Frame.{FrameSeen, ack, spelling};
+ghost use Rattle.dc_linkframe.specs.Reading.{frame_of};
+ghost use Rattle.dc_readout.specs.Reply.{bytes_heard};
+ghost use Rattle.dc_readout.specs.Standing.{SelectsByMask};
 ghost use Rattle.dc_world.specs.Line.{AreAble, Hears, heard_both, heard_of, seen_by};
 
-use crate::{Reply, SimulatedMeter};
+use dc_readout::{Reply, SimulatedMeter};
 use dc_bus::{AnswerBuf, Bus};
-use dc_frame::{ACK, FrameBuf};
+use dc_linkframe::{ACK, FrameBuf};
 use dc_io::NoMemory;
 use std::alloc::Allocator;
 use std::marker::Model;
@@ -22,7 +22,7 @@ pub struct SimulatedBus<A: Allocator> {
 
 impl<A: Allocator> Model for SimulatedBus<A> {
     ghost use Rattle.std.specs.Prelude.{List};
-    ghost use Rattle.dc_world.specs.Standing.{Standing};
+    ghost use Rattle.dc_readout.specs.Standing.{Standing};
 
     ghost Value = { List Standing };
 

@@ -8,7 +8,7 @@ ghost use Rattle.dc_search.specs.Bus.{IsMatching};
 use crate::order::{Order, order_of};
 use dc_address::{Identity, Mask};
 use dc_bus::{AnswerBuf, Bus};
-use dc_frame::{ACK, FrameBuf};
+use dc_linkframe::{ACK, FrameBuf};
 use dc_search::bus::{Matching, matches_on, telegram_of};
 use std::marker::Model;
 

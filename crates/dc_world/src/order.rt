@@ -2,13 +2,13 @@
 
 ghost use Rattle.std.specs.Prelude.{◌≡◌, ◌∷◌, [], ℕ, Some, true, option_map, length};
 ghost use Rattle.dc_address.specs.Mask.{IsMask, MaskParts, mask_wire};
-ghost use Rattle.dc_frame.specs.Control.{request_to, selected, selection_by};
-ghost use Rattle.dc_frame.specs.Frame.{seen, spelling};
+ghost use Rattle.dc_linkframe.specs.Control.{request_to, selected, selection_by};
+ghost use Rattle.dc_linkframe.specs.Frame.{seen, spelling};
 ghost use Rattle.dc_world.specs.declared.order.Order.TheVariants.{Data, Select};
 
 use dc_address::Mask;
-use dc_frame::control::{SELECTED, SELECTION, SND_UD, req_ud2};
-use dc_frame::{Frame, parse};
+use dc_linkframe::control::{SELECTED, SELECTION, SND_UD, req_ud2};
+use dc_linkframe::{Frame, parse};
 
 // Number of bytes of a secondary address.
 const WIRE_LEN: usize = 8;

@@ -2,14 +2,15 @@
 
 use crate::tasks::{ROOM, flushed};
 use dc_address::{Identity, Primary};
-use dc_disk::MemoryDisk;
+use dc_sectors::MemoryDisk;
 use dc_ending::{Ending, ProgramFault, STREAM, ending_of};
 use dc_files::{Host, Noted};
 use dc_io::{Buffered, Bytes, NoMemory, ReadSource, WriteSink};
 use dc_log::Store;
-use dc_register::House;
-use dc_script::run_script;
-use dc_world::{Bodies, Body, Looped, MeterScript, SimulatedBus, SimulatedMeter};
+use dc_meters::House;
+use dc_poller::run_script;
+use dc_readout::{Bodies, Body, MeterScript, SimulatedMeter};
+use dc_world::{Looped, SimulatedBus};
 use std::alloc::Global;
 use std::io;
 use std::net::{Net, TcpListener, TcpStream};

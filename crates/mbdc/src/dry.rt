@@ -9,7 +9,7 @@ use dc_inspect::register_of;
 use dc_io::{Buffered, WriteSink};
 use dc_log::OpenFault;
 use dc_poll::dry::{Dry, LINES, put_dry};
-use dc_register::House;
+use dc_meters::House;
 use dc_words::PollTask;
 use std::alloc::Global;
 use std::fs::File;

@@ -1,4 +1,4 @@
-//! Reports how a run ended: the line on standard error and the exit status, which `dc_script`
+//! Reports how a run ended: the line on standard error and the exit status, which `dc_poller`
 //! decides.
 
 ghost use Rattle.std.specs.Prelude.{◌≡◌, ◌≢◌, ◌⊎◌};
@@ -11,7 +11,7 @@ ghost use Rattle.dc_words.specs.Fault.{IfMistake};
 
 use clap::Error;
 use clap::error::ErrorKind;
-use dc_concentrator::CommitFault;
+use dc_core::CommitFault;
 use dc_ending::{Ending, STREAM};
 use dc_files::{Reason, Why, holder_of, without_number};
 use dc_io::{Buffered, IoFault, Sink, WriteSink, put_number};

@@ -3,7 +3,7 @@
 use crate::columns::in_order;
 use crate::journal::Noting;
 use dc_commands::fit_over;
-use dc_disk::FileDisk;
+use dc_sectors::FileDisk;
 use dc_ending::{Ending, ProgramFault};
 use dc_files::{Host, Noted, open_disk};
 use dc_fit::list::Wish;

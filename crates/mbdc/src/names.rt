@@ -1,14 +1,14 @@
 //! The meters that words name, in the register of an image.
 
 use dc_address::Identity;
-use dc_disk::Disk;
+use dc_sectors::Disk;
 use dc_ending::{Ending, ending_of};
 use dc_files::Host;
 use dc_inspect::register_of;
 use dc_io::{Bytes, IoFault, Sink, put_number};
 use dc_log::Greatest;
-use dc_register::House;
-use dc_register::named::{NameFault, Named, having, resolve_all};
+use dc_meters::House;
+use dc_meters::named::{NameFault, Named, having, resolve_all};
 use std::alloc::Global;
 use std::str;
 

@@ -10,7 +10,7 @@ use dc_fit::list::{Order, Wish};
 use dc_inspect::register_of;
 use dc_io::{Bytes, IoFault, Sink, put_number};
 use dc_log::Greatest;
-use dc_register::House;
+use dc_meters::House;
 use dc_words::{OrderTask, Turn};
 use std::alloc::Global;
 use std::fs::File;

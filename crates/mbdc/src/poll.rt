@@ -8,7 +8,7 @@ use crate::tracing::{shows_progress, trace_file_of, tracers_of};
 use dc_address::Identity;
 use dc_bus::trace::{Observed, Observer};
 use dc_commands::{Printing, poll_over};
-use dc_disk::FileDisk;
+use dc_sectors::FileDisk;
 use dc_ending::Ending;
 use dc_files::{Host, Patient, open_disk};
 use dc_links::{LinkBus, Peer, SystemBus, Watch};

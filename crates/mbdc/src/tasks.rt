@@ -20,7 +20,7 @@ use dc_inspect::Asked;
 use dc_io::{Buffered, Bytes, ReadSource, Sink, Source, WriteSink};
 use dc_json::explain_lines;
 use dc_paste::Pointed;
-use dc_script::fold_lines;
+use dc_poller::fold_lines;
 use dc_words::{Engine, Form, Task};
 use std::alloc::{Allocator, Global};
 use std::fs::File;

@@ -5,7 +5,7 @@ ghost use Rattle.dc_bus.specs.Blocks.{is_short};
 
 use crate::blocks::gateway::Gateway;
 use crate::{AnswerBuf, HalfBus};
-use dc_frame::FrameBuf;
+use dc_linkframe::FrameBuf;
 use dc_io::{Sink, Source};
 
 /// A gateway, and the request to exchange with it. Taking the answer performs the whole exchange,

@@ -4,7 +4,7 @@ ghost use Rattle.std.specs.Prelude.{◌≡◌, true};
 
 use crate::blocks::gateway::Gateway;
 use crate::{AnswerBuf, Bus};
-use dc_frame::FrameBuf;
+use dc_linkframe::FrameBuf;
 use dc_io::{Sink, Source};
 
 impl<R: Source + Drop, W: Sink + Drop> Bus for Gateway<R, W> {

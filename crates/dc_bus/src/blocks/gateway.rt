@@ -9,7 +9,7 @@ ghost use Rattle.dc_bus.specs.Talk.{HasNoAnswer, TakesAnswer, TakesFront};
 
 use crate::AnswerBuf;
 use crate::blocks::talk::{Talk, exchange};
-use dc_frame::FrameBuf;
+use dc_linkframe::FrameBuf;
 use dc_io::{Sink, Source};
 
 /// A gateway's reader and writer, and whether it is lost.

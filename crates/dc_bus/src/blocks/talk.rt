@@ -10,7 +10,7 @@ ghost use Rattle.dc_bus.specs.Talk.{HasNoAnswer, IfAnswer, OnLost, TakesAnswer, 
 use crate::AnswerBuf;
 use crate::blocks::answer::take_answer;
 use crate::blocks::block::put_block;
-use dc_frame::FrameBuf;
+use dc_linkframe::FrameBuf;
 use dc_io::{Sink, Source};
 
 /// The result of an exchange with the gateway.

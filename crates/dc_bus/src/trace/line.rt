@@ -4,7 +4,7 @@ ghost use Rattle.std.specs.Prelude.{◌≡◌, codes};
 ghost use Rattle.dc_io.specs.Written.{Wrote};
 ghost use Rattle.dc_bus.specs.Line.{mark_of, trace_line, what_of};
 
-use dc_frame::{Frame, parse};
+use dc_linkframe::{Frame, parse};
 use dc_io::{IoFault, Sink, put_hex_word, put_number, put_number_word};
 
 /// Which way bytes went.

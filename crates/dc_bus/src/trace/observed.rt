@@ -4,7 +4,7 @@ ghost use Rattle.std.specs.Prelude.{◌≡◌, true};
 
 use crate::trace::observer::Observer;
 use crate::{AnswerBuf, HalfBus};
-use dc_frame::FrameBuf;
+use dc_linkframe::FrameBuf;
 
 /// A bus with an observer, which sees each request and each answer. A lost bus is untouched, and so is its observer.
 #[derive(Drop)]

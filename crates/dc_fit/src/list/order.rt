@@ -14,7 +14,7 @@ use crate::list::verdict::{Verdict, put_is_at, put_taken};
 use dc_address::{Identity, Primary};
 use dc_change::{Change, ChangeFault, Command, END_OF_NUMBERS, Flat};
 use dc_io::{IoFault, NoMemory, Sink};
-use dc_register::House;
+use dc_meters::House;
 use std::alloc::Allocator;
 
 /// A command that is given at the box: one line of the billing office.

@@ -17,7 +17,7 @@ use crate::list::row::{Entry, Row, RowFault, read_line, row_text};
 use crate::list::verdict::{Verdict, command_of, fault_words, put_row, put_said, verdict_on};
 use dc_change::{Change, Command, CommandLine, encode_change};
 use dc_io::{Bytes, IoFault, NoMemory, first_line};
-use dc_register::House;
+use dc_meters::House;
 use std::alloc::Allocator;
 use std::marker::Model;
 

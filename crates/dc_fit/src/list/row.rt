@@ -10,14 +10,14 @@ ghost use Rattle.dc_address.specs.declared.identity.Identity.{Identity};
 ghost use Rattle.dc_change.specs.Fields.{IsOfBytes};
 ghost use Rattle.dc_change.specs.Fields.{IsAddress, IsBusLine};
 ghost use Rattle.dc_change.specs.Words.{IsWord, is_space, is_inside};
-ghost use Rattle.dc_register.specs.Name.{capitals};
+ghost use Rattle.dc_meters.specs.Name.{capitals};
 ghost use Rattle.dc_fit.specs.Rows.{Fields, HasFields, IsEntryOf, IsReadAs, Lacks, SpellsAddress};
 ghost use Rattle.dc_fit.specs.Rows.{SpellsRow, is_blank, is_kept, is_dropped, row_text, spaced, is_separator};
 
 use dc_address::{Identity, Primary};
 use dc_change::{Flat, parse_number, split_word};
 use dc_io::NoMemory;
-use dc_register::named::identity_of;
+use dc_meters::named::identity_of;
 use std::alloc::Allocator;
 
 /// A meter and its place.

@@ -15,7 +15,7 @@ use crate::list::row::{Row, RowFault};
 use dc_address::{Identity, Primary};
 use dc_change::{Change, ChangeFault, Command, END_OF_NUMBERS};
 use dc_io::{IoFault, Sink, put_number, put_number_word};
-use dc_register::{House, Meter};
+use dc_meters::{House, Meter};
 use std::alloc::Allocator;
 
 /// What a row asks of a register.

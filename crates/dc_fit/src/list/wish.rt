@@ -7,7 +7,7 @@ ghost use Rattle.dc_fit.specs.Wish.{IsMetBy};
 use crate::list::order::{Order, plan_for};
 use crate::list::plan::{Plan, plan_on};
 use dc_io::NoMemory;
-use dc_register::House;
+use dc_meters::House;
 use std::alloc::Allocator;
 
 /// What is asked of a register.

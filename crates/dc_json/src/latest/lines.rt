@@ -23,9 +23,9 @@ use dc_reading::{
     READING_ROOM, Sent, code_at, is_extension, number_after, number_of, reading_of, told_of,
     unit_text, value_text, vife_at,
 };
-use dc_record::names::medium_name;
-use dc_record::value::{Point, TEXT_ROOM};
-use dc_register::{House, Part, Place, Points, Reading};
+use dc_records::names::medium_name;
+use dc_units::{Point, TEXT_ROOM};
+use dc_meters::{House, Part, Place, Points, Reading};
 use dc_shown::{Current, Headline, Listed, minute};
 use dc_tokens::{Piece, put_pieces};
 use std::alloc::Allocator;

@@ -7,7 +7,7 @@ use crate::journal::Journal;
 use crate::latest::reading::part_in;
 use crate::status::{is_later, moment_of, taken_at};
 use dc_address::Identity;
-use dc_register::Reading;
+use dc_meters::Reading;
 use std::alloc::Allocator;
 
 /// What is kept of the journal's last reading of a meter, where that is later than the one that is held.

@@ -5,7 +5,7 @@ ghost use Rattle.dc_json.specs.Heard.{last_of_parts, part_in};
 ghost use Rattle.dc_json.specs.LatestValues.{last_of, last_reading};
 
 use dc_address::Identity;
-use dc_register::{House, Part, Reading, Serials};
+use dc_meters::{House, Part, Reading, Serials};
 use std::alloc::Allocator;
 
 /// The last reading of a meter that the register holds; none where the office has confirmed all, or none was taken.

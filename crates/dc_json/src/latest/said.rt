@@ -12,7 +12,7 @@ ghost use Rattle.json.specs.Value.{items_view, value_view};
 use crate::latest::lines::{put_value_word, shown};
 use crate::latest::status::put_status;
 use dc_io::{IoFault, Sink};
-use dc_record::value::TEXT_ROOM;
+use dc_units::TEXT_ROOM;
 use dc_shown::minute;
 use dc_tokens::{Piece, put_pieces};
 use json::Value;

@@ -4,7 +4,7 @@ ghost use Rattle.dc_io.specs.Written.{Wrote};
 ghost use Rattle.dc_json.specs.LatestValues.{bit_words, bits_words, byte_words, status_line};
 
 use dc_io::{IoFault, Sink, put_byte_word};
-use dc_record::names::application_name;
+use dc_records::names::application_name;
 
 // Writes the words of a bit that is set.
 #[tactic(auto, using(dc_io::proofs::Pieces::written), unfolding(crate::specs::LatestValues::bit_words))]

@@ -4,7 +4,7 @@ ghost use Rattle.std.specs.Prelude.{◌≡◌, option_copied};
 ghost use Rattle.dc_json.specs.Status.{began, bytes_a_day, days_left, first_moment};
 
 use crate::status::silence::moment_of;
-use dc_register::{House, Reading};
+use dc_meters::{House, Reading};
 use dc_shown::EMPTY;
 use std::alloc::Allocator;
 

@@ -9,7 +9,7 @@ use crate::journal::Journal;
 use crate::status::row::{Row, row_at};
 use crate::status::silence::Clock;
 use dc_io::{IoFault, Sink, put_number_word};
-use dc_register::House;
+use dc_meters::House;
 use dc_shown::readings_left;
 use dc_tokens::{Piece, put_pieces};
 use std::alloc::Allocator;

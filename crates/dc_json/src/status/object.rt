@@ -16,8 +16,8 @@ use crate::status::row::{Row, Told, row_at};
 use crate::status::silence::Clock;
 use dc_frame_json::{Cell, put_line};
 use dc_io::{IoFault, Sink};
-use dc_record::value::Value;
-use dc_register::House;
+use dc_units::Value;
+use dc_meters::House;
 use dc_shown::{minute, readings_left};
 use std::alloc::Allocator;
 

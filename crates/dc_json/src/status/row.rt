@@ -11,7 +11,7 @@ use crate::latest::{last_reading, part_in};
 use crate::status::silence::{Clock, heard, is_silent};
 use dc_address::Identity;
 use dc_change::{Flat, LAST_MOMENT};
-use dc_register::{House, Part, Place};
+use dc_meters::{House, Part, Place};
 use std::alloc::Allocator;
 
 /// What is shown of a registered meter, in any form.

@@ -10,7 +10,7 @@ use crate::journal::Journal;
 use crate::latest::{last_of, last_reading, part_in};
 use crate::status::row::row_at;
 use dc_address::Identity;
-use dc_register::{House, Meter, Part};
+use dc_meters::{House, Meter, Part};
 use std::alloc::Allocator;
 
 /// The moment at which a status is asked for.

@@ -8,7 +8,7 @@ use crate::dry::queue::{count_on, put_queue};
 use crate::dry::refusal::put_refused;
 use dc_address::Identity;
 use dc_io::{IoFault, Sink};
-use dc_register::House;
+use dc_meters::House;
 use dc_shown::put_room_left;
 use dc_tokens::{Piece, put_pieces};
 use std::alloc::Allocator;

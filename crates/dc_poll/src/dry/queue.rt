@@ -7,7 +7,7 @@ ghost use Rattle.dc_poll.specs.Dry.{count_on, queue_text, row_text, rows_text};
 use crate::image::is_wanted;
 use dc_address::Identity;
 use dc_io::{IoFault, Sink};
-use dc_register::{House, Meter};
+use dc_meters::{House, Meter};
 use dc_tokens::{Piece, put_pieces};
 use std::alloc::Allocator;
 

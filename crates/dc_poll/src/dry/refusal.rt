@@ -11,9 +11,9 @@ use crate::dry::dry::{Dry, LINES, is_linked};
 use crate::events::put_line;
 use crate::{Event, Refusal};
 use dc_address::Identity;
-use dc_concentrator::StartFault;
+use dc_core::StartFault;
 use dc_io::{IoFault, Sink};
-use dc_register::{House, Meter};
+use dc_meters::{House, Meter};
 use std::alloc::Allocator;
 
 /// Prints each meter that is to be read and would be refused, in order, and why.

@@ -4,10 +4,10 @@ ghost use Rattle.std.specs.Prelude.{◌≡◌, option_map};
 ghost use Rattle.dc_poll.specs.Content.{untaken};
 ghost use Rattle.dc_reading.specs.Content.{content_view};
 
-use dc_frame::control::VARIABLE_DATA;
-use dc_frame::{Frame, parse};
+use dc_linkframe::control::VARIABLE_DATA;
+use dc_linkframe::{Frame, parse};
 use dc_reading::content::{Content, content_of};
-use dc_record::Telegram;
+use dc_records::Telegram;
 
 /// What an answer says where its frame is no telegram that the register takes: an encrypted one, one with another header
 /// or none, fixed data, or records with a fault.

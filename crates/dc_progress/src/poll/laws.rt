@@ -6,7 +6,7 @@ ghost use Rattle.dc_progress.specs.RoomRow.{RoomRowSuffices};
 ghost use Rattle.dc_progress.specs.Talked.{ReadoutsOfAPollEnd};
 
 use dc_bus::HalfBus;
-use dc_disk::Disk;
+use dc_sectors::Disk;
 use dc_poll::{Teller, Timer};
 
 /// Each readout of a poll ends in one whole reading, while the talk on its bus is served.

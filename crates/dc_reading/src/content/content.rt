@@ -8,7 +8,7 @@ use crate::content::fixed::FixedData;
 use crate::content::security::Security;
 use crate::{SentRecords, end_of};
 use dc_address::Identity;
-use dc_record::{BodyFault, End, Header};
+use dc_records::{BodyFault, End, Header};
 
 // How many bytes an identity has, and how many a long and a short header.
 const IDENTITY_LEN: usize = 8;
@@ -58,8 +58,8 @@ pub struct Variable<'a> {
 }
 
 impl<'a> Variable<'a> {
-    ghost use Rattle.dc_record.specs.Reading.{Gives};
-    ghost use Rattle.dc_record.specs.Seen.{ending};
+    ghost use Rattle.dc_records.specs.Reading.{Gives};
+    ghost use Rattle.dc_records.specs.Seen.{ending};
     ghost use Rattle.dc_reading.specs.Content.{sents_of, end_of};
 
     /// The records up to the end or the first fault.

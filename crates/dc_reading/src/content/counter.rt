@@ -1,13 +1,13 @@
 //! The counters of fixed data (EN 13757-3).
 
 ghost use Rattle.std.specs.Prelude.{◌≡◌, length};
-ghost use Rattle.dc_record.specs.Record.{view};
+ghost use Rattle.dc_records.specs.Record.{view};
 ghost use Rattle.dc_reading.specs.Counter.{counter_by, counter_of, counter_view, first_counter, is_same};
 ghost use Rattle.dc_reading.specs.Counter.{one_if, second_counter};
 
 use crate::content::units::fixed_unit;
 use crate::{DataType, Form, Found, How, Reading, value_of};
-use dc_record::Record;
+use dc_records::Record;
 
 // The unit code of a second counter that says that its unit is the first one's, and that it is stored.
 const SAME_STORED: u8 = 0x3E;

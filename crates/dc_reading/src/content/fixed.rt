@@ -3,7 +3,7 @@
 ghost use Rattle.std.specs.Prelude.{◌≡◌, length};
 
 use crate::content::counter::{Counter, first_counter, second_counter};
-use dc_record::value::digits_after;
+use dc_units::digits_after;
 
 // How many bytes the structure has.
 const FIXED_LEN: usize = 16;

@@ -7,7 +7,7 @@ ghost use Rattle.dc_reading.specs.Headline.{comes_before, follows, is_candidate,
 ghost use Rattle.dc_reading.specs.Headline.{is_better, key_of, main_of, next_in, same_group, taken};
 
 use crate::{DataType, Datum, Found, Sent, SentRecords, number_of, reading_of, vifes_of};
-use dc_record::value::Value;
+use dc_units::Value;
 
 /// There are no more tariffs than ten DIFEs make.
 pub const MOST_TARIFFS: u32 = 1_048_576;

@@ -1,9 +1,9 @@
 //! Theorems about what bodies say. The functions have no effect; their contracts state the theorems.
 
 ghost use Rattle.std.specs.Prelude.{◌≡◌, ◌≢◌, ℕ, List, [], Ok, Some};
-ghost use Rattle.dc_record.specs.Header.{header_at, security_mode};
-ghost use Rattle.dc_record.specs.Telegram.{telegram_at};
-ghost use Rattle.dc_record.specs.declared.header.Header.{Header};
+ghost use Rattle.dc_records.specs.Header.{header_at, security_mode};
+ghost use Rattle.dc_records.specs.Telegram.{telegram_at};
+ghost use Rattle.dc_records.specs.declared.header.Header.{Header};
 ghost use Rattle.dc_reading.specs.Content.{IsAsRead, content_of, long_header, sents_of, variable};
 
 /// What a body after CI 72 says: what the register reads, where it reads it; else the fault for which it refuses it, or

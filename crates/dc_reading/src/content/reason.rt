@@ -7,8 +7,8 @@ ghost use Rattle.dc_reading.specs.Reason.{variable_reason};
 
 use crate::content::content::{Content, Head, Structure, Variable};
 use crate::content::security::{Security, security_name};
-use dc_record::BodyFault;
-use dc_record::value::{put_digits, put_piece};
+use dc_records::BodyFault;
+use dc_units::{put_digits, put_piece};
 
 /// The text of a reason has this many bytes at most.
 pub const REASON_ROOM: usize = 128;

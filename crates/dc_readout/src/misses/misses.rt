@@ -1,10 +1,10 @@
 //! The count of the failed tries of a readout.
 
 ghost use Rattle.std.specs.Prelude.{◌≡◌, [], is_some};
-ghost use Rattle.dc_frame.specs.Reading.{frame_of};
+ghost use Rattle.dc_linkframe.specs.Reading.{frame_of};
 ghost use Rattle.dc_readout.specs.Misses.{and_missed, counted, is_noise, misses_of};
 
-use dc_frame::parse;
+use dc_linkframe::parse;
 
 /// Number of failed tries of a readout, by what each brought. A count stays at 255.
 #[derive(Clone, Copy)]

@@ -4,7 +4,7 @@
 use super::images::{images_of, rested, stopped};
 use super::life::{blank, format, open_store, state_of};
 use super::stops::Tried;
-use dc_disk::{Disk, MemoryDisk};
+use dc_sectors::{Disk, MemoryDisk};
 use dc_log::{FormatFault, OpenFault};
 use std::alloc::Global;
 use std::ops::Range;

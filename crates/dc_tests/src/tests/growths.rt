@@ -4,8 +4,8 @@
 use super::life::{Life, blank_on, open, state_of, states_of};
 use super::stops::{Span, is_in, span_at};
 use super::turns::{Told, Way, go, turn};
-use dc_concentrator::Concentrator;
-use dc_disk::MemoryDisk;
+use dc_core::Concentrator;
+use dc_sectors::MemoryDisk;
 use dc_io::Bytes;
 use dc_log::OpenFault;
 use refusing_alloc::Refusing;

@@ -2,9 +2,9 @@
 
 ghost use Rattle.std.specs.Prelude.{ℕ, IfOk};
 ghost use Rattle.std.specs.List.{AllZip};
-ghost use Rattle.dc_disk.specs.Memory.{IsPickFor};
+ghost use Rattle.dc_sectors.specs.Memory.{IsPickFor};
 
-use dc_disk::{MemoryDisk, Pick};
+use dc_sectors::{MemoryDisk, Pick};
 use dc_io::NoMemory;
 use std::alloc::{Allocator, Global};
 

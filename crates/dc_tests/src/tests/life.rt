@@ -3,11 +3,11 @@
 use super::images::rested;
 use dc_address::Identity;
 use dc_change::{Change, Moment};
-use dc_concentrator::{Concentrator, Event};
-use dc_disk::{Disk, MemoryDisk};
+use dc_core::{Concentrator, Event};
+use dc_sectors::{Disk, MemoryDisk};
 use dc_io::Bytes;
 use dc_log::{FormatFault, OpenFault, Store, first_ahead};
-use dc_register::House;
+use dc_meters::House;
 use std::alloc::{Allocator, Global};
 use std::test::Fail;
 

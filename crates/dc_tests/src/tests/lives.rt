@@ -3,7 +3,7 @@
 
 use super::images::rested;
 use super::life::{Deed, Life, Step, blank, opened};
-use dc_disk::{Disk, MemoryDisk};
+use dc_sectors::{Disk, MemoryDisk};
 use dc_io::FixedSink;
 use std::alloc::Global;
 use std::process::Abort;

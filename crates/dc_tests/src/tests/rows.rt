@@ -3,12 +3,12 @@
 
 use super::life::replay;
 use dc_address::{Identity, Primary};
-use dc_record::value::Date;
-use dc_register::House;
+use dc_units::Date;
+use dc_meters::House;
 use dc_search::{SearchFault, sweep};
-use dc_world::Outcome::{AsSent, ReplyLost, ReplyUnreadable};
-use dc_world::WorldEvent::{Commit, Exchange, Start, Stop};
-use dc_world::{Bodies, Body, Held, MeterScript, WorldEvent, are_regular, play};
+use dc_readout::Outcome::{AsSent, ReplyLost, ReplyUnreadable};
+use dc_readout::WorldEvent::{Commit, Exchange, Start, Stop};
+use dc_readout::{Bodies, Body, Held, MeterScript, WorldEvent, are_regular, play};
 use std::alloc::Global;
 use std::process::Abort;
 use std::test::Fail;

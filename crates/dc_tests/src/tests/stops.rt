@@ -4,7 +4,7 @@
 use super::images::{images_of, stopped};
 use super::life::{Life, Step, open, state_of, states_of};
 use super::turns::{Way, go};
-use dc_disk::MemoryDisk;
+use dc_sectors::MemoryDisk;
 use dc_io::Bytes;
 use dc_log::OpenFault;
 use std::alloc::Global;

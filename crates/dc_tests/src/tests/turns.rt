@@ -1,8 +1,8 @@
 //! One step after the other, through the calls or through runs of one event.
 
 use super::life::{Deed, Step, event_of};
-use dc_concentrator::{CommitFault, Concentrator, Event, HearFault, StartFault};
-use dc_disk::Disk;
+use dc_core::{CommitFault, Concentrator, Event, HearFault, StartFault};
+use dc_sectors::Disk;
 use dc_io::{Bytes, Sink};
 use std::alloc::{Allocator, Global};
 use std::test::Fail;

@@ -5,8 +5,8 @@ ghost use Rattle.std.specs.Prelude.{◌≡◌, ◌+◌, ◌-◌, ◌^◌, min, N
 
 use super::life::{Deed, Life, Step, event_of, opened, state_of, states_of};
 use super::turns::{Told, Way, call, turn};
-use dc_concentrator::{Concentrator, WriteFault};
-use dc_disk::Disk;
+use dc_core::{Concentrator, WriteFault};
+use dc_sectors::Disk;
 use dc_io::{IoFault, Sink, one_failure_more};
 use std::alloc::{Allocator, Global};
 use std::process::Abort;

@@ -1,8 +1,8 @@
 use Rattle.std.proofs.Common.{◌≡◌, ◌==◌, ◌&&◌, ℕ, Bool, not, List, Some, length, sym, ap, ◌∙◌}
 use Rattle.std.specs.Prelude.{option_map}
 use Rattle.dc_address.specs.Mask.{MaskParts, mask_wire}
-use Rattle.dc_frame.specs.Control.{selection_by}
-use Rattle.dc_frame.specs.Frame.{spelling}
+use Rattle.dc_linkframe.specs.Control.{selection_by}
+use Rattle.dc_linkframe.specs.Frame.{spelling}
 use Rattle.dc_search.specs.Prefix.{mask_of_digits}
 use Rattle.dc_search.specs.Request.{request_by}
 use Rattle.dc_search.specs.State.{SearchState, step_of}

@@ -2,7 +2,7 @@ use Rattle.std.proofs.Common.{◌≡◌, ◌⊎◌, inl, inr, ◌<◌, ℕ, Bool
 use Rattle.std.specs.Prelude.{IfSome, option_map}
 use Rattle.std.specs.Result.{OnOk, is_err}
 use Rattle.dc_address.specs.declared.identity.Identity.{Identity}
-use Rattle.dc_frame.specs.Frame.{spelling}
+use Rattle.dc_linkframe.specs.Frame.{spelling}
 use Rattle.dc_search.specs.Request.{request_by}
 use Rattle.dc_search.specs.State.{SearchState, after, rounds_left, step_of}
 use Rattle.dc_search.specs.declared.step.Step.{Step}

@@ -1,7 +1,7 @@
 use Rattle.std.proofs.Common.{ℕ, List, get_or, subst}
 use Rattle.std.specs.List.{AllZip}
 use Rattle.std.proofs.lemmas.List.{take_all}
-use Rattle.dc_disk.specs.Memory.{IsPickFor}
+use Rattle.dc_sectors.specs.Memory.{IsPickFor}
 use Rattle.dc_cases.proofs.Picks.{zip_more}
 use Rattle.dc_cases.proofs.sectors.picks_of.Goals as goal
 

@@ -4,7 +4,7 @@ use Rattle.dc_commands.proofs.Printed.{kept_so, nothing_put, printed_so, read_so
 use Rattle.dc_commands.proofs.RunLeaving.{none_done, runs_so}
 use Rattle.dc_commands.specs.Bytes.{text_of}
 use Rattle.dc_commands.specs.RunOver.{OverSlots}
-use Rattle.dc_script.specs.Link.{links_of}
+use Rattle.dc_poller.specs.Link.{links_of}
 use Rattle.dc_commands.proofs.run.run_slots.Goals as goal
 
 pub returns-in_default : goal.returns-in_default

@@ -1,7 +1,7 @@
 use Rattle.std.proofs.Common.{◌≡◌, ◌∙◌, arith, rules}
 use Rattle.dc_change.specs.State.{State}
 use Rattle.dc_change.specs.Spelled.{SpellsState}
-use Rattle.dc_register.specs.Language.{one_register}
+use Rattle.dc_meters.specs.Language.{one_register}
 use Rattle.dc_fit.proofs.Copies.{same_held}
 use Rattle.dc_fit.proofs.fitting.copy_of.Goals as goal
 

@@ -1,5 +1,5 @@
 use Rattle.std.proofs.Common.{List, ◌∷◌, append_assoc, append-nil, option_map}
-use Rattle.dc_record.specs.Body.{plain}
+use Rattle.dc_records.specs.Body.{plain}
 use Rattle.dc_tokens.specs.Object.{Field, fields_tokens}
 use Rattle.dc_tokens.proofs.Objects.{fields-around}
 use Rattle.dc_reading.specs.Content.{fixed}

@@ -1,6 +1,6 @@
 use Rattle.std.proofs.Common.{ℕ, List, Option, [], ◌∷◌, codes, ap, sym, ◌∙◌}
-use Rattle.dc_record.specs.declared.fault.BodyFault.{BodyFault}
-use Rattle.dc_record.specs.Fault as records
+use Rattle.dc_records.specs.declared.fault.BodyFault.{BodyFault}
+use Rattle.dc_records.specs.Fault as records
 use Rattle.dc_tokens.specs.Object.{fields_tokens}
 use Rattle.dc_frame_json.specs.Content.{fault_json}
 use Rattle.dc_frame_json.specs.Fault.{fault_field}

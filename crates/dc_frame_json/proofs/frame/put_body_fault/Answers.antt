@@ -1,5 +1,5 @@
 use Rattle.std.proofs.Common.{List, [], ◌∷◌, append-nil, append_assoc, Err, codes}
-use Rattle.dc_record.specs.Fault as records
+use Rattle.dc_records.specs.Fault as records
 use Rattle.dc_reading.specs.Content.{content_of}
 use Rattle.dc_tokens.specs.Object.{Field, fields_tokens}
 use Rattle.dc_frame_json.specs.Content.{content_field}

@@ -1,5 +1,5 @@
 use Rattle.std.proofs.Common.{[], ◌∷◌, append-nil, Err, codes}
-use Rattle.dc_frame.specs.Fault as link
+use Rattle.dc_linkframe.specs.Fault as link
 use Rattle.dc_tokens.specs.Object.{Field, fields_tokens}
 use Rattle.dc_frame_json.specs.Fault.{fault_field}
 use Rattle.dc_frame_json.specs.Frame.{read_fields, place_fields, bytes_field}

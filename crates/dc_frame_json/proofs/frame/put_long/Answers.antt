@@ -1,5 +1,5 @@
 use Rattle.std.proofs.Common.{codes}
-use Rattle.dc_frame.specs.Frame.{long}
+use Rattle.dc_linkframe.specs.Frame.{long}
 use Rattle.dc_tokens.specs.Object.{fields_tokens}
 use Rattle.dc_frame_json.specs.Frame.{place_fields, link_fields, ci_fields, content_fields, frame_fields}
 use Rattle.dc_tokens.proofs.Objects.{four-append}

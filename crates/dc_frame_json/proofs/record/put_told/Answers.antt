@@ -1,6 +1,6 @@
 use Rattle.std.proofs.Common.{List, append_assoc, append-nil, ◌++◌}
 use Rattle.json.specs.Tree.{json_tokens}
-use Rattle.dc_record.specs.Record.{view}
+use Rattle.dc_records.specs.Record.{view}
 use Rattle.dc_frame_json.specs.Record.{told_fields, sent_fields, name_field, qualifier_fields, value_fields, vife_fields}
 use Rattle.dc_tokens.specs.Object.{Field, object_of}
 use Rattle.dc_tokens.proofs.Objects.{members_are, fields-append, fields-around}

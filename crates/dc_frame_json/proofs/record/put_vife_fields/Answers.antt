@@ -1,4 +1,4 @@
-use Rattle.dc_record.specs.Record.{view}
+use Rattle.dc_records.specs.Record.{view}
 use Rattle.dc_tokens.specs.Object.{fields_tokens}
 use Rattle.dc_frame_json.specs.Record.{vife_fields}
 use Rattle.dc_tokens.proofs.Adding.{◌>>◌, unchanged, said}

@@ -1,6 +1,6 @@
 use Rattle.std.proofs.Common.{ap, sym}
-use Rattle.dc_record.specs.Body.{Ending}
-use Rattle.dc_record.specs.Seen.{ending}
+use Rattle.dc_records.specs.Body.{Ending}
+use Rattle.dc_records.specs.Seen.{ending}
 use Rattle.dc_tokens.specs.Object.{fields_tokens}
 use Rattle.dc_tokens.proofs.Adding.{said}
 use Rattle.dc_frame_json.specs.Telegram.{end_fields, ending_fields}

@@ -1,6 +1,6 @@
 use Rattle.std.proofs.Common.{append-nil, drop}
 use Rattle.dc_reading.specs.Sent.{sent_at}
-use Rattle.dc_record.specs.Telegram.{Parsed, parsed}
+use Rattle.dc_records.specs.Telegram.{Parsed, parsed}
 use Rattle.dc_tokens.specs.Object.{fields_tokens}
 use Rattle.dc_frame_json.specs.Telegram.{header_fields, records_field, end_fields, telegram_fields}
 use Rattle.dc_tokens.proofs.Objects.{fields-around}

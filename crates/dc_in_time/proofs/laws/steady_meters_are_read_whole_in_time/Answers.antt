@@ -1,5 +1,5 @@
 use Rattle.std.proofs.Common.{◌≡◌, List}
-use Rattle.dc_world.specs.Meter.{Meter}
+use Rattle.dc_readout.specs.Meter.{Meter}
 use Rattle.dc_in_time.proofs.InTime.{in_its_time}
 use Rattle.dc_in_time.proofs.Steady.{steady_goes_on, steady_whole}
 use Rattle.dc_in_time.proofs.laws.steady_meters_are_read_whole_in_time.Goals as goal

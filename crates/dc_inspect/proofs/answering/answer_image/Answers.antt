@@ -1,6 +1,6 @@
 use Rattle.std.proofs.Common.{ℕ, subst}
 use Rattle.std.specs.Prelude.{option_map}
-use Rattle.dc_disk.specs.Disk.{Image}
+use Rattle.dc_sectors.specs.Disk.{Image}
 use Rattle.dc_log.proofs.ReadMoments.{looked_on}
 use Rattle.dc_inspect.specs.Look.{IsPlaced, seen_of}
 use Rattle.dc_inspect.specs.Told.{IsLook}

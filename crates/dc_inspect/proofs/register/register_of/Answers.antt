@@ -1,5 +1,5 @@
 use Rattle.std.proofs.Common.{rules, ◌≡◌, ℕ, ◌∙◌, None, Some, ap, arith, refl, subst}
-use Rattle.dc_disk.specs.Disk.{Image}
+use Rattle.dc_sectors.specs.Disk.{Image}
 use Rattle.dc_log.specs.Halves.{budget_of, half_len_of}
 use Rattle.dc_inspect.specs.Told.{Seen, IsLook}
 use Rattle.dc_inspect.proofs.register.register_of.Goals as goal

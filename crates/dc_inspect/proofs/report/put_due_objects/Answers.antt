@@ -2,7 +2,7 @@ use Rattle.std.proofs.Common.{◌≡◌, ◌+◌, ◌∷◌, ◌∙◌, List, ap
 use Rattle.std.proofs.lemmas.List.{drop_more}
 use Rattle.std.specs.List.{flat_map}
 use Rattle.dc_io.specs.Stream.{PutsFront}
-use Rattle.dc_office.specs.declared.table.row.Row.{Row}
+use Rattle.dc_report.specs.declared.row.Row.{Row}
 use Rattle.dc_inspect.specs.Report.{row_line}
 use Rattle.dc_json.proofs.Fronts.{front_of_all}
 use Rattle.dc_inspect.proofs.report.put_due_objects.Goals as goal

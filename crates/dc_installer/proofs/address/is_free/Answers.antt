@@ -1,7 +1,7 @@
 use Rattle.std.proofs.Common.{◌≡◌, ◌≢◌, ℕ, List, [], ap, sym, ◌∙◌, subst, rules}
 use Rattle.dc_bus.specs.Windows.{Insists, most_tries}
-use Rattle.dc_frame.specs.Control.{reset_to}
-use Rattle.dc_frame.specs.Frame.{spelling}
+use Rattle.dc_linkframe.specs.Control.{reset_to}
+use Rattle.dc_linkframe.specs.Frame.{spelling}
 use Rattle.dc_installer.specs.Address.{answers_reset, is_requested}
 use Rattle.dc_installer.specs.Scan.{is_none}
 use Rattle.dc_installer.proofs.address.is_free.Goals as goal

@@ -1,7 +1,7 @@
 use Rattle.std.proofs.Common.{◌≡◌, ◌≢◌, ℕ, Bool, true, false, List, [], sym, subst, rules}
 use Rattle.dc_installer.specs.Address.{IsChanged, IsFree, IsReached, call_to, is_nobody, is_one, is_taken, is_unclear, place_of}
 use Rattle.dc_installer.specs.Scan.{IsCalled}
-use Rattle.dc_frame.specs.Frame.{spelling}
+use Rattle.dc_linkframe.specs.Frame.{spelling}
 use Rattle.dc_installer.proofs.address.set_address.Given.{Over}
 use Rattle.dc_installer.proofs.address.set_address.Goals.{After-call-asked}
 use Rattle.dc_installer.proofs.address.set_address.Goals as goal

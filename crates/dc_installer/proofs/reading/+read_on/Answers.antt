@@ -2,8 +2,8 @@ use Rattle.std.proofs.Common.{◌≡◌, None, Some, Option, Result, Ok, Err, re
 use Rattle.std.proofs.lemmas.Result.{err_from_is_err_and}
 use Rattle.std.specs.Prelude.{option_map}
 use Rattle.std.specs.Result.{OnErr}
-use Rattle.dc_concentrator.proofs.Requests.{request_is_short}
-use Rattle.dc_frame.specs.Frame.{spelling}
+use Rattle.dc_core.proofs.Requests.{request_is_short}
+use Rattle.dc_linkframe.specs.Frame.{spelling}
 use Rattle.dc_readout.specs.Summary.{asked_by}
 use Rattle.dc_installer.proofs.Readouts.{ends_at_once, fails, goes_on, is_cut_off, is_cut_off_later}
 use Rattle.dc_installer.proofs.Results.{each_ok}

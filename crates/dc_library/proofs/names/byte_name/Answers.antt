@@ -1,7 +1,7 @@
 use Rattle.std.proofs.Common.{ℕ, Bool, List, ap, sym, ◌∙◌, nat_eq, if◌then◌else◌}
 use Rattle.std.proofs.lemmas.Bool.{ne_eqb}
-use Rattle.dc_record.specs.Fields.{control_name, ci_name}
-use Rattle.dc_record.specs.Media.{medium_name}
+use Rattle.dc_records.specs.Fields.{control_name, ci_name}
+use Rattle.dc_records.specs.Media.{medium_name}
 use Rattle.dc_library.specs.Names.{byte_name, coded_name}
 use Rattle.dc_library.proofs.names.byte_name.Goals as goal
 

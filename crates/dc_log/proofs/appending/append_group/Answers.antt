@@ -1,7 +1,7 @@
 use Rattle.std.proofs.Common.{◌∙◌, ◌+◌, ℕ, List, suc, ap, subst, sym}
-use Rattle.dc_disk.specs.Disk.{Image}
-use Rattle.dc_disk.specs.Runs.{LeavesOnly, IsSettled}
-use Rattle.dc_disk.proofs.Moments.{weakened}
+use Rattle.dc_sectors.specs.Disk.{Image}
+use Rattle.dc_sectors.specs.Runs.{LeavesOnly, IsSettled}
+use Rattle.dc_sectors.proofs.Moments.{weakened}
 use Rattle.dc_log.specs.Stands.{IsAppendable, IsReady, StandsForEither}
 use Rattle.dc_log.proofs.Appended.{appending_stands, appended_ready}
 use Rattle.dc_log.proofs.ReadMoments.{synced_behind}

@@ -1,8 +1,8 @@
 use Rattle.std.proofs.Common.{◌≡◌, ◌+◌, ℕ, zero, arith, ap, refl, subst, sym, ◌∙◌}
-use Rattle.dc_disk.specs.Disk.{Image, settled}
-use Rattle.dc_disk.specs.Runs.{LeavesOnly, IsSettled}
-use Rattle.dc_log.specs.declared.pages.site.Site.{Site}
-use Rattle.dc_log.specs.declared.roots.root.Root.{Root}
+use Rattle.dc_sectors.specs.Disk.{Image, settled}
+use Rattle.dc_sectors.specs.Runs.{LeavesOnly, IsSettled}
+use Rattle.dc_pages.specs.declared.site.Site.{Site}
+use Rattle.dc_roots.specs.declared.root.Root.{Root}
 use Rattle.dc_log.specs.Halves.{budget_of, SparesRest}
 use Rattle.dc_log.specs.Roots.{compacted}
 use Rattle.dc_log.specs.Sites.{base_site}

@@ -1,8 +1,8 @@
 use Rattle.std.proofs.Common.{⊎_elim, ◌≡◌, ◌⊎◌, ◌<◌, ◌≤◌, ℕ, ap, subst, sym, ◌∙◌, refl, arith}
 use Rattle.std.proofs.lemmas.Bool.{cases_eq}
-use Rattle.dc_disk.specs.Disk.{Image, Choices}
-use Rattle.dc_disk.specs.Images.{put_here, put_elsewhere}
-use Rattle.dc_disk.proofs.Moments.{started, goes_on}
+use Rattle.dc_sectors.specs.Disk.{Image, Choices}
+use Rattle.dc_sectors.specs.Images.{put_here, put_elsewhere}
+use Rattle.dc_sectors.proofs.Moments.{started, goes_on}
 use Rattle.dc_log.specs.Stands.{IsWiped}
 use Rattle.dc_log.proofs.Wiped.{WipedChoices, wiped_settled, wiped_added}
 use Rattle.dc_log.proofs.formatting.blank_sectors.Goals as goal

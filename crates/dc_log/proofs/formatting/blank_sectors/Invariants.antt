@@ -1,5 +1,5 @@
 use Rattle.std.proofs.Common.{◌≡◌, ◌⊎◌, ◌<◌, ◌≤◌, ℕ}
-use Rattle.dc_disk.specs.Runs.{LeavesOnly, IsSettled}
+use Rattle.dc_sectors.specs.Runs.{LeavesOnly, IsSettled}
 use Rattle.dc_log.specs.Stands.{blank, IsWiped}
 use Rattle.dc_log.proofs.Wiped.{WipedChoices}
 use Rattle.dc_log.proofs.formatting.blank_sectors.Given as goal

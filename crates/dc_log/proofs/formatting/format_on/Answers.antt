@@ -1,7 +1,7 @@
 use Rattle.std.proofs.Common.{◌≡◌, ℕ, inl, inr, ap, sym, subst, ◌∙◌}
-use Rattle.dc_disk.specs.Disk.{IsImage, settled}
-use Rattle.dc_disk.specs.Runs.{LeavesOnly, IsSettled}
-use Rattle.dc_disk.proofs.Moments.{started, weakened, followed, counted_on}
+use Rattle.dc_sectors.specs.Disk.{IsImage, settled}
+use Rattle.dc_sectors.specs.Runs.{LeavesOnly, IsSettled}
+use Rattle.dc_sectors.proofs.Moments.{started, weakened, followed, counted_on}
 use Rattle.dc_log.specs.Halves.{half_of, half_len_of, SparesRest}
 use Rattle.dc_log.specs.Stands.{IsUnformatted, IsBlankOrEmpty, IsFormatting}
 use Rattle.dc_log.proofs.ReadMoments.{synced, synced_read}

@@ -1,7 +1,7 @@
 use Rattle.std.proofs.Common.{⊎_elim, ◌≤◌, ◌<◌, ◌+◌, ◌*◌, ℕ, List, zero, inl, inr, arith, ap, subst, sym, ◌∙◌}
-use Rattle.dc_disk.specs.Disk.{Image, settled}
-use Rattle.dc_disk.specs.Runs.{LeavesOnly, IsSettled}
-use Rattle.dc_log.specs.declared.pages.site.Site.{Site}
+use Rattle.dc_sectors.specs.Disk.{Image, settled}
+use Rattle.dc_sectors.specs.Runs.{LeavesOnly, IsSettled}
+use Rattle.dc_pages.specs.declared.site.Site.{Site}
 use Rattle.dc_log.specs.Halves.{half_start, budget_of, SparesRest}
 use Rattle.dc_log.specs.Roots.{first_root}
 use Rattle.dc_log.specs.Sites.{base_site}

@@ -1,6 +1,6 @@
 use Rattle.std.proofs.Common.{◌≡◌, ◌∙◌, ◌+◌, ◌*◌, ℕ, Bool, true, false, arith, subst, sym, refl}
-use Rattle.dc_disk.specs.Disk.{Image}
-use Rattle.dc_disk.proofs.Moments.{counted_on}
+use Rattle.dc_sectors.specs.Disk.{Image}
+use Rattle.dc_sectors.proofs.Moments.{counted_on}
 use Rattle.dc_log.specs.Stands.{IsAhead}
 use Rattle.dc_log.proofs.Ahead.{NoneBefore, none_before_more, none_is_fresh}
 use Rattle.dc_log.proofs.ReadMoments.{looked_never, looked_on}

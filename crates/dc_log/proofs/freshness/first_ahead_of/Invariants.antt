@@ -1,5 +1,5 @@
 use Rattle.std.proofs.Common.{◌≤◌, ◌+◌}
-use Rattle.dc_disk.specs.Runs.{OnlyLooked, Counts}
+use Rattle.dc_sectors.specs.Runs.{OnlyLooked, Counts}
 use Rattle.dc_log.proofs.Ahead.{NoneBefore}
 use Rattle.dc_log.proofs.freshness.first_ahead_of.Given as goal
 

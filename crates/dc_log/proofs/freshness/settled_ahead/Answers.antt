@@ -1,6 +1,6 @@
 use Rattle.std.proofs.Common.{◌≡◌, ◌∙◌, ℕ, Result, Option, Ok, None, IfOk, ap, subst, sym}
-use Rattle.dc_disk.specs.Disk.{Image, Choices, IsImage}
-use Rattle.dc_disk.specs.Images.{settled_image}
+use Rattle.dc_sectors.specs.Disk.{Image, Choices, IsImage}
+use Rattle.dc_sectors.specs.Images.{settled_image}
 use Rattle.dc_log.specs.Behind.{IsBehindAt}
 use Rattle.dc_log.specs.Halves.{half_of, half_len_of}
 use Rattle.dc_log.specs.Stands.{Stands}

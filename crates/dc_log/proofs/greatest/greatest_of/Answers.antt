@@ -1,7 +1,7 @@
 use Rattle.std.proofs.Common.{◌≡◌, ◌+◌, ◌*◌, ℕ, arith, subst, sym, refl}
-use Rattle.dc_disk.specs.Disk.{Image}
-use Rattle.dc_disk.proofs.Moments.{counted_on}
-use Rattle.dc_log.specs.Stamp.{IsStampOf}
+use Rattle.dc_sectors.specs.Disk.{Image}
+use Rattle.dc_sectors.proofs.Moments.{counted_on}
+use Rattle.dc_pages.specs.Stamp.{IsStampOf}
 use Rattle.dc_log.specs.Greatest.{IsGreatestBefore, OfSession, OfSequence}
 use Rattle.dc_log.proofs.Peaks.{no_peak}
 use Rattle.dc_log.proofs.ReadMoments.{looked_never, looked_on}

@@ -1,5 +1,5 @@
 use Rattle.std.proofs.Common.{◌≤◌}
-use Rattle.dc_disk.specs.Runs.{OnlyLooked, Counts}
+use Rattle.dc_sectors.specs.Runs.{OnlyLooked, Counts}
 use Rattle.dc_log.specs.Greatest.{IsGreatestBefore}
 use Rattle.dc_log.proofs.greatest.greatest_of.Given as goal
 

@@ -1,7 +1,7 @@
 use Rattle.std.proofs.Common.{◌≡◌, ⊎_elim, ℕ, zero, suc, ◌+◌, ap, sym, subst, arith}
-use Rattle.dc_disk.specs.Runs.{LeavesOnly, IsSettled}
-use Rattle.dc_disk.proofs.Moments.{followed}
-use Rattle.dc_log.specs.declared.roots.root.Root.{Root}
+use Rattle.dc_sectors.specs.Runs.{LeavesOnly, IsSettled}
+use Rattle.dc_sectors.proofs.Moments.{followed}
+use Rattle.dc_roots.specs.declared.root.Root.{Root}
 use Rattle.dc_log.specs.Halves.{SparesRest}
 use Rattle.dc_log.specs.Stands.{IsReady, Stands, StandsBy, StandsForEither}
 use Rattle.dc_log.proofs.Spared.{spared_through, spared_slot}

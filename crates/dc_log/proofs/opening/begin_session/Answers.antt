@@ -1,4 +1,4 @@
-use Rattle.dc_disk.proofs.Moments.{weakened}
+use Rattle.dc_sectors.proofs.Moments.{weakened}
 use Rattle.dc_log.proofs.Session.{session_step, session_done}
 use Rattle.dc_log.proofs.opening.begin_session.Goals as goal
 

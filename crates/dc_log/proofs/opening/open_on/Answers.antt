@@ -1,6 +1,6 @@
 use Rattle.std.proofs.Common.{◌≡◌, ◌+◌, ℕ, Err, ap, refl, subst, sym, ◌∙◌}
-use Rattle.dc_disk.specs.Disk.{Image, IsImage, settled}
-use Rattle.dc_disk.specs.Runs.{LeavesOnly, IsSettled}
+use Rattle.dc_sectors.specs.Disk.{Image, IsImage, settled}
+use Rattle.dc_sectors.specs.Runs.{LeavesOnly, IsSettled}
 use Rattle.dc_log.specs.Halves.{SparesRest}
 use Rattle.dc_log.specs.Roots.{IsOpenedRoot}
 use Rattle.dc_log.specs.Refusal.{IsSpent}
@@ -14,7 +14,7 @@ use Rattle.dc_log.proofs.opening.open_on.Given.{Over}
 use Rattle.dc_log.proofs.opening.open_on.Goals.{After-read_chain, After-is_spent, After-begin}
 use Rattle.dc_log.proofs.opening.open_on.Goals as goal
 use Rattle.std.proofs.lemmas.Result.{err_from_is_err_and}
-use Rattle.dc_disk.proofs.Moments.{counted_on}
+use Rattle.dc_sectors.proofs.Moments.{counted_on}
 use Rattle.dc_log.specs.declared.fault.OpenFault.TheVariants.{Device}
 
 -- the sync and the reading wrote nothing

@@ -1,8 +1,8 @@
 use Rattle.std.proofs.Common.{◌≡◌, ◌∙◌, ap, sym, subst, Err}
 use Rattle.std.proofs.lemmas.Result.{err_from_is_err_and}
-use Rattle.dc_disk.specs.Disk.{Image}
-use Rattle.dc_disk.specs.Runs.{OnlyLooked}
-use Rattle.dc_log.specs.declared.roots.root.Root.{Root}
+use Rattle.dc_sectors.specs.Disk.{Image}
+use Rattle.dc_sectors.specs.Runs.{OnlyLooked}
+use Rattle.dc_roots.specs.declared.root.Root.{Root}
 use Rattle.dc_log.specs.declared.fault.OpenFault.TheVariants.{Device}
 use Rattle.dc_log.specs.Refusal.{IsUnread}
 use Rattle.dc_log.specs.Stands.{IsCurrent, IsReached, IsRead}
@@ -10,7 +10,7 @@ use Rattle.dc_log.proofs.ReadMoments.{looked_on}
 use Rattle.dc_log.proofs.reading.read_chain.Given.{Over}
 use Rattle.dc_log.proofs.reading.read_chain.Goals.{In_ok-root, In_ok-found}
 use Rattle.dc_log.proofs.reading.read_chain.Goals as goal
-use Rattle.dc_disk.proofs.Moments.{counted_on}
+use Rattle.dc_sectors.proofs.Moments.{counted_on}
 
 -- ---- BEFORE THE GROUPS: the root that was chosen, and the base that it led to
 

@@ -1,6 +1,6 @@
 use Rattle.std.proofs.Common.{arith, ap, subst, sym, ◌∙◌, ◌≡◌, Ok, Err}
-use Rattle.dc_disk.specs.Disk.{Image}
-use Rattle.dc_log.specs.Group.{IsComplete}
+use Rattle.dc_sectors.specs.Disk.{Image}
+use Rattle.dc_pages.specs.Group.{IsComplete}
 use Rattle.dc_log.specs.Sites.{change_site}
 use Rattle.dc_log.specs.Stands.{IsReached}
 use Rattle.dc_log.specs.Refusal.{IsUnread}
@@ -9,7 +9,7 @@ use Rattle.std.proofs.lemmas.Result.{err_from_is_err_and}
 use Rattle.dc_log.proofs.ReadMoments.{looked_on}
 use Rattle.dc_log.proofs.Steps.{all_read}
 use Rattle.dc_log.proofs.reading.read_groups.Goals as goal
-use Rattle.dc_disk.proofs.Moments.{counted_on, counts_pass, counts_none}
+use Rattle.dc_sectors.proofs.Moments.{counted_on, counts_pass, counts_none}
 
 pub returns-clause-all : goal.returns-clause-all
 returns-clause-all g c h budget reached =

@@ -1,5 +1,5 @@
 use Rattle.std.proofs.Common.{◌-◌, ◌≡◌, ◌≤◌}
-use Rattle.dc_disk.specs.Runs.{OnlyLooked, Counts}
+use Rattle.dc_sectors.specs.Runs.{OnlyLooked, Counts}
 use Rattle.dc_log.specs.Halves.{half_end, budget_of}
 use Rattle.dc_log.specs.Stands.{IsReached}
 use Rattle.dc_log.proofs.reading.read_groups.Given as goal

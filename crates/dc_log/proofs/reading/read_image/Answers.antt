@@ -1,5 +1,5 @@
 use Rattle.std.proofs.Common.{◌+◌, subst}
-use Rattle.dc_disk.specs.Disk.{Image}
+use Rattle.dc_sectors.specs.Disk.{Image}
 use Rattle.dc_log.specs.Stands.{IsFirstAhead}
 use Rattle.dc_log.proofs.reading.read_image.Goals as goal
 

@@ -1,9 +1,9 @@
 use Rattle.std.proofs.Common.{◌+◌, ℕ, List, arith, subst, sym, inr, refl}
-use Rattle.dc_log.specs.Group.{IsComplete, change_kind}
-use Rattle.dc_log.specs.Reading.{IsCutAt}
-use Rattle.dc_log.specs.declared.pages.site.Site.{Site}
-use Rattle.dc_log.proofs.OneSync.{not_commit}
-use Rattle.dc_log.proofs.Cut.{cut_incomplete}
+use Rattle.dc_pages.specs.Group.{IsComplete, change_kind}
+use Rattle.dc_pages.specs.Reading.{IsCutAt}
+use Rattle.dc_pages.specs.declared.site.Site.{Site}
+use Rattle.dc_pages.proofs.OneSync.{not_commit}
+use Rattle.dc_pages.proofs.Cut.{cut_incomplete}
 use Rattle.dc_log.specs.Sites.{change_site}
 use Rattle.dc_log.proofs.Steps.{group_reached, group_bad}
 use Rattle.dc_log.proofs.reading.read_next.Goals as goal

@@ -1,7 +1,7 @@
 use Rattle.std.proofs.Common.{◌≡◌, subst, sym}
-use Rattle.dc_disk.specs.Disk.{Image, Choices, IsImage}
-use Rattle.dc_disk.specs.Runs.{IsSettled}
-use Rattle.dc_disk.specs.Images.{settled_image}
+use Rattle.dc_sectors.specs.Disk.{Image, Choices, IsImage}
+use Rattle.dc_sectors.specs.Runs.{IsSettled}
+use Rattle.dc_sectors.specs.Images.{settled_image}
 use Rattle.dc_log.specs.Halves.{half_of}
 use Rattle.dc_log.specs.Stands.{Stands}
 use Rattle.dc_log.specs.Store.{Keeps}

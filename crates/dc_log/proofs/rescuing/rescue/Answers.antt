@@ -1,5 +1,5 @@
 use Rattle.std.proofs.Common.{◌≡◌, ◌∙◌, ℕ, ap, subst, sym}
-use Rattle.dc_disk.specs.Disk.{Image}
+use Rattle.dc_sectors.specs.Disk.{Image}
 use Rattle.dc_log.specs.Halves.{half_of, half_len_of}
 use Rattle.dc_log.specs.Refusal.{IsUnread}
 use Rattle.dc_log.specs.Rescue.{IsRescued}

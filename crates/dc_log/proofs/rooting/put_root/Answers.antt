@@ -1,9 +1,9 @@
 use Rattle.std.proofs.Common.{◌∙◌, ap, ◌<◌, ◌-◌, ◌^◌, arith}
-use Rattle.dc_disk.specs.Disk.{Image}
-use Rattle.dc_disk.specs.Runs.{LeavesOnly, IsSettled}
-use Rattle.dc_disk.proofs.Moments.{started, weakened}
-use Rattle.dc_log.specs.Choice.{IsRootWrite}
-use Rattle.dc_log.specs.Root.{next_of, root_bytes}
+use Rattle.dc_sectors.specs.Disk.{Image}
+use Rattle.dc_sectors.specs.Runs.{LeavesOnly, IsSettled}
+use Rattle.dc_sectors.proofs.Moments.{started, weakened}
+use Rattle.dc_roots.specs.Choice.{IsRootWrite}
+use Rattle.dc_roots.specs.Root.{next_of, root_bytes}
 use Rattle.dc_log.proofs.ReadMoments.{synced_behind}
 use Rattle.dc_log.proofs.RootWrite.{root_write, unwritten_root}
 use Rattle.dc_log.proofs.rooting.put_root.Given.{Over}

@@ -1,7 +1,7 @@
 use Rattle.std.proofs.Common.{◌≡◌, ◌∙◌, [], ap, subst}
-use Rattle.dc_disk.specs.Runs.{IsSettled}
-use Rattle.dc_log.specs.Draft.{Draft}
-use Rattle.dc_log.specs.PagesWriting.{SameOutside}
+use Rattle.dc_sectors.specs.Runs.{IsSettled}
+use Rattle.dc_pages.specs.Draft.{Draft}
+use Rattle.dc_pages.specs.PagesWriting.{SameOutside}
 use Rattle.dc_log.proofs.Drafts.{Begins, first_going, put_failed, finish_failed, finish_leaves, finish_written}
 use Rattle.dc_log.proofs.writing.write_group.Given.{Over}
 use Rattle.dc_log.proofs.writing.write_group.Goals.{After-begin-writer}

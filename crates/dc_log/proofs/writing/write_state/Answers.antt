@@ -1,7 +1,7 @@
 use Rattle.std.proofs.Common.{◌≡◌, ◌∙◌, [], rules, ap, subst}
-use Rattle.dc_disk.specs.Runs.{LeavesOnly, IsSettled}
-use Rattle.dc_log.specs.Draft.{Draft}
-use Rattle.dc_log.specs.PagesWriting.{SameOutside}
+use Rattle.dc_sectors.specs.Runs.{LeavesOnly, IsSettled}
+use Rattle.dc_pages.specs.Draft.{Draft}
+use Rattle.dc_pages.specs.PagesWriting.{SameOutside}
 use Rattle.dc_log.specs.Writing.{IsAttempt, IsWritten}
 use Rattle.dc_log.proofs.Drafts.{Begins, first_going, put_failed, finish_failed, finish_leaves, finish_written}
 use Rattle.dc_log.proofs.writing.write_state.Given.{Over}

@@ -1,6 +1,6 @@
 use Rattle.std.proofs.Common.{refl}
-use Rattle.dc_concentrator.specs.Event.{asks, asked}
-use Rattle.dc_concentrator.proofs.SingleTurns.{rested}
+use Rattle.dc_core.specs.Event.{asks, asked}
+use Rattle.dc_core.proofs.SingleTurns.{rested}
 use Rattle.dc_poll.proofs.Running.{turn_happens}
 use Rattle.dc_poll.proofs.calls.ask.Goals as goal
 

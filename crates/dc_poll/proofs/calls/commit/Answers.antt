@@ -1,7 +1,7 @@
 use Rattle.std.proofs.Common.{refl}
-use Rattle.dc_concentrator.specs.Event.{commits, committed}
-use Rattle.dc_concentrator.proofs.Answering.{commit_shown}
-use Rattle.dc_concentrator.proofs.SingleTurns.{committed_went}
+use Rattle.dc_core.specs.Event.{commits, committed}
+use Rattle.dc_core.proofs.Answering.{commit_shown}
+use Rattle.dc_core.proofs.SingleTurns.{committed_went}
 use Rattle.dc_poll.proofs.Running.{turn_happens}
 use Rattle.dc_poll.proofs.calls.commit.Goals as goal
 

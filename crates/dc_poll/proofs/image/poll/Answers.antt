@@ -4,7 +4,7 @@ use Rattle.std.specs.List.{All}
 use Rattle.dc_address.specs.declared.identity.Identity.{Identity}
 use Rattle.dc_io.specs.Failures.{HasRisen}
 use Rattle.dc_change.specs.State.{State}
-use Rattle.dc_concentrator.specs.Core.{present}
+use Rattle.dc_core.specs.Core.{present}
 use Rattle.dc_poll.specs.Telling.{TakesAll}
 use Rattle.dc_poll.specs.Clock.{ComparesClock}
 use Rattle.dc_poll.specs.Planned.{ArePlanned, AreQueues, AreStations, asked_for, has_bus, refused_count, refused_events}

@@ -1,8 +1,8 @@
 use Rattle.std.proofs.Common.{List, []}
-use Rattle.dc_concentrator.specs.Core.{Core}
-use Rattle.dc_concentrator.specs.OpenedOn.{IsOpenedOn}
+use Rattle.dc_core.specs.Core.{Core}
+use Rattle.dc_core.specs.OpenedOn.{IsOpenedOn}
 use Rattle.dc_log.specs.Halves.{half_of}
-use Rattle.dc_concentrator.specs.PendingImages.{EachStands}
+use Rattle.dc_core.specs.PendingImages.{EachStands}
 use Rattle.dc_poll.specs.Happening.{Happening}
 use Rattle.dc_poll.proofs.ImagePolls.{none_opened, turned, turned_ok}
 use Rattle.dc_poll.proofs.Running.{runs_as}

@@ -1,5 +1,5 @@
 use Rattle.std.proofs.Common.{◌≡◌, ◌≤◌, ◌<◌, ◌+◌, ◌++◌, ℕ, List, Ok, Err, length, get_or, refl, set, subst, sym, ◌∙◌, arith, length-set}
-use Rattle.dc_concentrator.specs.Core.{Core}
+use Rattle.dc_core.specs.Core.{Core}
 use Rattle.dc_poll.specs.Happening.{Happening}
 use Rattle.dc_poll.specs.Keeping.{AreHeard}
 use Rattle.dc_poll.specs.Round.{AllSteps, AreHeardAs, HearsOne, IsRoom, Runs}

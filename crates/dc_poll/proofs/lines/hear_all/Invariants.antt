@@ -1,6 +1,6 @@
 use Rattle.std.proofs.Common.{◌≡◌, List, length}
 use Rattle.std.specs.List.{All}
-use Rattle.dc_concentrator.specs.Core.{Core}
+use Rattle.dc_core.specs.Core.{Core}
 use Rattle.dc_poll.specs.Happening.{Happening}
 use Rattle.dc_poll.specs.Keeping.{AreHeard}
 use Rattle.dc_poll.specs.Round.{Runs, AllSteps}

@@ -1,5 +1,5 @@
 use Rattle.std.proofs.Common.{◌≡◌}
-use Rattle.dc_register.specs.Orders.{serials_of}
+use Rattle.dc_meters.specs.Orders.{serials_of}
 use Rattle.dc_poll.specs.Happening.{last_of}
 use Rattle.dc_poll.proofs.newest.newest_serial.Given as goal
 

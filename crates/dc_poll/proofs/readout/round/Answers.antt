@@ -1,6 +1,6 @@
 use Rattle.std.proofs.Common.{◌++◌, ℕ, Bool, List, Option, refl, sym, subst, ◌∙◌}
-use Rattle.dc_concentrator.specs.Core.{Core}
-use Rattle.dc_concentrator.specs.declared.fault.CommitFault.{CommitFault}
+use Rattle.dc_core.specs.Core.{Core}
+use Rattle.dc_core.specs.declared.fault.CommitFault.{CommitFault}
 use Rattle.dc_poll.specs.Telling.{TakesAll}
 use Rattle.dc_poll.specs.Happening.{Happening}
 use Rattle.dc_poll.specs.Polls.{GoesRound}

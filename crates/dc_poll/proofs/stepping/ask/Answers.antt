@@ -1,5 +1,5 @@
 use Rattle.std.proofs.Common.{◌<◌, ap, ◌∙◌, arith}
-use Rattle.dc_concentrator.specs.Event.{asks, asked}
+use Rattle.dc_core.specs.Event.{asks, asked}
 use Rattle.dc_poll.specs.Keeping.{IsAsking}
 use Rattle.dc_poll.specs.declared.phase.Phase.TheVariants.{Busy}
 use Rattle.dc_poll.proofs.Becoming.{line_asked, line_given_up}

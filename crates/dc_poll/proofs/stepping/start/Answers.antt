@@ -1,4 +1,4 @@
-use Rattle.dc_concentrator.specs.Event.{starts, started}
+use Rattle.dc_core.specs.Event.{starts, started}
 use Rattle.dc_poll.specs.Keeping.{IsAsking}
 use Rattle.dc_poll.proofs.Becoming.{free_quiet, free_pass, line_started, sound_started, fewer_started}
 use Rattle.dc_poll.proofs.Queues.{on_line, off_line, steps_one}

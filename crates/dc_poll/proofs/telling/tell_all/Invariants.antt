@@ -1,5 +1,5 @@
 use Rattle.std.proofs.Common.{◌≡◌, ◌≤◌, ◌+◌, ℕ, List, length}
-use Rattle.dc_concentrator.specs.Core.{Core}
+use Rattle.dc_core.specs.Core.{Core}
 use Rattle.dc_poll.specs.Telling.{TakesAll}
 use Rattle.dc_poll.specs.Happening.{Happening}
 use Rattle.dc_poll.specs.Round.{AllTells, Runs}

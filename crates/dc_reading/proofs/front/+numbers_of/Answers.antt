@@ -1,5 +1,5 @@
 use Rattle.std.proofs.Common.{arith}
-use Rattle.dc_record.proofs.Bounds.{few_digits}
+use Rattle.dc_records.proofs.Bounds.{few_digits}
 use Rattle.dc_reading.proofs.front.+numbers_of.Goals as goal
 
 pub overflow_mul-result : goal.overflow_mul-result

@@ -4,9 +4,9 @@ use Rattle.std.proofs.Math.Seq.{take-append_seam, drop-append_seam}
 use Rattle.dc_address.specs.Identity.{wire_of}
 use Rattle.dc_address.proofs.Identities.{length-wire_of}
 use Rattle.dc_address.specs.declared.identity.Identity.{Identity}
-use Rattle.dc_frame.specs.Frame.{long}
-use Rattle.dc_frame.proofs.Spellings.{frame_of-spelling}
-use Rattle.dc_record.proofs.Spellings.Headers.{at_found}
+use Rattle.dc_linkframe.specs.Frame.{long}
+use Rattle.dc_linkframe.proofs.Spellings.{frame_of-spelling}
+use Rattle.dc_records.proofs.Spellings.Headers.{at_found}
 use Rattle.dc_search.specs.Answer.{answer_of, identity_at, identity_in, identity_of}
 use Rattle.dc_search.proofs.bus.telegram_of.Goals as goal
 

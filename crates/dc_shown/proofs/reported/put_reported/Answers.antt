@@ -1,4 +1,4 @@
-use Rattle.dc_record.specs.Telegram.{parsed}
+use Rattle.dc_records.specs.Telegram.{parsed}
 use Rattle.dc_tokens.specs.Object.{fields_tokens}
 use Rattle.dc_tokens.proofs.Adding.{◌>>◌, unchanged, said}
 use Rattle.dc_shown.specs.Reported.{reported_fields}

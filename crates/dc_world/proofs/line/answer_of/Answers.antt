@@ -2,7 +2,7 @@ use Rattle.std.proofs.Common.{◌≤◌, ◌++◌, length, arith, ap, ◌∙◌}
 use Rattle.std.specs.Prelude.{take}
 use Rattle.std.proofs.lemmas.List.{take_all}
 use Rattle.dc_bus.specs.Limits.{most_answer}
-use Rattle.dc_world.specs.Reply.{bytes_heard}
+use Rattle.dc_readout.specs.Reply.{bytes_heard}
 use Rattle.dc_world.proofs.line.answer_of.Goals as goal
 
 pub returns : goal.returns

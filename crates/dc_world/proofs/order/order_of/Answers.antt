@@ -1,9 +1,9 @@
 use Rattle.std.proofs.Common.{ap, sym, ◌∙◌}
 use Rattle.dc_address.specs.Mask.{mask_wire}
-use Rattle.dc_frame.specs.Control.{selection_by}
-use Rattle.dc_frame.specs.Fault.{fault_of}
-use Rattle.dc_frame.specs.Frame.{seen}
-use Rattle.dc_frame.proofs.Spellings.{fault_of-spelling, same_frame}
+use Rattle.dc_linkframe.specs.Control.{selection_by}
+use Rattle.dc_linkframe.specs.Fault.{fault_of}
+use Rattle.dc_linkframe.specs.Frame.{seen}
+use Rattle.dc_linkframe.proofs.Spellings.{fault_of-spelling, same_frame}
 use Rattle.dc_world.proofs.order.order_of.Goals as goal
 
 pub returns-in-Ok-clause-select : goal.returns-in-Ok-clause-select

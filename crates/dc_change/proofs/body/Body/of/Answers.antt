@@ -1,6 +1,6 @@
 use Rattle.std.proofs.Common.{refl}
-use Rattle.dc_record.specs.Telegram.{parsed}
-use Rattle.dc_record.proofs.Spellings.Telegrams.{telegram_takes}
+use Rattle.dc_records.specs.Telegram.{parsed}
+use Rattle.dc_records.proofs.Spellings.Telegrams.{telegram_takes}
 use Rattle.dc_change.proofs.body.Body.of.Goals as goal
 
 pub invariant_of-result : goal.invariant_of-result

@@ -1,6 +1,6 @@
 use Rattle.std.proofs.Common.{◌≡◌}
 use Rattle.std.specs.List.{list_any}
-use Rattle.dc_register.specs.declared.place.Place.{Place}
+use Rattle.dc_meters.specs.declared.place.Place.{Place}
 use Rattle.dc_json.specs.Row.{row_at}
 use Rattle.dc_json.specs.Status.{any_silent}
 use Rattle.dc_json.proofs.status.silence.any_silent.Given as goal

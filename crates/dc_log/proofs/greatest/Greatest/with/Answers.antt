@@ -1,7 +1,7 @@
 use Rattle.std.proofs.Common.{◌≡◌, ℕ, Option, None, subst, sym}
-use Rattle.dc_log.proofs.OneSync.{one_stamp}
-use Rattle.dc_log.specs.Stamp.{IsStampOf}
-use Rattle.dc_log.specs.declared.pages.stamp.Stamp.{Stamp}
+use Rattle.dc_pages.proofs.OneSync.{one_stamp}
+use Rattle.dc_pages.specs.Stamp.{IsStampOf}
+use Rattle.dc_pages.specs.declared.stamp.Stamp.{Stamp}
 use Rattle.dc_log.specs.Greatest.{OfSession, OfSequence}
 use Rattle.dc_log.proofs.Peaks.{past, over}
 use Rattle.dc_log.proofs.greatest.Greatest.with.Goals as goal

@@ -1,9 +1,9 @@
 use Rattle.std.proofs.Common.{◌≡◌, ◌+◌, ℕ, suc, arith, ap, subst, sym, ◌∙◌}
-use Rattle.dc_disk.specs.Disk.{Image, settled}
-use Rattle.dc_disk.specs.Runs.{IsSettled}
-use Rattle.dc_disk.proofs.Moments.{started}
-use Rattle.dc_log.specs.declared.roots.root.Root.{Root}
-use Rattle.dc_log.specs.declared.pages.site.Site.{Site}
+use Rattle.dc_sectors.specs.Disk.{Image, settled}
+use Rattle.dc_sectors.specs.Runs.{IsSettled}
+use Rattle.dc_sectors.proofs.Moments.{started}
+use Rattle.dc_roots.specs.declared.root.Root.{Root}
+use Rattle.dc_pages.specs.declared.site.Site.{Site}
 use Rattle.dc_log.specs.Halves.{half_of, half_len_of, SparesRest}
 use Rattle.dc_log.specs.Sites.{change_site}
 use Rattle.dc_log.specs.Store.{Opened}

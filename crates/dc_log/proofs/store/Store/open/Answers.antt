@@ -1,7 +1,7 @@
 use Rattle.std.proofs.Common.{◌≡◌, ◌≤◌, ◌+◌, ℕ, ap, subst, sym, ◌∙◌, refl}
-use Rattle.dc_disk.specs.Runs.{LeavesOnly}
+use Rattle.dc_sectors.specs.Runs.{LeavesOnly}
 use Rattle.dc_log.specs.Halves.{half_of, half_len_of, SparesRest}
-use Rattle.dc_log.specs.declared.roots.root.Root.{Root}
+use Rattle.dc_roots.specs.declared.root.Root.{Root}
 use Rattle.dc_log.specs.Roots.{IsOpenedRoot}
 use Rattle.dc_log.specs.Stands.{EachStands, Stands, StandsForOne, IsReady, ReadsBy}
 use Rattle.dc_log.specs.Refusal.{IsRefused, IsWorn}

@@ -1,8 +1,8 @@
 use Rattle.std.proofs.Common.{ℕ, Option, Result, ap, sym, ◌∙◌}
 use Rattle.dc_change.specs.State.{PartRow}
 use Rattle.dc_shown.specs.Reported.{reported_fields}
-use Rattle.dc_record.specs.Telegram.{Parsed, parsed}
-use Rattle.dc_record.specs.declared.fault.BodyFault.{BodyFault}
+use Rattle.dc_records.specs.Telegram.{Parsed, parsed}
+use Rattle.dc_records.specs.declared.fault.BodyFault.{BodyFault}
 use Rattle.dc_tokens.specs.Object.{fields_tokens}
 use Rattle.dc_tokens.proofs.Adding.{unchanged, said}
 use Rattle.dc_poll.specs.Read.{last_fields, reported_by}

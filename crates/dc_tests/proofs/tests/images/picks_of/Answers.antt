@@ -1,8 +1,8 @@
 use Rattle.std.proofs.Common.{◌≡◌, ◌∷◌, [], ℕ, List, length, take, get_or, sym, subst, rules}
 use Rattle.std.specs.List.{AllZip}
 use Rattle.std.proofs.lemmas.List.{take_all}
-use Rattle.dc_disk.specs.declared.pick.Pick.{Pick}
-use Rattle.dc_disk.specs.Memory.{IsPickFor}
+use Rattle.dc_sectors.specs.declared.pick.Pick.{Pick}
+use Rattle.dc_sectors.specs.Memory.{IsPickFor}
 use Rattle.dc_tests.proofs.Picks.{zip_more}
 use Rattle.dc_tests.proofs.tests.images.picks_of.Goals as goal
 

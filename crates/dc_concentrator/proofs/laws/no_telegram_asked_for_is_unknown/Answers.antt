@@ -1,5 +1,0 @@
-use Rattle.dc_concentrator.proofs.Followed.{none_is_unknown}
-use Rattle.dc_concentrator.proofs.laws.no_telegram_asked_for_is_unknown.Goals as goal
-
-pub returns : goal.returns
-returns c = none_is_unknown

@@ -1,5 +1,0 @@
-use Rattle.dc_disk.proofs.Between.{stood_between}
-use Rattle.dc_disk.proofs.snapshot.laws.what_was_read_twice_stood_between.Goals as goal
-
-pub returns : goal.returns
-returns c = stood_between

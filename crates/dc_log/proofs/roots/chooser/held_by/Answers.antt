@@ -1,5 +1,0 @@
-use Rattle.std.proofs.Common.{refl}
-use Rattle.dc_log.proofs.roots.chooser.held_by.Goals as goal
-
-pub returns-in-None-clause-held : goal.returns-in-None-clause-held
-returns-in-None-clause-held c = ((c.args.bytes.now, refl), λ root is at. c.in-None.ensures root is)

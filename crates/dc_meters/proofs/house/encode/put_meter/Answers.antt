@@ -1,0 +1,28 @@
+use Rattle.dc_io.proofs.Writes.{written_both, stopped_first, stopped_second}
+use Rattle.dc_io.proofs.Writes.{on_any_err}
+use Rattle.dc_change.specs.Encoding.{meter_bytes}
+use Rattle.dc_meters.proofs.house.encode.put_meter.Goals as goal
+
+pub returns-in_err-put_identity-clause-err : goal.returns-in_err-put_identity-clause-err
+unfolding meter_bytes
+returns-in_err-put_identity-clause-err g c = on_any_err _ (stopped_first _ (stopped_first _ (stopped_first _ (stopped_first _ (c.in_err-put_identity.ensures.err)))))
+
+pub returns-in_err-put_byte-clause-err : goal.returns-in_err-put_byte-clause-err
+unfolding meter_bytes
+returns-in_err-put_byte-clause-err g c = rw (← c.line.ensures.line) (on_any_err _ (stopped_first _ (stopped_first _ (stopped_first _ (stopped_second c.in_ok-put_identity.ensures.ok c.in_err-put_byte.ensures.err)))))
+
+pub returns-in_err-put_byte-2-clause-err : goal.returns-in_err-put_byte-2-clause-err
+unfolding meter_bytes
+returns-in_err-put_byte-2-clause-err g c = rw (← c.line.ensures.line, ← c.address.ensures.address, ← c.address_number.ensures) (on_any_err _ (stopped_first _ (stopped_first _ (stopped_second (written_both c.in_ok-put_identity.ensures.ok c.in_ok-put_byte.ensures.ok) c.in_err-put_byte-2.ensures.err))))
+
+pub returns-in_err-put_counted-clause-err : goal.returns-in_err-put_counted-clause-err
+unfolding meter_bytes
+returns-in_err-put_counted-clause-err g c = rw (← c.line.ensures.line, ← c.address.ensures.address, ← c.address_number.ensures, ← c.flat.ensures.flat, ← c.as_slice.ensures.name) (on_any_err _ (stopped_first _ (stopped_second (written_both (written_both c.in_ok-put_identity.ensures.ok c.in_ok-put_byte.ensures.ok) c.in_ok-put_byte-2.ensures.ok) c.in_err-put_counted.ensures.err)))
+
+pub returns-in_err-put_parts-clause-err : goal.returns-in_err-put_parts-clause-err
+unfolding meter_bytes
+returns-in_err-put_parts-clause-err g c = rw (← c.line.ensures.line, ← c.address.ensures.address, ← c.address_number.ensures, ← c.flat.ensures.flat, ← c.as_slice.ensures.name, ← c.parts.ensures.parts) (on_any_err _ (stopped_second (written_both (written_both (written_both c.in_ok-put_identity.ensures.ok c.in_ok-put_byte.ensures.ok) c.in_ok-put_byte-2.ensures.ok) c.in_ok-put_counted.ensures.ok) c.in_err-put_parts.ensures.err))
+
+pub returns-clause-ok : goal.returns-clause-ok
+unfolding meter_bytes
+returns-clause-ok g c = rw (← c.line.ensures.line, ← c.address.ensures.address, ← c.address_number.ensures, ← c.flat.ensures.flat, ← c.as_slice.ensures.name, ← c.parts.ensures.parts) (written_both (written_both (written_both (written_both c.in_ok-put_identity.ensures.ok c.in_ok-put_byte.ensures.ok) c.in_ok-put_byte-2.ensures.ok) c.in_ok-put_counted.ensures.ok) c.in_ok-put_parts.ensures.ok)

@@ -1,0 +1,16 @@
+use Rattle.dc_io.proofs.Writes.{written_both, stopped_first, stopped_second}
+use Rattle.dc_io.proofs.Writes.{on_any_err}
+use Rattle.dc_change.specs.Encoding.{parts_bytes}
+use Rattle.dc_meters.proofs.parts.put_parts.Goals as goal
+
+pub returns-in_err-put_byte-clause-err : goal.returns-in_err-put_byte-clause-err
+unfolding parts_bytes
+returns-in_err-put_byte-clause-err g c = on_any_err _ (stopped_first _ (c.in_err-put_byte.ensures.err))
+
+pub returns-in_err-put_each_part-clause-err : goal.returns-in_err-put_each_part-clause-err
+unfolding parts_bytes
+returns-in_err-put_each_part-clause-err g c = on_any_err _ (stopped_second c.in_ok-put_byte.ensures.ok c.in_err-put_each_part.ensures.err)
+
+pub returns-clause-ok : goal.returns-clause-ok
+unfolding parts_bytes
+returns-clause-ok g c = written_both c.in_ok-put_byte.ensures.ok c.in_ok-put_each_part.ensures.ok

@@ -1,5 +1,0 @@
-use Rattle.dc_record.proofs.FirstByte.{first_fault}
-use Rattle.dc_record.proofs.laws.first_fault.Goals as goal
-
-pub returns : goal.returns
-returns c text f fails = first_fault text f fails

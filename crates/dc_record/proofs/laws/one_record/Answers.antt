@@ -1,5 +1,0 @@
-use Rattle.dc_record.proofs.Spellings.Telegrams.{one_record}
-use Rattle.dc_record.proofs.laws.one_record.Goals as goal
-
-pub returns : goal.returns
-returns c text more e d short_one long_one = one_record text more e d short_one long_one

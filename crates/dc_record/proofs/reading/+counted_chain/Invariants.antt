@@ -1,4 +1,0 @@
-use Rattle.dc_record.proofs.reading.+counted_chain.Given as goal
-
-abbrev pub decreases-counted_chain : goal.decreases-counted_chain
-decreases-counted_chain l = l.room

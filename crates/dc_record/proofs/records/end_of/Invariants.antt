@@ -1,9 +1,0 @@
-use Rattle.std.proofs.Common.{◌≡◌, length}
-use Rattle.dc_record.specs.Body.{content_at, end_in}
-use Rattle.dc_record.proofs.records.end_of.Given as goal
-
-abbrev pub invariant-fronts : goal.invariant-fronts
-invariant-fronts l = end_in (content_at l.left) ≡ end_in (content_at l.bytes)
-
-abbrev pub decreases-fronts : goal.decreases-fronts
-decreases-fronts l = length l.left

@@ -1,8 +1,0 @@
-use Rattle.dc_record.proofs.Exact.{length-last_digits, digits_back}
-use Rattle.dc_record.proofs.value.laws.texts_are_exact.Goals as goal
-
-pub returns-clause-digits : goal.returns-clause-digits
-returns-clause-digits c = λ n places fits. digits_back places n fits
-
-pub returns-clause-places : goal.returns-clause-places
-returns-clause-places c = length-last_digits

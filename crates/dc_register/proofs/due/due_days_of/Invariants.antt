@@ -1,8 +1,0 @@
-use Rattle.std.proofs.Common.{◌≡◌, ◌++◌}
-use Rattle.dc_register.specs.Points.{points_of}
-use Rattle.dc_register.specs.Due.{due_days}
-use Rattle.dc_register.proofs.due.due_days_of.Given as goal
-
--- those so far, and those that are left
-abbrev pub invariant-loop-day : goal.invariant-loop-day
-invariant-loop-day g l = l.days.items ++ l.day-iterator ≡ due_days (points_of l.parts)

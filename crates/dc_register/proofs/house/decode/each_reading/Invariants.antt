@@ -1,5 +1,0 @@
-use Rattle.dc_register.proofs.Lists.{AreReadingsUpTo}
-use Rattle.dc_register.proofs.house.decode.each_reading.Given as goal
-
-abbrev pub invariant-loop : goal.invariant-loop
-invariant-loop g l = AreReadingsUpTo l.count l.bytes l.confirmed l.next_serial l.readings.items l.counter l.rest

@@ -1,9 +1,0 @@
-use Rattle.std.specs.List.{flat_map}
-use Rattle.std.proofs.Common.{take}
-use Rattle.dc_change.specs.Encoding.{part_bytes}
-use Rattle.dc_io.specs.Written.{IsWritten}
-use Rattle.dc_register.proofs.parts.put_each_part.Given as goal
-
--- those so far went in
-abbrev pub invariant-loop-part : goal.invariant-loop-part
-invariant-loop-part g l = IsWritten g.S.Sink l.initial.sink l.sink (flat_map part_bytes (take l.part-index l.parts))

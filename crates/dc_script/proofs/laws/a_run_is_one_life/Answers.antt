@@ -1,5 +1,0 @@
-use Rattle.dc_script.proofs.Lives.{one_life}
-use Rattle.dc_script.proofs.laws.a_run_is_one_life.Goals as goal
-
-pub returns : goal.returns
-returns g c = one_life g.D.Disk

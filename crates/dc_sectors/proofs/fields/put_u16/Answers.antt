@@ -1,0 +1,6 @@
+use Rattle.std.proofs.Common.{arith}
+use Rattle.dc_sectors.proofs.Numbers.{put_number}
+use Rattle.dc_sectors.proofs.fields.put_u16.Goals as goal
+
+pub returns : goal.returns
+returns c = put_number 2 c.args.at c.args.number _ c.args.sector.now c.write_u16.new.buf (omega arith) (omega arith) c.write_u16.ensures

@@ -1,0 +1,6 @@
+-- each line of the office has a text of its own
+pub mod Texts
+-- the codes against a command are its faults
+pub mod Verdicts
+-- a prefix of one piece of a text is one of the text
+mod Prefixes

@@ -1,5 +1,0 @@
-use Rattle.dc_world.proofs.Worlds.{held_is_whole}
-use Rattle.dc_world.proofs.laws.what_is_held_is_whole.Goals as goal
-
-pub returns : goal.returns
-returns c meters events regular = held_is_whole meters regular events

@@ -1,6 +1,0 @@
-use Rattle.std.proofs.Common.{◌≡◌, take}
-use Rattle.dc_world.specs.World.{world_after}
-use Rattle.dc_world.proofs.lives.play.Given as goal
-
-abbrev pub invariant-loop-i : goal.invariant-loop-i
-invariant-loop-i g l = l.world ≡ world_after l.scripts (take l.i l.events)

@@ -1,7 +1,0 @@
-use Rattle.std.proofs.Common.{◌≡◌}
-use Rattle.dc_world.specs.Request.{frame_asked}
-use Rattle.dc_world.proofs.Turns.{moved_to}
-use Rattle.dc_world.proofs.position.see_all.Given as goal
-
-abbrev pub invariant-loop-i : goal.invariant-loop-i
-invariant-loop-i g l = l.positions ≡ moved_to l.i (frame_asked l.request) l.scripts l.fn.positions
