@@ -18,7 +18,7 @@ use dc_inspect::{Asked, Form, Outlook, Report, answer, scan};
 use dc_io::{Bytes, Sink, TextFault, first_line};
 use dc_json::explain_lines;
 use dc_json::journal::Journal;
-use dc_log::Store;
+use dc_recovery::Store;
 use dc_meters::House;
 use dc_poller::{Halt, fold_lines, run_script, search};
 use dc_world::ListedBus;
@@ -108,7 +108,7 @@ impl World {
 
     fn format(&mut self, out: &mut Bytes<Global>) -> Result<(), CaseFault> {
         let disk = self.disk.take().ok_or(CaseFault::Syntax)?;
-        match Store::format::<House<Global>>(disk) {
+        match Store::format(disk) {
             Ok(disk) => {
                 self.disk = Some(disk);
                 Ok(())
@@ -179,7 +179,7 @@ impl World {
         let mut reader = Input::new(input, self.limits);
         let mut writer = Output::new(self.heap, self.limits);
         let told = fold_lines(self.heap, &mut reader, &mut writer);
-        self.ends(writer.as_slice(), outcome_of(told), out)
+        self.ends(writer.as_slice(), told, out)
     }
 
     fn report(&mut self, word: &str, out: &mut Bytes<Global>) -> Result<(), CaseFault> {

@@ -7,6 +7,7 @@ use Rattle.dc_io.specs.declared.stream.Sink.{Ghosts as SinkGhosts}
 use Rattle.dc_sectors.specs.Disk.{Image, IsImage}
 use Rattle.dc_sectors.specs.declared.device.Disk.{Ghosts}
 use Rattle.dc_sectors.specs.Runs.{LeavesOnly}
+use Rattle.dc_change.specs.Fields.{last_moment}
 use Rattle.dc_change.specs.State.{State}
 use Rattle.dc_log.specs.Halves.{half_of}
 use Rattle.dc_core.specs.PendingImages.{StandsForFront}
@@ -29,9 +30,17 @@ use Rattle.dc_core.specs.Images.{Machine, IsAt, StandsForPromised}
 abbrev pub event_of : declared.Event → Event
 event_of (Start line meter) = starts line meter
 event_of (Ask line) = asks line
-event_of (Hear line moment answer) = hears line moment.seconds answer.now
+event_of (Hear line moment answer) = hears line moment answer.now
 event_of Commit = commits
 event_of (Office text) = offices text.now
+
+-- the time stamp of an answer is one that a change may have
+abbrev pub IsInTime : declared.Event → Type 0
+IsInTime (Hear line moment answer) = moment ≤ last_moment
+IsInTime (Start line meter) = Unit {0}
+IsInTime (Ask line) = Unit {0}
+IsInTime Commit = Unit {0}
+IsInTime (Office text) = Unit {0}
 
 -- the fault of a commit that an answer names
 abbrev pub fault_in : Answer → Option CommitFault

@@ -1,7 +1,6 @@
 //! The events of a concentrator: its calls, with their arguments.
 
 use dc_address::Identity;
-use dc_change::Moment;
 
 /// An event of a concentrator: a call, with its arguments.
 #[derive(Clone, Copy)]
@@ -18,7 +17,7 @@ pub enum Event<'a> {
     /// An answer is received on a line, with its time stamp. No byte is silence.
     Hear {
         line: u8,
-        moment: Moment,
+        moment: u64,
         answer: &'a [u8],
     },
     /// The pending changes are written.

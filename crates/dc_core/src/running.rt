@@ -1,13 +1,13 @@
 //! Runs of events, with the text of their answers.
 
-ghost use Rattle.std.specs.Prelude.{◌≡◌, ◌<◌, ◌+◌, ℕ, List, length, take, map, OnOk, OnErr};
+ghost use Rattle.std.specs.Prelude.{◌≡◌, ◌<◌, ◌+◌, ℕ, List, All, length, take, map, OnOk, OnErr};
 ghost use Rattle.dc_io.specs.Failures.{HasRisen};
 ghost use Rattle.dc_io.specs.Written.{PutsInto, Wrote};
 ghost use Rattle.dc_change.specs.State.{State};
 ghost use Rattle.dc_core.specs.Core.{Core, opened};
 ghost use Rattle.dc_core.specs.Transcript.{Turn, leads, IsChain};
 ghost use Rattle.dc_core.specs.Images.{IsAt};
-ghost use Rattle.dc_core.specs.Run.{event_of, Turned, Ran, FailedInLast};
+ghost use Rattle.dc_core.specs.Run.{event_of, IsInTime, Turned, Ran, FailedInLast};
 
 use crate::telling::{put_asked, put_committed, put_heard, put_started};
 use crate::{Concentrator, Event, WriteFault};
@@ -22,6 +22,7 @@ impl<D: Disk + Drop, A: Allocator + Copy> Concentrator<D, A> {
     /// `WriteFault` if the writer failed. The event at which it did is done, and none after it; how
     /// much of the text was written isn't known.
     pub fn run<W: Sink>(&mut self, events: &[Event<'_>], out: &mut W) -> Result<(), WriteFault>
+        requires { All IsInTime events.now }
         // After whatever went before in this life, the events make a chain of steps, and what is written is its text.
         ensures ran { (origin : D) (state : State) (before : List Turn)
             → IsChain self.old.house.budget (opened state) before
@@ -52,6 +53,7 @@ impl<D: Disk + Drop, A: Allocator + Copy> Concentrator<D, A> {
 
     // One event, and the text of its answer.
     fn turn<W: Sink>(&mut self, event: &Event<'_>, out: &mut W) -> Result<(), IoFault>
+        requires { IsInTime event.now }
         ensures turned { (origin : D) (core : Core) → IsAt D.Disk origin self.old core
             → Turned D.Disk origin self.old.house.budget core (event_of event.now)
             (Wrote W.Sink result out.old out.new) self.old self.new }

@@ -7,7 +7,7 @@ ghost use Rattle.dc_counter.specs.Counting.{SpellsNumber, SpellsStep, IsWithin, 
 
 use byteorder::{ByteOrder, LittleEndian};
 use dc_io::{IoFault, Sink};
-use dc_kept::{DecodeFault, Kept, Language};
+use dc_kept::{DecodeFault, Kept, KeptIn, Language, Subject};
 use std::alloc::Global;
 
 /// The bytes of zero.
@@ -128,4 +128,16 @@ impl Kept for Counter {
         let _count = self.count; // a number of eight bytes
         8
     }
+}
+
+/// Counters, as a store keeps them.
+#[derive(Clone, Copy)]
+pub struct Counting;
+
+impl Subject for Counting {
+    type Any = Counter;
+}
+
+impl KeptIn<Global> for Counting {
+    type Value = Counter;
 }

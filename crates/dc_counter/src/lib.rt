@@ -7,5 +7,5 @@
 mod counter;
 mod reopen;
 
-pub use counter::Counter;
+pub use counter::{Counter, Counting};
 pub use reopen::reopened;

@@ -5,21 +5,21 @@ ghost use Rattle.dc_log.specs.Halves.{half_of};
 ghost use Rattle.dc_log.specs.Stands.{Reads};
 ghost use Rattle.dc_counter.specs.Images.{ReadsCount};
 
-use crate::Counter;
+use crate::{Counter, Counting};
 use dc_sectors::Disk;
 use dc_kept::Language;
-use dc_log::{OpenFault, Store};
+use dc_log::{Log, OpenFault};
 use std::alloc::Global;
 
 /// Opens an image: by the impl's ghosts, and by those that a definition writes out.
 pub fn reopened<D: Disk + Drop>(
     heap: Global,
     disk: D,
-) -> Result<(Store<D>, Counter), (OpenFault, D)>
+) -> Result<(Log<D, Counting>, Counter), (OpenFault, D)>
     ensures quoted { IfOk result (λ o. D.keeps o.0.disk
         → Reads ⟦<Counter as Language>⟧ (half_of D.Disk disk) o.1.count (D.reads disk)) }
     ensures written_out { IfOk result (λ o. D.keeps o.0.disk
         → ReadsCount (half_of D.Disk disk) o.1.count (D.reads disk)) }
 {
-    Store::open::<Counter>(heap, disk)
+    Log::open(heap, disk)
 }

@@ -9,7 +9,8 @@ use crate::why::{Noted, Why};
 use dc_sectors::{Disk, FileDisk};
 use dc_ending::Ending;
 use dc_roots::{RootFault, choose};
-use dc_log::{FormatFault, Store};
+use dc_log::FormatFault;
+use dc_recovery::Store;
 use dc_meters::House;
 use std::alloc::Global;
 use std::fs::{File, Metadata};
@@ -134,7 +135,7 @@ fn format_file(why: &Why, file: File, length: u64) -> io::Result<Option<FormatFa
     if file.metadata()?.len() != length {
         return Err(refused(OTHER_LENGTH));
     }
-    match Store::format::<House<Global>>(FileDisk::new(Noted::new(file, why))?) {
+    match Store::format(FileDisk::new(Noted::new(file, why))?) {
         Ok(_) => Ok(None),
         Err((fault, _)) => Ok(Some(fault)),
     }

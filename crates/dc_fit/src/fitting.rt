@@ -17,7 +17,7 @@ use dc_change::DecodeFault;
 use dc_core::pending::write_changes;
 use dc_sectors::Disk;
 use dc_io::{Bytes, IoFault, NoMemory, Sink};
-use dc_log::Store;
+use dc_recovery::Store;
 use dc_meters::House;
 use std::alloc::Allocator;
 
@@ -136,7 +136,7 @@ pub fn fit_on<D: Disk + Drop, A: Allocator + Copy, W: Sink>(
     ensures write { IsErrOf result.1 FitFault.Write
         → HasRisen (W.put_failures out.old) (W.put_failures out.new) }
 {
-    match Store::open::<House<A>>(alloc, disk) {
+    match Store::open(alloc, disk) {
         Ok((store, house)) => {
             let mut store = store;
             let fitted = fit(alloc, &mut store, house, wish, out);

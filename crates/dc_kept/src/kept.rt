@@ -118,3 +118,15 @@ pub trait Kept: Language + Drop {
         ensures is_state { Self.SpellsState (Self.limit self.now) (Self.bytes_of (Self.state self.now))
             (Self.state self.now) };
 }
+
+/// Names what a store keeps, whatever its memory.
+pub trait Subject: Drop {
+    /// It in some memory: its language is that of all.
+    type Any: Kept;
+}
+
+/// A subject in one kind of memory.
+pub trait KeptIn<A: Allocator + Copy>: Subject {
+    /// Its value.
+    type Value: Kept<Alloc = A>;
+}

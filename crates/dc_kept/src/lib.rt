@@ -8,4 +8,4 @@ mod fault;
 mod kept;
 
 pub use fault::DecodeFault;
-pub use kept::{Kept, Language};
+pub use kept::{Kept, KeptIn, Language, Subject};

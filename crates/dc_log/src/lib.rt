@@ -6,7 +6,7 @@
 //! image reads as. The image stands for that state if it is fresh too: no sector carries a session
 //! or a sequence that is still to come.
 //!
-//! Proved, of any disk that keeps the disk model: [`Store::open`] returns exactly the state that
+//! Proved, of any disk that keeps the disk model: [`Log::open`] returns exactly the state that
 //! the image reads as, or why it reads as no state; and no image of any moment of a format that
 //! ended, an open, an append or a compaction stands for another state than the one before or the
 //! one after. So a crash within any call of the disk leaves an image that is opened as one of the
@@ -51,4 +51,4 @@ pub use laws::{
 pub use opening::is_spent;
 pub use reading::{Found, read_chain, read_image};
 pub use rescuing::{RenewFault, Rescued, Source, renew, rescue};
-pub use store::Store;
+pub use store::Log;

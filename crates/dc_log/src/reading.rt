@@ -89,7 +89,15 @@ fn read_base<K: Kept, D: Disk>(
     ensures counts { Counts D.Disk disk.old disk.new (IsErrOf result Device) }
 {
     let site = base_site(half_len, &root);
-    let group = match read_group(alloc, disk, site) {
+    let group = match read_group(
+        alloc,
+        disk,
+        site.first,
+        site.limit,
+        site.kind,
+        site.version,
+        site.sequence,
+    ) {
         Ok(group) => group,
         Err(GroupFault::Incomplete(sector)) => return Err(OpenFault::Damaged(sector)),
         Err(GroupFault::Device) => return Err(OpenFault::Device),
@@ -144,7 +152,15 @@ fn read_next<K: Kept, D: Disk>(
     }
     let next = found.last + 1;
     let site = change_site(half_len, &found.root, next, found.place);
-    let group = match read_group(alloc, disk, site) {
+    let group = match read_group(
+        alloc,
+        disk,
+        site.first,
+        site.limit,
+        site.kind,
+        site.version,
+        site.sequence,
+    ) {
         Ok(group) => group,
         Err(GroupFault::Incomplete(_)) => return Ok(false),
         Err(GroupFault::Device) => return Err(OpenFault::Device),

@@ -15,9 +15,10 @@ use crate::greatest::{Greatest, greatest_of};
 use crate::halves::{FEWEST_SECTORS, FIRST_SECTOR, half_len_of};
 use crate::reading::{Found, read_chain};
 use dc_roots::{RootFault, choose};
-use crate::{FormatFault, OpenFault, Store, StoreFault};
+use crate::{FormatFault, Log, OpenFault, StoreFault};
 use dc_sectors::{Disk, Failed};
-use dc_kept::Kept;
+use dc_kept::{Kept, KeptIn, Subject};
+use std::marker::PhantomData;
 
 /// The part of an image that a rescued state is read from.
 #[derive(Clone, Copy)]
@@ -182,6 +183,20 @@ pub fn rescue<K: Kept, D: Disk>(alloc: K::Alloc, copy: &mut D) -> Result<Rescued
     })
 }
 
+/// What a store keeps, where it is of one type.
+#[derive(Drop)]
+struct Own<K: Kept> {
+    of: PhantomData<K>,
+}
+
+impl<K: Kept> Subject for Own<K> {
+    type Any = K;
+}
+
+impl<K: Kept> KeptIn<K::Alloc> for Own<K> {
+    type Value = K;
+}
+
 /// Writes a state into a new image: formats the disk, opens the image, and writes the whole state into its other half.
 /// Each image that a crash may leave then stands for that state. Up to then it stands for no other state but the first
 /// one, or has no root.
@@ -198,11 +213,11 @@ pub fn renew<K: Kept, D: Disk + Drop>(
         → Stands K.Language (half_of D.Disk d) (K.state kept.now) image) }
     ensures durable { IfOk result (λ d. D.keeps d → IsSettled D.Disk d) }
 {
-    let disk = match Store::format::<K>(disk) {
+    let disk = match Log::<D, Own<K>>::format(disk) {
         Ok(disk) => disk,
         Err((fault, disk)) => return Err((RenewFault::Format(fault), disk)),
     };
-    let mut store = match Store::open::<K>(alloc, disk) {
+    let mut store = match Log::<D, Own<K>>::open(alloc, disk) {
         Ok((store, _)) => store,
         Err((fault, disk)) => return Err((RenewFault::Open(fault), disk)),
     };

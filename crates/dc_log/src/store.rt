@@ -34,21 +34,23 @@ use dc_roots::Root;
 use crate::sites::change_site;
 use crate::{FormatFault, OpenFault, StoreFault};
 use dc_sectors::{Disk, Failed};
-use dc_kept::Kept;
-use std::marker::Model;
+use dc_kept::{Kept, KeptIn, Subject};
+use std::alloc::Allocator;
+use std::marker::{Model, PhantomData};
 
 /// An open image. It writes groups of changes after the existing ones, and the whole state into the
 /// other half.
 #[derive(Drop)]
-pub struct Store<D: Disk + Drop> {
+pub struct Log<D: Disk + Drop, S: Subject> {
     disk: D,
     root: Root,
     place: u32,
     last: u64,
     is_stopped: bool,
+    of: PhantomData<S>,
 }
 
-impl<D: Disk + Drop> Model for Store<D> {
+impl<D: Disk + Drop, S: Subject> Model for Log<D, S> {
     ghost use Rattle.std.specs.Prelude.{◌≤◌, ◌≡◌};
     ghost use Rattle.dc_log.specs.Halves.{half_of, half_end};
     ghost use Rattle.dc_log.specs.Store.{Opened, IsLaidOut};
@@ -66,7 +68,7 @@ impl<D: Disk + Drop> Model for Store<D> {
     ghost invariant = { λ s. IsLaidOut (D.sectors s.disk) s.root s.place };
 }
 
-impl<D: Disk + Drop> Store<D> {
+impl<D: Disk + Drop, S: Subject> Log<D, S> {
     ghost use Rattle.dc_log.specs.Store.{Keeps, Fits};
 
     /// Formats the disk: an image of the first state, `K::empty`, in session 1.
@@ -76,7 +78,7 @@ impl<D: Disk + Drop> Store<D> {
     /// `TooSmall` under 131 sectors; `AlreadyFormatted` if no call failed and a slot has a valid
     /// root. Both write nothing. `Device` if a call failed: nothing was written if a slot had a
     /// valid root.
-    pub fn format<K: Kept>(mut disk: D) -> Result<D, (FormatFault, D)>
+    pub fn format(mut disk: D) -> Result<D, (FormatFault, D)>
         ensures small { D.sectors disk < fewest_sectors → result ≡ Err (TooSmall, disk) }
         ensures too_small { IfErr result (λ e. e.0 ≡ TooSmall → D.sectors disk < fewest_sectors) }
         ensures already { IfErr result (λ e.
@@ -94,13 +96,13 @@ impl<D: Disk + Drop> Store<D> {
 
         // On the way each image is one of those before, has no valid root, or stands for the first state.
         ensures any_moment { MatchResult result (λ d. D.keeps d → LeavesOnly D.Disk disk d
-            (IsFormatting K.Language (half_of D.Disk disk) (D.choices disk)))
+            (IsFormatting S.Any.Language (half_of D.Disk disk) (D.choices disk)))
             (λ e. D.keeps e.1 → LeavesOnly D.Disk disk e.1
-            (IsFormatting K.Language (half_of D.Disk disk) (D.choices disk))) }
+            (IsFormatting S.Any.Language (half_of D.Disk disk) (D.choices disk))) }
 
         // Each image of the disk stands for the first state, by the first root.
         ensures formatted { IfOk result (λ d. (image : Image) → IsImage (D.choices d) image
-            → Stands K.Language (half_of D.Disk d) K.empty image) }
+            → Stands S.Any.Language (half_of D.Disk d) S.Any.empty image) }
         ensures root { IfOk result (λ d. IsChosen (first_root (half_of D.Disk d)) (D.reads d)) }
         ensures durable { IfOk result (λ d. IsSettled D.Disk d) }
 
@@ -113,7 +115,7 @@ impl<D: Disk + Drop> Store<D> {
         ensures counts { MatchResult result (λ d. Counts D.Disk disk d ⊥)
             (λ e. Counts D.Disk disk e.1 (e.0 ≡ FormatDevice)) }
     {
-        match format_on::<K, D>(&mut disk) {
+        match format_on::<<S as Subject>::Any, D>(&mut disk) {
             Ok(()) => Ok(disk),
             Err(fault) => Err((fault, disk)),
         }
@@ -126,23 +128,29 @@ impl<D: Disk + Drop> Store<D> {
     /// # Errors
     ///
     /// The first in the order of the steps: [`OpenFault`]. The disk is returned.
-    pub fn open<K: Kept>(alloc: K::Alloc, mut disk: D) -> Result<(Store<D>, K), (OpenFault, D)>
+    pub fn open<A: Allocator + Copy>(
+        alloc: A,
+        mut disk: D,
+    ) -> Result<(Log<D, S>, <S as KeptIn<A>>::Value), (OpenFault, D)>
+    where
+        S: KeptIn<A>,
+
         ensures small { D.sectors disk < fewest_sectors → result ≡ Err (NotImage, disk) }
 
         // Ok gives exactly the state that the image reads as, and a refusal is a fact of the image.
         ensures reads { IfOk result (λ o.
-            D.keeps o.0.disk → Reads K.Language (half_of D.Disk disk) (K.state o.1) (D.reads disk)) }
+            D.keeps o.0.disk → Reads S.Value.Language (half_of D.Disk disk) (S.Value.state o.1) (D.reads disk)) }
         ensures refused { fewest_sectors ≤ D.sectors disk
-            → IfErr result (λ e. D.keeps e.1 → IsRefused K.Language (half_of D.Disk disk) (D.reads disk) e.0) }
+            → IfErr result (λ e. D.keeps e.1 → IsRefused S.Value.Language (half_of D.Disk disk) (D.reads disk) e.0) }
         ensures version { IfOk result (λ o. o.0.root.version ≡ image_version) }
         ensures root { IfOk result (λ o. D.keeps o.0.disk → (root : Root) × (m : ℕ) × (place : ℕ)
-            × ReadsBy K.Language (half_of D.Disk disk) root m place (K.state o.1) (D.reads disk)
+            × ReadsBy S.Value.Language (half_of D.Disk disk) root m place (S.Value.state o.1) (D.reads disk)
             × IsOpenedRoot root (root.base_sequence + m) o.0.root) }
 
         // Where the image stands for a state, as it does where none of its sectors is ahead (`first_ahead`), the store
         // keeps that state.
-        ensures keeps { (was : K.State) → Stands K.Language (half_of D.Disk disk) was (D.reads disk)
-            → IfOk result (λ o. D.keeps o.0.disk → Keeps K.Language D.Disk o.0 (K.state o.1)) }
+        ensures keeps { (was : S.Value.State) → Stands S.Value.Language (half_of D.Disk disk) was (D.reads disk)
+            → IfOk result (λ o. D.keeps o.0.disk → Keeps S.Value.Language D.Disk o.0 (S.Value.state o.1)) }
 
         // Unless the device failed, a refusal wrote nothing: the disk reads as before, and so does each image of
         // every moment.
@@ -150,24 +158,24 @@ impl<D: Disk + Drop> Store<D> {
         ensures spares_images { IfErr result (λ e. e.0 ≢ OpenDevice → LeavesOnly D.Disk disk e.1
             (IsImage (D.choices disk))) }
         ensures not_worn { IfOk result (λ o.
-            D.keeps o.0.disk → IsWorn K.Language (half_of D.Disk disk) (D.reads disk) → ⊥) }
+            D.keeps o.0.disk → IsWorn S.Value.Language (half_of D.Disk disk) (D.reads disk) → ⊥) }
 
         // Where each image stands for some state, a stop leaves one that stands for a state that one of them stood for.
-        ensures kept { EachStands K.Language (half_of D.Disk disk) (D.choices disk)
-            → IfOk result (λ o. D.keeps o.0.disk → Keeps K.Language D.Disk o.0 (K.state o.1)) }
-        ensures any_moment { EachStands K.Language (half_of D.Disk disk) (D.choices disk)
+        ensures kept { EachStands S.Value.Language (half_of D.Disk disk) (D.choices disk)
+            → IfOk result (λ o. D.keeps o.0.disk → Keeps S.Value.Language D.Disk o.0 (S.Value.state o.1)) }
+        ensures any_moment { EachStands S.Value.Language (half_of D.Disk disk) (D.choices disk)
             → MatchResult result (λ o. D.keeps o.0.disk
-            → LeavesOnly D.Disk disk o.0.disk (StandsForOne K.Language (half_of D.Disk disk) (D.choices disk)))
+            → LeavesOnly D.Disk disk o.0.disk (StandsForOne S.Value.Language (half_of D.Disk disk) (D.choices disk)))
             (λ e. D.keeps e.1 → LeavesOnly D.Disk disk e.1
-            (StandsForOne K.Language (half_of D.Disk disk) (D.choices disk))) }
+            (StandsForOne S.Value.Language (half_of D.Disk disk) (D.choices disk))) }
 
         // And such an image is refused only for an exhausted counter.
         ensures premise { fewest_sectors ≤ D.sectors disk
-            → EachStands K.Language (half_of D.Disk disk) (D.choices disk)
+            → EachStands S.Value.Language (half_of D.Disk disk) (D.choices disk)
             → IfErr result (λ e. D.keeps e.1 → TellsOfImage e.0 → e.0 ≡ OpenWorn) }
         ensures durable { IfOk result (λ o. IsSettled D.Disk o.0.disk) }
         ensures running { IfOk result (λ o. o.0.is_stopped ≡ false) }
-        ensures budget { IfOk result (λ o. K.limit o.1 ≡ budget_of (half_of D.Disk disk)) }
+        ensures budget { IfOk result (λ o. S.Value.limit o.1 ≡ budget_of (half_of D.Disk disk)) }
 
         // Sector 0 and the sectors after the second half read as before.
         ensures elsewhere { MatchResult result (λ o.
@@ -182,7 +190,7 @@ impl<D: Disk + Drop> Store<D> {
         if count < FEWEST_SECTORS {
             return Err((OpenFault::NotImage, disk));
         }
-        match open_on(alloc, &mut disk, half_len_of(count)) {
+        match open_on::<<S as KeptIn<A>>::Value, D>(alloc, &mut disk, half_len_of(count)) {
             Ok(found) => {
                 let Found {
                     root,
@@ -190,12 +198,13 @@ impl<D: Disk + Drop> Store<D> {
                     place,
                     last,
                 } = found;
-                let store = Store {
+                let store = Log {
                     disk,
                     root,
                     place,
                     last,
                     is_stopped: false,
+                    of: PhantomData,
                 };
                 Ok((store, kept))
             }
@@ -233,7 +242,7 @@ impl<D: Disk + Drop> Store<D> {
     ///
     /// `Stopped` after a failure; `Worn` if the sequence is exhausted, and nothing was written;
     /// `Device` if the disk failed, and the store is stopped from then on.
-    pub fn append<K: Kept>(&mut self, bytes: &[u8]) -> Result<(), StoreFault>
+    pub fn append(&mut self, bytes: &[u8]) -> Result<(), StoreFault>
         requires some { 0 < length bytes.now }
         requires fits { Fits (D.sectors self.old.disk) self.old (length bytes.now) }
         ensures stopped { IsErrOf result Stopped ↔ (self.old.is_stopped ≡ true) }
@@ -247,15 +256,15 @@ impl<D: Disk + Drop> Store<D> {
         ensures last { OnOk result (self.new.last ≡ self.old.last + 1) }
 
         // The changes are accepted in turn in the state that the store keeps.
-        ensures kept { (was : K.State) (changes : List K.Change)
-            → Keeps K.Language D.Disk self.old was → K.SpellsChanges bytes.now changes
-            → K.Accepts (budget_of (half_of D.Disk self.old.disk)) was changes
-            → OnOk result (Keeps K.Language D.Disk self.new (K.after was changes)) }
-        ensures any_moment { (was : K.State) (changes : List K.Change)
-            → Keeps K.Language D.Disk self.old was → K.SpellsChanges bytes.now changes
-            → K.Accepts (budget_of (half_of D.Disk self.old.disk)) was changes
+        ensures kept { (was : S.Any.State) (changes : List S.Any.Change)
+            → Keeps S.Any.Language D.Disk self.old was → S.Any.SpellsChanges bytes.now changes
+            → S.Any.Accepts (budget_of (half_of D.Disk self.old.disk)) was changes
+            → OnOk result (Keeps S.Any.Language D.Disk self.new (S.Any.after was changes)) }
+        ensures any_moment { (was : S.Any.State) (changes : List S.Any.Change)
+            → Keeps S.Any.Language D.Disk self.old was → S.Any.SpellsChanges bytes.now changes
+            → S.Any.Accepts (budget_of (half_of D.Disk self.old.disk)) was changes
             → LeavesOnly D.Disk self.old.disk self.new.disk
-            (StandsForEither K.Language (half_of D.Disk self.old.disk) was (K.after was changes)) }
+            (StandsForEither S.Any.Language (half_of D.Disk self.old.disk) was (S.Any.after was changes)) }
         ensures elsewhere { SparesRest (half_of D.Disk self.old.disk)
             (D.reads self.old.disk) (D.reads self.new.disk) }
         ensures before { D.keeps self.new.disk → D.keeps self.old.disk }
@@ -270,7 +279,7 @@ impl<D: Disk + Drop> Store<D> {
         let half_len = half_len_of(self.disk.count());
         let next = self.last + 1;
         let site = change_site(half_len, &self.root, next, self.place);
-        match append_group::<K, D>(&mut self.disk, &self.root, site, bytes) {
+        match append_group::<<S as Subject>::Any, D>(&mut self.disk, &self.root, site, bytes) {
             Ok(count) => {
                 self.place += count;
                 self.last = next;
@@ -338,7 +347,7 @@ impl<D: Disk + Drop> Store<D> {
     pub fn close(self) -> D
         ensures { result ≡ self.disk }
     {
-        let Store { disk, .. } = self;
+        let Log { disk, .. } = self;
         disk
     }
 }

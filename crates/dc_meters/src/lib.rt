@@ -47,3 +47,7 @@ pub use points::Points;
 pub use reading::Reading;
 use reading_list::ReadingList;
 pub use serials::Serials;
+
+mod subject;
+
+pub use subject::Register;

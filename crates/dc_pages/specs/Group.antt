@@ -77,6 +77,16 @@ pub record Carries (session sequence : ℕ) (sector : Sector) : Type 0 where
   pub session_is : field 8 8 bytes ≡ session
   pub sequence_is : field 8 16 bytes ≡ sequence
 
+-- the site of these five values
+abbrev pub site_of : (place limit kind version sequence : ℕ) → Site
+site_of place limit kind version sequence = record {
+  kind = kind;
+  version = version;
+  sequence = sequence;
+  first = place;
+  limit = limit;
+}
+
 -- the kinds of pages, and the versions that the format has
 abbrev pub IsPageKind : ℕ → Type 0
 IsPageKind kind = (kind ≡ base_kind) ⊎ (kind ≡ change_kind)

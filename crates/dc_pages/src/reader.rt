@@ -5,7 +5,7 @@ ghost use Rattle.std.specs.Prelude.{if◌then◌else◌, ℕ, IfOk, OnOk, IsErrO
 ghost use Rattle.std.specs.Prelude.{drop};
 ghost use Rattle.dc_sectors.specs.Disk.{IsImage};
 ghost use Rattle.dc_sectors.specs.Runs.{Passes, OnlyLooked, Counts};
-ghost use Rattle.dc_pages.specs.Group.{IsGroup, commit_kind, page_payload, head_len};
+ghost use Rattle.dc_pages.specs.Group.{IsGroup, commit_kind, page_payload, head_len, site_of};
 ghost use Rattle.dc_pages.specs.Judging.{Judged, IsStep};
 ghost use Rattle.dc_pages.specs.Reading.{IsBegun, IsCutAt};
 
@@ -151,7 +151,8 @@ impl<A: Allocator> Reading<A> {
     }
 }
 
-/// Reads the group of a site. Each sector is read once.
+/// Reads the group of that kind, version and sequence from `place` on, in the sectors before `limit`. Each sector
+/// is read once.
 ///
 /// # Errors
 ///
@@ -160,29 +161,40 @@ impl<A: Allocator> Reading<A> {
 pub fn read_group<A: Allocator, D: Disk>(
     alloc: A,
     disk: &mut D,
-    site: Site,
+    place: u32,
+    limit: u32,
+    kind: u8,
+    version: u8,
+    sequence: u64,
 ) -> Result<Group<A>, GroupFault>
-    requires kind { site.kind ≢ commit_kind }
-    requires first { site.first ≤ site.limit }
-    requires limit { site.limit ≤ D.sectors disk.old }
+    requires kind { kind ≢ commit_kind }
+    requires first { place ≤ limit }
+    requires limit { limit ≤ D.sectors disk.old }
     ensures group { D.keeps disk.new
         → IfOk result (λ group. (session : ℕ) × (pages : ℕ)
-        × IsGroup site session group.payload.items pages (D.reads disk.old)
+        × IsGroup (site_of place limit kind version sequence) session group.payload.items pages
+        (D.reads disk.old)
         × (group.sectors ≡ pages + 1)) }
     ensures incomplete { D.keeps disk.new → (n : ℕ) → IsErrOf result (GroupFault.Incomplete n)
-        → IsCutAt site n (D.reads disk.old) }
+        → IsCutAt (site_of place limit kind version sequence) n (D.reads disk.old) }
     ensures within { IfOk result (λ group.
-        (1 ≤ group.sectors) × (site.first + group.sectors ≤ site.limit)) }
+        (1 ≤ group.sectors) × (place + group.sectors ≤ limit)) }
     ensures looked { OnlyLooked D.Disk disk.old disk.new }
     ensures counts { Counts D.Disk disk.old disk.new (IsErrOf result GroupFault.Device) }
 {
     let mut reading = Reading {
-        site,
+        site: Site {
+            kind,
+            version,
+            sequence,
+            first: place,
+            limit,
+        },
         payload: Vec::new(alloc),
         session: 0,
         pages: 0,
     };
-    for at in site.first..site.limit {
+    for at in place..limit {
         if reading.read_next(disk, at)? {
             return Ok(Group {
                 payload: reading.payload,
@@ -190,5 +202,5 @@ pub fn read_group<A: Allocator, D: Disk>(
             });
         }
     }
-    Err(GroupFault::Incomplete(site.limit))
+    Err(GroupFault::Incomplete(limit))
 }

@@ -52,7 +52,7 @@ pub fn hear<D: Disk + Drop, A: Allocator + Copy>(
         concentrator.old concentrator.new }
     ensures budget { concentrator.new.house.budget ≡ concentrator.old.house.budget }
 {
-    concentrator.hear(line, moment, bytes)
+    concentrator.hear(line, moment.seconds, bytes)
 }
 
 /// Commits the pending changes.

@@ -12,8 +12,9 @@ ghost use Rattle.dc_io.specs.Lines.{lines_of, most_input};
 
 use crate::register::put_register;
 use dc_change::{Change, LONGEST_CHANGE_LINE};
+use dc_ending::ProgramFault;
 use dc_io::{
-    Bytes, CHUNK, IoFault, MOST, NoMemory, Sink, Source, TextFault, first_line, put_fault_line,
+    Bytes, CHUNK, IoFault, MOST, NoMemory, Sink, Source, first_line, put_fault_line,
     put_number_word, read_input, room,
 };
 use dc_meters::House;
@@ -135,14 +136,14 @@ fn fold_input<A: Allocator + Copy>(
 /// defined by `specs/Fold.antt`.
 ///
 /// # Errors
-/// [`TextFault::Read`] and [`TextFault::Write`] if the reader or the writer failed,
-/// [`TextFault::TooLong`] over 1 MiB, [`TextFault::NoMemory`] if memory ran out. Only after `Write`
+/// [`ProgramFault::Read`] and [`ProgramFault::Write`] if the reader or the writer failed,
+/// [`ProgramFault::TooLong`] over 1 MiB, [`ProgramFault::NoMemory`] if memory ran out. Only after `Write`
 /// may something have been written.
 pub fn fold_lines<A: Allocator + Copy, R: Source, W: Sink>(
     alloc: A,
     reader: &mut R,
     writer: &mut W,
-) -> Result<bool, TextFault>
+) -> Result<bool, ProgramFault>
     // What is written is the text for the input, byte for byte, and the answer says whether a SYNTAX is in it.
     ensures text { IfOk result (λ found. IfSome (R.left reader.old) (λ input.
         (text : List ℕ) × IsFolded input text found
@@ -150,29 +151,29 @@ pub fn fold_lines<A: Allocator + Copy, R: Source, W: Sink>(
 
     // An input over the limit is refused, and no other is refused for its length.
     ensures fits { OnOk result (IfSome (R.left reader.old) (λ input. length input ≤ most_input)) }
-    ensures too_long { IsErrOf result TextFault.TooLong
+    ensures too_long { IsErrOf result ProgramFault.TooLong
         → IfSome (R.left reader.old) (λ input. most_input < length input) }
 
     // A fault of an end is reported only where that end counted a failure.
-    ensures read { IsErrOf result TextFault.Read
+    ensures read { IsErrOf result ProgramFault.Read
         → HasRisen (R.take_failures reader.old) (R.take_failures reader.new) }
-    ensures write { IsErrOf result TextFault.Write
+    ensures write { IsErrOf result ProgramFault.Write
         → HasRisen (W.put_failures writer.old) (W.put_failures writer.new) }
     ensures ok { OnOk result ((R.take_failures reader.new ≡ R.take_failures reader.old)
         × (W.put_failures writer.new ≡ W.put_failures writer.old)) }
 
     // After any fault but a failed write the writer is as it was.
-    ensures untouched { IfErr result (λ fault. fault ≢ TextFault.Write → writer.new ≡ writer.old) }
+    ensures untouched { IfErr result (λ fault. fault ≢ ProgramFault.Write → writer.new ≡ writer.old) }
 {
     let mut bytes = room(alloc, LONGEST_CHANGE_LINE / 2)?;
     let mut chunk = room(alloc, CHUNK)?;
     let input = read_input(alloc, reader, chunk.as_mut_slice())?;
     if input.len() > MOST {
-        return Err(TextFault::TooLong);
+        return Err(ProgramFault::TooLong);
     }
     let (text, found) = fold_input(alloc, input.as_slice(), bytes.as_mut_slice())?;
     match writer.put(text.as_slice()) {
         Ok(()) => Ok(found),
-        Err(_) => Err(TextFault::Write),
+        Err(_) => Err(ProgramFault::Write),
     }
 }

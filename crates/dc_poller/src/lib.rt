@@ -19,6 +19,7 @@
 //! [`an_input_has_one_fold`].
 #![tactic(auto)]
 
+mod decode;
 mod fold;
 mod halt;
 mod late;
@@ -35,6 +36,7 @@ mod searching;
 mod slot;
 mod told;
 
+pub use decode::decode_lines;
 pub use dc_bus::AnswerBuf;
 pub use dc_bus::blocks::{Talk, exchange};
 pub use dc_ending::ProgramFault;

@@ -2,7 +2,7 @@
 
 ghost use Rattle.std.specs.Prelude.{◌≡◌, ◌⊎◌, ◌≤◌, ◌<◌, ◌*◌, ◌++◌, ℕ, suc, codes, length};
 ghost use Rattle.std.specs.Prelude.{IfOk, IfSome, IfNone, OnOk, OnErr};
-ghost use Rattle.dc_core.specs.Run.{event_of};
+ghost use Rattle.dc_core.specs.Run.{event_of, IsInTime};
 ghost use Rattle.dc_core.specs.Text.{answer_text};
 ghost use Rattle.dc_io.specs.Written.{PutsInto, Wrote};
 ghost use Rattle.dc_io.specs.Words.{number_word};
@@ -163,7 +163,7 @@ fn run_plain<D: Disk + Drop, A: Allocator + Copy, B: Bus + Drop, W: Sink>(
         ScriptLine::Hear { line, answer } => {
             let heard = Event::Hear {
                 line,
-                moment,
+                moment: moment.seconds,
                 answer,
             };
             run_event(concentrator, &heard, out)
@@ -329,6 +329,7 @@ fn run_event<D: Disk + Drop, A: Allocator + Copy, W: Sink>(
     event: &Event<'_>,
     out: &mut W,
 ) -> Result<(), IoFault>
+    requires { IsInTime event.now }
     ensures went { AnyRun D.Disk concentrator.old concentrator.new (λ run.
         OneTurn D.Disk run (event_of event.now) (λ answer. OnOk result
         (PutsInto W.Sink out.old out.new (answer_text answer)))) }

@@ -78,7 +78,7 @@ pub fn told_hear<D: Disk + Drop, A: Allocator + Copy, W: Sink>(
     ensures no_more { NoMoreRequests concentrator.old.lines concentrator.new.lines }
     ensures budget { concentrator.new.house.budget ≡ concentrator.old.house.budget }
 {
-    let answer = concentrator.hear(line, moment, bytes);
+    let answer = concentrator.hear(line, moment.seconds, bytes);
     put_heard(out, answer)?;
     Ok(answer)
 }

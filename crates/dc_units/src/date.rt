@@ -16,9 +16,9 @@ use std::marker::Model;
 /// A day of the calendar that ISO 8601 extends to every year, in the years 0 to 9999.
 #[derive(Clone, Copy, PartialEq, Eq, PartialOrd, Ord)]
 pub struct Date {
-    year: u16,
-    month: u8,
-    day: u8,
+    pub year: u16,
+    pub month: u8,
+    pub day: u8,
 }
 
 impl Model for Date {

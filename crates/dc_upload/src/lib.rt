@@ -18,5 +18,5 @@ pub use code::Code;
 pub use fault::ReplyFault;
 pub use line::{OfficeLine, a_text_spells_one_line, parse_line};
 pub use register::write_meters;
-pub use reply::{write_refusal, write_reply};
+pub use reply::{write_answer, write_refusal, write_reply};
 pub use verdict::{Verdict, a_done_command_is_repeated, judge};

@@ -5,12 +5,13 @@ ghost use Rattle.dc_change.specs.Valid.{IsState};
 ghost use Rattle.dc_io.specs.Written.{PutsInto, Wrote};
 ghost use Rattle.dc_upload.specs.Reply.{detail_of, done_line, end_line, refusal_line};
 ghost use Rattle.dc_upload.specs.Reply.{register_text, reply_text, report_text, shown_text, Tells};
+ghost use Rattle.dc_upload.specs.Line.{IsOfficeLine};
 ghost use Rattle.dc_upload.specs.Verdict.{IfDo, verdict_of};
 
 use crate::register::write_meters;
 use dc_report::{Date, counted_due_table};
 use crate::window::write_window;
-use crate::{Code, OfficeLine, ReplyFault, Verdict};
+use crate::{Code, OfficeLine, ReplyFault, Verdict, judge};
 use dc_io::{IoFault, Sink, put_number_word};
 use dc_meters::House;
 use std::alloc::Allocator;
@@ -23,7 +24,7 @@ use std::alloc::Allocator;
 /// NoMemory: out of memory for a REPORT's table; nothing was written. Write: a write failed; a
 /// prefix of the reply is written then.
 #[tactic(auto, unfolding(crate::specs::Reply::reply_text))]
-pub fn write_reply<A: Allocator + Copy, W: Sink>(
+pub fn write_answer<A: Allocator + Copy, W: Sink>(
     alloc: A,
     house: &House<A>,
     line: &OfficeLine,
@@ -44,6 +45,28 @@ pub fn write_reply<A: Allocator + Copy, W: Sink>(
         Verdict::Refuse(code) => Ok(write_refusal(*code, out)?),
         Verdict::Do(_) => unreachable!(),
     }
+}
+
+/// Writes the reply to a line, which is no new command; one that was just done is a repeat.
+///
+/// # Errors
+/// As of [`write_answer`].
+pub fn write_reply<A: Allocator + Copy, W: Sink>(
+    alloc: A,
+    house: &House<A>,
+    line: &OfficeLine,
+    out: &mut W,
+) -> Result<(), ReplyFault>
+    requires line { IsOfficeLine line.now }
+    requires answered { IfDo (verdict_of house.now line.now) (λ _. ⊥) }
+    ensures text { OnOk result (PutsInto W.Sink out.old out.new
+        (reply_text house.now line.now)) }
+    ensures well { OnOk result (W.put_failures out.new ≡ W.put_failures out.old) }
+    ensures fault { IfErr result (λ fault. Tells W.Sink line.now
+        (reply_text house.now line.now) out.old out.new fault) }
+{
+    let verdict = judge(house, line);
+    write_answer(alloc, house, line, &verdict, out)
 }
 
 /// Writes `OK number`: the command is done.

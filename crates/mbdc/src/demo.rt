@@ -6,7 +6,7 @@ use dc_sectors::MemoryDisk;
 use dc_ending::{Ending, ProgramFault, STREAM, ending_of};
 use dc_files::{Host, Noted};
 use dc_io::{Buffered, Bytes, NoMemory, ReadSource, WriteSink};
-use dc_log::Store;
+use dc_recovery::Store;
 use dc_meters::House;
 use dc_poller::run_script;
 use dc_readout::{Bodies, Body, MeterScript, SimulatedMeter};
@@ -55,7 +55,7 @@ where
     let Ok(disk) = MemoryDisk::new(host.rt.alloc(), SECTORS) else {
         return Ending::Memory;
     };
-    match Store::format::<House<Global>>(disk) {
+    match Store::format(disk) {
         Ok(disk) => ending_of(work(host, disk, ends), STREAM),
         Err((fault, _)) => Ending::Format(fault),
     }

@@ -1,6 +1,7 @@
 //! Takes the answers on a line.
 
-ghost use Rattle.std.specs.Prelude.{◌≡◌, ◌<◌, OnOk};
+ghost use Rattle.std.specs.Prelude.{◌≡◌, ◌<◌, ◌≤◌, OnOk};
+ghost use Rattle.dc_change.specs.Fields.{last_moment};
 ghost use Rattle.dc_core.specs.Lines.{requests_on, NoMoreRequests};
 ghost use Rattle.dc_core.specs.Core.{Core};
 ghost use Rattle.dc_core.specs.Event.{hears, heard};
@@ -10,7 +11,6 @@ ghost use Rattle.dc_core.specs.Images.{IsAt};
 use super::Concentrator;
 use crate::pending::{is_line, take};
 use crate::{HearFault, LineHeard};
-use dc_change::Moment;
 use dc_sectors::Disk;
 use dc_readout::Heard;
 use std::alloc::Allocator;
@@ -23,12 +23,13 @@ impl<D: Disk + Drop, A: Allocator + Copy> Concentrator<D, A> {
     /// # Errors
     /// The first of `NoLine`, `Stopped`, `Idle`, and for a telegram `PendingFull`, `Full`,
     /// `NoMemory` that applies; nothing has changed, and the request can be answered again.
-    pub fn hear(&mut self, line: u8, moment: Moment, answer: &[u8]) -> Result<LineHeard, HearFault>
+    pub fn hear(&mut self, line: u8, moment: u64, answer: &[u8]) -> Result<LineHeard, HearFault>
+        requires { moment ≤ last_moment }
         ensures may { (origin : D) (core : Core) → IsAt D.Disk origin self.old core
-            → May self.old.house.budget core (hears line moment.seconds answer.now) (heard result) }
+            → May self.old.house.budget core (hears line moment answer.now) (heard result) }
         ensures at { (origin : D) (core : Core) → IsAt D.Disk origin self.old core
             → IsAt D.Disk origin self.new
-            (next core (hears line moment.seconds answer.now) (heard result)) }
+            (next core (hears line moment answer.now) (heard result)) }
         ensures store { self.new.store ≡ self.old.store }
         ensures budget { self.new.house.budget ≡ self.old.house.budget }
         // The line's session may make one request less, at least, and none may make more.

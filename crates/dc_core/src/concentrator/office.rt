@@ -30,7 +30,7 @@ use dc_change::Change;
 use dc_sectors::Disk;
 use dc_io::{IoFault, NoMemory, Sink};
 use dc_upload::{
-    Code, OfficeLine, ReplyFault, Verdict, judge, parse_line, write_refusal, write_reply,
+    Code, OfficeLine, ReplyFault, Verdict, judge, parse_line, write_answer as write_by, write_refusal,
 };
 use dc_meters::House;
 use std::alloc::Allocator;
@@ -194,7 +194,7 @@ fn write_answer<A: Allocator + Copy, W: Sink>(
     ensures fault { OnErr result (HasRisen (W.put_failures out.old) (W.put_failures out.new)) }
     ensures well { OnOk result (W.put_failures out.new ≡ W.put_failures out.old) }
 {
-    match write_reply(alloc, house, line, verdict, out) {
+    match write_by(alloc, house, line, verdict, out) {
         Ok(()) => Ok(()),
         Err(ReplyFault::NoMemory) => write_refusal(Code::Memory, out),
         Err(ReplyFault::Write) => Err(IoFault),

@@ -2,13 +2,14 @@
 
 ghost use Rattle.std.specs.Prelude.{◌≡◌, ◌⊎◌, ◌≤◌, length, None, Some, Ok, Err, OnOk, OnErr};
 ghost use Rattle.dc_change.specs.Body.{longest_body};
+ghost use Rattle.dc_change.specs.Fields.{last_moment};
 ghost use Rattle.dc_records.specs.Telegram.{parsed};
 ghost use Rattle.dc_core.specs.declared.pending.fault.TakeFault.TheVariants.{NoMemory};
 ghost use Rattle.dc_core.specs.Taking.{change_of, refuses, IsTaken};
 
 use crate::pending::TakeFault;
 use crate::pending::waiting::Waiting;
-use dc_change::{Body, Change, Moment};
+use dc_change::{Body, Change};
 use dc_records::Telegram;
 use dc_meters::House;
 use std::alloc::Allocator;
@@ -23,19 +24,20 @@ pub fn take<A: Allocator + Copy>(
     house: &mut House<A>,
     waiting: &mut Waiting,
     part: u8,
-    moment: Moment,
+    moment: u64,
     telegram: &Telegram<'_>,
 ) -> Result<(), TakeFault>
-    requires { length (parsed telegram.now).body ≤ longest_body }
+    requires body { length (parsed telegram.now).body ≤ longest_body }
+    requires moment { moment ≤ last_moment }
     // The result is the fault that applies, and otherwise only out of memory.
     ensures refused { (fault : _) → refuses house.old.budget waiting.old.count
-        (change_of moment.seconds part (parsed telegram.now)) house.old.state ≡ Some fault
+        (change_of moment part (parsed telegram.now)) house.old.state ≡ Some fault
         → result ≡ Err fault }
     ensures accepted { refuses house.old.budget waiting.old.count
-        (change_of moment.seconds part (parsed telegram.now)) house.old.state ≡ None
+        (change_of moment part (parsed telegram.now)) house.old.state ≡ None
         → (result ≡ Ok tt) ⊎ (result ≡ Err NoMemory) }
     ensures ok { OnOk result (IsTaken house.old house.new waiting.old waiting.new
-        (change_of moment.seconds part (parsed telegram.now))) }
+        (change_of moment part (parsed telegram.now))) }
     ensures house { OnErr result (house.new ≡ house.old) }
     ensures waiting { OnErr result (waiting.new ≡ waiting.old) }
 {
@@ -49,7 +51,7 @@ pub fn take<A: Allocator + Copy>(
     let _is_body = body.as_slice();
     let change = Change::Telegram {
         part,
-        moment: moment.seconds,
+        moment,
         body,
     };
     if house.check(&change).is_err() {

@@ -14,7 +14,8 @@ ghost use Rattle.dc_core.specs.Writing.{IsWornFor};
 
 use crate::pending::waiting::Waiting;
 use dc_sectors::Disk;
-use dc_log::{Store, StoreFault};
+use dc_log::StoreFault;
+use dc_recovery::Store;
 use dc_meters::House;
 use std::alloc::Allocator;
 
@@ -60,7 +61,7 @@ pub fn write_waiting<D: Disk + Drop, A: Allocator + Copy>(
 {
     let bytes = waiting.as_slice();
     if store.fits(bytes.len()) {
-        return store.append::<House<A>>(bytes);
+        return store.append(bytes);
     }
     store.compact(house)
 }
@@ -107,7 +108,7 @@ pub fn write_changes<D: Disk + Drop, A: Allocator + Copy>(
     ensures counts { Counts D.Disk store.old.disk store.new.disk (IsErrOf result Device) }
 {
     if store.fits(bytes.len()) {
-        return store.append::<House<A>>(bytes);
+        return store.append(bytes);
     }
     store.compact(register)
 }

@@ -2,11 +2,12 @@
 
 use super::images::rested;
 use dc_address::Identity;
-use dc_change::{Change, Moment};
+use dc_change::Change;
 use dc_core::{Concentrator, Event};
 use dc_sectors::{Disk, MemoryDisk};
 use dc_io::Bytes;
-use dc_log::{FormatFault, OpenFault, Store, first_ahead};
+use dc_log::{FormatFault, OpenFault, first_ahead};
+use dc_recovery::Store;
 use dc_meters::House;
 use std::alloc::{Allocator, Global};
 use std::test::Fail;
@@ -60,7 +61,7 @@ pub fn event_of<'a>(deed: &Deed<'a>) -> Result<Event<'a>, Fail> {
         },
         Deed::Hear(answer) => Event::Hear {
             line: 1,
-            moment: Moment { seconds: MOMENT },
+            moment: MOMENT,
             answer,
         },
         Deed::Commit => Event::Commit,
@@ -89,7 +90,7 @@ pub fn open_store<D: Disk + Drop>(
 
 /// [`Store::format`], for a house.
 pub fn format<D: Disk + Drop>(disk: D) -> Result<D, (FormatFault, D)> {
-    Store::format::<House<Global>>(disk)
+    Store::format(disk)
 }
 
 /// [`first_ahead`], of a house.

@@ -2,6 +2,7 @@ use Rattle.std.proofs.Common.{◌≡◌, ◌+◌, Bool, false, Ok, Err, arith, s
 use Rattle.std.specs.Prelude.{if◌then◌else◌}
 use Rattle.std.proofs.lemmas.Result.{err_from_is_err_and}
 use Rattle.dc_sectors.proofs.Moments.{looked_next, counts_pass, counts_none}
+use Rattle.dc_pages.specs.Group.{site_of}
 use Rattle.dc_pages.specs.Judging.{IsStep}
 use Rattle.dc_pages.specs.declared.fault.GroupFault.{GroupFault}
 use Rattle.dc_pages.specs.declared.fault.GroupFault.TheVariants.{Incomplete, Device}
@@ -13,22 +14,22 @@ returns-in_err-read_next-clause-incomplete g c h n e =
     let so_far = c.loop-at.invariant in
     let reading = c.loop-at.reading in
     let after = c.read_next.new.self in
-    let step = step_read reading.site c.args.site (g.D.Disk.reads c.loop-at.disk) (g.D.Disk.reads c.args.disk.now)
+    let step = step_read reading.site (site_of c.args.place c.args.limit c.args.kind c.args.version c.args.sequence) (g.D.Disk.reads c.loop-at.disk) (g.D.Disk.reads c.args.disk.now)
     c.loop-at.at reading.session reading.pages after.session after.pages reading.payload.items after.payload.items (Err c.in_err-read_next.field-0.0) so_far.site so_far.looked.reads_same
     (c.in_err-read_next.ensures.step h) so_far.at (omega arith) (so_far.begun (c.in_err-read_next.ensures.before h)) in
     let p = err_from_is_err_and c.from_residual.result c.from_residual.ensures.1 in
     let same : c.in_err-read_next.field-0.0 ≡ Incomplete n = cc (p.1, p.2, e) in
-    subst (λ (f : GroupFault). IsStep c.args.site (g.D.Disk.reads c.args.disk.now) after.session after.pages after.payload.items (Err f)) same step
+    subst (λ (f : GroupFault). IsStep (site_of c.args.place c.args.limit c.args.kind c.args.version c.args.sequence) (g.D.Disk.reads c.args.disk.now) after.session after.pages after.payload.items (Err f)) same step
 
 pub returns-then-branch-clause-group : goal.returns-then-branch-clause-group
 returns-then-branch-clause-group g c h =
     let so_far = c.loop-at.invariant in
     let reading = c.loop-at.reading in
     let after = c.read_next.new.self in
-    let step = step_read reading.site c.args.site (g.D.Disk.reads c.loop-at.disk) (g.D.Disk.reads c.args.disk.now)
+    let step = step_read reading.site (site_of c.args.place c.args.limit c.args.kind c.args.version c.args.sequence) (g.D.Disk.reads c.loop-at.disk) (g.D.Disk.reads c.args.disk.now)
     c.loop-at.at reading.session reading.pages after.session after.pages reading.payload.items after.payload.items (Ok c.in_ok-read_next.field-0) so_far.site so_far.looked.reads_same
     (c.in_ok-read_next.ensures.step h) so_far.at (omega arith) (so_far.begun (c.in_ok-read_next.ensures.before h)) in
-    let whole = subst (λ (b : Bool). IsStep c.args.site (g.D.Disk.reads c.args.disk.now) after.session after.pages after.payload.items (Ok b)) c.if-branch.true step in
+    let whole = subst (λ (b : Bool). IsStep (site_of c.args.place c.args.limit c.args.kind c.args.version c.args.sequence) (g.D.Disk.reads c.args.disk.now) after.session after.pages after.payload.items (Ok b)) c.if-branch.true step in
     (after.session, after.pages, whole, refl)
 
 pub returns-in_err-read_next-clause-looked : goal.returns-in_err-read_next-clause-looked
@@ -63,10 +64,10 @@ loop-at-preserved g c =
       at = omega arith;
       site = next.site ∙ so_far.site;
       begun = λ h.
-          let step = step_read reading.site c.args.site (g.D.Disk.reads c.loop-at.disk) (g.D.Disk.reads c.args.disk.now)
+          let step = step_read reading.site (site_of c.args.place c.args.limit c.args.kind c.args.version c.args.sequence) (g.D.Disk.reads c.loop-at.disk) (g.D.Disk.reads c.args.disk.now)
           c.loop-at.at reading.session reading.pages after.session after.pages reading.payload.items after.payload.items (Ok c.in_ok-read_next.field-0) so_far.site so_far.looked.reads_same
           (next.step h) so_far.at (omega arith) (so_far.begun (next.before h)) in
-          subst (λ (b : Bool). IsStep c.args.site (g.D.Disk.reads c.args.disk.now) after.session after.pages after.payload.items (Ok b)) not_done step;
+          subst (λ (b : Bool). IsStep (site_of c.args.place c.args.limit c.args.kind c.args.version c.args.sequence) (g.D.Disk.reads c.args.disk.now) after.session after.pages after.payload.items (Ok b)) not_done step;
       looked = looked_next g.D.Disk c.args.disk.now c.loop-at.disk c.read_next.new.disk so_far.looked next.reads next.choices next.time next.before;
       counts = counts_none g.D.Disk c.args.disk.now c.loop-at.disk c.read_next.new.disk _ ⊥ so_far.counts next.counts (λ is. cc is) (λ is. is);
     }

@@ -1,9 +1,13 @@
+use Rattle.std.proofs.lemmas.List.Elements.{All-nil, All-cons}
 use Rattle.std.proofs.Common.{◌≡◌, ◌+◌, ◌∷◌, [], ℕ, List, take, map, append-nil, subst, arith}
 use Rattle.dc_io.specs.Stream.{Puts}
-use Rattle.dc_core.specs.Run.{event_of, Ran}
+use Rattle.dc_core.specs.Run.{event_of, IsInTime, Ran}
 use Rattle.dc_core.specs.Text.{answer_text}
 use Rattle.dc_core.proofs.Wents.{event_went}
 use Rattle.dc_poller.proofs.script.run_event.Goals as goal
+
+pub run-requires : goal.run-requires
+run-requires g c = All-cons IsInTime c.args.event.now [] c.requires (All-nil IsInTime)
 
 pub returns-in-Ok-clause-went : goal.returns-in-Ok-clause-went
 returns-in-Ok-clause-went g c origin state before chain at =

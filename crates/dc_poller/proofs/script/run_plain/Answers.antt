@@ -21,6 +21,9 @@ IsIdle moment link text asked = Does moment (seen asked) link link [] [] text
 abbrev IsStill : {B : Type 0} → (B → Bool) → (B → List ℕ → List ℕ → B → Type 0) → (B → List ℕ → List ℕ → B → Type 0) → List (Option (Slot B)) → ScriptLine → Type 0
 IsStill is_lost asks_so asks_all_so slots asked = IsCarried is_lost asks_so asks_all_so (seen asked) slots slots []
 
+pub run_event-requires-in-Hear : goal.run_event-requires-in-Hear
+run_event-requires-in-Hear g c = c.args.moment.fits
+
 pub returns-in-Nothing-clause-ran : goal.returns-in-Nothing-clause-ran
 returns-in-Nothing-clause-ran g c origin state before chain at =
     let w = g.W.Sink.written c.args.out.now in

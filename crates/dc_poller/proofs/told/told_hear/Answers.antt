@@ -4,6 +4,9 @@ use Rattle.dc_core.specs.Event.{hears, heard}
 use Rattle.dc_core.proofs.SingleTurns.{rested}
 use Rattle.dc_poller.proofs.told.told_hear.Goals as goal
 
+pub hear-answer-requires : goal.hear-answer-requires
+hear-answer-requires g c = c.args.moment.fits
+
 pub returns-in_err-put_heard-clause-went : goal.returns-in_err-put_heard-clause-went
 returns-in_err-put_heard-clause-went g c origin state before chain at =
     let p = err_from_is_err_and c.from_residual.result c.from_residual.ensures.1 in

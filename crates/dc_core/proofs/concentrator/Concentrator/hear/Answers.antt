@@ -26,8 +26,8 @@ use Rattle.dc_core.proofs.concentrator.Concentrator.hear.Given.{Over}
 use Rattle.dc_core.proofs.concentrator.Concentrator.hear.Goals.{After-hear}
 use Rattle.dc_core.proofs.concentrator.Concentrator.hear.Goals as goal
 
-pub take-requires : goal.take-requires
-take-requires g c = c.in-New.ensures.fits c.in-New.part (parsed c.in-New.telegram) refl
+pub take-requires-clause-body : goal.take-requires-clause-body
+take-requires-clause-body g c = c.in-New.ensures.fits c.in-New.part (parsed c.in-New.telegram) refl
 
 -- THE LINE HAS A SESSION, and so far the call has changed nothing else: what the concentrator's parts are, and whose answer it was.
 record IsHeard (g : Over) (c : After-hear g) : Type 0 where
@@ -55,7 +55,7 @@ returns-in_err-take-in-New-clause-may g c origin core at =
     let line = c.args.line in
     let s = c.in-Some.session in
     let t = parsed c.in-New.telegram in
-    let change = change_of c.args.moment.seconds c.in-New.part t in
+    let change = change_of c.args.moment c.in-New.part t in
     let is = is_heard g (goal.at.returns-in_err-take-in-New-clause-may g c).After-hear in
     let who : session_of core line ≡ Some s = ap (on_line line) (sym at.lines_are) ∙ is.who in
     let yes : is_line line ≡ true = grind (arith, common_steps) in
@@ -67,8 +67,8 @@ returns-in_err-take-in-New-clause-may g c origin core at =
     ∙ ap (λ (n : ℕ). refuses machine.house.budget n change machine.house.state) (ap (λ (w : Waiting). w.count) is.waiting ∙ at.count_is)
     ∙ ap (λ (x : State). refuses machine.house.budget (length core.pending) change x) at.house_is in
     let accepted = Accepted c.in-New.part (continues t.ending) in
-    let whole : hear_answer machine.house.budget core line c.args.moment.seconds c.args.answer.now ≡ unless_refused r accepted =
-    answer_is machine.house.budget core line c.args.moment.seconds c.args.answer.now s c.in-New.part t yes running who asks (sym c.in-New.ensures.exact) ∙ ap (λ (x : Option TakeFault). unless_refused x accepted) (sym same) in
+    let whole : hear_answer machine.house.budget core line c.args.moment c.args.answer.now ≡ unless_refused r accepted =
+    answer_is machine.house.budget core line c.args.moment c.args.answer.now s c.in-New.part t yes running who asks (sym c.in-New.ensures.exact) ∙ ap (λ (x : Option TakeFault). unless_refused x accepted) (sym same) in
     let fault = c.in_err-take-in-New.field-0.0 in
     let by = by_refusal r fault c.in-New.part (continues t.ending) c.in_err-take-in-New.ensures.refused c.in_err-take-in-New.ensures.accepted in
     let p = err_from_is_err_and c.from_residual.result c.from_residual.ensures.1 in
@@ -82,7 +82,7 @@ returns-in-Again-clause-at g c origin core at =
     let s = c.in-Some.session in
     let new : Machine (g.row.D.Denot) = record { store = c.self.inside.store; house = c.self.inside.house; waiting = c.self.inside.waiting; lines = c.put.new.self } in
     let there = c.put.ensures ∙ ap (λ (x : Summary). put_on c.args.line (Some x) c.self.inside.lines) c.in-Again.ensures.after ∙ ap (put_on c.args.line (Some (heard_by s again))) is.lines in
-    at_heard g.D.Disk origin c.args.self.now new core c.args.line c.args.moment.seconds c.args.answer.now s again Again at is.who (sym c.in-Again.ensures.exact) refl is.store is.house is.waiting there
+    at_heard g.D.Disk origin c.args.self.now new core c.args.line c.args.moment c.args.answer.now s again Again at is.who (sym c.in-Again.ensures.exact) refl is.store is.house is.waiting there
 
 pub returns-in-Ready-clause-at : goal.returns-in-Ready-clause-at
 returns-in-Ready-clause-at g c origin core at =
@@ -90,13 +90,13 @@ returns-in-Ready-clause-at g c origin core at =
     let s = c.in-Some.session in
     let new : Machine (g.row.D.Denot) = record { store = c.self.inside.store; house = c.self.inside.house; waiting = c.self.inside.waiting; lines = c.put-in-Ready.new.self } in
     let there = c.put-in-Ready.ensures ∙ ap (λ (x : Summary). put_on c.args.line (Some x) c.self.inside.lines) c.in-Ready.ensures.after ∙ ap (put_on c.args.line (Some (heard_by s ready))) is.lines in
-    at_heard g.D.Disk origin c.args.self.now new core c.args.line c.args.moment.seconds c.args.answer.now s ready Ready at is.who (sym c.in-Ready.ensures.exact) refl is.store is.house is.waiting there
+    at_heard g.D.Disk origin c.args.self.now new core c.args.line c.args.moment c.args.answer.now s ready Ready at is.who (sym c.in-Ready.ensures.exact) refl is.store is.house is.waiting there
 
 pub returns-in-Failed-clause-at : goal.returns-in-Failed-clause-at
 returns-in-Failed-clause-at g c origin core at =
     let is = is_heard g (goal.at.returns-in-Failed-clause-at g c).After-hear in
     let new : Machine (g.row.D.Denot) = record { store = c.self.inside.store; house = c.self.inside.house; waiting = c.self.inside.waiting; lines = c.put-in-Failed.new.self } in
-    at_heard g.D.Disk origin c.args.self.now new core c.args.line c.args.moment.seconds c.args.answer.now c.in-Some.session (failed c.in-Failed.why) (Failed c.in-Failed.why) at is.who (sym c.in-Failed.ensures.exact) refl is.store is.house is.waiting
+    at_heard g.D.Disk origin c.args.self.now new core c.args.line c.args.moment c.args.answer.now c.in-Some.session (failed c.in-Failed.why) (Failed c.in-Failed.why) at is.who (sym c.in-Failed.ensures.exact) refl is.store is.house is.waiting
     (c.put-in-Failed.ensures ∙ ap (put_on c.args.line None) is.lines)
 
 pub returns-in_ok-take-in-New-clause-at : goal.returns-in_ok-take-in-New-clause-at
@@ -105,12 +105,12 @@ returns-in_ok-take-in-New-clause-at g c origin core at =
     let s = c.in-Some.session in
     let t = parsed c.in-New.telegram in
     let v = new c.in-New.part t in
-    let change = change_of c.args.moment.seconds c.in-New.part t in
+    let change = change_of c.args.moment c.in-New.part t in
     let now : Machine (g.row.D.Denot) = record { store = c.self.inside.store; house = c.take.new.house; waiting = c.take.new.waiting; lines = c.put-in-New.new.self } in
     let there = c.put-in-New.ensures ∙ ap (λ (x : Summary). put_on c.args.line (Some x) c.self.inside.lines) c.in-New.ensures.after ∙ ap (put_on c.args.line (Some (heard_by s v))) is.lines in
     let taken = subst (λ (w : Waiting). IsTaken c.args.self.now.house now.house w now.waiting change) is.waiting
     (subst (λ (h : Held). IsTaken h now.house c.self.inside.waiting now.waiting change) is.house c.in_ok-take-in-New.ensures.ok) in
-    at_taken g.D.Disk origin c.args.self.now now core c.args.line c.args.moment.seconds c.args.answer.now s v change (Accepted c.in-New.part c.more_follows-more.result) at is.who (sym c.in-New.ensures.exact) refl is.store taken there
+    at_taken g.D.Disk origin c.args.self.now now core c.args.line c.args.moment c.args.answer.now s v change (Accepted c.in-New.part c.more_follows-more.result) at is.who (sym c.in-New.ensures.exact) refl is.store taken there
 
 -- the line's session is replaced by one that may make one request less
 fewer_by : (line : ℕ) (old inside now : List (Option Summary)) (s : Summary) (session : Option Summary) → inside ≡ old → on_line line old ≡ Some s → now ≡ put_on line session inside → requests_of session < requests_left s

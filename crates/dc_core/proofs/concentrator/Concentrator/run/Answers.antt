@@ -1,5 +1,6 @@
 use Rattle.std.proofs.Common.{refl, arith, length, Result, Ok, ◌<◌, ◌≡◌, ℕ, List, [], ◌∷◌, ◌++◌, map, take, get_or, ap, sym, ◌+◌, subst, ◌∙◌}
 use Rattle.std.proofs.lemmas.List.{map-append, take_more}
+use Rattle.std.proofs.lemmas.List.Elements.{All-get_or}
 use Rattle.std.proofs.Math.Seq.{take-length}
 use Rattle.dc_io.specs.Failures.{HasRisen}
 use Rattle.dc_io.specs.declared.stream.IoFault.{IoFault}
@@ -11,7 +12,7 @@ use Rattle.dc_core.specs.Core.{opened}
 use Rattle.dc_core.specs.Event.{Event}
 use Rattle.dc_core.specs.Transcript.{leads}
 use Rattle.dc_core.specs.Text.{answer_text}
-use Rattle.dc_core.specs.Run.{event_of, Turned, Ran, FailedInLast}
+use Rattle.dc_core.specs.Run.{event_of, IsInTime, Turned, Ran, FailedInLast}
 use Rattle.dc_core.proofs.Going.{ran_none, ran_more}
 use Rattle.dc_core.proofs.concentrator.Concentrator.run.Goals as goal
 
@@ -98,3 +99,7 @@ returns-clause-ran g c origin state before chain at =
     subst (λ (es : List declared.Event). Ran g.D.Disk origin c.args.self.now.house.budget state before (map event_of es)
     (Puts (g.W.Sink.written c.args.out.now) (g.W.Sink.written c.loop-event.out)) c.args.self.now c.loop-event.self) e
     (c.loop-event.invariant.ran origin state before chain at)
+
+pub turn-requires : goal.turn-requires
+turn-requires g c =
+    subst IsInTime (sym c.event-item.is) (All-get_or IsInTime c.args.events.now c.loop-event.event-index c.event-item.result c.loop-event-test.true c.requires)

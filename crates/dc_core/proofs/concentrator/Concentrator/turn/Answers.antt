@@ -1,9 +1,10 @@
-use Rattle.std.proofs.Common.{refl, [], ◌++◌}
+use Rattle.std.proofs.Common.{refl, subst, [], ◌++◌}
 use Rattle.dc_sectors.proofs.Moments.{weakened}
 use Rattle.dc_log.specs.Halves.{half_of}
 use Rattle.dc_core.specs.PendingImages.{StandsForFront}
 use Rattle.dc_log.proofs.Fronts.{longer_front}
 use Rattle.dc_meters.specs.Language.{register}
+use Rattle.dc_core.specs.Run.{IsInTime}
 use Rattle.dc_core.specs.Event.{starts, asks, hears, started, asked, heard, committed}
 use Rattle.dc_core.proofs.Going.{turned_at_rest}
 use Rattle.dc_core.proofs.Answering.{commit_shown}
@@ -30,7 +31,7 @@ returns-in-Hear-clause-turned g c origin core at =
     let machine = c.args.self.now in
     rw c.in-Hear.is
     (turned_at_rest g.D.Disk origin machine.house.budget
-    machine c.hear-answer.new.self core (hears c.in-Hear.line c.in-Hear.moment.seconds c.in-Hear.bytes.now) (heard c.hear-answer.result) _ refl
+    machine c.hear-answer.new.self core (hears c.in-Hear.line c.in-Hear.moment c.in-Hear.bytes.now) (heard c.hear-answer.result) _ refl
     (c.hear-answer.ensures.may origin core at) c.put_heard.ensures at (c.hear-answer.ensures.at origin core at) c.hear-answer.ensures.store (λ h. g.met.D.Disk.only_now machine.store.disk))
 
 pub returns-in-Commit-clause-turned : goal.returns-in-Commit-clause-turned
@@ -53,3 +54,6 @@ returns-in-Ok-clause-turned g c origin core at = rw c.in-Office.is (c.in-Ok.ensu
 
 pub returns-in-Err-clause-turned : goal.returns-in-Err-clause-turned
 returns-in-Err-clause-turned g c origin core at = rw c.in-Office.is (c.in-Err.ensures.turned origin core at)
+
+pub hear-answer-requires : goal.hear-answer-requires
+hear-answer-requires g c = subst IsInTime c.in-Hear.is c.requires

@@ -8,9 +8,9 @@ use Rattle.dc_log.specs.Roots.{compacted}
 use Rattle.dc_log.specs.Stands.{IsReady}
 use Rattle.dc_log.specs.Store.{Opened}
 use Rattle.dc_log.proofs.Life.{keeps_stands, keeps_compacted}
-use Rattle.dc_log.proofs.store.Store.compact.Given.{Over}
-use Rattle.dc_log.proofs.store.Store.compact.Goals.{After-compact_into_other_half}
-use Rattle.dc_log.proofs.store.Store.compact.Goals as goal
+use Rattle.dc_log.proofs.store.Log.compact.Given.{Over}
+use Rattle.dc_log.proofs.store.Log.compact.Goals.{After-compact_into_other_half}
+use Rattle.dc_log.proofs.store.Log.compact.Goals as goal
 
 pub returns-then-self-2-clause-any_moment : goal.returns-then-self-2-clause-any_moment
 returns-then-self-2-clause-any_moment g c was kept =
