@@ -1,6 +1,6 @@
 /* libmbdc: link frames and telegrams of wired M-Bus (EN 13757-2, EN 13757-3) as text and as JSON.
  *
- * What the comments here say of a function's result is proved (crates/dc_library, crates/dc_consumption), if the caller keeps
+ * What the comments here say of a function's result is proved (crates/mbdc_library, crates/mbdc_consumption), if the caller keeps
  * to what C asks of any caller: each address is that of as many bytes as the size after it says, and
  * not null; `out` overlaps no other argument. The functions take no memory, keep no state and call
  * nothing of the host but memcpy, memmove and memset (tools/library looks): any thread may call them at

@@ -1,4 +1,4 @@
-"""Makes the module of crates/dc_audit_page for web pages: audit_module.py FILE.
+"""Makes the module of crates/mbdc_audit_page for web pages: audit_module.py FILE.
 
 The crate takes memory, and the toolchain links no heap for WebAssembly. So this takes the module for LLVM that the toolchain makes of the
 proved library for x86-64, translates it for WebAssembly, and links it with a heap, library/heap.c. No proof covers that, as none covers
@@ -18,7 +18,7 @@ sys.dont_write_bytecode = True
 import kit  # noqa: E402
 
 ROOT = pathlib.Path(kit.ROOT)
-CRATE, EXPORT = "dc_audit_page", "mbdc_audit"
+CRATE, EXPORT = "mbdc_audit_page", "mbdc_audit"
 TARGET = "wasm64-unknown-unknown"
 TRANSLATED = [f"--target={TARGET}", "-mcpu=lime1", "-c"]  # as the toolchain does for that target
 OF_MODULE = ["-O3", "-ffunction-sections", "-fdata-sections", "-mllvm", "-expand-div-rem-bits=64", "-mllvm", "-trap-unreachable", "-x", "ir"]

@@ -15,7 +15,7 @@ import words as packaging  # noqa: E402
 
 HELP = f"{kit.ROOT}/packaging/help"
 HINT = "; try mbdc --help"
-# The least and the greatest number that an option or an argument takes, as crates/dc_words/src/rows.rt has them
+# The least and the greatest number that an option or an argument takes, as crates/mbdc_words/src/rows.rt has them
 RANGES = {"--patience": (1, 60_000), "--tries": (1, 9), "--budget": (0, 4_294_967_295), "SECTORS": (131, 131_075),
           "NEW": (0, 250), "--csv": (1, 8)}
 GREATEST = 2 ** 63 - 1
@@ -23,7 +23,7 @@ REPEATED = {"--line", "--only"}
 EXCLUSIVE = [{"--json", "--explain"}, {"--json", "--prometheus"}, {"--primary", "--budget"}, {"--csv", "--json"}, {"--dry-run", "--json"},
              {"--dry-run", "--trace"}]
 WRITING = {"format", "run", "fit", "swap", "move", "out", "poll"}  # the commands that write to their image; `poll --dry-run` doesn't
-# As crates/dc_words/src/near.rt has them
+# As crates/mbdc_words/src/near.rt has them
 COMMANDS = ["address", "audit", "consumption", "copy", "decode", "demo", "fit", "fold", "format", "inspect", "move", "out", "poll",
             "read", "report", "rescue", "run", "scan", "status", "swap", "values"]
 
@@ -53,14 +53,14 @@ def shown(name: str) -> NoReturn:
 
 
 def version() -> str:
-    with open(f"{kit.ROOT}/crates/dc_words/src/help.rt", encoding="utf-8") as file:
+    with open(f"{kit.ROOT}/crates/mbdc_words/src/help.rt", encoding="utf-8") as file:
         found = re.search(r'VERSION: &str = "(.*)";', file.read())
     assert found
     return f"mbdc {found[1]}\n"
 
 
 def nearest(word: str) -> Optional[str]:
-    """The command that a mistyped word is nearly, as crates/dc_words/src/near.rt says."""
+    """The command that a mistyped word is nearly, as crates/mbdc_words/src/near.rt says."""
     return next((it for it in COMMANDS if is_near(word, it)), None)
 
 

@@ -17,7 +17,7 @@ sys.path.insert(0, str(ROOT / "packaging"))
 import words as packaging  # noqa: E402
 
 TEXTS = ROOT / "packaging" / "help"
-WORDS = ROOT / "crates" / "dc_words" / "src"
+WORDS = ROOT / "crates" / "mbdc_words" / "src"
 MISTAKES = [line.split(" => ") for line in (TEXTS / "mistakes.txt").read_text().splitlines()]
 COMMANDS = sorted(it.stem for it in TEXTS.glob("*.txt") if it.stem not in ("mbdc", "mistakes"))
 IS_BUILT = 'root=$PWD; . tools/built.sh; present=$(sources && toolchain) || exit 1; is_built && echo "$built/mbdc" && exit; ' \

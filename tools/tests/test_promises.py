@@ -7,7 +7,7 @@ from collections.abc import Callable
 import pytest
 
 SOURCE = '''//! A test.
-ghost use Rattle.dc_io.specs.Stream.{Stream, Written as Wrote};
+ghost use Rattle.mbdc_io.specs.Stream.{Stream, Written as Wrote};
 
 impl<D: Disk> Store<D> {
     /// Appends.
@@ -52,7 +52,7 @@ def test_functions_with_their_owners_and_clauses(promises: types.ModuleType, tmp
     assert append.label() == "Store::append" and append.is_public
     assert [clause.name for clause in append.clauses] == ["done", "same"]
     assert append.errors(SOURCE.splitlines()) == ["Full, where there is no room."]
-    assert append.definitions(["done"]) == [("dc_io", "Stream", "Stream"), ("dc_io", "Stream", "Written")]
+    assert append.definitions(["done"]) == [("mbdc_io", "Stream", "Stream"), ("mbdc_io", "Stream", "Written")]
     assert shown.names() == ["Fault::fmt", "Display::fmt"] and law.is_theorem() and not append.is_theorem()
 
 
@@ -62,8 +62,8 @@ def test_braces(promises: types.ModuleType, line: str, depth: int) -> None:
 
 
 def test_carriers(promises: types.ModuleType) -> None:
-    found = list(promises.carriers("dc_x", "`parse` (found, only) internal `dc_io/Lines::next` `law`"))
-    assert found == [("dc_x", "parse", ["found", "only"]), ("dc_io", "Lines::next", []), ("dc_x", "law", [])]
+    found = list(promises.carriers("dc_x", "`parse` (found, only) internal `mbdc_io/Lines::next` `law`"))
+    assert found == [("dc_x", "parse", ["found", "only"]), ("mbdc_io", "Lines::next", []), ("dc_x", "law", [])]
 
 
 @pytest.mark.parametrize("cell", ["parse", "`parse` found", "`parse` (found"])
@@ -111,5 +111,5 @@ def test_a_function_that_a_carrier_calls_is_beneath_it(promises: types.ModuleTyp
 def test_a_crate_of_theorems_needs_a_closed_example(promises: types.ModuleType) -> None:
     tree = promises.Tree()
     every = {function for crate in tree.crates.values() for function in crate.functions}
-    assert "dc_progress" in promises.unmet(tree, set())
+    assert "mbdc_theorems" in promises.unmet(tree, set())
     assert not list(promises.unmet(tree, every))

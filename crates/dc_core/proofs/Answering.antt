@@ -1,19 +1,19 @@
 -- A line of the office, answered.
 use Rattle.std.proofs.Common.{◌≡◌, ◌⊎◌, ⊎_elim, inl, inr, ◌≤◌, ◌+◌, ◌-◌, ◌^◌, ℕ, false, Some, Result, Ok, Err, List, [], ◌∷◌, ◌++◌, refl, ap, sym, subst, ◌∙◌}
 use Rattle.std.specs.Prelude.{IsErrOf}
-use Rattle.dc_io.specs.Failures.{HasRisen, has_risen-after}
+use Rattle.mbdc_io.specs.Failures.{HasRisen, has_risen-after}
 use Rattle.dc_sectors.specs.Disk.{Image, IsImage}
 use Rattle.dc_sectors.specs.declared.device.Disk.{Ghosts}
 use Rattle.dc_sectors.specs.Runs.{LeavesOnly}
 use Rattle.dc_sectors.proofs.Moments.{started as begun, weakened, followed}
-use Rattle.dc_change.specs.State.{State, Held}
-use Rattle.dc_change.specs.Apply.{applied}
-use Rattle.dc_change.specs.declared.change.Change.{Change}
-use Rattle.dc_change.specs.History.{after}
-use Rattle.dc_log.specs.Halves.{half_of, half_len_of}
+use Rattle.mbdc_change.specs.State.{State, Held}
+use Rattle.mbdc_change.specs.Apply.{applied}
+use Rattle.mbdc_change.specs.declared.change.Change.{Change}
+use Rattle.mbdc_change.specs.History.{after}
+use Rattle.mbdc_log.specs.Halves.{half_of, half_len_of}
 use Rattle.dc_core.specs.PendingImages.{StandsForFront}
-use Rattle.dc_log.specs.Store.{Opened}
-use Rattle.dc_log.proofs.Fronts.{longer_front, front_behind}
+use Rattle.mbdc_log.specs.Store.{Opened}
+use Rattle.mbdc_log.proofs.Fronts.{longer_front, front_behind}
 use Rattle.dc_meters.specs.Language.{register}
 use Rattle.dc_upload.specs.declared.line.OfficeLine.{OfficeLine}
 use Rattle.dc_upload.specs.declared.verdict.Verdict.{Verdict}

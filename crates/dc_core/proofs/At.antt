@@ -4,21 +4,21 @@ use Rattle.std.proofs.lemmas.List.{flat_map_more}
 use Rattle.std.proofs.lemmas.List.Elements.{All-append, All-push}
 use Rattle.dc_sectors.specs.Disk.{Image, IsImage}
 use Rattle.dc_sectors.specs.declared.device.Disk.{Ghosts}
-use Rattle.dc_change.specs.State.{Held}
-use Rattle.dc_change.specs.declared.change.Change.{Change}
-use Rattle.dc_change.specs.Apply.{applied}
-use Rattle.dc_change.specs.Accepts.{Accepts}
-use Rattle.dc_change.specs.History.{AcceptsAll}
-use Rattle.dc_change.proofs.History.{after_of_push, accepts_all_of_append}
-use Rattle.dc_change.specs.Encoding.{change_bytes}
-use Rattle.dc_change.specs.Spelled.{SpellsChanges}
-use Rattle.dc_change.specs.Valid.{IsChange}
+use Rattle.mbdc_change.specs.State.{Held}
+use Rattle.mbdc_change.specs.declared.change.Change.{Change}
+use Rattle.mbdc_change.specs.Apply.{applied}
+use Rattle.mbdc_change.specs.Accepts.{Accepts}
+use Rattle.mbdc_change.specs.History.{AcceptsAll}
+use Rattle.mbdc_change.proofs.History.{after_of_push, accepts_all_of_append}
+use Rattle.mbdc_change.specs.Encoding.{change_bytes}
+use Rattle.mbdc_change.specs.Spelled.{SpellsChanges}
+use Rattle.mbdc_change.specs.Valid.{IsChange}
 use Rattle.dc_readout.specs.Summary.{Summary, Verdict, verdict_by}
-use Rattle.dc_log.specs.Halves.{half_of}
+use Rattle.mbdc_log.specs.Halves.{half_of}
 use Rattle.dc_core.specs.PendingImages.{StandsForFront, Keeps}
-use Rattle.dc_log.proofs.Fronts.{longer_front}
+use Rattle.mbdc_log.proofs.Fronts.{longer_front}
 use Rattle.dc_meters.specs.Language.{register}
-use Rattle.dc_log.proofs.Life.{kept_stands}
+use Rattle.mbdc_log.proofs.Life.{kept_stands}
 use Rattle.dc_core.specs.declared.line_heard.LineHeard.{LineHeard}
 use Rattle.dc_core.specs.Waiting.{Waiting}
 use Rattle.dc_core.specs.Lines.{on_line, put_on, settled_lines, no_sessions}

@@ -1,9 +1,9 @@
 -- What has room goes in whole.
 use Rattle.std.proofs.Common.{◌≡◌, ◌<◌, ◌≤◌, ◌+◌, ◌-◌, ◌^◌, min, ℕ, List, [], ◌∷◌, ◌++◌, length, ap, arith, ◌∙◌, sym, append_assoc, length-append}
 use Rattle.std.proofs.lemmas.List.{append-nil}
-use Rattle.dc_io.specs.Chain.{IsRun, IsBroken, joined}
+use Rattle.mbdc_io.specs.Chain.{IsRun, IsBroken, joined}
 use Rattle.dc_core.specs.Waiting.{waiting_room}
-use Rattle.dc_io.specs.Bytes.{Filled}
+use Rattle.mbdc_io.specs.Bytes.{Filled}
 
 -- what a put into the room does, and one that fails
 abbrev puts : Filled → List ℕ → Filled → Type 0

@@ -11,15 +11,15 @@ use Rattle.dc_records.specs.Telegram.{Parsed}
 use Rattle.dc_readout.specs.declared.stage.Stage.{Stage}
 use Rattle.dc_readout.specs.declared.stage.Stage.TheVariants.{Resets, Selects, Requests, Pending, Ended}
 use Rattle.dc_readout.specs.Summary.{Summary, Verdict, again, ready, new, failed, asked_by, verdict_by, heard_by, begun}
-use Rattle.dc_change.specs.State.{State, MeterRow, PartRow, row_of}
-use Rattle.dc_change.specs.Body.{body_of}
-use Rattle.dc_change.specs.Apply.{heard as told_at}
-use Rattle.dc_change.specs.History.{after}
-use Rattle.dc_change.proofs.History.{after_of_push}
-use Rattle.dc_change.specs.Accepts.{Accepts, refusal, continues as is_continued, telegram_stands}
-use Rattle.dc_change.specs.declared.fault.ChangeFault.TheVariants.{Full as RegisterFull}
-use Rattle.dc_change.specs.declared.change.Change.{Change}
-use Rattle.dc_change.specs.Apply.{applied}
+use Rattle.mbdc_change.specs.State.{State, MeterRow, PartRow, row_of}
+use Rattle.mbdc_change.specs.Body.{body_of}
+use Rattle.mbdc_change.specs.Apply.{heard as told_at}
+use Rattle.mbdc_change.specs.History.{after}
+use Rattle.mbdc_change.proofs.History.{after_of_push}
+use Rattle.mbdc_change.specs.Accepts.{Accepts, refusal, continues as is_continued, telegram_stands}
+use Rattle.mbdc_change.specs.declared.fault.ChangeFault.TheVariants.{Full as RegisterFull}
+use Rattle.mbdc_change.specs.declared.change.Change.{Change}
+use Rattle.mbdc_change.specs.Apply.{applied}
 use Rattle.dc_core.specs.declared.pending.fault.TakeFault.TheVariants.{PendingFull as TakePendingFull, Full as TakeFull}
 use Rattle.dc_core.specs.Lines.{is_line, settled_at, settled_on, settled_lines, unless_of}
 use Rattle.dc_core.specs.Taking.{change_of, refuses}

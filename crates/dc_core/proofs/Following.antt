@@ -2,10 +2,10 @@
 use Rattle.std.proofs.Common.{ℕ, sym, subst, arith}
 use Rattle.dc_sectors.specs.Disk.{Image}
 use Rattle.dc_sectors.specs.Images.{settled_image}
-use Rattle.dc_change.specs.State.{State}
-use Rattle.dc_log.specs.Halves.{half_len_of}
+use Rattle.mbdc_change.specs.State.{State}
+use Rattle.mbdc_log.specs.Halves.{half_len_of}
 use Rattle.dc_core.specs.PendingImages.{Reads, Stands}
-use Rattle.dc_log.proofs.Once.{reads_once}
+use Rattle.mbdc_log.proofs.Once.{reads_once}
 use Rattle.dc_meters.specs.Language.{register}
 use Rattle.dc_core.specs.Lives.{LivesFollow}
 

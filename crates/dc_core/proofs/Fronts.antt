@@ -5,15 +5,15 @@ use Rattle.std.proofs.Math.ListN.{set}
 use Rattle.std.proofs.lemmas.List.{append-nil, length-set, length-map}
 use Rattle.std.proofs.lemmas.Bool.{cases_eq}
 use Rattle.std.proofs.lemmas.Bool.Decides.{nat_tests}
-use Rattle.dc_change.specs.State.{State}
-use Rattle.dc_change.specs.declared.change.Change.{Change}
-use Rattle.dc_change.specs.History.{after}
-use Rattle.dc_change.proofs.History.{after_of_append}
+use Rattle.mbdc_change.specs.State.{State}
+use Rattle.mbdc_change.specs.declared.change.Change.{Change}
+use Rattle.mbdc_change.specs.History.{after}
+use Rattle.mbdc_change.proofs.History.{after_of_append}
 use Rattle.dc_address.specs.declared.identity.Identity.{Identity}
 use Rattle.dc_readout.specs.Summary.{Summary, Verdict, again, ready, new, failed, asked_by, verdict_by, heard_by, begun}
 use Rattle.dc_linkframe.specs.Frame.{FrameSeen, spelling}
 use Rattle.dc_records.specs.Body.{continues}
-use Rattle.dc_change.specs.State.{row_of}
+use Rattle.mbdc_change.specs.State.{row_of}
 use Rattle.dc_core.specs.declared.fault.StartFault.{StartFault}
 use Rattle.dc_core.specs.declared.fault.StartFault.TheVariants.{NoLine as StartNoLine, Unknown, Busy, Stopped as StartStopped}
 use Rattle.dc_core.specs.declared.fault.HearFault.TheVariants.{NoLine, Idle, Stopped as HearStopped}

@@ -6,14 +6,14 @@ use Rattle.dc_sectors.specs.Disk.{Image, IsImage}
 use Rattle.dc_sectors.specs.declared.device.Disk.{Ghosts}
 use Rattle.dc_sectors.specs.Runs.{LeavesOnly}
 use Rattle.dc_sectors.proofs.Moments.{started as begun, followed}
-use Rattle.dc_change.specs.State.{State}
-use Rattle.dc_change.specs.declared.change.Change.{Change}
-use Rattle.dc_change.specs.History.{after}
-use Rattle.dc_change.proofs.History.{after_of_append}
-use Rattle.dc_log.specs.Halves.{half_of, half_len_of}
+use Rattle.mbdc_change.specs.State.{State}
+use Rattle.mbdc_change.specs.declared.change.Change.{Change}
+use Rattle.mbdc_change.specs.History.{after}
+use Rattle.mbdc_change.proofs.History.{after_of_append}
+use Rattle.mbdc_log.specs.Halves.{half_of, half_len_of}
 use Rattle.dc_core.specs.PendingImages.{Stands, StandsForFront}
-use Rattle.dc_log.specs.Store.{Opened}
-use Rattle.dc_log.proofs.Fronts.{longer_front}
+use Rattle.mbdc_log.specs.Store.{Opened}
+use Rattle.mbdc_log.proofs.Fronts.{longer_front}
 use Rattle.dc_meters.specs.Language.{register}
 use Rattle.dc_core.specs.declared.line_heard.LineHeard.TheVariants.{Again, Ready, Accepted, Failed}
 use Rattle.dc_core.specs.Core.{Core, opened}

@@ -11,12 +11,12 @@ use Rattle.dc_sectors.specs.Images.{settled_image}
 use Rattle.dc_sectors.specs.declared.device.Disk.{Ghosts}
 use Rattle.dc_sectors.specs.Runs.{LeavesOnly, IsSettled, WasLeft}
 use Rattle.dc_sectors.proofs.Moments.{started as begun, followed}
-use Rattle.dc_change.specs.State.{State}
-use Rattle.dc_change.specs.declared.change.Change.{Change}
-use Rattle.dc_change.specs.History.{after}
-use Rattle.dc_log.specs.Halves.{half_of, half_len_of}
+use Rattle.mbdc_change.specs.State.{State}
+use Rattle.mbdc_change.specs.declared.change.Change.{Change}
+use Rattle.mbdc_change.specs.History.{after}
+use Rattle.mbdc_log.specs.Halves.{half_of, half_len_of}
 use Rattle.dc_core.specs.PendingImages.{Reads, Stands, EachStands, StandsForFront, StandsForOne}
-use Rattle.dc_log.proofs.Once.{reads_once}
+use Rattle.mbdc_log.proofs.Once.{reads_once}
 use Rattle.dc_meters.specs.Language.{register}
 use Rattle.dc_core.specs.Lines.{is_line}
 use Rattle.dc_core.specs.declared.line_heard.LineHeard.TheVariants.{Accepted}

@@ -14,15 +14,15 @@ use Rattle.dc_readout.specs.Answer.{is_meter}
 use Rattle.dc_readout.specs.declared.stage.Stage.{Stage}
 use Rattle.dc_readout.specs.declared.stage.Stage.TheVariants.{Resets, Selects, Requests, Pending, Ended}
 use Rattle.dc_readout.specs.Summary.{Summary}
-use Rattle.dc_change.specs.State.{State, MeterRow, row_of}
-use Rattle.dc_change.specs.Apply.{applied, commanded, moved, swapped}
-use Rattle.dc_change.specs.Accepts.{Accepts, is_known}
-use Rattle.dc_change.specs.declared.change.Change.{Change}
-use Rattle.dc_change.specs.declared.change.Change.TheVariants.{Command as Numbered}
-use Rattle.dc_change.specs.declared.command.Command.{Command}
-use Rattle.dc_change.specs.declared.command.Command.TheVariants.{Fit, Move, Out, Confirm, Swap}
-use Rattle.dc_change.specs.declared.fault.ChangeFault.{ChangeFault}
-use Rattle.dc_change.specs.declared.fault.ChangeFault.TheVariants.{Known}
+use Rattle.mbdc_change.specs.State.{State, MeterRow, row_of}
+use Rattle.mbdc_change.specs.Apply.{applied, commanded, moved, swapped}
+use Rattle.mbdc_change.specs.Accepts.{Accepts, is_known}
+use Rattle.mbdc_change.specs.declared.change.Change.{Change}
+use Rattle.mbdc_change.specs.declared.change.Change.TheVariants.{Command as Numbered}
+use Rattle.mbdc_change.specs.declared.command.Command.{Command}
+use Rattle.mbdc_change.specs.declared.command.Command.TheVariants.{Fit, Move, Out, Confirm, Swap}
+use Rattle.mbdc_change.specs.declared.fault.ChangeFault.{ChangeFault}
+use Rattle.mbdc_change.specs.declared.fault.ChangeFault.TheVariants.{Known}
 use Rattle.dc_core.specs.Lines.{unless_of}
 use Rattle.dc_core.specs.Step.{removed_by, lines_after}
 use Rattle.dc_core.proofs.Registered.{IsFollowed, FollowsAt, Follows, row_of_same, row_of_other}

@@ -9,8 +9,8 @@ use Rattle.dc_address.specs.Identity.{identity_cmp}
 use Rattle.dc_readout.specs.declared.stage.Stage.{Stage}
 use Rattle.dc_readout.specs.declared.stage.Stage.TheVariants.{Resets, Selects, Requests, Pending, Ended}
 use Rattle.dc_readout.specs.Summary.{Summary, asked_at, after_command}
-use Rattle.dc_change.specs.State.{State, MeterRow, PartRow, row_of}
-use Rattle.dc_change.specs.Apply.{with_row, joined, heard as told_at}
+use Rattle.mbdc_change.specs.State.{State, MeterRow, PartRow, row_of}
+use Rattle.mbdc_change.specs.Apply.{with_row, joined, heard as told_at}
 use Rattle.dc_address.proofs.Order.{same_from_tie}
 
 -- ---- a register in which one row is another

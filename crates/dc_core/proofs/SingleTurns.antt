@@ -4,12 +4,12 @@ use Rattle.dc_sectors.specs.Disk.{Image, IsImage}
 use Rattle.dc_sectors.specs.declared.device.Disk.{Ghosts}
 use Rattle.dc_sectors.specs.Runs.{LeavesOnly}
 use Rattle.dc_sectors.proofs.Moments.{weakened}
-use Rattle.dc_change.specs.State.{State}
-use Rattle.dc_log.specs.Halves.{half_of}
+use Rattle.mbdc_change.specs.State.{State}
+use Rattle.mbdc_log.specs.Halves.{half_of}
 use Rattle.dc_core.specs.PendingImages.{StandsForFront}
-use Rattle.dc_log.proofs.Fronts.{longer_front}
+use Rattle.mbdc_log.proofs.Fronts.{longer_front}
 use Rattle.dc_meters.specs.Language.{register}
-use Rattle.dc_log.specs.Store.{Opened}
+use Rattle.mbdc_log.specs.Store.{Opened}
 use Rattle.dc_core.specs.Core.{opened}
 use Rattle.dc_core.specs.Event.{Event, Answer, commits}
 use Rattle.dc_core.specs.Images.{Machine, IsAt}

@@ -2,10 +2,10 @@
 use Rattle.std.proofs.Common.{◌≡◌, ◌≤◌, ◌+◌, ◌-◌, ℕ, List, [], ◌∷◌, ◌++◌, length, take, refl, ap, sym, subst, ◌∙◌, arith, append_assoc, length-append}
 use Rattle.std.proofs.lemmas.List.{append-nil, take_all}
 use Rattle.std.proofs.Math.Seq.{take-append-add}
-use Rattle.dc_change.specs.State.{State}
-use Rattle.dc_change.specs.declared.change.Change.{Change}
-use Rattle.dc_change.specs.History.{after}
-use Rattle.dc_change.proofs.History.{after_of_append}
+use Rattle.mbdc_change.specs.State.{State}
+use Rattle.mbdc_change.specs.declared.change.Change.{Change}
+use Rattle.mbdc_change.specs.History.{after}
+use Rattle.mbdc_change.proofs.History.{after_of_append}
 use Rattle.dc_core.specs.Core.{Core, opened}
 use Rattle.dc_core.specs.Event.{Reply, offices, replied, unread, unstored, repeated, refused, shown, out_of_memory, obeyed, uncommitted}
 use Rattle.dc_core.specs.Step.{next, MayReply, after_reply}

@@ -1,9 +1,9 @@
 -- The state of a concentrator, apart from its disk: what is committed, the pending changes, the
 -- session on each line, and whether a failure of the disk has stopped it (this product).
 use Rattle.std.specs.Prelude.{ℕ, Bool, false, Option, List, []}
-use Rattle.dc_change.specs.State.{State}
-use Rattle.dc_change.specs.declared.change.Change.{Change}
-use Rattle.dc_change.specs.History.{after}
+use Rattle.mbdc_change.specs.State.{State}
+use Rattle.mbdc_change.specs.declared.change.Change.{Change}
+use Rattle.mbdc_change.specs.History.{after}
 use Rattle.dc_readout.specs.Summary.{Summary}
 use Rattle.dc_core.specs.Lines.{on_line, put_on, no_sessions}
 

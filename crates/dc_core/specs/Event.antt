@@ -1,7 +1,7 @@
 -- The events of a concentrator, and their possible answers (this product).
 use Rattle.std.specs.Prelude.{ℕ, List, Option, Result}
 use Rattle.dc_address.specs.declared.identity.Identity.{Identity}
-use Rattle.dc_change.specs.declared.change.Change.{Change}
+use Rattle.mbdc_change.specs.declared.change.Change.{Change}
 use Rattle.dc_upload.specs.declared.code.Code.{Code}
 use Rattle.dc_core.specs.declared.fault.StartFault.{StartFault}
 use Rattle.dc_core.specs.declared.line_heard.LineHeard.{LineHeard}

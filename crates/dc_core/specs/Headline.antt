@@ -7,10 +7,10 @@ use Rattle.dc_sectors.specs.declared.sector.Sector.{Sector}
 use Rattle.dc_sectors.specs.Record.{image_of}
 use Rattle.dc_sectors.specs.File.{FileState, HasKept, opened_on}
 use Rattle.dc_sectors.specs.Runs.{LeavesOnly, WasLeft}
-use Rattle.dc_change.specs.State.{State}
-use Rattle.dc_change.specs.declared.change.Change.{Change}
-use Rattle.dc_change.specs.History.{after}
-use Rattle.dc_log.specs.Halves.{half_of}
+use Rattle.mbdc_change.specs.State.{State}
+use Rattle.mbdc_change.specs.declared.change.Change.{Change}
+use Rattle.mbdc_change.specs.History.{after}
+use Rattle.mbdc_log.specs.Halves.{half_of}
 use Rattle.dc_core.specs.PendingImages.{StandsForOne, EachStands, Reads}
 use Rattle.dc_core.specs.declared.line_heard.LineHeard.TheVariants.{Accepted}
 use Rattle.dc_core.specs.Core.{opened}

@@ -2,14 +2,14 @@
 use Rattle.std.specs.Prelude.{◌≡◌, ℕ, ◌≤◌, false, List, Option, length}
 use Rattle.dc_sectors.specs.Disk.{Image, IsImage}
 use Rattle.dc_sectors.specs.declared.device.Disk.{Ghosts}
-use Rattle.dc_change.specs.State.{State, Held}
-use Rattle.dc_change.specs.declared.change.Change.{Change}
-use Rattle.dc_change.specs.History.{AcceptsAll}
-use Rattle.dc_change.specs.Spelled.{SpellsChanges}
+use Rattle.mbdc_change.specs.State.{State, Held}
+use Rattle.mbdc_change.specs.declared.change.Change.{Change}
+use Rattle.mbdc_change.specs.History.{AcceptsAll}
+use Rattle.mbdc_change.specs.Spelled.{SpellsChanges}
 use Rattle.dc_readout.specs.Summary.{Summary}
-use Rattle.dc_log.specs.Halves.{half_of, half_len_of, budget_of}
+use Rattle.mbdc_log.specs.Halves.{half_of, half_len_of, budget_of}
 use Rattle.dc_core.specs.PendingImages.{Stands, StandsForFront, Keeps}
-use Rattle.dc_log.specs.Store.{Opened}
+use Rattle.mbdc_log.specs.Store.{Opened}
 use Rattle.dc_core.specs.Waiting.{Waiting}
 use Rattle.dc_core.specs.Core.{Core, present}
 

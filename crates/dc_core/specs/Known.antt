@@ -3,9 +3,9 @@
 use Rattle.std.specs.Prelude.{◌≡◌, ◌≢◌, ℕ, ◌≤◌, Some, Err, IsSome, List, length}
 use Rattle.dc_records.specs.Telegram.{Parsed}
 use Rattle.dc_readout.specs.Summary.{Summary, new, asked_by, verdict_by}
-use Rattle.dc_change.specs.State.{State}
-use Rattle.dc_change.specs.Accepts.{refusal}
-use Rattle.dc_change.specs.declared.fault.ChangeFault.TheVariants.{Unknown, Full as RegisterFull}
+use Rattle.mbdc_change.specs.State.{State}
+use Rattle.mbdc_change.specs.Accepts.{refusal}
+use Rattle.mbdc_change.specs.declared.fault.ChangeFault.TheVariants.{Unknown, Full as RegisterFull}
 use Rattle.dc_core.specs.Taking.{change_of}
 use Rattle.dc_core.specs.Waiting.{most_waiting}
 use Rattle.dc_core.specs.declared.fault.HearFault.TheVariants.{Full, PendingFull}

@@ -2,10 +2,10 @@
 -- stood for (this product).
 use Rattle.std.specs.Prelude.{◌≡◌, ℕ, ◌≤◌, List, length, take}
 use Rattle.dc_sectors.specs.Disk.{Image, settled}
-use Rattle.dc_change.specs.State.{State}
-use Rattle.dc_change.specs.declared.change.Change.{Change}
-use Rattle.dc_change.specs.History.{after}
-use Rattle.dc_log.specs.Halves.{half_len_of}
+use Rattle.mbdc_change.specs.State.{State}
+use Rattle.mbdc_change.specs.declared.change.Change.{Change}
+use Rattle.mbdc_change.specs.History.{after}
+use Rattle.mbdc_log.specs.Halves.{half_len_of}
 use Rattle.dc_core.specs.PendingImages.{Reads, EachStands}
 use Rattle.dc_core.specs.Images.{StandsForPromised}
 

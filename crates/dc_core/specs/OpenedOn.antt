@@ -1,7 +1,7 @@
 -- A concentrator that was opened on a disk (this product).
 use Rattle.std.specs.Prelude.{◌≡◌, List}
-use Rattle.dc_change.specs.State.{State}
-use Rattle.dc_log.specs.Halves.{budget_of, half_of}
+use Rattle.mbdc_change.specs.State.{State}
+use Rattle.mbdc_log.specs.Halves.{budget_of, half_of}
 use Rattle.dc_core.specs.PendingImages.{Reads, StandsForOne}
 use Rattle.dc_core.specs.Headline.{IsOpened, WasStopped, IsKept}
 use Rattle.dc_core.specs.Images.{Machine}

@@ -1,17 +1,17 @@
--- The store's definitions, of the register: what `dc_log` says of any state, said of the house's.
+-- The store's definitions, of the register: what `mbdc_log` says of any state, said of the house's.
 use Rattle.std.specs.Prelude.{ℕ, List, Option}
 use Rattle.dc_sectors.specs.declared.device.Disk.{Ghosts}
 use Rattle.dc_sectors.specs.Disk.{Image, Choices}
-use Rattle.dc_change.specs.State.{State}
-use Rattle.dc_change.specs.declared.change.Change.{Change}
+use Rattle.mbdc_change.specs.State.{State}
+use Rattle.mbdc_change.specs.declared.change.Change.{Change}
 use Rattle.dc_meters.specs.Language.{register}
 use Rattle.dc_roots.specs.declared.root.Root.{Root}
-use Rattle.dc_log.specs.declared.fault.OpenFault.{OpenFault}
-use Rattle.dc_log.specs.Stands as standing
-use Rattle.dc_log.specs.Refusal as refusal
-use Rattle.dc_log.specs.Behind as behind
-use Rattle.dc_log.specs.Store as store
-use Rattle.dc_log.specs.Store.{Opened}
+use Rattle.mbdc_log.specs.declared.fault.OpenFault.{OpenFault}
+use Rattle.mbdc_log.specs.Stands as standing
+use Rattle.mbdc_log.specs.Refusal as refusal
+use Rattle.mbdc_log.specs.Behind as behind
+use Rattle.mbdc_log.specs.Store as store
+use Rattle.mbdc_log.specs.Store.{Opened}
 
 abbrev pub Reads : ℕ → State → Image → Type 0
 Reads = standing.Reads register

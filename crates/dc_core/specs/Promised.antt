@@ -2,8 +2,8 @@
 use Rattle.std.specs.Prelude.{◌≡◌, ℕ, ◌+◌, ◌-◌, ◌≤◌, max, Some, Ok, List, [], ◌∷◌, ◌++◌, length}
 use Rattle.std.specs.Prelude.{take, replicate, get_or}
 use Rattle.std.proofs.Math.ListN.{set}
-use Rattle.dc_change.specs.State.{State}
-use Rattle.dc_change.specs.History.{after}
+use Rattle.mbdc_change.specs.State.{State}
+use Rattle.mbdc_change.specs.History.{after}
 use Rattle.dc_core.specs.Lines.{line_count}
 use Rattle.dc_core.specs.declared.line_heard.LineHeard.{LineHeard}
 use Rattle.dc_core.specs.declared.line_heard.LineHeard.TheVariants.{Again, Ready, Accepted, Failed}

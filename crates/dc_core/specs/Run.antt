@@ -1,17 +1,17 @@
 -- Events in code, and the result of a run of them (this product).
 use Rattle.std.specs.Prelude.{◌≡◌, ◌⊎◌, ℕ, ◌≤◌, ◌+◌, ◌-◌, ◌^◌, Option, None, Some, Err, List, []}
 use Rattle.std.specs.Prelude.{◌∷◌, ◌++◌, map}
-use Rattle.dc_io.specs.Failures.{HasRisen}
-use Rattle.dc_io.specs.Written.{PutsInto, Wrote}
-use Rattle.dc_io.specs.declared.stream.Sink.{Ghosts as SinkGhosts}
+use Rattle.mbdc_io.specs.Failures.{HasRisen}
+use Rattle.mbdc_io.specs.Written.{PutsInto, Wrote}
+use Rattle.mbdc_io.specs.declared.stream.Sink.{Ghosts as SinkGhosts}
 use Rattle.dc_sectors.specs.Disk.{Image, IsImage}
 use Rattle.dc_sectors.specs.declared.device.Disk.{Ghosts}
 use Rattle.dc_sectors.specs.Runs.{LeavesOnly}
-use Rattle.dc_change.specs.Fields.{last_moment}
-use Rattle.dc_change.specs.State.{State}
-use Rattle.dc_log.specs.Halves.{half_of}
+use Rattle.mbdc_change.specs.Fields.{last_moment}
+use Rattle.mbdc_change.specs.State.{State}
+use Rattle.mbdc_log.specs.Halves.{half_of}
 use Rattle.dc_core.specs.PendingImages.{StandsForFront}
-use Rattle.dc_log.specs.Store.{Opened}
+use Rattle.mbdc_log.specs.Store.{Opened}
 use Rattle.dc_upload.specs.declared.line.OfficeLine.{OfficeLine}
 use Rattle.dc_core.specs.declared.fault.CommitFault.{CommitFault}
 use Rattle.dc_core.specs.declared.fault.CommitFault.TheVariants.{Device, Worn, Stopped}

@@ -9,11 +9,11 @@ use Rattle.dc_address.specs.declared.identity.Identity.{Identity}
 use Rattle.dc_records.specs.Body.{continues}
 use Rattle.dc_readout.specs.Summary.{Summary, Verdict, again, ready, new, failed, asked_by}
 use Rattle.dc_readout.specs.Summary.{verdict_by, heard_by, begun}
-use Rattle.dc_change.specs.Apply.{applied}
-use Rattle.dc_change.specs.declared.change.Change.{Change}
-use Rattle.dc_change.specs.declared.change.Change.TheVariants.{Telegram, Command as Numbered}
-use Rattle.dc_change.specs.Command.{meter_removed}
-use Rattle.dc_change.specs.State.{Held, MeterRow, row_of}
+use Rattle.mbdc_change.specs.Apply.{applied}
+use Rattle.mbdc_change.specs.declared.change.Change.{Change}
+use Rattle.mbdc_change.specs.declared.change.Change.TheVariants.{Telegram, Command as Numbered}
+use Rattle.mbdc_change.specs.Command.{meter_removed}
+use Rattle.mbdc_change.specs.State.{Held, MeterRow, row_of}
 use Rattle.dc_upload.specs.declared.line.OfficeLine.{OfficeLine}
 use Rattle.dc_upload.specs.declared.verdict.Verdict.TheVariants.{Repeat, Do, Show, Refuse}
 use Rattle.dc_upload.specs.Line.{IsOfficeLine, office_text}

@@ -1,14 +1,14 @@
 -- A telegram that is taken into the register and into the pending changes (this product).
 use Rattle.std.specs.Prelude.{◌≡◌, ℕ, ◌+◌, ◌++◌, Option, None, Some, is_some, nat_le, if◌then◌else◌}
 use Rattle.dc_records.specs.Telegram.{Parsed}
-use Rattle.dc_change.specs.declared.change.Change.{Change}
-use Rattle.dc_change.specs.declared.change.Change.TheVariants.{Telegram}
-use Rattle.dc_change.specs.Body.{body_of}
-use Rattle.dc_change.specs.State.{State, Held}
-use Rattle.dc_change.specs.Apply.{applied}
-use Rattle.dc_change.specs.Accepts.{Accepts, refusal}
-use Rattle.dc_change.specs.Encoding.{change_bytes}
-use Rattle.dc_change.specs.Valid.{IsChange}
+use Rattle.mbdc_change.specs.declared.change.Change.{Change}
+use Rattle.mbdc_change.specs.declared.change.Change.TheVariants.{Telegram}
+use Rattle.mbdc_change.specs.Body.{body_of}
+use Rattle.mbdc_change.specs.State.{State, Held}
+use Rattle.mbdc_change.specs.Apply.{applied}
+use Rattle.mbdc_change.specs.Accepts.{Accepts, refusal}
+use Rattle.mbdc_change.specs.Encoding.{change_bytes}
+use Rattle.mbdc_change.specs.Valid.{IsChange}
 use Rattle.dc_core.specs.declared.pending.fault.TakeFault.{TakeFault}
 use Rattle.dc_core.specs.declared.pending.fault.TakeFault.TheVariants.{PendingFull, Full}
 use Rattle.dc_core.specs.Waiting.{Waiting, most_waiting}

@@ -7,8 +7,8 @@ use Rattle.dc_readout.specs.declared.why.Why.TheVariants.{NoAnswer, WrongFrame, 
 use Rattle.dc_readout.specs.declared.why.Why.TheVariants.{ApplicationError, Content, Stranger}
 use Rattle.dc_readout.specs.declared.why.Why.TheVariants.{TooManyParts}
 use Rattle.dc_readout.specs.Why.{number_of as why_number, name_of as why_name}
-use Rattle.dc_io.specs.Words.{number_word, fault_text, fault_line}
-use Rattle.dc_io.specs.Hex.{upper_hex}
+use Rattle.mbdc_io.specs.Words.{number_word, fault_text, fault_line}
+use Rattle.mbdc_io.specs.Hex.{upper_hex}
 use Rattle.dc_upload.specs.Reply.{done_line, refusal_line}
 use Rattle.dc_upload.specs.declared.code.Code.TheVariants.{Syntax, Store, Memory}
 use Rattle.dc_core.specs.declared.fault.StartFault.{StartFault}

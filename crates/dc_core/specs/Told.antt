@@ -1,7 +1,7 @@
 -- What was reported to the office holds in every state that may be found later (this product).
 use Rattle.std.specs.Prelude.{◌≡◌, ℕ, List, [], ◌∷◌, ◌++◌}
-use Rattle.dc_change.specs.State.{State}
-use Rattle.dc_change.specs.declared.change.Change.{Change}
+use Rattle.mbdc_change.specs.State.{State}
+use Rattle.mbdc_change.specs.declared.change.Change.{Change}
 use Rattle.dc_upload.specs.declared.line.OfficeLine.{OfficeLine}
 use Rattle.dc_upload.specs.Reply.{shown_text}
 use Rattle.dc_core.specs.Core.{opened}

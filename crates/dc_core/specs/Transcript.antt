@@ -1,6 +1,6 @@
 -- Whole runs: chains of steps, and the changes that they accepted (this product).
 use Rattle.std.specs.Prelude.{ℕ, Option, None, Some, Ok, List, [], ◌∷◌, ◌++◌}
-use Rattle.dc_change.specs.declared.change.Change.{Change}
+use Rattle.mbdc_change.specs.declared.change.Change.{Change}
 use Rattle.dc_readout.specs.Summary.{Summary, verdict_by}
 use Rattle.dc_core.specs.Core.{Core, session_of}
 use Rattle.dc_core.specs.Event.{Event, Answer, hears, offices, heard, replied}

@@ -1,7 +1,7 @@
 -- The changes that aren't committed yet (this product).
 use Rattle.std.specs.Prelude.{ℕ, ◌≤◌, ◌*◌, List, length}
-use Rattle.dc_change.specs.Encoding.{longest_change}
-use Rattle.dc_io.specs.Bytes.{Filled}
+use Rattle.mbdc_change.specs.Encoding.{longest_change}
+use Rattle.mbdc_io.specs.Bytes.{Filled}
 
 -- the encodings of the pending changes, one after the other, and their number
 pub record Waiting : Type 0 where

@@ -1,6 +1,6 @@
 -- When the pending changes can't be written (this product).
 use Rattle.std.specs.Prelude.{◌≡◌, ◌⊎◌, ◌≤◌, ◌+◌, ◌-◌, ◌^◌, ℕ}
-use Rattle.dc_log.specs.Store.{Opened, Fits}
+use Rattle.mbdc_log.specs.Store.{Opened, Fits}
 
 -- This many bytes can't be written: the store has no next sequence, or the bytes don't fit in its half and it has no
 -- next generation.

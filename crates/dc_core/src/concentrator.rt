@@ -4,12 +4,12 @@ ghost use Rattle.std.specs.Prelude.{◌≡◌, ◌≢◌, ◌≤◌, ◌<◌, �
 ghost use Rattle.std.specs.Prelude.{IsSome, MatchResult, false, length};
 ghost use Rattle.dc_sectors.specs.Disk.{Image, IsImage};
 ghost use Rattle.dc_sectors.specs.Runs.{LeavesOnly, Counts, IsSettled};
-ghost use Rattle.dc_change.specs.State.{State};
-ghost use Rattle.dc_log.specs.Halves.{budget_of, half_of, fewest_sectors};
+ghost use Rattle.mbdc_change.specs.State.{State};
+ghost use Rattle.mbdc_log.specs.Halves.{budget_of, half_of, fewest_sectors};
 ghost use Rattle.dc_core.specs.PendingImages.{EachStands, Reads, Stands, StandsForOne};
 ghost use Rattle.dc_core.specs.PendingImages.{IsRefused, IsWorn};
-ghost use Rattle.dc_log.specs.Refusal.{TellsOfImage};
-ghost use Rattle.dc_log.specs.declared.fault.OpenFault.TheVariants.{NotImage, Worn, Device};
+ghost use Rattle.mbdc_log.specs.Refusal.{TellsOfImage};
+ghost use Rattle.mbdc_log.specs.declared.fault.OpenFault.TheVariants.{NotImage, Worn, Device};
 ghost use Rattle.dc_readout.specs.Bound.{most_requests};
 ghost use Rattle.dc_core.specs.Lines.{no_sessions, requests_on};
 ghost use Rattle.dc_core.specs.Core.{Core, opened};
@@ -28,7 +28,7 @@ use crate::pending::{Lines, Waiting, is_line};
 use dc_address::Identity;
 use dc_sectors::Disk;
 use dc_linkframe::FrameBuf;
-use dc_log::OpenFault;
+use mbdc_log::OpenFault;
 use dc_recovery::Store;
 use dc_readout::Session;
 use dc_meters::House;
@@ -115,7 +115,7 @@ impl<D: Disk + Drop, A: Allocator + Copy> Concentrator<D, A> {
             → IsAt D.Disk c.store.disk c (opened c.house.state)) }
 
         // And so it is where the image that is read stands for a state, as where a look found none of its sectors ahead
-        // (`dc_log::first_ahead`), whatever else a crash might have left before.
+        // (`mbdc_log::first_ahead`), whatever else a crash might have left before.
         ensures at_look { IfOk result (λ c.
             (D.keeps c.store.disk → (was : State) × Stands (half_of D.Disk disk) was (D.reads disk))
             → IsAt D.Disk c.store.disk c (opened c.house.state)) }

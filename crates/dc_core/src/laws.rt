@@ -4,10 +4,10 @@
 ghost use Rattle.std.specs.Prelude.{List};
 ghost use Rattle.dc_sectors.specs.Disk.{Image};
 ghost use Rattle.dc_sectors.specs.File.{FileState, HasKept, moment_in, images_in};
-ghost use Rattle.dc_change.specs.State.{State};
+ghost use Rattle.mbdc_change.specs.State.{State};
 ghost use Rattle.dc_core.specs.Core.{opened};
 ghost use Rattle.dc_sectors.specs.Runs.{IsSettled};
-ghost use Rattle.dc_log.specs.Halves.{half_of};
+ghost use Rattle.mbdc_log.specs.Halves.{half_of};
 ghost use Rattle.dc_core.specs.Headline.{IsOpened, IsOpening, WasStopped, IsStoppedFile};
 ghost use Rattle.dc_core.specs.Headline.{HoldsKept};
 ghost use Rattle.dc_core.specs.Images.{Machine};

@@ -1,9 +1,9 @@
 //! Runs of events, with the text of their answers.
 
 ghost use Rattle.std.specs.Prelude.{◌≡◌, ◌<◌, ◌+◌, ℕ, List, All, length, take, map, OnOk, OnErr};
-ghost use Rattle.dc_io.specs.Failures.{HasRisen};
-ghost use Rattle.dc_io.specs.Written.{PutsInto, Wrote};
-ghost use Rattle.dc_change.specs.State.{State};
+ghost use Rattle.mbdc_io.specs.Failures.{HasRisen};
+ghost use Rattle.mbdc_io.specs.Written.{PutsInto, Wrote};
+ghost use Rattle.mbdc_change.specs.State.{State};
 ghost use Rattle.dc_core.specs.Core.{Core, opened};
 ghost use Rattle.dc_core.specs.Transcript.{Turn, leads, IsChain};
 ghost use Rattle.dc_core.specs.Images.{IsAt};
@@ -12,7 +12,7 @@ ghost use Rattle.dc_core.specs.Run.{event_of, IsInTime, Turned, Ran, FailedInLas
 use crate::telling::{put_asked, put_committed, put_heard, put_started};
 use crate::{Concentrator, Event, WriteFault};
 use dc_sectors::Disk;
-use dc_io::{IoFault, Sink};
+use mbdc_io::{IoFault, Sink};
 use std::alloc::Allocator;
 
 impl<D: Disk + Drop, A: Allocator + Copy> Concentrator<D, A> {

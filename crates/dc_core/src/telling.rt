@@ -1,15 +1,15 @@
 //! Writes the line of text of each answer.
 
 ghost use Rattle.std.specs.Prelude.{◌≡◌, ◌++◌, codes};
-ghost use Rattle.dc_io.specs.Written.{Wrote};
-ghost use Rattle.dc_io.specs.Words.{fault_text};
+ghost use Rattle.mbdc_io.specs.Written.{Wrote};
+ghost use Rattle.mbdc_io.specs.Words.{fault_text};
 ghost use Rattle.dc_core.specs.declared.line_heard.LineHeard.TheVariants.{Accepted};
 ghost use Rattle.dc_core.specs.Text.{started_text, asked_text, failed_text, line_text, heard_text};
 ghost use Rattle.dc_core.specs.Text.{committed_text, refused_text};
 
 use crate::{CommitFault, HearFault, LineHeard, StartFault};
 use dc_linkframe::FrameBuf;
-use dc_io::{IoFault, Sink, put_fault, put_fault_line, put_hex, put_number_word};
+use mbdc_io::{IoFault, Sink, put_fault, put_fault_line, put_hex, put_number_word};
 use dc_readout::Why;
 
 fn put_refused<W: Sink>(out: &mut W, number: u8, name: &str) -> Result<(), IoFault>
@@ -29,7 +29,7 @@ pub fn put_started<W: Sink>(out: &mut W, answer: Result<(), StartFault>) -> Resu
 }
 
 /// Writes the line of the answer to [`Concentrator::ask`](crate::Concentrator::ask).
-#[tactic(auto, using(dc_io::proofs::Pieces::written))]
+#[tactic(auto, using(mbdc_io::proofs::Pieces::written))]
 pub fn put_asked<W: Sink>(out: &mut W, answer: Option<FrameBuf>) -> Result<(), IoFault>
     ensures { Wrote W.Sink result out.old out.new (asked_text answer) }
 {
@@ -41,7 +41,7 @@ pub fn put_asked<W: Sink>(out: &mut W, answer: Option<FrameBuf>) -> Result<(), I
     out.put(b"\n")
 }
 
-#[tactic(auto, using(dc_io::proofs::Pieces::written), unfolding(dc_io::specs::Words::fault_line))]
+#[tactic(auto, using(mbdc_io::proofs::Pieces::written), unfolding(mbdc_io::specs::Words::fault_line))]
 fn put_failed<W: Sink>(out: &mut W, why: Why) -> Result<(), IoFault>
     ensures { Wrote W.Sink result out.old out.new (failed_text why) }
 {
@@ -52,7 +52,7 @@ fn put_failed<W: Sink>(out: &mut W, why: Why) -> Result<(), IoFault>
     put_fault_line(out, b"", fault.number(), fault.name())
 }
 
-#[tactic(auto, using(dc_io::proofs::Pieces::written))]
+#[tactic(auto, using(mbdc_io::proofs::Pieces::written))]
 fn put_failure<W: Sink>(out: &mut W, number: u8, name: &str) -> Result<(), IoFault>
     ensures { Wrote W.Sink result out.old out.new
         (codes "FAILED " ++ fault_text number name.now) }
@@ -61,7 +61,7 @@ fn put_failure<W: Sink>(out: &mut W, number: u8, name: &str) -> Result<(), IoFau
     put_fault(out, number, name)
 }
 
-#[tactic(auto, using(dc_io::proofs::Pieces::written))]
+#[tactic(auto, using(mbdc_io::proofs::Pieces::written))]
 fn put_part<W: Sink>(out: &mut W, part: u8, more: bool) -> Result<(), IoFault>
     ensures { Wrote W.Sink result out.old out.new
         (line_text (Accepted part more)) }
@@ -89,7 +89,7 @@ pub fn put_heard<W: Sink>(out: &mut W, answer: Result<LineHeard, HearFault>) -> 
 }
 
 /// Writes the line of the answer to [`Concentrator::commit`](crate::Concentrator::commit).
-#[tactic(auto, using(dc_io::proofs::Pieces::written))]
+#[tactic(auto, using(mbdc_io::proofs::Pieces::written))]
 pub fn put_committed<W: Sink>(
     out: &mut W,
     answer: Result<usize, CommitFault>,

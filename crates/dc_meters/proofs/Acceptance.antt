@@ -1,13 +1,13 @@
 -- What an accepted change says.
 use Rattle.std.proofs.Common.{◌≡◌, ℕ, ◌<◌, ◌≤◌, Bool, true, false, cond, Option, Some, None, refl, arith}
 use Rattle.std.specs.Prelude.{is_some, IsSome, nat_lt, nat_le, not, ◌||◌, ◌&&◌}
-use Rattle.dc_change.specs.declared.command.Command.{Command}
-use Rattle.dc_change.specs.Body.{BodyRow}
-use Rattle.dc_change.specs.State.{State, row_of}
-use Rattle.dc_change.specs.Apply.{told}
-use Rattle.dc_change.specs.Size.{size_of}
-use Rattle.dc_change.specs.Fields.{end_of_numbers}
-use Rattle.dc_change.specs.Accepts.{command_refusal, telegram_refusal, continues, is_known, is_unknown, is_address_taken, is_beyond, is_full}
+use Rattle.mbdc_change.specs.declared.command.Command.{Command}
+use Rattle.mbdc_change.specs.Body.{BodyRow}
+use Rattle.mbdc_change.specs.State.{State, row_of}
+use Rattle.mbdc_change.specs.Apply.{told}
+use Rattle.mbdc_change.specs.Size.{size_of}
+use Rattle.mbdc_change.specs.Fields.{end_of_numbers}
+use Rattle.mbdc_change.specs.Accepts.{command_refusal, telegram_refusal, continues, is_known, is_unknown, is_address_taken, is_beyond, is_full}
 use Rattle.dc_meters.specs.Steps.{CanBeApplied}
 use Rattle.std.proofs.lemmas.Bool.Decides.{nat_tests}
 

@@ -17,7 +17,7 @@ use Rattle.std.proofs.lemmas.List.Elements.{All-nil, All-cons, All-head, All-tai
 use Rattle.std.proofs.lemmas.Map.Keys.{sorted_head, sorted_tail, below_from_sorted}
 use Rattle.dc_address.specs.declared.identity.Identity.{Identity}
 use Rattle.dc_address.specs.Identity.{identity_cmp}
-use Rattle.dc_change.specs.State.{MeterRow, ReadingRow}
+use Rattle.mbdc_change.specs.State.{MeterRow, ReadingRow}
 use Rattle.dc_address.proofs.Order.{identities_total}
 
 module _ {K : Type 0} {R : K → K → Ordering} where

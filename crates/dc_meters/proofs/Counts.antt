@@ -1,9 +1,9 @@
 -- Reading this many, one after the other, as a loop does.
 use Rattle.std.proofs.Common.{◌≡◌, ℕ, suc, ◌-◌, ◌+◌, ◌≤◌, ◌<◌, List, [], ◌∷◌, ◌++◌, Option, Some, None, refl, sym, ap, ◌∙◌, append_assoc, append-nil, arith}
-use Rattle.dc_change.specs.declared.decode_fault.DecodeFault.{DecodeFault}
-use Rattle.dc_change.specs.declared.decode_fault.DecodeFault.TheVariants.{Bad, NoMemory}
-use Rattle.dc_change.specs.Pieces.{Reader, Fails, ◌>>=◌, many}
-use Rattle.dc_change.proofs.Exact.{some_is}
+use Rattle.mbdc_change.specs.declared.decode_fault.DecodeFault.{DecodeFault}
+use Rattle.mbdc_change.specs.declared.decode_fault.DecodeFault.TheVariants.{Bad, NoMemory}
+use Rattle.mbdc_change.specs.Pieces.{Reader, Fails, ◌>>=◌, many}
+use Rattle.mbdc_change.proofs.Exact.{some_is}
 
 module _ {X : Type 0} where
   -- what was read before, and what is still read

@@ -2,18 +2,18 @@
 use Rattle.std.proofs.Common.{◌≡◌, ℕ, ◌^◌, ◌+◌, ◌≤◌, ◌<◌, List, [], ◌++◌, length, Some, None, sym, ap, subst, ◌∙◌, arith, length-append}
 use Rattle.std.proofs.lemmas.List.Elements.{All-weaker}
 use Rattle.dc_address.specs.declared.identity.Identity.{Identity}
-use Rattle.dc_change.specs.State.{State, MeterRow, ReadingRow}
-use Rattle.dc_change.specs.Size.{size_of}
-use Rattle.dc_change.specs.Valid.{IsState, IsReading}
+use Rattle.mbdc_change.specs.State.{State, MeterRow, ReadingRow}
+use Rattle.mbdc_change.specs.Size.{size_of}
+use Rattle.mbdc_change.specs.Valid.{IsState, IsReading}
 use Rattle.dc_meters.specs.Kept.{IsKept}
-use Rattle.dc_change.specs.Order.{MetersAscend, ReadingsAscend}
-use Rattle.dc_change.specs.Pieces.{long_bytes, counted}
-use Rattle.dc_change.proofs.Lengths.{length-counted, state_len}
-use Rattle.dc_change.specs.Spelled.{SpellsState}
-use Rattle.dc_change.specs.Pieces.{listed, count_at}
-use Rattle.dc_change.specs.Reading.{entry_at, reading_at, Head, head_of, head_at}
-use Rattle.dc_change.proofs.Exact.{IsBytes, some_is}
-use Rattle.dc_change.proofs.StateSpellings.{Exact-head, Reads, reads_takes, reads_again, values_are, IsSpelledReading}
+use Rattle.mbdc_change.specs.Order.{MetersAscend, ReadingsAscend}
+use Rattle.mbdc_change.specs.Pieces.{long_bytes, counted}
+use Rattle.mbdc_change.proofs.Lengths.{length-counted, state_len}
+use Rattle.mbdc_change.specs.Spelled.{SpellsState}
+use Rattle.mbdc_change.specs.Pieces.{listed, count_at}
+use Rattle.mbdc_change.specs.Reading.{entry_at, reading_at, Head, head_of, head_at}
+use Rattle.mbdc_change.proofs.Exact.{IsBytes, some_is}
+use Rattle.mbdc_change.proofs.StateSpellings.{Exact-head, Reads, reads_takes, reads_again, values_are, IsSpelledReading}
 
 -- ---- what is left to read of a state
 

@@ -5,8 +5,8 @@ use Rattle.std.specs.Ordering.{nat_cmp}
 use Rattle.std.specs.declared.cmp.Ordering.{Ordering}
 use Rattle.std.proofs.lemmas.List.Elements.{All-nil}
 use Rattle.dc_address.specs.Identity.{identity_cmp}
-use Rattle.dc_change.specs.State.{ReadingRow, empty_state}
-use Rattle.dc_change.specs.Valid.{IsState, IsMeter, IsReading, IsOpenSerial}
+use Rattle.mbdc_change.specs.State.{ReadingRow, empty_state}
+use Rattle.mbdc_change.specs.Valid.{IsState, IsMeter, IsReading, IsOpenSerial}
 
 sorted_nothing : {K : Type 0} (c : K → K → Ordering) → IsStrictlySortedBy c []
 unfolding IsStrictlySortedBy

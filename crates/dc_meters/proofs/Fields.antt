@@ -1,5 +1,5 @@
 -- The state that a house's fields hold.
-use Rattle.dc_change.specs.State.{State}
+use Rattle.mbdc_change.specs.State.{State}
 use Rattle.dc_meters.specs.declared.house.House.TheInside.{Inside}
 
 abbrev pub state_in : {A : Type 0} → Inside A → State

@@ -13,8 +13,8 @@ use Rattle.std.proofs.lemmas.Bool.{and_parts}
 use Rattle.std.proofs.lemmas.Cmp.{on_total, then_total, ranked}
 use Rattle.std.proofs.lemmas.List.Elements.{All-head, All-tail}
 use Rattle.std.proofs.lemmas.Map.Keys.{sorted_head}
-use Rattle.dc_io.proofs.Bools.{or_assoc, or_false}
-use Rattle.dc_change.specs.State.{ReadingRow}
+use Rattle.mbdc_io.proofs.Bools.{or_assoc, or_false}
+use Rattle.mbdc_change.specs.State.{ReadingRow}
 use Rattle.dc_meters.specs.declared.filed.Filed.{Filed}
 use Rattle.dc_meters.specs.Orders.{filed_cmp, found, AreFiled, IsUnfiled}
 

@@ -5,8 +5,8 @@ use Rattle.std.specs.BTreeMap.{is_at}
 use Rattle.dc_address.specs.declared.identity.Identity.{Identity}
 use Rattle.dc_address.specs.Identity.{identity_cmp}
 use Rattle.dc_address.proofs.Order.{same_from_tie}
-use Rattle.dc_change.specs.State.{State, MeterRow, row_of}
-use Rattle.dc_change.proofs.Exact.{some_is}
+use Rattle.mbdc_change.specs.State.{State, MeterRow, row_of}
+use Rattle.mbdc_change.proofs.Exact.{some_is}
 use Rattle.dc_meters.specs.Places.{MeterRows}
 
 apart_at : (a b : Identity) (row : MeterRow) (s : State) (t : Bool) → t ≡ is_at (identity_cmp a) b → row_of a s ≡ None → row_of b s ≡ Some row → t ≡ false

@@ -11,11 +11,11 @@ use Rattle.std.specs.declared.cmp.Ordering.TheVariants.{Less, Equal, Greater}
 use Rattle.std.specs.Cmp.Lexicographic.{slice_cmp}
 use Rattle.std.specs.FinMap.{slice_cmp-IsAntisymmetric, nat_cmp-IsAntisymmetric}
 use Rattle.std.proofs.lemmas.Map.Steps.{set_value_same}
-use Rattle.dc_io.proofs.Bools.{or_false}
+use Rattle.mbdc_io.proofs.Bools.{or_false}
 use Rattle.dc_address.specs.declared.identity.Identity.{Identity}
 use Rattle.dc_address.specs.Identity.{identity_cmp}
 use Rattle.dc_address.proofs.Order.{same_from_tie}
-use Rattle.dc_change.specs.State.{MeterRow, PartRow}
+use Rattle.mbdc_change.specs.State.{MeterRow, PartRow}
 use Rattle.dc_meters.specs.declared.place.Place.{Place}
 use Rattle.dc_meters.specs.declared.place.BusPlace.{BusPlace}
 use Rattle.dc_meters.specs.Places.{place_cmp, bus_cmp, place_of, by_flat, among, stands, is_own, is_in_flat, hangs_at, meter_by_flat, meter_on_bus, moved_in, AreIndexed}

@@ -9,11 +9,11 @@ use Rattle.std.proofs.lemmas.Map.Views.{All-values-insert_entry, All-values-set_
 use Rattle.std.proofs.lemmas.List.Elements.{All-filter, filter_passes, All-push}
 use Rattle.dc_address.specs.declared.identity.Identity.{Identity}
 use Rattle.dc_address.specs.Identity.{identity_cmp}
-use Rattle.dc_change.specs.State.{State, MeterRow, PartRow, ReadingRow, row_of, empty_state}
-use Rattle.dc_change.specs.Size.{parts_size, meter_size, reading_size, size_of}
-use Rattle.dc_change.specs.Apply.{with_row, joined, heard, fitted, taken_out, confirmed_up_to}
-use Rattle.dc_change.specs.Valid.{IsMeter, IsReading, IsOpenSerial}
-use Rattle.dc_change.specs.Fields.{end_of_numbers}
+use Rattle.mbdc_change.specs.State.{State, MeterRow, PartRow, ReadingRow, row_of, empty_state}
+use Rattle.mbdc_change.specs.Size.{parts_size, meter_size, reading_size, size_of}
+use Rattle.mbdc_change.specs.Apply.{with_row, joined, heard, fitted, taken_out, confirmed_up_to}
+use Rattle.mbdc_change.specs.Valid.{IsMeter, IsReading, IsOpenSerial}
+use Rattle.mbdc_change.specs.Fields.{end_of_numbers}
 use Rattle.dc_meters.specs.Kept.{IsKept}
 use Rattle.dc_meters.proofs.Empty.{IsState-empty}
 use Rattle.dc_meters.proofs.Readings.{sorted_of_kept, sorted_of_pushed}

@@ -10,11 +10,11 @@ use Rattle.std.proofs.lemmas.Cmp.{ranked}
 use Rattle.std.proofs.lemmas.List.Elements.{All-nil, All-push, All-head, All-tail, All-cons}
 use Rattle.dc_address.specs.declared.identity.Identity.{Identity}
 use Rattle.dc_address.specs.Identity.{identity_cmp}
-use Rattle.dc_change.specs.State.{MeterRow, ReadingRow}
-use Rattle.dc_change.specs.Valid.{IsOpenSerial}
-use Rattle.dc_change.specs.Order.{MetersAscend, ReadingsAscend, IsNextSerial}
-use Rattle.dc_change.specs.Pieces.{Reader, many}
-use Rattle.dc_change.specs.Reading.{entry_at, reading_at}
+use Rattle.mbdc_change.specs.State.{MeterRow, ReadingRow}
+use Rattle.mbdc_change.specs.Valid.{IsOpenSerial}
+use Rattle.mbdc_change.specs.Order.{MetersAscend, ReadingsAscend, IsNextSerial}
+use Rattle.mbdc_change.specs.Pieces.{Reader, many}
+use Rattle.mbdc_change.specs.Reading.{entry_at, reading_at}
 use Rattle.dc_meters.proofs.Counts.{with_front, begins_with, goes_on, front_of}
 use Rattle.dc_meters.proofs.Ascending.{insert_last, before_next}
 use Rattle.dc_address.proofs.Order.{identities_total}

@@ -3,9 +3,9 @@ use Rattle.std.proofs.Common.{◌≡◌, ℕ, ◌+◌, ◌<◌, List, [], ◌∷
 use Rattle.std.specs.List.{flat_map}
 use Rattle.std.proofs.lemmas.List.{append-nil, take-append-drop, take_more, drop_more}
 use Rattle.std.proofs.lemmas.List.Concat.{flat_map-append}
-use Rattle.dc_io.specs.Written.{IsWritten, IsStopped}
-use Rattle.dc_io.specs.declared.stream.Sink.{Ghosts}
-use Rattle.dc_io.proofs.Writes.{written_both, stopped_first, stopped_second}
+use Rattle.mbdc_io.specs.Written.{IsWritten, IsStopped}
+use Rattle.mbdc_io.specs.declared.stream.Sink.{Ghosts}
+use Rattle.mbdc_io.proofs.Writes.{written_both, stopped_first, stopped_second}
 
 module _ {X : Type 0} (f : X → List ℕ) (xs : List X) (i : ℕ) (x : X) where
   front_more : i < length xs → x ≡ get_or xs i x → flat_map f (take (i + 1) xs) ≡ flat_map f (take i xs) ++ f x

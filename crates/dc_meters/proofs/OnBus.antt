@@ -19,9 +19,9 @@ use Rattle.std.proofs.lemmas.Cmp.{ranked}
 use Rattle.dc_address.specs.declared.identity.Identity.{Identity}
 use Rattle.dc_address.specs.Identity.{identity_cmp}
 use Rattle.dc_address.proofs.Order.{same_from_tie, equal_to_itself}
-use Rattle.dc_change.specs.State.{MeterRow}
-use Rattle.dc_change.specs.Accepts.{occupies}
-use Rattle.dc_change.proofs.Exact.{some_is}
+use Rattle.mbdc_change.specs.State.{MeterRow}
+use Rattle.mbdc_change.specs.Accepts.{occupies}
+use Rattle.mbdc_change.proofs.Exact.{some_is}
 use Rattle.dc_meters.specs.declared.place.BusPlace.{BusPlace}
 use Rattle.dc_meters.specs.Places.{bus_cmp, is_on_bus, among, stands, hangs_at, meter_on_bus, ArePlaces}
 use Rattle.dc_meters.proofs.DueDates.{not_empty, some_kept}

@@ -8,7 +8,7 @@ use Rattle.std.proofs.lemmas.Map.Keys.{sorted_tail}
 use Rattle.dc_address.specs.declared.identity.Identity.{Identity}
 use Rattle.dc_address.specs.Identity.{identity_cmp}
 use Rattle.dc_units.specs.Date.{Day}
-use Rattle.dc_change.specs.State.{ReadingRow}
+use Rattle.mbdc_change.specs.State.{ReadingRow}
 use Rattle.dc_meters.specs.declared.filed.Filed.{Filed}
 use Rattle.dc_meters.specs.Due.{day_cmp, due_days, has_value}
 use Rattle.dc_meters.specs.Points.{points_of}

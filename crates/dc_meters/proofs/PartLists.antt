@@ -1,8 +1,8 @@
 -- A meter's parts stay parts as one is added.
 use Rattle.std.proofs.Common.{◌+◌, ◌≤◌, [], ◌∷◌, ◌++◌, length, arith, length-append}
 use Rattle.std.proofs.lemmas.List.Elements.{All-push, All-nil, All-cons}
-use Rattle.dc_change.specs.State.{MeterRow, PartRow}
-use Rattle.dc_change.specs.Valid.{IsMeter, IsPart}
+use Rattle.mbdc_change.specs.State.{MeterRow, PartRow}
+use Rattle.mbdc_change.specs.Valid.{IsMeter, IsPart}
 
 pub IsMeter-pushed : (row : MeterRow) (part : PartRow) → IsMeter row → IsPart part → length row.parts + 1 ≤ 255 → IsMeter (record row { parts = row.parts ++ part ∷ [] })
 IsMeter-pushed row part is part_is room = record {

@@ -13,8 +13,8 @@ use Rattle.std.specs.FinMap.{IsAntisymmetric, slice_cmp-IsAntisymmetric, nat_cmp
 use Rattle.dc_address.specs.declared.identity.Identity.{Identity}
 use Rattle.dc_address.specs.Identity.{identity_cmp}
 use Rattle.dc_address.proofs.Order.{identities_total, same_from_tie}
-use Rattle.dc_change.specs.State.{MeterRow}
-use Rattle.dc_change.specs.Accepts.{same_primary}
+use Rattle.mbdc_change.specs.State.{MeterRow}
+use Rattle.mbdc_change.specs.Accepts.{same_primary}
 use Rattle.dc_meters.specs.declared.place.Place.{Place}
 use Rattle.dc_meters.specs.declared.place.BusPlace.{BusPlace}
 use Rattle.dc_meters.specs.Places.{place_cmp, bus_cmp, is_own, is_in_flat, hangs_at, meter_by_flat, meter_on_bus}

@@ -4,11 +4,11 @@ use Rattle.std.specs.Prelude.{◌&&◌, ◌||◌, not}
 use Rattle.std.specs.Map.{lookup}
 use Rattle.std.specs.BTreeMap.{is_at}
 use Rattle.std.specs.declared.cmp.Ordering.{Ordering}
-use Rattle.dc_io.proofs.Bools.{or_false}
+use Rattle.mbdc_io.proofs.Bools.{or_false}
 use Rattle.dc_address.specs.declared.identity.Identity.{Identity}
 use Rattle.dc_address.specs.Identity.{identity_cmp}
 use Rattle.dc_address.proofs.Order.{same_from_tie}
-use Rattle.dc_change.specs.State.{MeterRow}
+use Rattle.mbdc_change.specs.State.{MeterRow}
 use Rattle.dc_meters.specs.Places.{among, stands, is_own, IsNowhere, ArePlaces}
 
 -- ---- tests that are met or not

@@ -8,9 +8,9 @@ use Rattle.std.specs.declared.cmp.Ordering.TheVariants.{Less, Equal, Greater}
 use Rattle.std.specs.Prelude.{◌==◌}
 use Rattle.std.proofs.lemmas.Bool.{lt-ltb}
 use Rattle.std.proofs.lemmas.List.Elements.{All-head, All-tail}
-use Rattle.dc_change.specs.State.{State, ReadingRow}
-use Rattle.dc_change.specs.Apply.{confirmed_up_to}
-use Rattle.dc_change.specs.Valid.{IsOpenSerial, IsState}
+use Rattle.mbdc_change.specs.State.{State, ReadingRow}
+use Rattle.mbdc_change.specs.Apply.{confirmed_up_to}
+use Rattle.mbdc_change.specs.Valid.{IsOpenSerial, IsState}
 
 abbrev pub serials : List ReadingRow → List ℕ
 serials readings = map (λ (r : ReadingRow). r.serial) readings

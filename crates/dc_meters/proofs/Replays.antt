@@ -1,19 +1,19 @@
 -- Changes that are read one after the other and applied as they come.
 use Rattle.std.proofs.Common.{◌≡◌, ℕ, ◌<◌, List, [], ◌∷◌, ◌++◌, length, Some, None, refl, sym, ap, subst, ◌∙◌}
 use Rattle.std.specs.List.{flat_map}
-use Rattle.dc_change.specs.declared.change.Change.{Change}
-use Rattle.dc_change.specs.Encoding.{change_bytes, changes_bytes}
-use Rattle.dc_change.specs.Spelled.{SpellsChanges}
-use Rattle.dc_change.specs.Reading.{change_at}
-use Rattle.dc_change.specs.State.{State, Held}
-use Rattle.dc_change.specs.Apply.{applied}
-use Rattle.dc_change.specs.Accepts.{Accepts}
-use Rattle.dc_change.specs.History.{after, AcceptsAll}
-use Rattle.dc_change.proofs.History.{after_of_push, accepts_all_of_push, accepts_all_parts}
-use Rattle.dc_change.proofs.Exact.{IsBytes, IsBytes-behind, some_is}
-use Rattle.dc_change.proofs.CommandSpellings.{Exact-change}
-use Rattle.dc_change.proofs.Runs.{IsReadUpTo, read_on, next_spelled}
-use Rattle.dc_change.specs.Valid.{IsChange}
+use Rattle.mbdc_change.specs.declared.change.Change.{Change}
+use Rattle.mbdc_change.specs.Encoding.{change_bytes, changes_bytes}
+use Rattle.mbdc_change.specs.Spelled.{SpellsChanges}
+use Rattle.mbdc_change.specs.Reading.{change_at}
+use Rattle.mbdc_change.specs.State.{State, Held}
+use Rattle.mbdc_change.specs.Apply.{applied}
+use Rattle.mbdc_change.specs.Accepts.{Accepts}
+use Rattle.mbdc_change.specs.History.{after, AcceptsAll}
+use Rattle.mbdc_change.proofs.History.{after_of_push, accepts_all_of_push, accepts_all_parts}
+use Rattle.mbdc_change.proofs.Exact.{IsBytes, IsBytes-behind, some_is}
+use Rattle.mbdc_change.proofs.CommandSpellings.{Exact-change}
+use Rattle.mbdc_change.proofs.Runs.{IsReadUpTo, read_on, next_spelled}
+use Rattle.mbdc_change.specs.Valid.{IsChange}
 use Rattle.dc_meters.specs.Replay.{BeginsUnaccepted, IsApplied, IsHeldUp}
 use Rattle.std.proofs.lemmas.List.Elements.{All-nil}
 

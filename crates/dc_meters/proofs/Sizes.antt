@@ -10,10 +10,10 @@ use Rattle.std.proofs.lemmas.Map.Entries.{sum_by-set_value, sum_by-insert_entry,
 use Rattle.dc_address.specs.declared.identity.Identity.{Identity}
 use Rattle.dc_address.specs.Identity.{identity_cmp}
 use Rattle.dc_address.proofs.Order.{identities_total}
-use Rattle.dc_change.specs.Body.{BodyRow}
-use Rattle.dc_change.specs.State.{State, MeterRow, PartRow, ReadingRow, row_of}
-use Rattle.dc_change.specs.Size.{part_size, parts_size, meter_size, reading_size, size_of}
-use Rattle.dc_change.specs.Apply.{with_row, joined, heard, told, moved, fitted, taken_out}
+use Rattle.mbdc_change.specs.Body.{BodyRow}
+use Rattle.mbdc_change.specs.State.{State, MeterRow, PartRow, ReadingRow, row_of}
+use Rattle.mbdc_change.specs.Size.{part_size, parts_size, meter_size, reading_size, size_of}
+use Rattle.mbdc_change.specs.Apply.{with_row, joined, heard, told, moved, fitted, taken_out}
 
 -- a row written over
 pub size_of-with_row : (meter : Identity) (old new : MeterRow) (s : State) → row_of meter s ≡ Some old

@@ -3,8 +3,8 @@ use Rattle.std.proofs.Common.{◌≡◌, ℕ, Bool, true, false, List, [], ◌�
 use Rattle.std.specs.Prelude.{◌==◌, ◌||◌, ◌&&◌}
 use Rattle.std.specs.List.{list_any}
 use Rattle.dc_address.specs.declared.identity.Identity.{Identity}
-use Rattle.dc_change.specs.State.{MeterRow}
-use Rattle.dc_change.specs.Accepts.{occupies}
+use Rattle.mbdc_change.specs.State.{MeterRow}
+use Rattle.mbdc_change.specs.Accepts.{occupies}
 
 and_false : (a : Bool) → (a && false) ≡ false
 and_false true = refl

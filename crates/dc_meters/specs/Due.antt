@@ -11,7 +11,7 @@ use Rattle.dc_units.specs.declared.point.Point.{Point}
 use Rattle.dc_units.specs.Quantity.{is_time_point}
 use Rattle.dc_units.specs.Date.{Day}
 use Rattle.dc_units.specs.Value.{day_of}
-use Rattle.dc_change.specs.State.{ReadingRow}
+use Rattle.mbdc_change.specs.State.{ReadingRow}
 use Rattle.dc_meters.specs.Points.{points_of}
 
 -- A date, or a date and time, of function 0, tariff 0 and subunit 0 gives its storage number a day.

@@ -1,24 +1,24 @@
 -- The register's states and changes as what a store keeps.
 use Rattle.std.proofs.Common.{◌<◌, ◌^◌, ◌≡◌, ◌≤◌, ◌+◌, ℕ, List, [], ◌∷◌, ◌++◌, length, replicate, refl, subst, sym, arith}
-use Rattle.dc_kept.specs.declared.kept.Language.{Ghosts as Language}
-use Rattle.dc_change.specs.State.{State, Held, empty_state}
-use Rattle.dc_change.specs.declared.change.Change.{Change}
-use Rattle.dc_change.specs.Pieces.{long_bytes, count_bytes, byte, counted}
-use Rattle.dc_change.specs.Encoding.{state_bytes}
-use Rattle.dc_change.specs.Spelled.{SpellsState, SpellsChanges}
-use Rattle.dc_change.specs.History.{after, AcceptsAll}
-use Rattle.dc_change.specs.Valid.{IsState}
-use Rattle.dc_change.proofs.StateSpellings.{spelled_once}
-use Rattle.dc_change.proofs.CommandSpellings.{changes_spelled_once}
-use Rattle.dc_change.proofs.Lengths.{state_some, state_fits}
-use Rattle.dc_change.proofs.History.{after_of_append}
+use Rattle.mbdc_io.specs.declared.kept.kept.Language.{Ghosts as Language}
+use Rattle.mbdc_change.specs.State.{State, Held, empty_state}
+use Rattle.mbdc_change.specs.declared.change.Change.{Change}
+use Rattle.mbdc_change.specs.Pieces.{long_bytes, count_bytes, byte, counted}
+use Rattle.mbdc_change.specs.Encoding.{state_bytes}
+use Rattle.mbdc_change.specs.Spelled.{SpellsState, SpellsChanges}
+use Rattle.mbdc_change.specs.History.{after, AcceptsAll}
+use Rattle.mbdc_change.specs.Valid.{IsState}
+use Rattle.mbdc_change.proofs.StateSpellings.{spelled_once}
+use Rattle.mbdc_change.proofs.CommandSpellings.{changes_spelled_once}
+use Rattle.mbdc_change.proofs.Lengths.{state_some, state_fits}
+use Rattle.mbdc_change.proofs.History.{after_of_append}
 use Rattle.std.specs.List.Sorted.{IsStrictlySortedBy}
 use Rattle.std.specs.Ordering.{nat_cmp}
 use Rattle.std.specs.declared.cmp.Ordering.{Ordering}
 use Rattle.std.proofs.lemmas.List.Elements.{All-nil}
 use Rattle.dc_address.specs.Identity.{identity_cmp}
-use Rattle.dc_change.specs.State.{ReadingRow}
-use Rattle.dc_change.specs.Valid.{IsMeter, IsReading, IsOpenSerial}
+use Rattle.mbdc_change.specs.State.{ReadingRow}
+use Rattle.mbdc_change.specs.Valid.{IsMeter, IsReading, IsOpenSerial}
 
 sorted_nothing : {K : Type 0} (c : K → K → Ordering) → IsStrictlySortedBy c []
 unfolding IsStrictlySortedBy

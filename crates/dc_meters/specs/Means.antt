@@ -4,7 +4,7 @@ use Rattle.std.specs.List.{starts_with}
 use Rattle.std.specs.Map.{keys_of}
 use Rattle.dc_address.specs.Text.{text_of}
 use Rattle.dc_address.specs.declared.identity.Identity.{Identity as Meter}
-use Rattle.dc_change.specs.State.{State}
+use Rattle.mbdc_change.specs.State.{State}
 use Rattle.dc_meters.specs.declared.named.name.Named.{Named}
 use Rattle.dc_meters.specs.declared.named.name.Named.TheVariants.{Identity, Number}
 use Rattle.dc_meters.specs.declared.named.meaning.NameFault.{NameFault}

@@ -3,7 +3,7 @@ use Rattle.std.specs.Prelude.{◌≡◌, ℕ, ◌-◌, List, true, ◌&&◌, len
 use Rattle.std.specs.Char.{is_ascii_digit}
 use Rattle.std.specs.List.{list_all}
 use Rattle.dc_address.specs.Text.{text_of}
-use Rattle.dc_change.specs.Fields.{IsOfBytes}
+use Rattle.mbdc_change.specs.Fields.{IsOfBytes}
 use Rattle.dc_meters.specs.declared.named.name.Named.{Named}
 use Rattle.dc_meters.specs.declared.named.name.Named.TheVariants.{Identity, Number}
 

@@ -11,8 +11,8 @@ use Rattle.std.specs.declared.ops.Bound.TheVariants.{Included}
 use Rattle.dc_address.specs.declared.identity.Identity.{Identity}
 use Rattle.dc_address.specs.Identity.{identity_cmp}
 use Rattle.dc_units.specs.Date.{Day}
-use Rattle.dc_change.specs.State.{ReadingRow}
-use Rattle.dc_change.specs.Valid.{IsReading}
+use Rattle.mbdc_change.specs.State.{ReadingRow}
+use Rattle.mbdc_change.specs.Valid.{IsReading}
 use Rattle.dc_meters.specs.Due.{day_cmp, due_days, has_value}
 use Rattle.dc_meters.specs.Points.{points_of}
 use Rattle.dc_meters.specs.declared.filed.Filed.{Filed}

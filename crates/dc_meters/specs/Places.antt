@@ -10,10 +10,10 @@ use Rattle.std.specs.declared.cmp.Ordering.{Ordering}
 use Rattle.std.specs.Cmp.Lexicographic.{slice_cmp}
 use Rattle.dc_address.specs.declared.identity.Identity.{Identity}
 use Rattle.dc_address.specs.Identity.{identity_cmp}
-use Rattle.dc_change.specs.State.{MeterRow, ReadingRow}
-use Rattle.dc_change.specs.Size.{meter_size, reading_size}
-use Rattle.dc_change.specs.Valid.{IsMeter, IsReading}
-use Rattle.dc_change.specs.Accepts.{occupies}
+use Rattle.mbdc_change.specs.State.{MeterRow, ReadingRow}
+use Rattle.mbdc_change.specs.Size.{meter_size, reading_size}
+use Rattle.mbdc_change.specs.Valid.{IsMeter, IsReading}
+use Rattle.mbdc_change.specs.Accepts.{occupies}
 use Rattle.dc_meters.specs.declared.place.Place.{Place}
 use Rattle.dc_meters.specs.declared.place.BusPlace.{BusPlace}
 use Rattle.dc_meters.specs.Ascending.{ascending}

@@ -8,7 +8,7 @@ use Rattle.dc_units.specs.declared.point.Seen.{Seen}
 use Rattle.dc_units.specs.declared.point.Seen.TheVariants.{Point as Known, Other}
 use Rattle.dc_units.specs.declared.point.Point.{Point}
 use Rattle.dc_units.specs.Point.{seen_of}
-use Rattle.dc_change.specs.State.{PartRow}
+use Rattle.mbdc_change.specs.State.{PartRow}
 
 -- a record that isn't in the table of units has no point
 abbrev pub shown : Seen → List Point

@@ -1,11 +1,11 @@
 -- Changes that are applied as they are decoded.
 use Rattle.std.specs.Prelude.{◌≡◌, ℕ, List, ◌++◌, All}
-use Rattle.dc_change.specs.declared.change.Change.{Change}
-use Rattle.dc_change.specs.State.{Held}
-use Rattle.dc_change.specs.Accepts.{Accepts}
-use Rattle.dc_change.specs.History.{after, AcceptsAll}
-use Rattle.dc_change.specs.Encoding.{change_bytes, changes_bytes}
-use Rattle.dc_change.specs.Valid.{IsChange}
+use Rattle.mbdc_change.specs.declared.change.Change.{Change}
+use Rattle.mbdc_change.specs.State.{Held}
+use Rattle.mbdc_change.specs.Accepts.{Accepts}
+use Rattle.mbdc_change.specs.History.{after, AcceptsAll}
+use Rattle.mbdc_change.specs.Encoding.{change_bytes, changes_bytes}
+use Rattle.mbdc_change.specs.Valid.{IsChange}
 
 -- a prefix of the bytes spells changes, each accepted in turn and applied; the rest follows
 pub record IsApplied (old new : Held) (bytes rest : List ℕ) : Type 0 where

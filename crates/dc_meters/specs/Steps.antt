@@ -1,8 +1,8 @@
 -- What the steps of an accepted command need.
 use Rattle.std.specs.Prelude.{◌≡◌, ℕ, false}
-use Rattle.dc_change.specs.declared.command.Command.{Command}
-use Rattle.dc_change.specs.State.{State}
-use Rattle.dc_change.specs.Accepts.{is_known, is_unknown, is_beyond, is_full}
+use Rattle.mbdc_change.specs.declared.command.Command.{Command}
+use Rattle.mbdc_change.specs.State.{State}
+use Rattle.mbdc_change.specs.Accepts.{is_known, is_unknown, is_beyond, is_full}
 
 -- no fault applies that a step depends on
 pub record CanBeApplied (budget : ℕ) (command : Command) (s : State) : Type 0 where

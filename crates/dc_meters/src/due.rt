@@ -10,7 +10,7 @@ ghost use Rattle.dc_meters.specs.Due.{is_dating, dating_day, day_for, dated, is_
 ghost use Rattle.dc_meters.specs.Due.{is_due, due_value, due_days};
 
 use crate::{Part, Points};
-use dc_io::NoMemory;
+use mbdc_io::NoMemory;
 use dc_units::{Date, Point};
 use std::alloc::Allocator;
 use std::collections::BTreeMap;
@@ -26,7 +26,7 @@ pub struct StorageDates<'a, A: Allocator + Copy> {
 
 impl<'a, A: Allocator + Copy> Model for StorageDates<'a, A> {
     ghost use Rattle.std.specs.Prelude.{List};
-    ghost use Rattle.dc_change.specs.State.{PartRow};
+    ghost use Rattle.mbdc_change.specs.State.{PartRow};
     ghost use Rattle.dc_meters.specs.Points.{points_of};
     ghost use Rattle.dc_meters.specs.Due.{AreDays};
 

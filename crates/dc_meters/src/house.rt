@@ -1,9 +1,9 @@
 //! The register of a house's meters and their readings.
 
 ghost use Rattle.std.specs.Prelude.{◌≡◌, ◌≤◌, option_copied};
-ghost use Rattle.dc_change.specs.State.{empty_state, row_of};
-ghost use Rattle.dc_change.specs.Size.{size_of, empty_size};
-ghost use Rattle.dc_change.specs.Valid.{IsState};
+ghost use Rattle.mbdc_change.specs.State.{empty_state, row_of};
+ghost use Rattle.mbdc_change.specs.Size.{size_of, empty_size};
+ghost use Rattle.mbdc_change.specs.Valid.{IsState};
 ghost use Rattle.std.specs.VecDeque.Iter.{deque_iter_rest};
 ghost use Rattle.dc_meters.specs.Orders.{readings_from, reading_of, serials_of, due_serials};
 ghost use Rattle.dc_meters.specs.Places.{by_flat};
@@ -18,7 +18,7 @@ mod telegram;
 
 use crate::{Meter, MeterMap, Place, Reading, ReadingList, Serials};
 use dc_address::Identity;
-use dc_change::CommandLine;
+use mbdc_change::CommandLine;
 use dc_units::Date;
 use std::alloc::Allocator;
 use std::collections::btree_map::Iter;
@@ -43,7 +43,7 @@ pub struct House<A: Allocator + Copy> {
 }
 
 impl<A: Allocator + Copy> Model for House<A> {
-    ghost use Rattle.dc_change.specs.State.{Held};
+    ghost use Rattle.mbdc_change.specs.State.{Held};
     ghost use Rattle.dc_meters.specs.Kept.{IsKept};
 
     ghost Value = { Held };

@@ -1,6 +1,6 @@
 //! The register of a house's meters and their readings, in memory (this product).
 //!
-//! Proved: a [`House`] is the state of the definitions (dc_change) and changes as they state
+//! Proved: a [`House`] is the state of the definitions (mbdc_change) and changes as they state
 //! ([`House::apply`]); a change is refused with the first fault that applies, and only then
 //! ([`House::check`]); if memory runs out, nothing has changed; the size is that of the state and
 //! stays within the budget.
@@ -33,7 +33,7 @@ mod reading;
 mod reading_list;
 mod serials;
 
-pub use dc_change::{
+pub use mbdc_change::{
     Change, ChangeFault, Command, DecodeFault, Numbered, decode_changes, encode_change,
 };
 pub use due::{DueDays, DuePoints, StorageDates};

@@ -2,12 +2,12 @@
 
 ghost use Rattle.std.specs.Prelude.{◌≡◌, ◌+◌, ◌≤◌, ◌==◌, if◌then◌else◌, length, [], Some, true};
 ghost use Rattle.std.specs.Prelude.{OnOk, OnErr, IfOk, ◌∷◌, ◌++◌, ◌<◌, ◌^◌, All};
-ghost use Rattle.dc_change.specs.Apply.{joined};
-ghost use Rattle.dc_change.specs.Accepts.{continues};
-ghost use Rattle.dc_change.specs.Size.{meter_size, parts_size, reading_size};
-ghost use Rattle.dc_change.specs.Flat.{IsFlat};
-ghost use Rattle.dc_change.specs.Valid.{IsMeter, IsPart, IsReading};
-ghost use Rattle.dc_change.specs.Fields.{most_parts};
+ghost use Rattle.mbdc_change.specs.Apply.{joined};
+ghost use Rattle.mbdc_change.specs.Accepts.{continues};
+ghost use Rattle.mbdc_change.specs.Size.{meter_size, parts_size, reading_size};
+ghost use Rattle.mbdc_change.specs.Flat.{IsFlat};
+ghost use Rattle.mbdc_change.specs.Valid.{IsMeter, IsPart, IsReading};
+ghost use Rattle.mbdc_change.specs.Fields.{most_parts};
 ghost use Rattle.dc_meters.specs.Due.{due_days};
 ghost use Rattle.dc_meters.specs.Points.{points_of};
 
@@ -16,8 +16,8 @@ use crate::part::parts_size;
 use crate::reading_list::ReadingList;
 use crate::{Part, Reading};
 use dc_address::Primary;
-use dc_change::Flat;
-use dc_io::NoMemory;
+use mbdc_change::Flat;
+use mbdc_io::NoMemory;
 use dc_units::Date;
 use std::alloc::Allocator;
 use std::marker::Model;
@@ -33,8 +33,8 @@ pub struct Meter<A: Allocator> {
 }
 
 impl<A: Allocator> Model for Meter<A> {
-    ghost use Rattle.dc_change.specs.State.{MeterRow};
-    ghost use Rattle.dc_change.specs.Valid.{IsMeter};
+    ghost use Rattle.mbdc_change.specs.State.{MeterRow};
+    ghost use Rattle.mbdc_change.specs.Valid.{IsMeter};
 
     ghost Value = { MeterRow };
 

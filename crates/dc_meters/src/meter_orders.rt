@@ -10,7 +10,7 @@ ghost use Rattle.dc_meters.specs.declared.place.BusPlace.{BusPlace};
 use crate::Meter;
 use crate::place::{BusPlace, Place};
 use dc_address::{Identity, Primary};
-use dc_io::NoMemory;
+use mbdc_io::NoMemory;
 use std::alloc::Allocator;
 use std::collections::BTreeSet;
 use std::collections::btree_set::Range;

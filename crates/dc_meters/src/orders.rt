@@ -7,7 +7,7 @@ ghost use Rattle.dc_meters.specs.Orders.{found, IsUnfiled, is_under_meter, is_un
 
 use crate::Filed;
 use dc_address::Identity;
-use dc_io::NoMemory;
+use mbdc_io::NoMemory;
 use dc_units::Date;
 use std::alloc::Allocator;
 use std::collections::BTreeSet;

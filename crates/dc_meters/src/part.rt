@@ -2,12 +2,12 @@
 
 ghost use Rattle.std.specs.Prelude.{◌≡◌, ◌*◌, ◌≤◌, length, IfOk};
 ghost use Rattle.dc_records.specs.Telegram.{parsed, telegram_at};
-ghost use Rattle.dc_change.specs.State.{PartRow};
-ghost use Rattle.dc_change.specs.Size.{part_size, parts_size};
-ghost use Rattle.dc_change.specs.Valid.{IsPart};
-ghost use Rattle.dc_change.specs.Fields.{most_parts};
+ghost use Rattle.mbdc_change.specs.State.{PartRow};
+ghost use Rattle.mbdc_change.specs.Size.{part_size, parts_size};
+ghost use Rattle.mbdc_change.specs.Valid.{IsPart};
+ghost use Rattle.mbdc_change.specs.Fields.{most_parts};
 
-use dc_io::NoMemory;
+use mbdc_io::NoMemory;
 use dc_records::Telegram;
 use std::alloc::Allocator;
 use std::marker::Model;
@@ -20,8 +20,8 @@ pub struct Part<A: Allocator> {
 }
 
 impl<A: Allocator> Model for Part<A> {
-    ghost use Rattle.dc_change.specs.State.{PartRow};
-    ghost use Rattle.dc_change.specs.Valid.{IsPart};
+    ghost use Rattle.mbdc_change.specs.State.{PartRow};
+    ghost use Rattle.mbdc_change.specs.Valid.{IsPart};
 
     ghost Value = { PartRow };
 

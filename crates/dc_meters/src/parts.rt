@@ -2,18 +2,18 @@
 
 ghost use Rattle.std.specs.Prelude.{◌≡◌, ◌≤◌, ◌++◌, length, IfOk, OnOk, OnErr};
 ghost use Rattle.std.specs.List.{flat_map};
-ghost use Rattle.dc_change.specs.Encoding.{part_bytes, parts_bytes};
-ghost use Rattle.dc_change.specs.Pieces.{Gives, many};
-ghost use Rattle.dc_change.specs.Reading.{part_at, parts_at};
-ghost use Rattle.dc_change.specs.Valid.{IsPart, AreParts};
-ghost use Rattle.dc_change.specs.Fields.{most_parts};
-ghost use Rattle.dc_io.specs.Written.{IsWritten, IsStopped};
+ghost use Rattle.mbdc_change.specs.Encoding.{part_bytes, parts_bytes};
+ghost use Rattle.mbdc_change.specs.Pieces.{Gives, many};
+ghost use Rattle.mbdc_change.specs.Reading.{part_at, parts_at};
+ghost use Rattle.mbdc_change.specs.Valid.{IsPart, AreParts};
+ghost use Rattle.mbdc_change.specs.Fields.{most_parts};
+ghost use Rattle.mbdc_io.specs.Written.{IsWritten, IsStopped};
 
 use crate::Part;
-use dc_change::DecodeFault;
-use dc_change::pieces::{body_at, byte_at, moment_at};
-use dc_change::writing::{put_byte, put_counted, put_long};
-use dc_io::{IoFault, Sink};
+use mbdc_change::DecodeFault;
+use mbdc_change::pieces::{body_at, byte_at, moment_at};
+use mbdc_change::writing::{put_byte, put_counted, put_long};
+use mbdc_io::{IoFault, Sink};
 use std::alloc::Allocator;
 
 /// Writes a part: its time stamp and body.
@@ -60,7 +60,7 @@ pub(crate) fn put_parts<S: Sink, A: Allocator>(
 }
 
 /// Decodes a part, and copies its body.
-#[tactic(auto, unfolding(dc_change::specs::Reading::part_at))]
+#[tactic(auto, unfolding(mbdc_change::specs::Reading::part_at))]
 fn part_at<A: Allocator>(alloc: A, bytes: &[u8]) -> Result<(Part<A>, &[u8]), DecodeFault>
     ensures { Gives (λ x. (x.0, x.1.now)) result (part_at bytes.now) }
 {
@@ -88,7 +88,7 @@ fn each_part<A: Allocator + Copy>(
 }
 
 /// Decodes the number of parts, and the parts.
-#[tactic(auto, unfolding(dc_change::specs::Reading::parts_at))]
+#[tactic(auto, unfolding(mbdc_change::specs::Reading::parts_at))]
 pub(crate) fn parts_at<A: Allocator + Copy>(
     alloc: A,
     bytes: &[u8],

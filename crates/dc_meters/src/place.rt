@@ -1,7 +1,7 @@
 //! A meter's places in the indexes.
 
 use dc_address::Identity;
-use dc_change::Flat;
+use mbdc_change::Flat;
 
 /// A meter's place by flat: ordered by the flat's bytes, and by identity within a flat.
 #[derive(Clone, Copy, PartialEq, Eq, PartialOrd, Ord)]

@@ -1,15 +1,15 @@
 //! A finished readout.
 
 ghost use Rattle.std.specs.Prelude.{◌≡◌, ◌≤◌};
-ghost use Rattle.dc_change.specs.Size.{reading_size};
-ghost use Rattle.dc_change.specs.Valid.{IsReading};
+ghost use Rattle.mbdc_change.specs.Size.{reading_size};
+ghost use Rattle.mbdc_change.specs.Valid.{IsReading};
 ghost use Rattle.dc_meters.specs.Due.{due_days};
 ghost use Rattle.dc_meters.specs.Points.{points_of};
 
 use crate::Part;
 use crate::part::parts_size;
 use dc_address::Identity;
-use dc_change::Flat;
+use mbdc_change::Flat;
 use dc_units::Date;
 use std::alloc::Allocator;
 use std::marker::Model;
@@ -25,8 +25,8 @@ pub struct Reading<A: Allocator> {
 }
 
 impl<A: Allocator> Model for Reading<A> {
-    ghost use Rattle.dc_change.specs.State.{ReadingRow};
-    ghost use Rattle.dc_change.specs.Valid.{IsReading};
+    ghost use Rattle.mbdc_change.specs.State.{ReadingRow};
+    ghost use Rattle.mbdc_change.specs.Valid.{IsReading};
     ghost use Rattle.dc_meters.specs.Orders.{IsDated};
 
     ghost Value = { ReadingRow };

@@ -6,15 +6,15 @@ ghost use Rattle.std.specs.Prelude.{sum_by, option_copied};
 ghost use Rattle.std.specs.List.Sorted.{IsStrictlySortedBy};
 ghost use Rattle.std.specs.Ordering.{nat_cmp};
 ghost use Rattle.std.specs.VecDeque.Iter.{deque_iter_rest};
-ghost use Rattle.dc_change.specs.Size.{reading_size};
-ghost use Rattle.dc_change.specs.Valid.{IsReading};
+ghost use Rattle.mbdc_change.specs.Size.{reading_size};
+ghost use Rattle.mbdc_change.specs.Valid.{IsReading};
 ghost use Rattle.dc_meters.specs.Orders.{readings_from, reading_of, serials_of, due_serials};
 
 use crate::due::due_days_of;
 use crate::orders::{Ended, Orders};
 use crate::{Meter, Reading, Serials};
 use dc_address::Identity;
-use dc_io::NoMemory;
+use mbdc_io::NoMemory;
 use dc_units::Date;
 use std::alloc::Allocator;
 use std::collections::VecDeque;

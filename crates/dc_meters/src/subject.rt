@@ -1,7 +1,7 @@
 //! The register as what a store keeps, whatever its memory.
 
 use crate::House;
-use dc_kept::{KeptIn, Subject};
+use mbdc_io::kept::{KeptIn, Subject};
 use std::alloc::{Allocator, Global};
 
 /// The register, as a store keeps it.

@@ -2,8 +2,8 @@
 use Rattle.std.proofs.Common.{⊎_elim, ◌≡◌, ◌<◌, ◌≤◌, ℕ, List, [], ◌∷◌, ◌++◌, length, refl, ap, sym, subst, ◌∙◌, arith, append_assoc, length-append}
 use Rattle.std.proofs.lemmas.Bool.{cases_lt}
 use Rattle.std.proofs.lemmas.List.{append-nil}
-use Rattle.dc_io.specs.Failures.{HasRisen}
-use Rattle.dc_io.specs.Chain.{IsRun, IsChain, IsBroken, joined}
+use Rattle.mbdc_io.specs.Failures.{HasRisen}
+use Rattle.mbdc_io.specs.Chain.{IsRun, IsChain, IsBroken, joined}
 use Rattle.dc_sectors.specs.declared.device.Disk.{Ghosts}
 use Rattle.dc_sectors.specs.Runs.{LeavesOnly}
 use Rattle.dc_sectors.proofs.Moments.{counted_on}

@@ -1,6 +1,6 @@
 -- A group's payload that is put piece by piece, seen with the group's disk (this product).
 use Rattle.std.specs.Prelude.{◌≡◌, ◌<◌, ◌≤◌, ℕ, ◌+◌, List, ◌++◌, length}
-use Rattle.dc_io.specs.Failures.{HasRisen}
+use Rattle.mbdc_io.specs.Failures.{HasRisen}
 use Rattle.dc_sectors.specs.declared.device.Disk.{Ghosts}
 use Rattle.dc_sectors.specs.Runs.{LeavesOnly, Counts}
 use Rattle.dc_pages.specs.Draft.{Draft, draft_len, HasRoom}

@@ -12,7 +12,7 @@ ghost use Rattle.dc_pages.specs.Reading.{IsBegun, IsCutAt};
 use crate::head::{COMMIT, HEAD, Head, PAYLOAD, read_head};
 use crate::{GroupFault, Site};
 use dc_sectors::{Disk, ReadFault};
-use dc_io::NoMemory;
+use mbdc_io::NoMemory;
 use std::alloc::Allocator;
 
 /// A group that was read.

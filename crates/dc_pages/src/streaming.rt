@@ -1,13 +1,13 @@
 //! A group as a sink of bytes.
 
 ghost use Rattle.std.specs.Prelude.{◌≡◌, ◌≤◌, ◌+◌, ◌↔◌, ℕ, None, IsTrue};
-ghost use Rattle.dc_io.specs.Failures.{HasRisen};
+ghost use Rattle.mbdc_io.specs.Failures.{HasRisen};
 ghost use Rattle.dc_pages.specs.Draft.{HasRoom};
 ghost use Rattle.dc_pages.specs.Streaming.{GoesInto, BreaksOff};
 
 use crate::GroupWriter;
 use dc_sectors::{Disk, Failed};
-use dc_io::{IoFault, Sink, one_failure_more};
+use mbdc_io::{IoFault, Sink, one_failure_more};
 
 /// A group writer and its disk, as one sink: bytes that are put go into the group. It uses no
 /// memory and doesn't sync.
@@ -37,7 +37,7 @@ impl<D: Disk> Sink for GroupSink<'_, D> {
         BreaksOff D.Disk old.disk.now new.disk.now old.writer bytes
         × (new.disk.ghost_name ≡ old.disk.ghost_name) };
 
-    #[tactic(auto, using(dc_io::proofs::Pieces::told))]
+    #[tactic(auto, using(mbdc_io::proofs::Pieces::told))]
     fn put(&mut self, bytes: &[u8]) -> Result<(), IoFault> {
         if !self.writer.has_room(bytes.len()) || self.writer.limit() > self.disk.count() {
             self.refused = one_failure_more(self.refused);

@@ -1,7 +1,7 @@
 -- What ends a script, by what a put gave.
 use Rattle.std.proofs.Common.{◌≡◌, Result, Ok, Err, subst, sym}
 use Rattle.std.specs.Prelude.{OnOk, OnErr}
-use Rattle.dc_io.specs.declared.stream.IoFault.{IoFault}
+use Rattle.mbdc_io.specs.declared.stream.IoFault.{IoFault}
 use Rattle.dc_poller.specs.Halt.{OnNoMemory, OnWrite, halted_by}
 use Rattle.dc_poller.specs.declared.halt.Halt.{Halt}
 use Rattle.dc_poller.specs.declared.halt.Halt.TheVariants.{Write, NoMemory}

@@ -2,7 +2,7 @@
 use Rattle.std.proofs.Common.{◌≡◌, ◌+◌, ℕ, List, [], ◌∷◌, ◌++◌, length, refl, ap, sym, subst, ◌∙◌, arith, append_assoc, append-nil, length-append, inl}
 use Rattle.std.specs.Prelude.{Result, Ok, Err, OnOk, OnErr}
 use Rattle.dc_sectors.specs.declared.device.Disk.{Ghosts}
-use Rattle.dc_change.specs.State.{State}
+use Rattle.mbdc_change.specs.State.{State}
 use Rattle.dc_core.specs.Core.{opened}
 use Rattle.dc_core.specs.Event.{Event, Answer}
 use Rattle.dc_core.specs.Text.{answer_text}
@@ -14,7 +14,7 @@ use Rattle.dc_poller.specs.Halt.{OnNoMemory, OnWrite}
 use Rattle.dc_poller.specs.declared.halt.Halt.{Halt}
 use Rattle.dc_poller.specs.declared.halt.Halt.TheVariants.{Write, NoMemory}
 use Rattle.dc_poller.specs.Link.{Link, LineLink, HasBus, line_in, port_in, with_link}
-use Rattle.dc_bus.specs.Bus.{Exchange}
+use Rattle.mbdc_bus.specs.Bus.{Exchange}
 use Rattle.dc_poller.specs.Poll.{Phase, Happening, is_over, to_start, happened_exchanges, happened_turns, happened_text}
 use Rattle.dc_poller.specs.Way.{Way}
 use Rattle.dc_poller.specs.Script.{AskFor, FailsAt, ScriptCut, LinesRan, LineRan, LineCut, Deed, Does, DoesPart, IsOneTurn, IsTurnOf, AreDone, deeds_turns, deeds_text, links_after, traffic_of, moment_behind, moment_after}

@@ -1,7 +1,7 @@
 -- The turns of a run are one life.
 use Rattle.std.proofs.Common.{ℕ, List, [], ◌∷◌, ◌++◌, refl, sym, subst, ◌∙◌}
 use Rattle.dc_sectors.specs.declared.device.Disk.{Ghosts}
-use Rattle.dc_change.specs.State.{State}
+use Rattle.mbdc_change.specs.State.{State}
 use Rattle.dc_core.specs.Core.{Core, opened}
 use Rattle.dc_core.specs.Headline.{IsOpened, in_a_run}
 use Rattle.dc_core.specs.Images.{Machine}

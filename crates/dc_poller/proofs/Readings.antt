@@ -1,9 +1,9 @@
 -- A line is read one way, and an input has one text.
 use Rattle.std.proofs.Common.{◌≡◌, ℕ, List, [], ◌∷◌, Bool, Option, None, Some, refl, sym, ap, ◌∙◌}
-use Rattle.dc_change.specs.ChangeLine.{IsLineOf}
-use Rattle.dc_change.specs.declared.change.Change.{Change}
+use Rattle.mbdc_change.specs.ChangeLine.{IsLineOf}
+use Rattle.mbdc_change.specs.declared.change.Change.{Change}
 use Rattle.dc_poller.specs.Fold.{IsReadAs, AreReadAs, IsFolded, any_unread, fold_text}
-use Rattle.dc_io.specs.Lines.{lines_of}
+use Rattle.mbdc_io.specs.Lines.{lines_of}
 
 -- a line spells one change
 abbrev pub OneChange : Type 0

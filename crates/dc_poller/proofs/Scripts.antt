@@ -8,11 +8,11 @@ use Rattle.std.proofs.lemmas.List.{append-nil}
 use Rattle.dc_address.specs.Text.{text_of}
 use Rattle.dc_address.specs.declared.identity.Identity.{Identity}
 use Rattle.dc_address.proofs.Texts.{same_from_text}
-use Rattle.dc_change.specs.Fields.{IsOfBytes}
-use Rattle.dc_change.specs.Words.{IsWord, is_inside}
-use Rattle.dc_change.proofs.Decimals.{decimal_is_word}
-use Rattle.dc_change.proofs.LineSpellings.{one_word}
-use Rattle.dc_io.specs.Hex.{bytes_of}
+use Rattle.mbdc_change.specs.Fields.{IsOfBytes}
+use Rattle.mbdc_change.specs.Words.{IsWord, is_inside}
+use Rattle.mbdc_change.proofs.Decimals.{decimal_is_word}
+use Rattle.mbdc_change.proofs.LineSpellings.{one_word}
+use Rattle.mbdc_io.specs.Hex.{bytes_of}
 use Rattle.dc_poller.specs.ScriptLine.{LineSeen, nothing, at, start, ask, hear, commit, office, poll, search, IsLineOf, Spells, SpellsSearch, greatest_line}
 use Rattle.dc_search.specs.Found.{greatest_budget}
 

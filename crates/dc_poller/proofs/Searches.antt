@@ -2,7 +2,7 @@
 use Rattle.std.proofs.Common.{◌≡◌, Bool, true, false, inl, inr, ℕ, Result, Ok, Err, Option, None, Some, List, [], ◌∷◌, ◌++◌, refl, ap, sym, subst, ◌∙◌}
 use Rattle.std.specs.Prelude.{OnOk}
 use Rattle.dc_address.specs.declared.identity.Identity.{Identity}
-use Rattle.dc_change.specs.State.{State}
+use Rattle.mbdc_change.specs.State.{State}
 use Rattle.dc_core.specs.Core.{opened}
 use Rattle.dc_core.specs.Event.{Answer, asks, commits, started, asked, committed}
 use Rattle.dc_core.specs.Images.{Machine, IsAt}
@@ -10,9 +10,9 @@ use Rattle.dc_core.specs.Text.{answer_text}
 use Rattle.dc_core.specs.Transcript.{Turn, leads, IsChain}
 use Rattle.dc_core.specs.declared.fault.CommitFault.{CommitFault}
 use Rattle.dc_core.specs.declared.fault.StartFault.TheVariants.{Busy}
-use Rattle.dc_bus.specs.Bus.{AreAskedBy, Exchange}
+use Rattle.mbdc_bus.specs.Bus.{AreAskedBy, Exchange}
 use Rattle.dc_search.specs.State.{SearchState, new_search}
-use Rattle.dc_io.specs.declared.stream.IoFault.{IoFault}
+use Rattle.mbdc_io.specs.declared.stream.IoFault.{IoFault}
 use Rattle.dc_sectors.specs.declared.device.Disk.{Ghosts}
 use Rattle.dc_poller.specs.Run.{run_of}
 use Rattle.dc_poller.specs.Halt.{OnNoMemory, OnWrite, halted_by}

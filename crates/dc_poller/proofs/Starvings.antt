@@ -1,13 +1,13 @@
 -- Lines of a script up to a search that found no memory.
 use Rattle.std.proofs.Common.{◌≡◌, ℕ, List, [], ◌∷◌, ◌++◌, sym, subst}
 use Rattle.dc_sectors.specs.declared.device.Disk.{Ghosts}
-use Rattle.dc_change.specs.State.{State}
+use Rattle.mbdc_change.specs.State.{State}
 use Rattle.dc_core.specs.Core.{opened}
 use Rattle.dc_core.specs.Images.{Machine, IsAt}
 use Rattle.dc_core.specs.Transcript.{Turn, leads, IsChain}
 use Rattle.dc_poller.specs.Run.{run_of}
 use Rattle.dc_poller.specs.Link.{LineLink}
-use Rattle.dc_bus.specs.Bus.{Exchange}
+use Rattle.mbdc_bus.specs.Bus.{Exchange}
 use Rattle.dc_poller.specs.Script.{deeds_turns, deeds_text, traffic_of}
 use Rattle.dc_poller.specs.ScriptLine.{LineSeen, IsLineOf}
 use Rattle.dc_poller.specs.Starved.{LineStarved, ScriptStarved, StarvesAt}

@@ -1,7 +1,7 @@
 -- The lines of an input, answered one after the other.
 use Rattle.std.proofs.Common.{ℕ, List, [], ◌∷◌, Bool, false, refl, sym, append_assoc, append-nil}
 use Rattle.std.specs.Prelude.{◌||◌}
-use Rattle.dc_change.specs.State.{Held}
+use Rattle.mbdc_change.specs.State.{Held}
 use Rattle.dc_poller.specs.Fold.{IsStep, AreSteps, line_answer, answers, after_line}
 
 pub no_steps : (house : Held) (text : List ℕ) → AreSteps [] false house house text text

@@ -2,7 +2,7 @@
 use Rattle.std.proofs.Common.{◌≡◌, ◌⊎◌, ◌<◌, ℕ, zero, suc, Bool, true, Result, Ok, Err, Option, None, Some, List, [], ◌∷◌, ◌++◌, length, get_or, set, refl, ap, sym, subst, ◌∙◌, arith, ⊎_elim}
 use Rattle.std.specs.Prelude.{IfOk}
 use Rattle.std.proofs.lemmas.List.{get_or-set_same, get_or-set_other}
-use Rattle.dc_bus.specs.Bus.{AreExchanged, Exchange}
+use Rattle.mbdc_bus.specs.Bus.{AreExchanged, Exchange}
 use Rattle.dc_poller.specs.Link.{LineLink}
 use Rattle.dc_poller.specs.Script.{Deed, AreDone, traffic_of, moment_behind}
 use Rattle.dc_poller.specs.ScriptLine.{LineSeen}

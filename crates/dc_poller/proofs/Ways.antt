@@ -2,13 +2,13 @@
 use Rattle.std.proofs.Common.{◌≡◌, ◌<◌, ◌≤◌, length, ℕ, Option, List, [], ◌∷◌, ◌++◌, refl, ap, sym, subst, ◌∙◌, arith, append_assoc, append-nil}
 use Rattle.std.specs.Prelude.{Bool, true, false, Result, Ok, Err, OnErr}
 use Rattle.dc_address.specs.declared.identity.Identity.{Identity}
-use Rattle.dc_io.specs.Failures.{HasRisen}
-use Rattle.dc_io.specs.Stream.{Puts}
-use Rattle.dc_io.specs.declared.stream.IoFault.{IoFault}
-use Rattle.dc_io.specs.declared.stream.Sink.{Ghosts as SinkGhosts}
-use Rattle.dc_io.proofs.Pieces.{puts-both, puts-none}
+use Rattle.mbdc_io.specs.Failures.{HasRisen}
+use Rattle.mbdc_io.specs.Stream.{Puts}
+use Rattle.mbdc_io.specs.declared.stream.IoFault.{IoFault}
+use Rattle.mbdc_io.specs.declared.stream.Sink.{Ghosts as SinkGhosts}
+use Rattle.mbdc_io.proofs.Pieces.{puts-both, puts-none}
 use Rattle.dc_sectors.specs.declared.device.Disk.{Ghosts}
-use Rattle.dc_change.specs.State.{State}
+use Rattle.mbdc_change.specs.State.{State}
 use Rattle.dc_readout.specs.Summary.{Summary}
 use Rattle.dc_core.specs.Lines.{requests_on, NoMoreRequests}
 use Rattle.dc_core.specs.Core.{opened}
@@ -21,9 +21,9 @@ use Rattle.dc_core.specs.declared.line_heard.LineHeard.{LineHeard}
 use Rattle.dc_poller.specs.Run.{run_of}
 use Rattle.dc_poller.specs.Link.{Link, linked, lost, link_by, loss_line, loss_text, IsHeardOver}
 use Rattle.dc_poller.specs.Poll.{Happening, does, talks, loses, Due, to_start, to_send, to_hear, Phase, IsDueEvent, IsWay, behind, behind_turn, turns_of, exchanges_of, told_text, happening_text, happened_turns, happened_exchanges, happened_text, behind_first_heard, is_over}
-use Rattle.dc_bus.specs.Limits.{most_answer}
-use Rattle.dc_bus.specs.Bus.{AreExchanged, Exchange}
-use Rattle.dc_bus.proofs.Exchanges.{exchanged-both, exchanged-one}
+use Rattle.mbdc_bus.specs.Limits.{most_answer}
+use Rattle.mbdc_bus.specs.Bus.{AreExchanged, Exchange}
+use Rattle.mbdc_bus.proofs.Exchanges.{exchanged-both, exchanged-one}
 use Rattle.dc_poller.specs.Way.{Way, FailsInLast, Spends}
 use Rattle.dc_core.specs.Went.{Went, TurnWent}
 use Rattle.dc_poller.specs.declared.port.Port.{Port}

@@ -1,16 +1,16 @@
 -- How a script ended, whatever its lines did (this product).
 use Rattle.std.specs.Prelude.{◌≡◌, ◌≤◌, ◌<◌, Bool, length, IfErr, IfSome, IsErrOf, MatchResult, OnOk, Result}
 use Rattle.dc_sectors.specs.declared.device.Disk.{Ghosts}
-use Rattle.dc_ending.specs.Fault.{IfOpen}
-use Rattle.dc_ending.specs.declared.fault.ProgramFault.{ProgramFault}
-use Rattle.dc_ending.specs.declared.fault.ProgramFault.TheVariants.{Read, TooLong, Write, NoMemory}
-use Rattle.dc_io.specs.Failures.{HasRisen}
-use Rattle.dc_io.specs.Lines.{most_input}
-use Rattle.dc_io.specs.Stream.{IsAtEnd}
-use Rattle.dc_io.specs.declared.stream.Sink.{Ghosts as SinkGhosts}
-use Rattle.dc_io.specs.declared.stream.Source.{Ghosts as SourceGhosts}
-use Rattle.dc_log.specs.Halves.{fewest_sectors}
-use Rattle.dc_log.specs.declared.fault.OpenFault.TheVariants.{NotImage}
+use Rattle.mbdc_ending.specs.Fault.{IfOpen}
+use Rattle.mbdc_ending.specs.declared.fault.ProgramFault.{ProgramFault}
+use Rattle.mbdc_ending.specs.declared.fault.ProgramFault.TheVariants.{Read, TooLong, Write, NoMemory}
+use Rattle.mbdc_io.specs.Failures.{HasRisen}
+use Rattle.mbdc_io.specs.Lines.{most_input}
+use Rattle.mbdc_io.specs.Stream.{IsAtEnd}
+use Rattle.mbdc_io.specs.declared.stream.Sink.{Ghosts as SinkGhosts}
+use Rattle.mbdc_io.specs.declared.stream.Source.{Ghosts as SourceGhosts}
+use Rattle.mbdc_log.specs.Halves.{fewest_sectors}
+use Rattle.mbdc_log.specs.declared.fault.OpenFault.TheVariants.{NotImage}
 
 -- THE ENDS OF A SCRIPT: the disk, the reader and the writer, before and after it, by its result.
 pub record HasEnded {D R W : Type 0} (g : Ghosts D) (source : SourceGhosts R) (sink : SinkGhosts W)

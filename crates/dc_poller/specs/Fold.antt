@@ -2,16 +2,16 @@
 -- all lines.
 use Rattle.std.specs.Prelude.{◌≡◌, ℕ, ◌&&◌, ◌||◌, if◌then◌else◌, Bool, false, Option, Some, None}
 use Rattle.std.specs.Prelude.{is_none, List, [], ◌∷◌, ◌++◌, codes}
-use Rattle.dc_change.specs.Accepts.{is_next, refusal}
-use Rattle.dc_change.specs.Apply.{applied}
-use Rattle.dc_change.specs.ChangeLine.{IsLineOf}
-use Rattle.dc_change.specs.Fault.{number_of, name_of}
-use Rattle.dc_change.specs.State.{State, Held, empty_state}
-use Rattle.dc_change.specs.declared.change.Change.{Change}
-use Rattle.dc_change.specs.declared.fault.ChangeFault.{ChangeFault}
-use Rattle.dc_io.specs.Lines.{lines_of}
+use Rattle.mbdc_change.specs.Accepts.{is_next, refusal}
+use Rattle.mbdc_change.specs.Apply.{applied}
+use Rattle.mbdc_change.specs.ChangeLine.{IsLineOf}
+use Rattle.mbdc_change.specs.Fault.{number_of, name_of}
+use Rattle.mbdc_change.specs.State.{State, Held, empty_state}
+use Rattle.mbdc_change.specs.declared.change.Change.{Change}
+use Rattle.mbdc_change.specs.declared.fault.ChangeFault.{ChangeFault}
+use Rattle.mbdc_io.specs.Lines.{lines_of}
 use Rattle.dc_poller.specs.Register.{register_text}
-use Rattle.dc_io.specs.Words.{fault_line, number_word}
+use Rattle.mbdc_io.specs.Words.{fault_line, number_word}
 
 -- ---- lines
 

@@ -1,8 +1,8 @@
 -- What ends a script early (this product).
 use Rattle.std.specs.Prelude.{◌≡◌, ℕ, OnErr, OnOk, Result, Ok, Err}
-use Rattle.dc_io.specs.Failures.{HasRisen}
-use Rattle.dc_io.specs.declared.stream.IoFault.{IoFault}
-use Rattle.dc_io.specs.declared.stream.Sink.{Ghosts as SinkGhosts}
+use Rattle.mbdc_io.specs.Failures.{HasRisen}
+use Rattle.mbdc_io.specs.declared.stream.IoFault.{IoFault}
+use Rattle.mbdc_io.specs.declared.stream.Sink.{Ghosts as SinkGhosts}
 use Rattle.dc_poller.specs.declared.halt.Halt.{Halt}
 use Rattle.dc_poller.specs.declared.halt.Halt.TheVariants.{Write, NoMemory}
 

@@ -1,10 +1,10 @@
 -- What `run` does to an image (this product): the concentrator is opened, runs the script, and is closed.
 use Rattle.std.specs.Prelude.{◌≡◌, ℕ, Bool, Option, IfSome, List, ◌++◌}
-use Rattle.dc_change.specs.State.{State}
+use Rattle.mbdc_change.specs.State.{State}
 use Rattle.dc_core.specs.Headline.{WasStopped}
 use Rattle.dc_core.specs.Images.{Machine}
 use Rattle.dc_core.specs.Transcript.{Turn}
-use Rattle.dc_io.specs.Lines.{lines_of}
+use Rattle.mbdc_io.specs.Lines.{lines_of}
 use Rattle.dc_sectors.specs.declared.device.Disk.{Ghosts}
 use Rattle.dc_sectors.specs.Runs.{WasLeft}
 use Rattle.dc_core.specs.OpenedOn.{IsOpenedOn}

@@ -1,7 +1,7 @@
 -- The state of a script's bus lines (this product).
 use Rattle.std.specs.Prelude.{◌≡◌, ℕ, zero, suc, Bool, true, false, Option, None, Some, List, []}
 use Rattle.std.specs.Prelude.{◌∷◌, ◌++◌, codes, get_or, map, set, if◌then◌else◌}
-use Rattle.dc_io.specs.Words.{number_word}
+use Rattle.mbdc_io.specs.Words.{number_word}
 use Rattle.dc_poller.specs.declared.port.Port.{Port}
 use Rattle.dc_poller.specs.declared.slot.Slot.{Slot}
 

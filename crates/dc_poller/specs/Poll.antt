@@ -11,8 +11,8 @@ use Rattle.dc_core.specs.declared.fault.HearFault.{HearFault}
 use Rattle.dc_core.specs.declared.fault.HearFault.TheVariants.{PendingFull}
 use Rattle.dc_core.specs.declared.line_heard.LineHeard.{LineHeard}
 use Rattle.dc_core.specs.declared.line_heard.LineHeard.TheVariants.{Again, Ready, Accepted, Failed}
-use Rattle.dc_bus.specs.Limits.{most_answer}
-use Rattle.dc_bus.specs.Bus.{Exchange}
+use Rattle.mbdc_bus.specs.Limits.{most_answer}
+use Rattle.mbdc_bus.specs.Bus.{Exchange}
 use Rattle.dc_poller.specs.Link.{Link, linked, lost, IsHeardOver, loss_line}
 use Rattle.dc_poller.specs.declared.port.Port.{Port}
 

@@ -1,8 +1,8 @@
 -- The text of a register (this product).
 use Rattle.std.specs.Prelude.{ℕ, List, ◌++◌, codes, length}
-use Rattle.dc_change.specs.Size.{size_of}
-use Rattle.dc_change.specs.State.{State}
-use Rattle.dc_io.specs.Words.{number_word}
+use Rattle.mbdc_change.specs.Size.{size_of}
+use Rattle.mbdc_change.specs.State.{State}
+use Rattle.mbdc_io.specs.Words.{number_word}
 use Rattle.dc_upload.specs.Register.{meter_lines}
 
 -- the meters by identity as the office is shown them, how many readings there are, and what the state is counted as

@@ -1,7 +1,7 @@
 -- A stretch of a concentrator's run (this product).
 use Rattle.std.specs.Prelude.{ℕ, List, []}
 use Rattle.dc_sectors.specs.declared.device.Disk.{Ghosts}
-use Rattle.dc_change.specs.State.{State}
+use Rattle.mbdc_change.specs.State.{State}
 use Rattle.dc_core.specs.Event.{Event, Answer}
 use Rattle.dc_core.specs.Images.{Machine}
 use Rattle.dc_core.specs.Transcript.{Turn}

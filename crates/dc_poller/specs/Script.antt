@@ -4,8 +4,8 @@ use Rattle.std.specs.Prelude.{length, flat_map}
 use Rattle.dc_core.specs.Event.{Event, Answer, starts, asks, hears, commits, offices}
 use Rattle.dc_core.specs.Text.{answer_text}
 use Rattle.dc_core.specs.Transcript.{Turn}
-use Rattle.dc_bus.specs.Bus.{Exchange}
-use Rattle.dc_io.specs.Words.{number_word}
+use Rattle.mbdc_bus.specs.Bus.{Exchange}
+use Rattle.mbdc_io.specs.Words.{number_word}
 use Rattle.dc_sectors.specs.declared.device.Disk.{Ghosts}
 use Rattle.dc_poller.specs.Link.{LineLink, HasBus, Through, link_in, port_in}
 use Rattle.dc_poller.specs.Poll.{Polls, PollsPart}

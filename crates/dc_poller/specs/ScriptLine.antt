@@ -4,10 +4,10 @@ use Rattle.std.specs.List.{join_with_byte}
 use Rattle.std.specs.Fmt.{decimal}
 use Rattle.dc_address.specs.Text.{text_of}
 use Rattle.dc_address.specs.declared.identity.Identity.{Identity}
-use Rattle.dc_change.specs.Fields.{IsOfBytes}
-use Rattle.dc_change.specs.Fields.{last_moment}
-use Rattle.dc_io.specs.Hex.{bytes_of}
-use Rattle.dc_io.specs.Lines.{longest_input_line}
+use Rattle.mbdc_change.specs.Fields.{IsOfBytes}
+use Rattle.mbdc_change.specs.Fields.{last_moment}
+use Rattle.mbdc_io.specs.Hex.{bytes_of}
+use Rattle.mbdc_io.specs.Lines.{longest_input_line}
 use Rattle.dc_search.specs.Found.{greatest_budget}
 use Rattle.dc_poller.specs.declared.script_line.ScriptLine.{ScriptLine}
 use Rattle.dc_poller.specs.declared.script_line.ScriptLine.TheVariants.{Nothing, At, Start, Ask}

@@ -9,10 +9,10 @@ use Rattle.dc_core.specs.Text.{answer_text}
 use Rattle.dc_core.specs.Transcript.{Turn}
 use Rattle.dc_core.specs.declared.fault.CommitFault.{CommitFault}
 use Rattle.dc_core.specs.declared.fault.StartFault.TheVariants.{Busy}
-use Rattle.dc_bus.specs.Bus.{AreAskedBy, Exchange, IsSearched}
+use Rattle.mbdc_bus.specs.Bus.{AreAskedBy, Exchange, IsSearched}
 use Rattle.dc_search.specs.Found.{search_text}
 use Rattle.dc_search.specs.State.{SearchState, is_idle, new_search, step_of}
-use Rattle.dc_io.specs.Words.{number_word}
+use Rattle.mbdc_io.specs.Words.{number_word}
 use Rattle.dc_poller.specs.declared.halt.Halt.{Halt}
 use Rattle.dc_poller.specs.declared.halt.Halt.TheVariants.{Write, NoMemory}
 use Rattle.dc_poller.specs.Link.{Link, absent, linked, lost, link_by, loss_text}

@@ -2,13 +2,13 @@
 use Rattle.std.specs.Prelude.{◌≡◌, ℕ, List, [], ◌∷◌, ◌++◌, Option}
 use Rattle.dc_sectors.specs.declared.device.Disk.{Ghosts}
 use Rattle.dc_poller.specs.ImageRun.{ImageWent}
-use Rattle.dc_ending.specs.declared.fault.ProgramFault.{ProgramFault}
-use Rattle.dc_ending.specs.declared.fault.ProgramFault.TheVariants.{NoMemory}
+use Rattle.mbdc_ending.specs.declared.fault.ProgramFault.{ProgramFault}
+use Rattle.mbdc_ending.specs.declared.fault.ProgramFault.TheVariants.{NoMemory}
 use Rattle.dc_poller.specs.Link.{AreAbsent, LineLink, Through}
 use Rattle.dc_poller.specs.Script.{AskFor, AreDone, Deed, deeds_text, deeds_turns, links_after}
 use Rattle.dc_poller.specs.Script.{traffic_of}
 use Rattle.dc_poller.specs.ScriptLine.{LineSeen, search, IsLineOf}
-use Rattle.dc_bus.specs.Bus.{Exchange}
+use Rattle.mbdc_bus.specs.Bus.{Exchange}
 use Rattle.dc_poller.specs.Search.{Starves}
 use Rattle.dc_poller.specs.Traffic.{Traffic}
 use Rattle.dc_poller.specs.Run.{Run, IsRunOf, run_from}

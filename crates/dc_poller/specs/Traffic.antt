@@ -1,12 +1,12 @@
 -- What goes over the buses of a script's lines (this product).
 use Rattle.std.specs.Prelude.{◌≡◌, ◌⊎◌, ℕ, suc, Bool, true, false, Option, None, Some, List, [], ◌∷◌}
 use Rattle.std.specs.Prelude.{get_or}
-use Rattle.dc_bus.specs.Asking.{Asks}
-use Rattle.dc_bus.specs.Bus.{AreExchanged, Exchange}
-use Rattle.dc_bus.specs.Windows.{Questions}
-use Rattle.dc_bus.specs.declared.blocks.gateway.Gateway.{Gateway}
-use Rattle.dc_io.specs.declared.stream.Sink.{Ghosts as SinkGhosts}
-use Rattle.dc_io.specs.declared.stream.Source.{Ghosts as SourceGhosts}
+use Rattle.mbdc_bus.specs.Asking.{Asks}
+use Rattle.mbdc_bus.specs.Bus.{AreExchanged, Exchange}
+use Rattle.mbdc_bus.specs.Windows.{Questions}
+use Rattle.mbdc_bus.specs.declared.blocks.gateway.Gateway.{Gateway}
+use Rattle.mbdc_io.specs.declared.stream.Sink.{Ghosts as SinkGhosts}
+use Rattle.mbdc_io.specs.declared.stream.Source.{Ghosts as SourceGhosts}
 use Rattle.dc_poller.specs.ScriptLine.{LineSeen, nothing, at, start, ask, hear, commit, office}
 use Rattle.dc_poller.specs.ScriptLine.{poll, search}
 use Rattle.dc_poller.specs.declared.slot.Slot.{Slot}

@@ -2,12 +2,12 @@
 use Rattle.std.specs.Prelude.{◌≡◌, ◌<◌, ℕ, Bool, true, false, Option, Result, IfOk, OnOk, OnErr, List}
 use Rattle.std.specs.Prelude.{[], ◌∷◌, ◌++◌}
 use Rattle.dc_address.specs.declared.identity.Identity.{Identity}
-use Rattle.dc_bus.specs.Bus.{AreExchanged, Exchange}
-use Rattle.dc_io.specs.Failures.{HasRisen}
-use Rattle.dc_io.specs.Stream.{Puts}
-use Rattle.dc_io.specs.Written.{PutsInto}
-use Rattle.dc_io.specs.declared.stream.IoFault.{IoFault}
-use Rattle.dc_io.specs.declared.stream.Sink.{Ghosts as SinkGhosts}
+use Rattle.mbdc_bus.specs.Bus.{AreExchanged, Exchange}
+use Rattle.mbdc_io.specs.Failures.{HasRisen}
+use Rattle.mbdc_io.specs.Stream.{Puts}
+use Rattle.mbdc_io.specs.Written.{PutsInto}
+use Rattle.mbdc_io.specs.declared.stream.IoFault.{IoFault}
+use Rattle.mbdc_io.specs.declared.stream.Sink.{Ghosts as SinkGhosts}
 use Rattle.dc_sectors.specs.declared.device.Disk.{Ghosts}
 use Rattle.dc_readout.specs.Summary.{Summary}
 use Rattle.dc_core.specs.Images.{Machine}

@@ -1,16 +1,16 @@
 //! The engine of `decode`, with the faults of the program.
 
 ghost use Rattle.std.specs.Prelude.{◌≡◌, ◌≢◌, ◌<◌, ◌≤◌, length, IfSome, IfOk, IfErr, OnOk, IsErrOf};
-ghost use Rattle.dc_io.specs.Failures.{HasRisen};
-ghost use Rattle.dc_io.specs.Written.{PutsInto};
-ghost use Rattle.dc_io.specs.Lines.{most_input};
-ghost use Rattle.dc_decode.specs.Text.{text_of, has_fault};
+ghost use Rattle.mbdc_io.specs.Failures.{HasRisen};
+ghost use Rattle.mbdc_io.specs.Written.{PutsInto};
+ghost use Rattle.mbdc_io.specs.Lines.{most_input};
+ghost use Rattle.mbdc_decode.specs.Text.{text_of, has_fault};
 
-use dc_ending::ProgramFault;
-use dc_io::{Sink, Source};
+use mbdc_ending::ProgramFault;
+use mbdc_io::{Sink, Source};
 use std::alloc::Allocator;
 
-/// Decodes the lines of hex digits left in the reader, as [`dc_decode::decode_lines`] does.
+/// Decodes the lines of hex digits left in the reader, as [`mbdc_decode::decode_lines`] does.
 ///
 /// # Errors
 /// [`ProgramFault::Read`], [`ProgramFault::TooLong`], [`ProgramFault::Write`], [`ProgramFault::NoMemory`].
@@ -41,5 +41,5 @@ pub fn decode_lines<A: Allocator + Copy, R: Source, W: Sink>(
     // After any fault but a failed write the writer is as it was.
     ensures untouched { IfErr result (λ fault. fault ≢ ProgramFault.Write → writer.new ≡ writer.old) }
 {
-    Ok(dc_decode::decode_lines(alloc, reader, writer)?)
+    Ok(mbdc_decode::decode_lines(alloc, reader, writer)?)
 }

@@ -2,18 +2,18 @@
 
 ghost use Rattle.std.specs.Prelude.{◌≡◌, ◌≢◌, ◌↔◌, ◌<◌, ◌≤◌, ◌*◌, ◌++◌, ℕ, List, length, IfSome};
 ghost use Rattle.std.specs.Prelude.{IfOk, IfErr, OnOk, IsOk, IsErrOf};
-ghost use Rattle.dc_io.specs.Failures.{HasRisen};
-ghost use Rattle.dc_change.specs.ChangeLine.{longest_change_line};
-ghost use Rattle.dc_change.specs.Valid.{IsChange};
-ghost use Rattle.dc_io.specs.Written.{PutsInto, Wrote};
+ghost use Rattle.mbdc_io.specs.Failures.{HasRisen};
+ghost use Rattle.mbdc_change.specs.ChangeLine.{longest_change_line};
+ghost use Rattle.mbdc_change.specs.Valid.{IsChange};
+ghost use Rattle.mbdc_io.specs.Written.{PutsInto, Wrote};
 ghost use Rattle.dc_poller.specs.Fold.{IsFolded, IsStep, AreSteps, change_answer, after_change};
 ghost use Rattle.dc_poller.specs.Fold.{order_line};
-ghost use Rattle.dc_io.specs.Lines.{lines_of, most_input};
+ghost use Rattle.mbdc_io.specs.Lines.{lines_of, most_input};
 
 use crate::register::put_register;
-use dc_change::{Change, LONGEST_CHANGE_LINE};
-use dc_ending::ProgramFault;
-use dc_io::{
+use mbdc_change::{Change, LONGEST_CHANGE_LINE};
+use mbdc_ending::ProgramFault;
+use mbdc_io::{
     Bytes, CHUNK, IoFault, MOST, NoMemory, Sink, Source, first_line, put_fault_line,
     put_number_word, read_input, room,
 };
@@ -33,7 +33,7 @@ fn kept(put: Result<(), IoFault>) -> Result<(), NoMemory>
     }
 }
 
-#[tactic(auto, using(dc_io::proofs::Pieces::written), unfolding(crate::specs::Fold::order_line))]
+#[tactic(auto, using(mbdc_io::proofs::Pieces::written), unfolding(crate::specs::Fold::order_line))]
 fn put_order<A: Allocator + Copy, W: Sink>(house: &House<A>, out: &mut W) -> Result<(), IoFault>
     ensures { Wrote W.Sink result out.old out.new (order_line house.now.state) }
 {

@@ -3,7 +3,7 @@
 ghost use Rattle.std.specs.Prelude.{◌≡◌};
 ghost use Rattle.dc_poller.specs.Halt.{halted_by};
 
-use dc_io::IoFault;
+use mbdc_io::IoFault;
 
 /// Why a script ended early.
 #[derive(Clone, Copy)]

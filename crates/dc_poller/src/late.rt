@@ -1,12 +1,12 @@
 //! The number of late answers, as text.
 
 ghost use Rattle.std.specs.Prelude.{◌≡◌};
-ghost use Rattle.dc_io.specs.Written.{Wrote};
+ghost use Rattle.mbdc_io.specs.Written.{Wrote};
 ghost use Rattle.dc_poller.specs.Search.{late_text};
 
 use crate::port::Port;
-use dc_io::{IoFault, Sink};
-use dc_tokens::{Piece, put_pieces};
+use mbdc_io::{IoFault, Sink};
+use mbdc_decode::tokens::{Piece, put_pieces};
 
 /// Writes the number of late answers, if any.
 pub fn put_late<W: Sink>(port: Port, late: u64, out: &mut W) -> Result<(), IoFault>

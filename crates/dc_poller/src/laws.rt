@@ -1,8 +1,8 @@
 //! Theorems about the definitions of scripts.
 
 ghost use Rattle.std.specs.Prelude.{◌≡◌, ℕ, Bool, List, Option};
-ghost use Rattle.dc_change.specs.declared.change.Change.{Change};
-ghost use Rattle.dc_change.specs.State.{State};
+ghost use Rattle.mbdc_change.specs.declared.change.Change.{Change};
+ghost use Rattle.mbdc_change.specs.State.{State};
 ghost use Rattle.dc_core.specs.Headline.{IsOpened};
 ghost use Rattle.dc_core.specs.Images.{Machine};
 ghost use Rattle.dc_core.specs.Transcript.{Turn};
@@ -11,7 +11,7 @@ ghost use Rattle.dc_poller.specs.ImageRun.{IsOneLife};
 ghost use Rattle.dc_poller.specs.ScriptLine.{LineSeen, IsLineOf};
 ghost use Rattle.dc_poller.specs.Run.{IsRunOf, run_from};
 
-use dc_change::a_line_has_one_change;
+use mbdc_change::a_line_has_one_change;
 use dc_sectors::Disk;
 
 /// A line of a script asks for at most one thing.

@@ -2,7 +2,7 @@
 //!
 //! [`run_script_over`] reads the lines of a script ([`ScriptLine`]), opens an image and executes
 //! them: a line is one event of a concentrator, the poll of a meter over a bus line, or a search
-//! for meters over it. The buses of the lines are any [`Bus`](dc_bus::Bus); [`run_script`] has only a
+//! for meters over it. The buses of the lines are any [`Bus`](mbdc_bus::Bus); [`run_script`] has only a
 //! gateway, on line 1. What it writes, and what it leaves of the image at every moment, is what the
 //! run of these events writes and leaves (`specs/Script.antt`, `specs/Poll.antt`,
 //! `specs/Search.antt`, `specs/ImageRun.antt`). Over the bus of a bus line go the exchanges of the
@@ -37,9 +37,9 @@ mod slot;
 mod told;
 
 pub use decode::decode_lines;
-pub use dc_bus::AnswerBuf;
-pub use dc_bus::blocks::{Talk, exchange};
-pub use dc_ending::ProgramFault;
+pub use mbdc_bus::AnswerBuf;
+pub use mbdc_bus::blocks::{Talk, exchange};
+pub use mbdc_ending::ProgramFault;
 pub use fold::fold_lines;
 pub use halt::Halt;
 pub use laws::{a_run_is_one_life, a_script_line_asks_for_one_thing, an_input_has_one_fold};

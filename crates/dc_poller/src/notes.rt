@@ -1,9 +1,9 @@
 //! What a script did, beside its text.
 
-ghost use Rattle.dc_change.specs.Command.{IsCommand};
-ghost use Rattle.dc_change.specs.Fields.{IsNumber};
+ghost use Rattle.mbdc_change.specs.Command.{IsCommand};
+ghost use Rattle.mbdc_change.specs.Fields.{IsNumber};
 
-use dc_change::Numbered;
+use mbdc_change::Numbered;
 
 /// Takes the commands of the billing office that were done. What becomes of them changes nothing of the script.
 pub trait CommandNotes {

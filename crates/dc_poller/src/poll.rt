@@ -6,8 +6,8 @@ ghost use Rattle.dc_address.specs.declared.identity.Identity.{Identity as Meter}
 ghost use Rattle.dc_readout.specs.Summary.{Summary};
 ghost use Rattle.dc_core.specs.Lines.{requests_on, NoMoreRequests};
 ghost use Rattle.dc_core.specs.Step.{longest_request};
-ghost use Rattle.dc_bus.specs.Limits.{most_answer};
-ghost use Rattle.dc_io.specs.Written.{Wrote};
+ghost use Rattle.mbdc_bus.specs.Limits.{most_answer};
+ghost use Rattle.mbdc_io.specs.Written.{Wrote};
 ghost use Rattle.dc_poller.specs.Halt.{CountsPuts};
 ghost use Rattle.dc_poller.specs.Link.{link_by, loss_text, IsHeardOver};
 ghost use Rattle.dc_poller.specs.Poll.{to_start, to_ask, to_send, to_hear};
@@ -19,12 +19,12 @@ ghost use Rattle.dc_poller.specs.Run.{AnyRun};
 use crate::port::{Port, put_lost};
 use crate::told::{told_ask, told_commit, told_hear, told_start};
 use dc_address::Identity;
-use dc_bus::{AnswerBuf, Bus};
-use dc_change::Moment;
+use mbdc_bus::{AnswerBuf, Bus};
+use mbdc_change::Moment;
 use dc_core::{Concentrator, HearFault, LineHeard};
 use dc_sectors::Disk;
 use dc_linkframe::FrameBuf;
-use dc_io::{IoFault, Sink};
+use mbdc_io::{IoFault, Sink};
 use std::alloc::Allocator;
 
 /// Reads a meter over a bus line, with this time stamp. Each request waits by itself until no other answer is under

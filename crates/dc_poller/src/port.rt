@@ -1,10 +1,10 @@
 //! A bus line, as a script names it and prints its loss.
 
-ghost use Rattle.dc_io.specs.Written.{Wrote};
+ghost use Rattle.mbdc_io.specs.Written.{Wrote};
 ghost use Rattle.dc_poller.specs.Link.{link_by, loss_line, loss_text};
 
-use dc_io::{IoFault, Sink};
-use dc_tokens::{Piece, put_pieces};
+use mbdc_io::{IoFault, Sink};
+use mbdc_decode::tokens::{Piece, put_pieces};
 
 /// A bus line.
 #[derive(Clone, Copy)]

@@ -1,15 +1,15 @@
 //! The text of a register.
 
-ghost use Rattle.dc_io.specs.Written.{Wrote};
+ghost use Rattle.mbdc_io.specs.Written.{Wrote};
 ghost use Rattle.dc_poller.specs.Register.{register_text};
 
-use dc_io::{IoFault, Sink, put_number_word};
+use mbdc_io::{IoFault, Sink, put_number_word};
 use dc_upload::write_meters;
 use dc_meters::House;
 use std::alloc::Allocator;
 
 /// Writes the register: a line for each meter, the number of readings, and the size.
-#[tactic(auto, using(dc_io::proofs::Pieces::written), unfolding(crate::specs::Register::register_text))]
+#[tactic(auto, using(mbdc_io::proofs::Pieces::written), unfolding(crate::specs::Register::register_text))]
 pub fn put_register<A: Allocator + Copy, W: Sink>(
     house: &House<A>,
     out: &mut W,

@@ -2,12 +2,12 @@
 
 ghost use Rattle.std.specs.Prelude.{◌≡◌, ◌≢◌, ◌∷◌, [], ◌⊎◌, ◌≤◌, ◌<◌, ◌*◌, length, vec_len, IfSome};
 ghost use Rattle.std.specs.Prelude.{IfOk, IfErr, OnOk, IsErrOf};
-ghost use Rattle.dc_io.specs.Failures.{HasRisen};
-ghost use Rattle.dc_io.specs.Stream.{IsAtEnd};
-ghost use Rattle.dc_io.specs.Written.{PutsInto};
-ghost use Rattle.dc_io.specs.Lines.{longest_input_line, most_input};
-ghost use Rattle.dc_ending.specs.Fault.{IfOpen, IsOfReading};
-ghost use Rattle.dc_ending.specs.Unopened.{IsUnopened, Stands};
+ghost use Rattle.mbdc_io.specs.Failures.{HasRisen};
+ghost use Rattle.mbdc_io.specs.Stream.{IsAtEnd};
+ghost use Rattle.mbdc_io.specs.Written.{PutsInto};
+ghost use Rattle.mbdc_io.specs.Lines.{longest_input_line, most_input};
+ghost use Rattle.mbdc_ending.specs.Fault.{IfOpen, IsOfReading};
+ghost use Rattle.mbdc_ending.specs.Unopened.{IsUnopened, Stands};
 ghost use Rattle.dc_poller.specs.Ended.{HasEnded};
 ghost use Rattle.dc_poller.specs.ImageRun.{ImageCut, ImageRan};
 ghost use Rattle.dc_poller.specs.Link.{gateway_links, link_at_first, links_of, only_gateway};
@@ -18,12 +18,12 @@ use crate::halt::Halt;
 use crate::notes::CommandNotes;
 use crate::script::run_lines;
 use crate::slot::Slot;
-use dc_bus::Bus;
-use dc_bus::blocks::Gateway;
+use mbdc_bus::Bus;
+use mbdc_bus::blocks::Gateway;
 use dc_core::Concentrator;
 use dc_sectors::Disk;
-use dc_ending::ProgramFault;
-use dc_io::{CHUNK, LONGEST, MOST, NoMemory, Sink, Source, read_input, room};
+use mbdc_ending::ProgramFault;
+use mbdc_io::{CHUNK, LONGEST, MOST, NoMemory, Sink, Source, read_input, room};
 use std::alloc::Allocator;
 
 /// Opens the image, executes the lines of the script left in the reader, and closes it. Changes
@@ -126,7 +126,7 @@ pub fn run_script_over<
 }
 
 /// Runs a script as [`run_script_over`] does, where only line 1 may have a bus: a gateway over this
-/// reader and writer of blocks (their form is that of dc_bus's `blocks`). They aren't returned.
+/// reader and writer of blocks (their form is that of mbdc_bus's `blocks`). They aren't returned.
 ///
 /// # Errors
 /// Those of [`run_script_over`].

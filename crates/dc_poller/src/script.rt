@@ -4,9 +4,9 @@ ghost use Rattle.std.specs.Prelude.{◌≡◌, ◌⊎◌, ◌≤◌, ◌<◌, �
 ghost use Rattle.std.specs.Prelude.{IfOk, IfSome, IfNone, OnOk, OnErr};
 ghost use Rattle.dc_core.specs.Run.{event_of, IsInTime};
 ghost use Rattle.dc_core.specs.Text.{answer_text};
-ghost use Rattle.dc_io.specs.Written.{PutsInto, Wrote};
-ghost use Rattle.dc_io.specs.Words.{number_word};
-ghost use Rattle.dc_io.specs.Lines.{lines_of, longest_input_line};
+ghost use Rattle.mbdc_io.specs.Written.{PutsInto, Wrote};
+ghost use Rattle.mbdc_io.specs.Words.{number_word};
+ghost use Rattle.mbdc_io.specs.Lines.{lines_of, longest_input_line};
 ghost use Rattle.dc_poller.specs.Halt.{CountsPuts, IsCounted, OnNoMemory, OnWrite};
 ghost use Rattle.dc_poller.specs.Link.{AreAbsent, absent, line_of, links_of};
 ghost use Rattle.dc_poller.specs.Slots.{CutOver, IsKept, OnLine, RanOver, StarvedOver};
@@ -25,11 +25,11 @@ use crate::script_line::ScriptLine;
 use crate::searching::search_on;
 use crate::slot::Slot;
 use dc_address::Identity;
-use dc_bus::Bus;
-use dc_change::{Command, Moment};
+use mbdc_bus::Bus;
+use mbdc_change::{Command, Moment};
 use dc_core::{Concentrator, Event, WriteFault};
 use dc_sectors::Disk;
-use dc_io::{IoFault, Sink, first_line, put_number_word};
+use mbdc_io::{IoFault, Sink, first_line, put_number_word};
 use dc_meters::House;
 use std::alloc::Allocator;
 
@@ -352,7 +352,7 @@ fn moment_behind(asked: &ScriptLine<'_>, moment: Moment) -> Moment
     }
 }
 
-#[tactic(auto, using(dc_io::proofs::Pieces::written))]
+#[tactic(auto, using(mbdc_io::proofs::Pieces::written))]
 fn put_syntax<W: Sink>(out: &mut W, line: usize) -> Result<(), IoFault>
     ensures { Wrote W.Sink result out.old out.new
         (codes "LINE" ++ number_word line ++ codes " SYNTAX\n") }

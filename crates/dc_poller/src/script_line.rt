@@ -5,17 +5,17 @@ ghost use Rattle.std.specs.Prelude.{MatchOption, codes, length};
 ghost use Rattle.std.specs.Fmt.{decimal};
 ghost use Rattle.dc_address.specs.Text.{text_of};
 ghost use Rattle.dc_address.specs.declared.identity.Identity.{Identity};
-ghost use Rattle.dc_change.specs.Fields.{IsOfBytes};
-ghost use Rattle.dc_change.specs.Fields.{end_of_numbers};
-ghost use Rattle.dc_io.specs.Hex.{bytes_of};
-ghost use Rattle.dc_io.specs.Lines.{longest_input_line};
+ghost use Rattle.mbdc_change.specs.Fields.{IsOfBytes};
+ghost use Rattle.mbdc_change.specs.Fields.{end_of_numbers};
+ghost use Rattle.mbdc_io.specs.Hex.{bytes_of};
+ghost use Rattle.mbdc_io.specs.Lines.{longest_input_line};
 ghost use Rattle.dc_poller.specs.ScriptLine.{LineSeen, IsLineOf, at, start, ask, hear, poll};
 ghost use Rattle.dc_poller.specs.ScriptLine.{search, seen, greatest_line};
 ghost use Rattle.dc_search.specs.Found.{greatest_budget};
 
 use dc_address::Identity;
-use dc_change::{Moment, parse_number, split_word};
-use dc_io::{LONGEST, decode_hex};
+use mbdc_change::{Moment, parse_number, split_word};
+use mbdc_io::{LONGEST, decode_hex};
 
 // The line of a search that names no line.
 const FIRST_LINE: u8 = 1;

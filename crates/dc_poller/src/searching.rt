@@ -1,8 +1,8 @@
 //! `SEARCH`: searches for meters over a bus line.
 
 ghost use Rattle.std.specs.Prelude.{◌≡◌, ◌++◌, true, List, IfOk, OnErr};
-ghost use Rattle.dc_bus.specs.Bus.{Exchange};
-ghost use Rattle.dc_io.specs.Written.{PutsInto, Wrote};
+ghost use Rattle.mbdc_bus.specs.Bus.{Exchange};
+ghost use Rattle.mbdc_io.specs.Written.{PutsInto, Wrote};
 ghost use Rattle.dc_poller.specs.Halt.{IsCounted};
 ghost use Rattle.dc_poller.specs.Link.{gateway_port, link_by};
 ghost use Rattle.dc_poller.specs.Search.{AreOfSearch, ComesOver, IsOver, late_by, late_text, Talked};
@@ -14,10 +14,10 @@ use crate::halt::{Halt, written};
 use crate::late::put_late;
 use crate::port::{GATEWAY, Port, put_loss};
 use crate::quiet::{quiet_ask, quiet_commit};
-use dc_bus::{Bus, search_over, search_windows};
+use mbdc_bus::{Bus, search_over, search_windows};
 use dc_core::{Concentrator, StartFault, put_committed, put_started};
 use dc_sectors::Disk;
-use dc_io::{IoFault, NoMemory, Sink};
+use mbdc_io::{IoFault, NoMemory, Sink};
 use dc_search::{Search, put_search};
 use std::alloc::Allocator;
 
@@ -135,7 +135,7 @@ fn late_since(port: Port, before: u64, after: u64) -> u64
 }
 
 // Writes the result, and the number of late answers, if any.
-#[tactic(auto, using(dc_io::proofs::Pieces::written))]
+#[tactic(auto, using(mbdc_io::proofs::Pieces::written))]
 fn put_found_late<A: Allocator + Copy, W: Sink>(
     search: &Search<A>,
     port: Port,

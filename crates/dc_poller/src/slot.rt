@@ -1,6 +1,6 @@
 //! A bus line of a script.
 
-use dc_bus::Bus;
+use mbdc_bus::Bus;
 
 /// A bus line that has a bus.
 #[derive(Drop)]

@@ -5,20 +5,20 @@ ghost use Rattle.dc_core.specs.Lines.{requests_on, NoMoreRequests};
 ghost use Rattle.dc_core.specs.Event.{starts, asks, hears, commits, started, asked, heard};
 ghost use Rattle.dc_core.specs.Event.{committed};
 ghost use Rattle.dc_core.specs.Step.{longest_request};
-ghost use Rattle.dc_io.specs.Written.{PutsInto};
+ghost use Rattle.mbdc_io.specs.Written.{PutsInto};
 ghost use Rattle.dc_poller.specs.Halt.{CountsPuts};
 ghost use Rattle.dc_poller.specs.Poll.{told_text};
 ghost use Rattle.dc_poller.specs.Run.{AnyRun, OneTurn};
 
 use dc_address::Identity;
-use dc_change::Moment;
+use mbdc_change::Moment;
 use dc_core::{
     CommitFault, Concentrator, HearFault, LineHeard, StartFault, put_asked, put_committed,
     put_heard, put_started,
 };
 use dc_sectors::Disk;
 use dc_linkframe::FrameBuf;
-use dc_io::{IoFault, Sink};
+use mbdc_io::{IoFault, Sink};
 use std::alloc::Allocator;
 
 /// Begins a readout.

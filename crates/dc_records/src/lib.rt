@@ -23,7 +23,7 @@ mod records;
 mod telegram;
 
 pub use end::End;
-pub use dc_io::{Bytes, IoFault, Sink, Source};
+pub use mbdc_io::{Bytes, IoFault, Sink, Source};
 pub use fault::BodyFault;
 pub use front::{Front, front_of};
 pub use header::Header;

@@ -18,7 +18,7 @@ use Rattle.std.proofs.lemmas.List.{drop_more}
 use Rattle.dc_address.specs.declared.identity.Identity.{Identity}
 use Rattle.dc_address.specs.Identity.{identity_cmp}
 use Rattle.dc_units.specs.Date.{Day}
-use Rattle.dc_change.specs.State.{ReadingRow}
+use Rattle.mbdc_change.specs.State.{ReadingRow}
 use Rattle.dc_meters.specs.Due.{has_value}
 use Rattle.dc_meters.specs.declared.place.Place.{Place}
 use Rattle.dc_report.specs.Ascending.{at_key}

@@ -20,8 +20,8 @@ use Rattle.dc_units.specs.declared.value.Value.{Value}
 use Rattle.dc_units.specs.declared.value.Value.TheVariants.{Number, Flags, Day as OnDay, Minute, None as NoValue}
 use Rattle.dc_units.specs.Date.{Day}
 use Rattle.dc_units.specs.Text.{last_digits, sign, magnitude_text, day_text, value_text}
-use Rattle.dc_change.specs.Flat.{IsFlat, is_flat_byte}
-use Rattle.dc_change.specs.Fields.{address_word}
+use Rattle.mbdc_change.specs.Flat.{IsFlat, is_flat_byte}
+use Rattle.mbdc_change.specs.Fields.{address_word}
 use Rattle.dc_report.specs.TableLine.{line_text}
 use Rattle.dc_report.specs.Medium.{medium_text}
 use Rattle.dc_report.specs.Written.{IsPlain, ArePlain}

@@ -10,7 +10,7 @@ use Rattle.dc_units.specs.declared.point.Point.{Point}
 use Rattle.dc_units.specs.Date.{Day}
 use Rattle.dc_units.specs.Quantity.{unit_of}
 use Rattle.dc_units.specs.Text.{value_text}
-use Rattle.dc_change.specs.State.{State, ReadingRow}
+use Rattle.mbdc_change.specs.State.{State, ReadingRow}
 use Rattle.dc_meters.specs.Points.{points_of}
 use Rattle.dc_meters.specs.Due.{due_value, has_value}
 use Rattle.dc_meters.specs.declared.place.Place.{Place}

@@ -4,8 +4,8 @@ use Rattle.std.specs.List.{flat_map}
 use Rattle.std.specs.Fmt.{decimal}
 use Rattle.dc_address.specs.declared.identity.Identity.{Identity}
 use Rattle.dc_address.specs.Text.{text_of}
-use Rattle.dc_change.specs.State.{State, MeterRow, row_of}
-use Rattle.dc_change.specs.Fields.{address_word}
+use Rattle.mbdc_change.specs.State.{State, MeterRow, row_of}
+use Rattle.mbdc_change.specs.Fields.{address_word}
 use Rattle.dc_meters.specs.declared.place.Place.{Place}
 use Rattle.dc_meters.specs.Places.{by_flat}
 use Rattle.dc_report.specs.TableLine.{line_text}

@@ -9,7 +9,7 @@ use crate::last::due_readings;
 use crate::line::{finish, new_table, put_line};
 use crate::{Row, Table};
 use csv::Writer;
-use dc_io::NoMemory;
+use mbdc_io::NoMemory;
 use dc_units::{Date, TEXT_ROOM};
 use dc_meters::{House, Reading, StorageDates};
 use itoa::Buffer;

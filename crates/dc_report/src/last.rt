@@ -4,12 +4,12 @@ ghost use Rattle.std.specs.Prelude.{◌≡◌, IfOk, map, option_map};
 ghost use Rattle.std.specs.BTreeMap.{get};
 ghost use Rattle.dc_address.specs.Identity.{identity_cmp};
 ghost use Rattle.dc_address.specs.declared.identity.Identity.{Identity};
-ghost use Rattle.dc_change.specs.Valid.{IsState};
+ghost use Rattle.mbdc_change.specs.Valid.{IsState};
 ghost use Rattle.dc_report.specs.DueTable.{due_readings};
 ghost use Rattle.dc_report.specs.Last.{last_of};
 
 use dc_address::Identity;
-use dc_io::NoMemory;
+use mbdc_io::NoMemory;
 use dc_units::Date;
 use dc_meters::{House, Place, Reading};
 use std::alloc::Allocator;

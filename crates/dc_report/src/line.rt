@@ -6,7 +6,7 @@ ghost use Rattle.dc_report.specs.TableLine.{line_text};
 ghost use Rattle.dc_report.specs.Written.{so_far, IsAtLine, ArePlain};
 
 use csv::Writer;
-use dc_io::NoMemory;
+use mbdc_io::NoMemory;
 use std::alloc::Allocator;
 
 /// Returns an empty table, which uses no memory yet.

@@ -2,7 +2,7 @@
 
 ghost use Rattle.std.specs.Prelude.{◌≡◌, ◌++◌, length, OnOk, IfOk};
 ghost use Rattle.std.specs.List.{flat_map};
-ghost use Rattle.dc_change.specs.Fields.{address_word};
+ghost use Rattle.mbdc_change.specs.Fields.{address_word};
 ghost use Rattle.dc_report.specs.TableLine.{line_text};
 ghost use Rattle.dc_meters.specs.Places.{by_flat};
 ghost use Rattle.dc_report.specs.RegisterTable.{line_at, meter_fields, register_text};
@@ -12,7 +12,7 @@ use crate::line::{finish, new_table, put_line};
 use crate::medium::medium;
 use csv::Writer;
 use dc_address::{Identity, Primary};
-use dc_io::NoMemory;
+use mbdc_io::NoMemory;
 use dc_meters::{House, Meter};
 use itoa::Buffer;
 use std::alloc::Allocator;

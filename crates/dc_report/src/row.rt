@@ -1,7 +1,7 @@
 //! A row of the due-date table.
 
 use dc_address::Identity;
-use dc_change::Flat;
+use mbdc_change::Flat;
 use dc_units::Point;
 
 /// A row: a point of a reading's due-date value.

@@ -1,10 +1,10 @@
 -- Two pieces of a text that were written, one after the other.
 use Rattle.std.proofs.Common.{◌≡◌, ℕ, List, ◌++◌, Result, Ok, Err, ◌∙◌, subst}
-use Rattle.dc_io.specs.Failures.{HasRisen}
-use Rattle.dc_io.specs.Stream.{Puts}
-use Rattle.dc_io.specs.Written.{Wrote}
-use Rattle.dc_io.specs.declared.stream.Sink.{Ghosts}
-use Rattle.dc_io.proofs.Pieces.{puts-both, puts_front-second}
+use Rattle.mbdc_io.specs.Failures.{HasRisen}
+use Rattle.mbdc_io.specs.Stream.{Puts}
+use Rattle.mbdc_io.specs.Written.{Wrote}
+use Rattle.mbdc_io.specs.declared.stream.Sink.{Ghosts}
+use Rattle.mbdc_io.proofs.Pieces.{puts-both, puts_front-second}
 
 pub wrote_both : {S X E : Type 0} (g : Ghosts S) (old mid new : S) (a b : List ℕ) (r : Result X E) → Puts (g.written old) (g.written mid) a → g.put_failures mid ≡ g.put_failures old
     → Wrote g r mid new b → Wrote g r old new (a ++ b)

@@ -16,7 +16,7 @@ use crate::step::Step;
 use dc_address::{Identity, Mask};
 use dc_linkframe::control::{RSP_UD, VARIABLE_DATA};
 use dc_linkframe::{ACK, FrameBuf, write_long};
-use dc_io::NoMemory;
+use mbdc_io::NoMemory;
 use std::alloc::Allocator;
 
 /// A byte that is no frame, as read when answers collide.

@@ -3,7 +3,7 @@
 ghost use Rattle.std.specs.Prelude.{◌≡◌, ◌<◌, ◌≤◌, ◌+◌, ◌/◌, ◌%◌, ◌++◌, flat_map, map};
 ghost use Rattle.dc_address.specs.Digits.{decimal_digits};
 ghost use Rattle.dc_address.specs.Text.{decimal_code};
-ghost use Rattle.dc_io.specs.Written.{Wrote};
+ghost use Rattle.mbdc_io.specs.Written.{Wrote};
 ghost use Rattle.dc_search.specs.State.{step_of};
 ghost use Rattle.dc_search.specs.Found.{budget_line, found_line, greatest_budget, search_text};
 ghost use Rattle.dc_search.specs.Found.{search_text_after, selections_line, shared_line};
@@ -11,12 +11,12 @@ ghost use Rattle.dc_search.specs.Found.{search_text_after, selections_line, shar
 use crate::search::Search;
 use crate::step::Step;
 use dc_address::Identity;
-use dc_io::{IoFault, Sink, put_number_word};
+use mbdc_io::{IoFault, Sink, put_number_word};
 use std::alloc::Allocator;
 
 /// Writes what a search found, which numbers are shared, whether the budget was spent, and the
 /// number of selections.
-#[tactic(auto, using(dc_io::proofs::Pieces::written))]
+#[tactic(auto, using(mbdc_io::proofs::Pieces::written))]
 pub fn put_search<A: Allocator + Copy, W: Sink>(
     search: &Search<A>,
     out: &mut W,
@@ -29,7 +29,7 @@ pub fn put_search<A: Allocator + Copy, W: Sink>(
 
 /// Writes what a search found, as [`put_search`] does, after an earlier search of the same bus made
 /// `before` selections: the number of selections is that of both.
-#[tactic(auto, using(dc_io::proofs::Pieces::written))]
+#[tactic(auto, using(mbdc_io::proofs::Pieces::written))]
 pub fn put_search_after<A: Allocator + Copy, W: Sink>(
     before: u32,
     search: &Search<A>,
@@ -44,7 +44,7 @@ pub fn put_search_after<A: Allocator + Copy, W: Sink>(
 }
 
 // Writes what follows the meters found.
-#[tactic(auto, using(dc_io::proofs::Pieces::written))]
+#[tactic(auto, using(mbdc_io::proofs::Pieces::written))]
 fn put_rest<A: Allocator + Copy, W: Sink>(
     search: &Search<A>,
     selections: u32,
@@ -58,7 +58,7 @@ fn put_rest<A: Allocator + Copy, W: Sink>(
     put_end(search.next(), selections, out)
 }
 
-#[tactic(auto, using(dc_io::proofs::Pieces::written))]
+#[tactic(auto, using(mbdc_io::proofs::Pieces::written))]
 fn put_end<W: Sink>(step: Step, selections: u32, out: &mut W) -> Result<(), IoFault>
     ensures { Wrote W.Sink result out.old out.new
         (budget_line step ++ selections_line selections) }
@@ -67,7 +67,7 @@ fn put_end<W: Sink>(step: Step, selections: u32, out: &mut W) -> Result<(), IoFa
     put_selections(selections, out)
 }
 
-#[tactic(auto, using(dc_io::proofs::Pieces::written))]
+#[tactic(auto, using(mbdc_io::proofs::Pieces::written))]
 fn put_found<W: Sink>(meters: &[Identity], out: &mut W) -> Result<(), IoFault>
     ensures { Wrote W.Sink result out.old out.new
         (flat_map found_line meters.now) }
@@ -78,7 +78,7 @@ fn put_found<W: Sink>(meters: &[Identity], out: &mut W) -> Result<(), IoFault>
     Ok(())
 }
 
-#[tactic(auto, using(dc_io::proofs::Pieces::written))]
+#[tactic(auto, using(mbdc_io::proofs::Pieces::written))]
 fn put_meter<W: Sink>(meter: &Identity, out: &mut W) -> Result<(), IoFault>
     ensures { Wrote W.Sink result out.old out.new (found_line meter.now) }
 {
@@ -87,7 +87,7 @@ fn put_meter<W: Sink>(meter: &Identity, out: &mut W) -> Result<(), IoFault>
     out.put(b"\n")
 }
 
-#[tactic(auto, using(dc_io::proofs::Pieces::written))]
+#[tactic(auto, using(mbdc_io::proofs::Pieces::written))]
 fn put_shared<W: Sink>(numbers: &[u32], out: &mut W) -> Result<(), IoFault>
     ensures { Wrote W.Sink result out.old out.new
         (flat_map shared_line numbers.now) }
@@ -98,7 +98,7 @@ fn put_shared<W: Sink>(numbers: &[u32], out: &mut W) -> Result<(), IoFault>
     Ok(())
 }
 
-#[tactic(auto, using(dc_io::proofs::Pieces::written))]
+#[tactic(auto, using(mbdc_io::proofs::Pieces::written))]
 fn put_number<W: Sink>(number: u32, out: &mut W) -> Result<(), IoFault>
     ensures { Wrote W.Sink result out.old out.new (shared_line number) }
 {
@@ -116,7 +116,7 @@ fn put_budget<W: Sink>(step: Step, out: &mut W) -> Result<(), IoFault>
     }
 }
 
-#[tactic(auto, using(dc_io::proofs::Pieces::joined))]
+#[tactic(auto, using(mbdc_io::proofs::Pieces::joined))]
 fn put_selections<W: Sink>(count: u32, out: &mut W) -> Result<(), IoFault>
     ensures { Wrote W.Sink result out.old out.new (selections_line count) }
 {

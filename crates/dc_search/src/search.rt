@@ -5,7 +5,7 @@ use crate::branch::Branch;
 use crate::fault::SearchFault;
 use crate::step::Step;
 use dc_address::Identity;
-use dc_io::NoMemory;
+use mbdc_io::NoMemory;
 use std::alloc::Allocator;
 use std::marker::Model;
 

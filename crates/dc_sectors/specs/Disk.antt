@@ -2,7 +2,7 @@
 -- calls change both.
 use Rattle.std.specs.Prelude.{◌≡◌, ◌⊎◌, ◌==◌, ℕ, ◌≤◌, List, [], ◌∷◌, ◌++◌, if◌then◌else◌, Contains}
 use Rattle.std.specs.Prelude.{Result, Ok, Err}
-use Rattle.dc_io.specs.Failures.{HasRisen}
+use Rattle.mbdc_io.specs.Failures.{HasRisen}
 use Rattle.dc_sectors.specs.declared.sector.Sector.{Sector}
 use Rattle.dc_sectors.specs.declared.sector.Sector.TheVariants.{Bytes, Unreadable}
 use Rattle.dc_sectors.specs.declared.sector.ReadFault.{ReadFault}

@@ -3,7 +3,7 @@
 ghost use Rattle.std.specs.Prelude.{◌≡◌};
 
 use crate::Failed;
-use dc_io::one_failure_more;
+use mbdc_io::one_failure_more;
 
 /// The calls of a disk so far, and the failures that a test set.
 #[derive(Clone, Copy)]

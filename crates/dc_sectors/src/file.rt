@@ -12,7 +12,7 @@ ghost use Rattle.dc_sectors.specs.File.{IsSyncOf, reads_in, choices_in, moment_i
 ghost use Rattle.dc_sectors.specs.File.{HasKept, FileCounts};
 
 use crate::{Disk, Failed, FileCalls, Logged, ReadFault};
-use dc_io::one_failure_more;
+use mbdc_io::one_failure_more;
 use std::fs::{OpenFile, OpenOptions};
 use std::io;
 use std::marker::Model;

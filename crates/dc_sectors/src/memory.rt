@@ -14,7 +14,7 @@ use crate::calls::Calls;
 use crate::event::Event;
 use crate::scan::picked;
 use crate::{Disk, Failed, Pick, ReadFault, Sector};
-use dc_io::NoMemory;
+use mbdc_io::NoMemory;
 use std::alloc::Allocator;
 use std::marker::Model;
 

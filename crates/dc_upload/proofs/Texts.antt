@@ -4,12 +4,12 @@ use Rattle.std.specs.Fmt.{decimal}
 use Rattle.std.proofs.lemmas.Fmt.{decimal_injective, decimal_is_IsNumeral, length-decimal-le}
 use Rattle.std.proofs.lemmas.List.{get_or_append_left}
 use Rattle.std.proofs.lemmas.Str.Parse.{digit_at}
-use Rattle.dc_change.specs.Command.{line_of, command_text}
-use Rattle.dc_change.specs.Fields.{IsNumber}
-use Rattle.dc_change.specs.declared.command.Command.{Command as Order}
-use Rattle.dc_change.specs.declared.command.Numbered.{Numbered}
-use Rattle.dc_change.proofs.LineSpellings.{number_is_word, one_word}
-use Rattle.dc_change.proofs.CommandSpellings.{one_line}
+use Rattle.mbdc_change.specs.Command.{line_of, command_text}
+use Rattle.mbdc_change.specs.Fields.{IsNumber}
+use Rattle.mbdc_change.specs.declared.command.Command.{Command as Order}
+use Rattle.mbdc_change.specs.declared.command.Numbered.{Numbered}
+use Rattle.mbdc_change.proofs.LineSpellings.{number_is_word, one_word}
+use Rattle.mbdc_change.proofs.CommandSpellings.{one_line}
 use Rattle.std.specs.Prelude.{IsTrue}
 use Rattle.dc_units.specs.Date.{Day, exists}
 use Rattle.dc_units.specs.Text.{day_text}

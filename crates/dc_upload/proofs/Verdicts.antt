@@ -3,14 +3,14 @@ use Rattle.std.proofs.Common.{◌≡◌, ℕ, ◌+◌, Bool, true, false, not, c
 use Rattle.std.proofs.lemmas.Bool.{and_from}
 use Rattle.std.proofs.lemmas.Slice.Eq.{bytes_eq-Decides}
 use Rattle.std.specs.Prelude.{option_map}
-use Rattle.dc_change.specs.Accepts.{Accepts, command_refusal, is_known, is_unknown, is_address_taken, is_beyond, is_full}
-use Rattle.dc_change.specs.Apply.{applied}
-use Rattle.dc_change.specs.Command.{line_of}
-use Rattle.dc_change.specs.State.{State, Held}
-use Rattle.dc_change.specs.declared.change.Change.{Change}
-use Rattle.dc_change.specs.declared.change.Change.TheVariants.{Command as Ordered}
-use Rattle.dc_change.specs.declared.command.Numbered.{Numbered}
-use Rattle.dc_change.specs.declared.fault.ChangeFault.TheVariants as fault
+use Rattle.mbdc_change.specs.Accepts.{Accepts, command_refusal, is_known, is_unknown, is_address_taken, is_beyond, is_full}
+use Rattle.mbdc_change.specs.Apply.{applied}
+use Rattle.mbdc_change.specs.Command.{line_of}
+use Rattle.mbdc_change.specs.State.{State, Held}
+use Rattle.mbdc_change.specs.declared.change.Change.{Change}
+use Rattle.mbdc_change.specs.declared.change.Change.TheVariants.{Command as Ordered}
+use Rattle.mbdc_change.specs.declared.command.Numbered.{Numbered}
+use Rattle.mbdc_change.specs.declared.fault.ChangeFault.TheVariants as fault
 use Rattle.dc_upload.specs.Code.{code_of}
 use Rattle.dc_upload.specs.Reply.{done_line, reply_text, TakesMemory}
 use Rattle.dc_upload.specs.Verdict.{code_against, granted, is_repeat, repeats, unless, verdict_of}

@@ -1,7 +1,7 @@
 -- Why a billing office's line is refused (this product), and the code's word.
 use Rattle.std.specs.Prelude.{ℕ, List, codes}
-use Rattle.dc_change.specs.declared.fault.ChangeFault.{ChangeFault}
-use Rattle.dc_change.specs.declared.fault.ChangeFault.TheVariants as fault
+use Rattle.mbdc_change.specs.declared.fault.ChangeFault.{ChangeFault}
+use Rattle.mbdc_change.specs.declared.fault.ChangeFault.TheVariants as fault
 use Rattle.dc_upload.specs.declared.code.Code.{Code}
 use Rattle.dc_upload.specs.declared.code.Code.TheVariants.{Syntax, Store, Order, Known, Unknown}
 use Rattle.dc_upload.specs.declared.code.Code.TheVariants.{Address, Beyond, Gone, Full, Memory}

@@ -2,9 +2,9 @@
 use Rattle.std.specs.Prelude.{ℕ, ◌≤◌, IsTrue, List, [], ◌∷◌, codes}
 use Rattle.std.specs.List.{join_with_byte}
 use Rattle.std.specs.Fmt.{decimal}
-use Rattle.dc_change.specs.Command.{line_of, NamesMeters}
-use Rattle.dc_change.specs.Command.{IsCommand}
-use Rattle.dc_change.specs.Fields.{IsNumber}
+use Rattle.mbdc_change.specs.Command.{line_of, NamesMeters}
+use Rattle.mbdc_change.specs.Command.{IsCommand}
+use Rattle.mbdc_change.specs.Fields.{IsNumber}
 use Rattle.dc_units.specs.Date.{exists}
 use Rattle.dc_units.specs.Text.{day_text}
 use Rattle.dc_upload.specs.declared.line.OfficeLine.{OfficeLine}

@@ -2,9 +2,9 @@
 use Rattle.std.specs.Prelude.{ℕ, List, ◌++◌, codes, length, flat_map}
 use Rattle.dc_address.specs.Text.{text_of}
 use Rattle.dc_address.specs.declared.identity.Identity.{Identity}
-use Rattle.dc_change.specs.Fields.{address_word}
-use Rattle.dc_change.specs.State.{State, MeterRow}
-use Rattle.dc_io.specs.Words.{number_word}
+use Rattle.mbdc_change.specs.Fields.{address_word}
+use Rattle.mbdc_change.specs.State.{State, MeterRow}
+use Rattle.mbdc_io.specs.Words.{number_word}
 
 -- the meter, its bus line and its address
 unfoldable pub place_words : Identity → MeterRow → List ℕ

@@ -1,17 +1,17 @@
 -- The replies to a billing office's lines (this product): words separated by single spaces, each
 -- line ended by LF.
 use Rattle.std.specs.Prelude.{◌≡◌, ℕ, List, [], ◌++◌, codes, length, flat_map}
-use Rattle.dc_io.specs.Failures.{HasRisen}
-use Rattle.dc_io.specs.Stream.{PutsFront}
+use Rattle.mbdc_io.specs.Failures.{HasRisen}
+use Rattle.mbdc_io.specs.Stream.{PutsFront}
 use Rattle.dc_units.specs.Date.{Day}
-use Rattle.dc_change.specs.State.{State, Held}
+use Rattle.mbdc_change.specs.State.{State, Held}
 use Rattle.dc_report.specs.DueTable.{due_rows, due_text}
 use Rattle.dc_upload.specs.Code.{word_of}
 use Rattle.dc_upload.specs.Register.{meter_lines}
 use Rattle.dc_upload.specs.Verdict.{verdict_of}
 use Rattle.dc_upload.specs.Window.{reading_lines, window}
-use Rattle.dc_io.specs.Words.{number_word}
-use Rattle.dc_io.specs.declared.stream.Sink.{Ghosts}
+use Rattle.mbdc_io.specs.Words.{number_word}
+use Rattle.mbdc_io.specs.declared.stream.Sink.{Ghosts}
 use Rattle.dc_upload.specs.declared.code.Code.{Code}
 use Rattle.dc_upload.specs.declared.code.Code.TheVariants.{Syntax, Store, Order, Known, Unknown}
 use Rattle.dc_upload.specs.declared.code.Code.TheVariants.{Address, Beyond, Gone, Full, Memory}

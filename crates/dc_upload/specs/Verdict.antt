@@ -3,12 +3,12 @@
 use Rattle.std.specs.Prelude.{ℕ, ◌+◌, Bool, false, not, ◌&&◌, ◌==◌, if◌then◌else◌, Option, None}
 use Rattle.std.specs.Prelude.{Some, List, [], ◌∷◌, find, nat_le}
 use Rattle.std.specs.Str.{bytes_eq}
-use Rattle.dc_change.specs.Accepts.{is_known, is_unknown, is_address_taken, is_beyond, is_full}
-use Rattle.dc_change.specs.Command.{line_of}
-use Rattle.dc_change.specs.State.{State, Held}
-use Rattle.dc_change.specs.declared.change.Change.{Change}
-use Rattle.dc_change.specs.declared.change.Change.TheVariants.{Command as Numbered}
-use Rattle.dc_change.specs.declared.command.Numbered.{Numbered as Ordered}
+use Rattle.mbdc_change.specs.Accepts.{is_known, is_unknown, is_address_taken, is_beyond, is_full}
+use Rattle.mbdc_change.specs.Command.{line_of}
+use Rattle.mbdc_change.specs.State.{State, Held}
+use Rattle.mbdc_change.specs.declared.change.Change.{Change}
+use Rattle.mbdc_change.specs.declared.change.Change.TheVariants.{Command as Numbered}
+use Rattle.mbdc_change.specs.declared.command.Numbered.{Numbered as Ordered}
 use Rattle.dc_upload.specs.declared.code.Code.{Code}
 use Rattle.dc_upload.specs.declared.code.Code.TheVariants.{Syntax, Store, Order, Known, Unknown}
 use Rattle.dc_upload.specs.declared.code.Code.TheVariants.{Address, Beyond, Gone, Full, Memory}

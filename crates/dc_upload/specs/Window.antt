@@ -1,10 +1,10 @@
 -- The readings shown to the billing office (this product).
 use Rattle.std.specs.Prelude.{ℕ, ◌+◌, List, [], ◌∷◌, ◌++◌, codes, length, take}
 use Rattle.dc_address.specs.Text.{text_of}
-use Rattle.dc_change.specs.State.{State, PartRow, ReadingRow}
+use Rattle.mbdc_change.specs.State.{State, PartRow, ReadingRow}
 use Rattle.dc_meters.specs.Orders.{readings_from}
-use Rattle.dc_io.specs.Hex.{upper_hex}
-use Rattle.dc_io.specs.Words.{number_word}
+use Rattle.mbdc_io.specs.Hex.{upper_hex}
+use Rattle.mbdc_io.specs.Words.{number_word}
 
 -- `PART i moment hex`: the part's place, its time stamp in seconds since 1970, and its body
 unfoldable pub part_line : ℕ → PartRow → List ℕ

@@ -3,7 +3,7 @@
 ghost use Rattle.std.specs.Prelude.{◌≡◌};
 ghost use Rattle.dc_upload.specs.Code.{code_of, word_of};
 
-use dc_change::ChangeFault;
+use mbdc_change::ChangeFault;
 
 /// Why a line is refused. The concentrator itself finds the first two and the last;
 /// [`judge`](crate::judge) finds the others.

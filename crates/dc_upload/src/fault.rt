@@ -4,7 +4,7 @@ ghost use Rattle.std.specs.Prelude.{◌≡◌};
 ghost use Rattle.dc_upload.specs.Fault.{name_of, number_of};
 ghost use Rattle.dc_upload.specs.declared.fault.ReplyFault.TheVariants.{NoMemory, Write};
 
-use dc_io::IoFault;
+use mbdc_io::IoFault;
 use thiserror::Error;
 
 /// Why a reply wasn't written.
@@ -48,10 +48,10 @@ impl From<IoFault> for ReplyFault {
     }
 }
 
-impl From<dc_io::NoMemory> for ReplyFault {
+impl From<mbdc_io::NoMemory> for ReplyFault {
     ghost from_gives = { λ _ fault. fault ≡ NoMemory };
 
-    fn from(_refused: dc_io::NoMemory) -> ReplyFault {
+    fn from(_refused: mbdc_io::NoMemory) -> ReplyFault {
         ReplyFault::NoMemory
     }
 }

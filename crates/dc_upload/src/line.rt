@@ -3,14 +3,14 @@
 ghost use Rattle.std.specs.Prelude.{◌≡◌, ℕ, ◌≤◌, ◌∷◌, ◌++◌, List, Some, IfSome, IsSome, IsTrue};
 ghost use Rattle.std.specs.Prelude.{codes, length};
 ghost use Rattle.std.specs.Fmt.{decimal};
-ghost use Rattle.dc_change.specs.Command.{line_of};
-ghost use Rattle.dc_change.specs.Fields.{IsNumber};
+ghost use Rattle.mbdc_change.specs.Command.{line_of};
+ghost use Rattle.mbdc_change.specs.Fields.{IsNumber};
 ghost use Rattle.dc_units.specs.Date.{Day, exists};
 ghost use Rattle.dc_units.specs.Text.{day_text};
 ghost use Rattle.dc_upload.specs.Line.{IsCount, IsOfficeLine, office_text};
 
 use dc_report::Date;
-use dc_change::{Command, Numbered, parse_number, split_word};
+use mbdc_change::{Command, Numbered, parse_number, split_word};
 
 /// A line of the billing office.
 #[derive(Clone, Copy)]
@@ -73,7 +73,7 @@ fn behind_window(text: &[u8]) -> Option<&[u8]>
 }
 
 // `from count`
-#[tactic(auto, using(dc_change::proofs::LineSpellings::number_is_word, crate::proofs::Texts::bounds_fit))]
+#[tactic(auto, using(mbdc_change::proofs::LineSpellings::number_is_word, crate::proofs::Texts::bounds_fit))]
 fn parse_window(bounds: &[u8]) -> Option<OfficeLine>
     ensures found { IfSome result (λ line.
         IsOfficeLine line × (codes "WINDOW" ++ 32 ∷ bounds.now ≡ office_text line)) }

@@ -1,19 +1,19 @@
 //! Writes the meters for the billing office.
 
 ghost use Rattle.std.specs.Prelude.{◌≡◌, ◌++◌, codes};
-ghost use Rattle.dc_change.specs.Fields.{address_word};
-ghost use Rattle.dc_io.specs.Written.{Wrote};
+ghost use Rattle.mbdc_change.specs.Fields.{address_word};
+ghost use Rattle.mbdc_io.specs.Written.{Wrote};
 ghost use Rattle.dc_upload.specs.Register.{meter_line, meter_lines, place_words};
 
 use crate::words::put_word;
 use dc_address::{Identity, Primary};
-use dc_io::{IoFault, Sink, put_number_word};
+use mbdc_io::{IoFault, Sink, put_number_word};
 use dc_meters::{House, Meter};
 use std::alloc::Allocator;
 
 /// Writes a line for each meter, by identity: `METER ident line addr flat open`; `open` is the
 /// number of its open parts.
-#[tactic(auto, using(dc_io::proofs::Pieces::written))]
+#[tactic(auto, using(mbdc_io::proofs::Pieces::written))]
 pub fn write_meters<A: Allocator + Copy, W: Sink>(
     house: &House<A>,
     out: &mut W,
@@ -26,7 +26,7 @@ pub fn write_meters<A: Allocator + Copy, W: Sink>(
     Ok(())
 }
 
-#[tactic(auto, using(dc_io::proofs::Pieces::written), unfolding(crate::specs::Register::meter_line))]
+#[tactic(auto, using(mbdc_io::proofs::Pieces::written), unfolding(crate::specs::Register::meter_line))]
 fn write_meter<A: Allocator, W: Sink>(
     meter: &Identity,
     row: &Meter<A>,
@@ -43,7 +43,7 @@ fn write_meter<A: Allocator, W: Sink>(
 }
 
 // Writes the meter, its bus line and its address.
-#[tactic(auto, using(dc_io::proofs::Pieces::written), unfolding(crate::specs::Register::place_words))]
+#[tactic(auto, using(mbdc_io::proofs::Pieces::written), unfolding(crate::specs::Register::place_words))]
 fn put_place<A: Allocator, W: Sink>(
     out: &mut W,
     meter: &Identity,
@@ -57,7 +57,7 @@ fn put_place<A: Allocator, W: Sink>(
     put_address(out, row.address())
 }
 
-#[tactic(auto, using(dc_io::proofs::Pieces::written))]
+#[tactic(auto, using(mbdc_io::proofs::Pieces::written))]
 fn put_address<W: Sink>(out: &mut W, address: Option<Primary>) -> Result<(), IoFault>
     ensures { Wrote W.Sink result out.old out.new
         (codes " " ++ address_word address) }

@@ -1,8 +1,8 @@
 //! Writes the replies to a billing office's lines.
 
 ghost use Rattle.std.specs.Prelude.{◌≡◌, ◌++◌, IfErr, OnOk};
-ghost use Rattle.dc_change.specs.Valid.{IsState};
-ghost use Rattle.dc_io.specs.Written.{PutsInto, Wrote};
+ghost use Rattle.mbdc_change.specs.Valid.{IsState};
+ghost use Rattle.mbdc_io.specs.Written.{PutsInto, Wrote};
 ghost use Rattle.dc_upload.specs.Reply.{detail_of, done_line, end_line, refusal_line};
 ghost use Rattle.dc_upload.specs.Reply.{register_text, reply_text, report_text, shown_text, Tells};
 ghost use Rattle.dc_upload.specs.Line.{IsOfficeLine};
@@ -12,7 +12,7 @@ use crate::register::write_meters;
 use dc_report::{Date, counted_due_table};
 use crate::window::write_window;
 use crate::{Code, OfficeLine, ReplyFault, Verdict, judge};
-use dc_io::{IoFault, Sink, put_number_word};
+use mbdc_io::{IoFault, Sink, put_number_word};
 use dc_meters::House;
 use std::alloc::Allocator;
 
@@ -70,7 +70,7 @@ pub fn write_reply<A: Allocator + Copy, W: Sink>(
 }
 
 /// Writes `OK number`: the command is done.
-#[tactic(auto, using(dc_io::proofs::Pieces::written), unfolding(crate::specs::Reply::done_line))]
+#[tactic(auto, using(mbdc_io::proofs::Pieces::written), unfolding(crate::specs::Reply::done_line))]
 fn write_done<W: Sink>(number: u64, out: &mut W) -> Result<(), IoFault>
     ensures { Wrote W.Sink result out.old out.new (done_line number) }
 {
@@ -83,7 +83,7 @@ fn write_done<W: Sink>(number: u64, out: &mut W) -> Result<(), IoFault>
 ///
 /// # Errors
 /// A write failed; a prefix of the line is written then.
-#[tactic(auto, using(dc_io::proofs::Pieces::written), unfolding(crate::specs::Reply::refusal_line))]
+#[tactic(auto, using(mbdc_io::proofs::Pieces::written), unfolding(crate::specs::Reply::refusal_line))]
 pub fn write_refusal<W: Sink>(code: Code, out: &mut W) -> Result<(), IoFault>
     ensures { Wrote W.Sink result out.old out.new (refusal_line code) }
 {
@@ -124,7 +124,7 @@ fn write_shown<A: Allocator + Copy, W: Sink>(
     Ok(())
 }
 
-#[tactic(auto, using(dc_io::proofs::Pieces::written), unfolding(crate::specs::Reply::register_text))]
+#[tactic(auto, using(mbdc_io::proofs::Pieces::written), unfolding(crate::specs::Reply::register_text))]
 fn write_register<A: Allocator + Copy, W: Sink>(
     house: &House<A>,
     out: &mut W,
@@ -154,7 +154,7 @@ fn write_report<A: Allocator + Copy, W: Sink>(
     Ok(put_table(&table.bytes, table.rows, out)?)
 }
 
-#[tactic(auto, using(dc_io::proofs::Pieces::written))]
+#[tactic(auto, using(mbdc_io::proofs::Pieces::written))]
 fn put_table<W: Sink>(table: &[u8], rows: usize, out: &mut W) -> Result<(), IoFault>
     ensures { Wrote W.Sink result out.old out.new (table.now ++ end_line rows) }
 {
@@ -163,7 +163,7 @@ fn put_table<W: Sink>(table: &[u8], rows: usize, out: &mut W) -> Result<(), IoFa
 }
 
 /// Writes `END count`.
-#[tactic(auto, using(dc_io::proofs::Pieces::written), unfolding(crate::specs::Reply::end_line))]
+#[tactic(auto, using(mbdc_io::proofs::Pieces::written), unfolding(crate::specs::Reply::end_line))]
 pub(crate) fn write_end<W: Sink>(count: usize, out: &mut W) -> Result<(), IoFault>
     ensures { Wrote W.Sink result out.old out.new (end_line count) }
 {

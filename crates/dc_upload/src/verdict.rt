@@ -1,16 +1,16 @@
 //! Judges a billing office's line on the current house.
 
 ghost use Rattle.std.specs.Prelude.{◌≡◌, ℕ};
-ghost use Rattle.dc_change.specs.Accepts.{Accepts};
-ghost use Rattle.dc_change.specs.Apply.{applied};
-ghost use Rattle.dc_change.specs.State.{Held};
-ghost use Rattle.dc_change.specs.Valid.{IsChange};
+ghost use Rattle.mbdc_change.specs.Accepts.{Accepts};
+ghost use Rattle.mbdc_change.specs.Apply.{applied};
+ghost use Rattle.mbdc_change.specs.State.{Held};
+ghost use Rattle.mbdc_change.specs.Valid.{IsChange};
 ghost use Rattle.dc_upload.specs.Line.{IsOfficeLine};
 ghost use Rattle.dc_upload.specs.Reply.{done_line, reply_text};
 ghost use Rattle.dc_upload.specs.Verdict.{IfDo, is_repeat, verdict_of};
 
 use crate::{Code, OfficeLine};
-use dc_change::{Change, Numbered};
+use mbdc_change::{Change, Numbered};
 use dc_meters::House;
 use std::alloc::Allocator;
 

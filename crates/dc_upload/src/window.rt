@@ -2,21 +2,21 @@
 
 ghost use Rattle.std.specs.Prelude.{flat_map, take};
 ghost use Rattle.std.specs.VecDeque.Iter.{deque_iter_rest};
-ghost use Rattle.dc_io.specs.Written.{Wrote};
+ghost use Rattle.mbdc_io.specs.Written.{Wrote};
 ghost use Rattle.dc_upload.specs.Reply.{window_text};
 ghost use Rattle.dc_upload.specs.Window.{owner_words, part_line, part_lines, reading_line};
 ghost use Rattle.dc_upload.specs.Window.{reading_lines};
 
 use crate::reply::write_end;
 use crate::words::put_word;
-use dc_io::{IoFault, Sink, put_hex, put_number_word};
+use mbdc_io::{IoFault, Sink, put_hex, put_number_word};
 use dc_meters::{House, Part, Reading};
 use std::alloc::Allocator;
 use std::collections::vec_deque::Iter;
 
 /// Writes the readings from a serial on, at most this many, with their parts, and their number.
 /// Earlier readings aren't visited.
-#[tactic(auto, using(dc_io::proofs::Pieces::written), unfolding(crate::specs::Reply::window_text))]
+#[tactic(auto, using(mbdc_io::proofs::Pieces::written), unfolding(crate::specs::Reply::window_text))]
 pub fn write_window<A: Allocator + Copy, W: Sink>(
     house: &House<A>,
     from: u64,
@@ -33,7 +33,7 @@ pub fn write_window<A: Allocator + Copy, W: Sink>(
 }
 
 // Writes the first of the readings, this many.
-#[tactic(auto, using(dc_io::proofs::Pieces::written))]
+#[tactic(auto, using(mbdc_io::proofs::Pieces::written))]
 fn write_readings<A: Allocator, W: Sink>(
     mut readings: Iter<'_, Reading<A>>,
     count: usize,
@@ -51,7 +51,7 @@ fn write_readings<A: Allocator, W: Sink>(
     Ok(())
 }
 
-#[tactic(auto, using(dc_io::proofs::Pieces::written), unfolding(crate::specs::Window::reading_lines))]
+#[tactic(auto, using(mbdc_io::proofs::Pieces::written), unfolding(crate::specs::Window::reading_lines))]
 fn write_reading<A: Allocator, W: Sink>(reading: &Reading<A>, out: &mut W) -> Result<(), IoFault>
     ensures { Wrote W.Sink result out.old out.new (reading_lines reading.now) }
 {
@@ -60,7 +60,7 @@ fn write_reading<A: Allocator, W: Sink>(reading: &Reading<A>, out: &mut W) -> Re
 }
 
 // Writes the reading's own line.
-#[tactic(auto, using(dc_io::proofs::Pieces::written), unfolding(crate::specs::Window::reading_line))]
+#[tactic(auto, using(mbdc_io::proofs::Pieces::written), unfolding(crate::specs::Window::reading_line))]
 fn write_head<A: Allocator, W: Sink>(reading: &Reading<A>, out: &mut W) -> Result<(), IoFault>
     ensures { Wrote W.Sink result out.old out.new (reading_line reading.now) }
 {
@@ -71,7 +71,7 @@ fn write_head<A: Allocator, W: Sink>(reading: &Reading<A>, out: &mut W) -> Resul
 }
 
 // Writes the meter, its flat, and the number of parts of the reading.
-#[tactic(auto, using(dc_io::proofs::Pieces::written), unfolding(crate::specs::Window::owner_words))]
+#[tactic(auto, using(mbdc_io::proofs::Pieces::written), unfolding(crate::specs::Window::owner_words))]
 fn put_owner<A: Allocator, W: Sink>(out: &mut W, reading: &Reading<A>) -> Result<(), IoFault>
     ensures { Wrote W.Sink result out.old out.new (owner_words reading.now) }
 {
@@ -80,7 +80,7 @@ fn put_owner<A: Allocator, W: Sink>(out: &mut W, reading: &Reading<A>) -> Result
     put_number_word(out, reading.parts().len() as u64)
 }
 
-#[tactic(auto, using(dc_io::proofs::Pieces::written))]
+#[tactic(auto, using(mbdc_io::proofs::Pieces::written))]
 fn write_parts<A: Allocator, W: Sink>(parts: &[Part<A>], out: &mut W) -> Result<(), IoFault>
     ensures { Wrote W.Sink result out.old out.new (part_lines 1 parts.now) }
 {
@@ -90,7 +90,7 @@ fn write_parts<A: Allocator, W: Sink>(parts: &[Part<A>], out: &mut W) -> Result<
     Ok(())
 }
 
-#[tactic(auto, using(dc_io::proofs::Pieces::written), unfolding(crate::specs::Window::part_line))]
+#[tactic(auto, using(mbdc_io::proofs::Pieces::written), unfolding(crate::specs::Window::part_line))]
 fn write_part<A: Allocator, W: Sink>(
     place: usize,
     part: &Part<A>,

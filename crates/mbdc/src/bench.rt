@@ -2,13 +2,13 @@
 
 use crate::connecting::{connected, released};
 use crate::tracing::{shows_progress, trace_file_of, tracer_of};
-use dc_bench::{Progress, Show, Target, Work, run_over};
-use dc_bus::Both;
-use dc_bus::trace::{Observed, Observer, Pair, TraceFile};
-use dc_ending::Ending;
-use dc_files::{Host, Noted};
-use dc_links::{Peer, Waiter};
-use dc_words::{BusTask, Errand, Listing, Reached};
+use mbdc_installer::bench::{Progress, Show, Target, Work, run_over};
+use mbdc_bus::Both;
+use mbdc_bus::trace::{Observed, Observer, Pair, TraceFile};
+use mbdc_ending::Ending;
+use mbdc_files::{Host, Noted};
+use mbdc_raw::links::{Peer, Waiter};
+use mbdc_words::{BusTask, Errand, Listing, Reached};
 use std::fs::File;
 use std::io;
 use std::net::{Net, TcpStream};

@@ -1,6 +1,6 @@
 //! The system's clock.
 
-use dc_change::Moment;
+use mbdc_change::Moment;
 use std::rt::Clock;
 use std::time::{SystemTime, UNIX_EPOCH};
 

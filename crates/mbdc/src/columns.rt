@@ -1,6 +1,6 @@
 //! The columns of a list of `fit`, in any order: its rows as `meter,line,address,flat`, which the engine takes.
 
-use dc_io::first_line;
+use mbdc_io::first_line;
 use dc_meters::House;
 use dc_meters::named::{Named, resolve};
 use std::alloc::{AllocError, Global};

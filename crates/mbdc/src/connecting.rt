@@ -2,12 +2,12 @@
 
 ghost use Rattle.std.specs.Prelude.{◌≤◌, length};
 
-use dc_commands::links_of;
-use dc_ending::Ending;
-use dc_files::Host;
-use dc_links::reach::{Unconnected, connect_all, reach_all, release_all};
-use dc_links::{Linker, Peer};
-use dc_words::{LinkName, Links};
+use mbdc_commands::links_of;
+use mbdc_ending::Ending;
+use mbdc_files::Host;
+use mbdc_raw::links::reach::{Unconnected, connect_all, reach_all, release_all};
+use mbdc_raw::links::{Linker, Peer};
+use mbdc_words::{LinkName, Links};
 use std::fs::File;
 use std::io;
 use std::net::{Net, TcpStream};

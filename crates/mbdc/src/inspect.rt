@@ -1,13 +1,13 @@
 //! The commands `inspect`, `values`, `status` and `report`: an image in a file, which is only read.
 
 use crate::clock;
-use dc_commands::look_ending;
-use dc_ending::{Ending, ProgramFault, STREAM, ending_of};
-use dc_files::{Host, LookedAt, Noted, ROUNDS, journal_lines};
-use dc_inspect::{Asked, Form, Report, Shown, StatusForm, answer, scan};
-use dc_io::NoMemory;
-use dc_json::journal::{Journal, Keeps, read_journal};
-use dc_log::Greatest;
+use mbdc_commands::look_ending;
+use mbdc_ending::{Ending, ProgramFault, STREAM, ending_of};
+use mbdc_files::{Host, LookedAt, Noted, ROUNDS, journal_lines};
+use mbdc_looks::{Asked, Form, Report, Shown, StatusForm, answer, scan};
+use mbdc_io::NoMemory;
+use mbdc_json::journal::{Journal, Keeps, read_journal};
+use mbdc_log::Greatest;
 use std::alloc::Global;
 use std::fs::File;
 use std::io;
@@ -133,7 +133,7 @@ pub fn tell_status<'a, R>(
     host: &Host<'_, R>,
     image: &'a str,
     silent: u64,
-    form: dc_words::StatusForm,
+    form: mbdc_words::StatusForm,
 ) -> Ending<'a>
 where
     R: Files<File = File> + Clock + Print + AllocGlobal,
@@ -141,14 +141,14 @@ where
     let Some(moment) = clock::moment(host.rt) else {
         return Ending::Clock;
     };
-    let clock = dc_json::status::Clock {
+    let clock = mbdc_json::status::Clock {
         now: moment.seconds,
         patience: silent,
     };
     let form = match form {
-        dc_words::StatusForm::Text => StatusForm::Text,
-        dc_words::StatusForm::Json => StatusForm::Json,
-        dc_words::StatusForm::Prometheus => StatusForm::Metrics,
+        mbdc_words::StatusForm::Text => StatusForm::Text,
+        mbdc_words::StatusForm::Json => StatusForm::Json,
+        mbdc_words::StatusForm::Prometheus => StatusForm::Metrics,
     };
     look_into(host, Asked::Status(form, clock), image)
 }

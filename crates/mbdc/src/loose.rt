@@ -2,11 +2,11 @@
 
 use crate::fit::read_whole;
 use crate::tasks::decoded;
-use dc_ending::ProgramFault;
-use dc_files::Host;
-use dc_io::{FixedSink, Sink, Source};
-use dc_paste::{clean, put_dropped};
-use dc_words::Form;
+use mbdc_ending::ProgramFault;
+use mbdc_files::Host;
+use mbdc_io::{FixedSink, Sink, Source};
+use mbdc_paste::{clean, put_dropped};
+use mbdc_words::Form;
 use std::str;
 
 // Room for the line of all characters that were dropped.

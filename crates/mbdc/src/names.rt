@@ -2,11 +2,11 @@
 
 use dc_address::Identity;
 use dc_sectors::Disk;
-use dc_ending::{Ending, ending_of};
-use dc_files::Host;
-use dc_inspect::register_of;
-use dc_io::{Bytes, IoFault, Sink, put_number};
-use dc_log::Greatest;
+use mbdc_ending::{Ending, ending_of};
+use mbdc_files::Host;
+use mbdc_looks::register_of;
+use mbdc_io::{Bytes, IoFault, Sink, put_number};
+use mbdc_log::Greatest;
 use dc_meters::House;
 use dc_meters::named::{NameFault, Named, having, resolve_all};
 use std::alloc::Global;

@@ -1,13 +1,13 @@
 //! The command `rescue`: what is left of an image, in a new one.
 
-use dc_commands::{put_rescued, rescue_over};
+use mbdc_commands::{put_rescued, rescue_over};
 use dc_sectors::{Disk, FileDisk};
-use dc_ending::{Ending, ProgramFault, STREAM, ending_of};
-use dc_files::{Host, Noted, begin_image, copy_disk, end_image};
-use dc_inspect::{Asked, answer, scan};
-use dc_io::{Sink, WriteSink};
-use dc_json::journal::Journal;
-use dc_log::Rescued;
+use mbdc_ending::{Ending, ProgramFault, STREAM, ending_of};
+use mbdc_files::{Host, Noted, begin_image, copy_disk, end_image};
+use mbdc_looks::{Asked, answer, scan};
+use mbdc_io::{Sink, WriteSink};
+use mbdc_json::journal::Journal;
+use mbdc_log::Rescued;
 use dc_meters::House;
 use std::alloc::Global;
 use std::fs::File;

@@ -2,14 +2,14 @@
 
 use crate::connecting::{connected, released};
 use crate::journal::Noting;
-use dc_bus::Both;
-use dc_commands::run_over;
+use mbdc_bus::Both;
+use mbdc_commands::run_over;
 use dc_sectors::FileDisk;
-use dc_ending::Ending;
-use dc_files::{Host, Noted, open_disk};
-use dc_links::{Peer, SystemBus, Waiter};
+use mbdc_ending::Ending;
+use mbdc_files::{Host, Noted, open_disk};
+use mbdc_raw::links::{Peer, SystemBus, Waiter};
 use dc_poller::Slot;
-use dc_words::RunTask;
+use mbdc_words::RunTask;
 use std::fs::{File, OpenFile};
 use std::io::Read;
 use std::net::{Net, TcpStream};

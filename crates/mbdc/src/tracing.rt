@@ -1,8 +1,8 @@
 //! The trace of what goes over the bus lines, where one is asked for.
 
-use dc_bus::trace::{Observer, TraceFile, TraceLines, Tracer};
-use dc_ending::Ending;
-use dc_files::Host;
+use mbdc_bus::trace::{Observer, TraceFile, TraceLines, Tracer};
+use mbdc_ending::Ending;
+use mbdc_files::Host;
 use std::fs::File;
 use std::io;
 use std::rt::{Clock, Files};

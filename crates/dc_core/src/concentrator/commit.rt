@@ -2,14 +2,14 @@
 
 ghost use Rattle.std.specs.Prelude.{◌≡◌, length, IsErrOf, OnOk};
 ghost use Rattle.dc_sectors.specs.Runs.{LeavesOnly, Counts};
-ghost use Rattle.dc_log.specs.Halves.{half_of};
+ghost use Rattle.mbdc_log.specs.Halves.{half_of};
 ghost use Rattle.dc_core.specs.declared.fault.CommitFault.TheVariants.{Device, Worn};
 ghost use Rattle.dc_core.specs.Core.{Core};
 ghost use Rattle.dc_core.specs.Event.{commits, committed};
 ghost use Rattle.dc_core.specs.Step.{May, next};
 ghost use Rattle.dc_core.specs.PendingImages.{StandsForFront};
 ghost use Rattle.dc_core.specs.Lines.{NoMoreRequests};
-ghost use Rattle.dc_log.specs.Store.{Fits};
+ghost use Rattle.mbdc_log.specs.Store.{Fits};
 ghost use Rattle.dc_core.specs.Writing.{IsWornFor};
 ghost use Rattle.dc_core.specs.Images.{IsAt};
 
@@ -17,7 +17,7 @@ use super::Concentrator;
 use crate::CommitFault;
 use crate::pending::write_waiting;
 use dc_sectors::Disk;
-use dc_log::StoreFault;
+use mbdc_log::StoreFault;
 use std::alloc::Allocator;
 
 impl<D: Disk + Drop, A: Allocator + Copy> Concentrator<D, A> {

@@ -1,7 +1,7 @@
 //! Takes the answers on a line.
 
 ghost use Rattle.std.specs.Prelude.{◌≡◌, ◌<◌, ◌≤◌, OnOk};
-ghost use Rattle.dc_change.specs.Fields.{last_moment};
+ghost use Rattle.mbdc_change.specs.Fields.{last_moment};
 ghost use Rattle.dc_core.specs.Lines.{requests_on, NoMoreRequests};
 ghost use Rattle.dc_core.specs.Core.{Core};
 ghost use Rattle.dc_core.specs.Event.{hears, heard};

@@ -1,13 +1,13 @@
 //! Answers a line of the billing office.
 
 ghost use Rattle.std.specs.Prelude.{◌≡◌, ◌⊎◌, [], false, Some, Err, OnOk, OnErr, IfErr, IsErrOf};
-ghost use Rattle.dc_io.specs.Failures.{HasRisen};
-ghost use Rattle.dc_io.specs.Written.{Wrote};
+ghost use Rattle.mbdc_io.specs.Failures.{HasRisen};
+ghost use Rattle.mbdc_io.specs.Written.{Wrote};
 ghost use Rattle.dc_sectors.specs.Runs.{LeavesOnly, Counts};
-ghost use Rattle.dc_change.specs.Accepts.{Accepts};
-ghost use Rattle.dc_change.specs.Apply.{applied};
-ghost use Rattle.dc_change.specs.Valid.{IsChange};
-ghost use Rattle.dc_log.specs.Halves.{half_of};
+ghost use Rattle.mbdc_change.specs.Accepts.{Accepts};
+ghost use Rattle.mbdc_change.specs.Apply.{applied};
+ghost use Rattle.mbdc_change.specs.Valid.{IsChange};
+ghost use Rattle.mbdc_log.specs.Halves.{half_of};
 ghost use Rattle.dc_core.specs.PendingImages.{StandsForFront};
 ghost use Rattle.dc_upload.specs.Line.{IsOfficeLine};
 ghost use Rattle.dc_upload.specs.Reply.{refusal_line, reply_text, TakesMemory};
@@ -26,9 +26,9 @@ use super::Concentrator;
 use crate::pending::Lines;
 use crate::{CommitFault, WriteFault};
 use dc_address::Identity;
-use dc_change::Change;
+use mbdc_change::Change;
 use dc_sectors::Disk;
-use dc_io::{IoFault, NoMemory, Sink};
+use mbdc_io::{IoFault, NoMemory, Sink};
 use dc_upload::{
     Code, OfficeLine, ReplyFault, Verdict, judge, parse_line, write_answer as write_by, write_refusal,
 };

@@ -1,15 +1,15 @@
 //! Takes a telegram: into the register, and among the pending changes.
 
 ghost use Rattle.std.specs.Prelude.{◌≡◌, ◌⊎◌, ◌≤◌, length, None, Some, Ok, Err, OnOk, OnErr};
-ghost use Rattle.dc_change.specs.Body.{longest_body};
-ghost use Rattle.dc_change.specs.Fields.{last_moment};
+ghost use Rattle.mbdc_change.specs.Body.{longest_body};
+ghost use Rattle.mbdc_change.specs.Fields.{last_moment};
 ghost use Rattle.dc_records.specs.Telegram.{parsed};
 ghost use Rattle.dc_core.specs.declared.pending.fault.TakeFault.TheVariants.{NoMemory};
 ghost use Rattle.dc_core.specs.Taking.{change_of, refuses, IsTaken};
 
 use crate::pending::TakeFault;
 use crate::pending::waiting::Waiting;
-use dc_change::{Body, Change};
+use mbdc_change::{Body, Change};
 use dc_records::Telegram;
 use dc_meters::House;
 use std::alloc::Allocator;

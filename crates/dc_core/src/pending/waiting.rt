@@ -1,13 +1,13 @@
 //! The pending changes, in the encoding in which they are written.
 
 ghost use Rattle.std.specs.Prelude.{◌≡◌, ◌+◌, ◌≤◌, ◌<◌, ◌++◌, [], length, nat_le};
-ghost use Rattle.dc_change.specs.declared.change.Change.{Change};
-ghost use Rattle.dc_change.specs.Encoding.{change_bytes};
-ghost use Rattle.dc_change.specs.Valid.{IsChange};
+ghost use Rattle.mbdc_change.specs.declared.change.Change.{Change};
+ghost use Rattle.mbdc_change.specs.Encoding.{change_bytes};
+ghost use Rattle.mbdc_change.specs.Valid.{IsChange};
 ghost use Rattle.dc_core.specs.Waiting.{Waiting, most_waiting};
 
-use dc_change::{Change, encode_change};
-use dc_io::{FixedSink, IoFault};
+use mbdc_change::{Change, encode_change};
+use mbdc_io::{FixedSink, IoFault};
 use std::marker::Model;
 
 // Maximum number of pending changes.

@@ -2,19 +2,19 @@
 
 ghost use Rattle.std.specs.Prelude.{◌≡◌, ◌⊎◌, ◌<◌, List, true, false, length, IsErrOf, OnOk};
 ghost use Rattle.dc_sectors.specs.Runs.{LeavesOnly, Counts};
-ghost use Rattle.dc_change.specs.declared.change.Change.{Change};
-ghost use Rattle.dc_change.specs.State.{State};
-ghost use Rattle.dc_change.specs.History.{after, AcceptsAll};
-ghost use Rattle.dc_change.specs.Spelled.{SpellsChanges};
-ghost use Rattle.dc_log.specs.Halves.{half_of, budget_of};
+ghost use Rattle.mbdc_change.specs.declared.change.Change.{Change};
+ghost use Rattle.mbdc_change.specs.State.{State};
+ghost use Rattle.mbdc_change.specs.History.{after, AcceptsAll};
+ghost use Rattle.mbdc_change.specs.Spelled.{SpellsChanges};
+ghost use Rattle.mbdc_log.specs.Halves.{half_of, budget_of};
 ghost use Rattle.dc_core.specs.PendingImages.{StandsForEither, Keeps};
-ghost use Rattle.dc_log.specs.Store.{Fits};
-ghost use Rattle.dc_log.specs.declared.fault.StoreFault.TheVariants.{Device, Worn, Stopped};
+ghost use Rattle.mbdc_log.specs.Store.{Fits};
+ghost use Rattle.mbdc_log.specs.declared.fault.StoreFault.TheVariants.{Device, Worn, Stopped};
 ghost use Rattle.dc_core.specs.Writing.{IsWornFor};
 
 use crate::pending::waiting::Waiting;
 use dc_sectors::Disk;
-use dc_log::StoreFault;
+use mbdc_log::StoreFault;
 use dc_recovery::Store;
 use dc_meters::House;
 use std::alloc::Allocator;

@@ -1,13 +1,13 @@
 //! Checks and applies changes.
 
 ghost use Rattle.std.specs.Prelude.{◌≡◌, ◌+◌, ◌<◌, true, OnOk, OnErr};
-ghost use Rattle.dc_change.specs.Apply.{applied};
-ghost use Rattle.dc_change.specs.Accepts.{refusal, is_next, refused_by, Accepts};
-ghost use Rattle.dc_change.specs.Valid.{IsChange};
+ghost use Rattle.mbdc_change.specs.Apply.{applied};
+ghost use Rattle.mbdc_change.specs.Accepts.{refusal, is_next, refused_by, Accepts};
+ghost use Rattle.mbdc_change.specs.Valid.{IsChange};
 
 use super::House;
-use dc_change::{Change, ChangeFault};
-use dc_io::NoMemory;
+use mbdc_change::{Change, ChangeFault};
+use mbdc_io::NoMemory;
 use std::alloc::Allocator;
 
 impl<A: Allocator + Copy> House<A> {

@@ -5,22 +5,22 @@ ghost use Rattle.std.specs.Prelude.{◌-◌, ◌<◌, false, IsSome, length, OnO
 ghost use Rattle.std.specs.List.{list_any};
 ghost use Rattle.std.specs.BTreeMap.{is_at};
 ghost use Rattle.dc_address.specs.Identity.{identity_cmp};
-ghost use Rattle.dc_change.specs.State.{row_of};
-ghost use Rattle.dc_change.specs.Apply.{commanded, moved, taken_out, confirmed_up_to, swapped};
-ghost use Rattle.dc_change.specs.Apply.{fitted};
-ghost use Rattle.dc_change.specs.Accepts.{refused_by, command_refusal, is_taken, occupies};
-ghost use Rattle.dc_change.specs.Size.{size_of};
-ghost use Rattle.dc_change.specs.Command.{line_of, longest_line, IsCommand};
-ghost use Rattle.dc_change.specs.Flat.{IsFlat};
-ghost use Rattle.dc_change.specs.Valid.{IsMeter};
-ghost use Rattle.dc_change.specs.Fields.{IsNumber, IsAddress, end_of_numbers};
+ghost use Rattle.mbdc_change.specs.State.{row_of};
+ghost use Rattle.mbdc_change.specs.Apply.{commanded, moved, taken_out, confirmed_up_to, swapped};
+ghost use Rattle.mbdc_change.specs.Apply.{fitted};
+ghost use Rattle.mbdc_change.specs.Accepts.{refused_by, command_refusal, is_taken, occupies};
+ghost use Rattle.mbdc_change.specs.Size.{size_of};
+ghost use Rattle.mbdc_change.specs.Command.{line_of, longest_line, IsCommand};
+ghost use Rattle.mbdc_change.specs.Flat.{IsFlat};
+ghost use Rattle.mbdc_change.specs.Valid.{IsMeter};
+ghost use Rattle.mbdc_change.specs.Fields.{IsNumber, IsAddress, end_of_numbers};
 ghost use Rattle.dc_meters.specs.Steps.{CanBeApplied};
 
 use super::House;
 use crate::Meter;
 use dc_address::{Identity, Primary};
-use dc_change::{ChangeFault, Command, CommandLine, Flat};
-use dc_io::NoMemory;
+use mbdc_change::{ChangeFault, Command, CommandLine, Flat};
+use mbdc_io::NoMemory;
 use std::alloc::Allocator;
 
 impl<A: Allocator + Copy> House<A> {

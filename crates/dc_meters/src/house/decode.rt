@@ -8,23 +8,23 @@ ghost use Rattle.std.specs.Ordering.{nat_cmp};
 ghost use Rattle.std.specs.declared.cmp.Ordering.TheVariants.{Less};
 ghost use Rattle.dc_address.specs.declared.identity.Identity.{Identity};
 ghost use Rattle.dc_address.specs.Identity.{identity_cmp};
-ghost use Rattle.dc_change.specs.Command.{longest_line};
-ghost use Rattle.dc_change.specs.State.{State, MeterRow, ReadingRow};
-ghost use Rattle.dc_change.specs.Order.{MetersAscend, ReadingsAscend, IsNextSerial};
-ghost use Rattle.dc_change.specs.Spelled.{SpellsState};
-ghost use Rattle.dc_change.specs.Pieces.{Gives, Reads, many, listed, count_at};
-ghost use Rattle.dc_change.specs.Reading.{entry_at};
-ghost use Rattle.dc_change.specs.Reading.{reading_at, head_at};
+ghost use Rattle.mbdc_change.specs.Command.{longest_line};
+ghost use Rattle.mbdc_change.specs.State.{State, MeterRow, ReadingRow};
+ghost use Rattle.mbdc_change.specs.Order.{MetersAscend, ReadingsAscend, IsNextSerial};
+ghost use Rattle.mbdc_change.specs.Spelled.{SpellsState};
+ghost use Rattle.mbdc_change.specs.Pieces.{Gives, Reads, many, listed, count_at};
+ghost use Rattle.mbdc_change.specs.Reading.{entry_at};
+ghost use Rattle.mbdc_change.specs.Reading.{reading_at, head_at};
 
 use super::House;
 use crate::due::due_days_of;
 use crate::parts::parts_at;
 use crate::{Meter, MeterMap, Reading, ReadingList};
 use dc_address::Identity;
-use dc_change::pieces::{
+use mbdc_change::pieces::{
     address_of, byte_at, count_at, counted_at, flat_of, identity_at, line_at, long_at,
 };
-use dc_change::{CommandLine, DecodeFault, END_OF_NUMBERS, LONGEST_LINE};
+use mbdc_change::{CommandLine, DecodeFault, END_OF_NUMBERS, LONGEST_LINE};
 use std::alloc::Allocator;
 
 /// The fields before the meters.
@@ -37,7 +37,7 @@ struct Head<'a> {
 }
 
 impl<'a> Head<'a> {
-    #[tactic(auto, unfolding(dc_change::specs::Reading::head_at))]
+    #[tactic(auto, unfolding(mbdc_change::specs::Reading::head_at))]
     fn read(bytes: &'a [u8]) -> Result<(Head<'a>, &'a [u8]), DecodeFault>
         ensures { Reads (λ x. (
           record {
@@ -71,7 +71,7 @@ impl<'a> Head<'a> {
 }
 
 /// Decodes a meter and its row.
-#[tactic(auto, unfolding(dc_change::specs::Reading::entry_at, dc_change::specs::Pieces::address_at, dc_change::specs::Pieces::flat_at))]
+#[tactic(auto, unfolding(mbdc_change::specs::Reading::entry_at, mbdc_change::specs::Pieces::address_at, mbdc_change::specs::Pieces::flat_at))]
 fn entry_at<A: Allocator + Copy>(
     alloc: A,
     bytes: &[u8],
@@ -89,7 +89,7 @@ fn entry_at<A: Allocator + Copy>(
 }
 
 /// Decodes a reading.
-#[tactic(auto, unfolding(dc_change::specs::Reading::reading_at, dc_change::specs::Pieces::flat_at))]
+#[tactic(auto, unfolding(mbdc_change::specs::Reading::reading_at, mbdc_change::specs::Pieces::flat_at))]
 fn reading_at<A: Allocator + Copy>(
     alloc: A,
     bytes: &[u8],

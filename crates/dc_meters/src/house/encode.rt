@@ -2,17 +2,17 @@
 
 ghost use Rattle.std.specs.Prelude.{◌≡◌, ◌*◌, ◌≤◌, ◌<◌, ◌^◌, length, OnOk, OnErr};
 ghost use Rattle.std.specs.List.{flat_map};
-ghost use Rattle.dc_change.specs.Encoding.{state_bytes, head_bytes, meters_bytes, readings_bytes};
-ghost use Rattle.dc_change.specs.Encoding.{meter_bytes, reading_bytes};
-ghost use Rattle.dc_io.specs.Written.{IsWritten, IsStopped};
+ghost use Rattle.mbdc_change.specs.Encoding.{state_bytes, head_bytes, meters_bytes, readings_bytes};
+ghost use Rattle.mbdc_change.specs.Encoding.{meter_bytes, reading_bytes};
+ghost use Rattle.mbdc_io.specs.Written.{IsWritten, IsStopped};
 
 use super::House;
 use crate::parts::put_parts;
 use crate::{Meter, Reading};
 use dc_address::Identity;
-use dc_change::address_number;
-use dc_change::writing::{put_byte, put_count, put_counted, put_identity, put_long};
-use dc_io::{IoFault, Sink};
+use mbdc_change::address_number;
+use mbdc_change::writing::{put_byte, put_count, put_counted, put_identity, put_long};
+use mbdc_io::{IoFault, Sink};
 use std::alloc::Allocator;
 use std::collections::{BTreeMap, VecDeque};
 

@@ -3,9 +3,9 @@
 ghost use Rattle.std.specs.Prelude.{◌≡◌};
 
 use super::House;
-use dc_change::DecodeFault;
-use dc_io::{IoFault, Sink};
-use dc_kept::{Kept, Language};
+use mbdc_change::DecodeFault;
+use mbdc_io::{IoFault, Sink};
+use mbdc_io::kept::{Kept, Language};
 use std::alloc::Allocator;
 
 /// The bytes of the empty register: the next serial is 1, and all else is zero or empty.
@@ -15,11 +15,11 @@ const EMPTY: [u8; 33] = [
 ];
 
 impl<A: Allocator + Copy> Language for House<A> {
-    ghost use Rattle.dc_change.specs.State.{State as Register, empty_state};
-    ghost use Rattle.dc_change.specs.declared.change.Change.{Change as RegisterChange};
-    ghost use Rattle.dc_change.specs.Encoding.{state_bytes};
-    ghost use Rattle.dc_change.specs.Spelled.{SpellsState as Spells, SpellsChanges as Spell};
-    ghost use Rattle.dc_change.specs.History.{AcceptsAll, after as after_all};
+    ghost use Rattle.mbdc_change.specs.State.{State as Register, empty_state};
+    ghost use Rattle.mbdc_change.specs.declared.change.Change.{Change as RegisterChange};
+    ghost use Rattle.mbdc_change.specs.Encoding.{state_bytes};
+    ghost use Rattle.mbdc_change.specs.Spelled.{SpellsState as Spells, SpellsChanges as Spell};
+    ghost use Rattle.mbdc_change.specs.History.{AcceptsAll, after as after_all};
     ghost use Rattle.dc_meters.specs.Language.{empty_text, one_register, one_history, wider_register};
     ghost use Rattle.dc_meters.specs.Language.{some_register, fits_register, empty_register};
     ghost use Rattle.dc_meters.specs.Language.{nothing_after, all_after};
@@ -70,19 +70,19 @@ impl<A: Allocator + Copy> Kept for House<A> {
         &EMPTY
     }
 
-    fn decode(alloc: A, bytes: &[u8], budget: u32) -> Result<House<A>, dc_kept::DecodeFault> {
+    fn decode(alloc: A, bytes: &[u8], budget: u32) -> Result<House<A>, mbdc_io::kept::DecodeFault> {
         match House::decode(alloc, bytes, budget) {
             Ok(house) => Ok(house),
-            Err(DecodeFault::Bad) => Err(dc_kept::DecodeFault::Bad),
-            Err(DecodeFault::NoMemory) => Err(dc_kept::DecodeFault::NoMemory),
+            Err(DecodeFault::Bad) => Err(mbdc_io::kept::DecodeFault::Bad),
+            Err(DecodeFault::NoMemory) => Err(mbdc_io::kept::DecodeFault::NoMemory),
         }
     }
 
-    fn replay(&mut self, bytes: &[u8]) -> Result<(), dc_kept::DecodeFault> {
+    fn replay(&mut self, bytes: &[u8]) -> Result<(), mbdc_io::kept::DecodeFault> {
         match House::replay(self, bytes) {
             Ok(()) => Ok(()),
-            Err(DecodeFault::Bad) => Err(dc_kept::DecodeFault::Bad),
-            Err(DecodeFault::NoMemory) => Err(dc_kept::DecodeFault::NoMemory),
+            Err(DecodeFault::Bad) => Err(mbdc_io::kept::DecodeFault::Bad),
+            Err(DecodeFault::NoMemory) => Err(mbdc_io::kept::DecodeFault::NoMemory),
         }
     }
 

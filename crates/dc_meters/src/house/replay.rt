@@ -1,16 +1,16 @@
 //! Decodes and applies changes one by one.
 
 ghost use Rattle.std.specs.Prelude.{◌≡◌, ℕ, List, OnOk, OnErr, IsErrOf};
-ghost use Rattle.dc_change.specs.declared.change.Change.{Change};
-ghost use Rattle.dc_change.specs.Apply.{applied};
-ghost use Rattle.dc_change.specs.Accepts.{Accepts};
-ghost use Rattle.dc_change.specs.History.{after, AcceptsAll};
-ghost use Rattle.dc_change.specs.Spelled.{SpellsChanges};
-ghost use Rattle.dc_change.specs.Valid.{IsChange};
+ghost use Rattle.mbdc_change.specs.declared.change.Change.{Change};
+ghost use Rattle.mbdc_change.specs.Apply.{applied};
+ghost use Rattle.mbdc_change.specs.Accepts.{Accepts};
+ghost use Rattle.mbdc_change.specs.History.{after, AcceptsAll};
+ghost use Rattle.mbdc_change.specs.Spelled.{SpellsChanges};
+ghost use Rattle.mbdc_change.specs.Valid.{IsChange};
 ghost use Rattle.dc_meters.specs.Replay.{BeginsUnaccepted, IsApplied, IsHeldUp};
 
 use super::House;
-use dc_change::{Change, DecodeFault, change_at};
+use mbdc_change::{Change, DecodeFault, change_at};
 use std::alloc::Allocator;
 
 impl<A: Allocator + Copy> House<A> {

@@ -2,19 +2,19 @@
 
 ghost use Rattle.std.specs.Prelude.{◌≡◌, ℕ, ◌+◌, ◌≤◌, Some, ◌&&◌, ◌-◌, ◌<◌, true, false, OnOk};
 ghost use Rattle.std.specs.Prelude.{OnErr};
-ghost use Rattle.dc_change.specs.State.{row_of};
-ghost use Rattle.dc_change.specs.Apply.{told, heard};
-ghost use Rattle.dc_change.specs.Accepts.{refused_by, telegram_refusal, continues};
-ghost use Rattle.dc_change.specs.Size.{size_of};
-ghost use Rattle.dc_change.specs.Valid.{IsTelegram, IsPart};
-ghost use Rattle.dc_change.specs.Fields.{end_of_numbers};
+ghost use Rattle.mbdc_change.specs.State.{row_of};
+ghost use Rattle.mbdc_change.specs.Apply.{told, heard};
+ghost use Rattle.mbdc_change.specs.Accepts.{refused_by, telegram_refusal, continues};
+ghost use Rattle.mbdc_change.specs.Size.{size_of};
+ghost use Rattle.mbdc_change.specs.Valid.{IsTelegram, IsPart};
+ghost use Rattle.mbdc_change.specs.Fields.{end_of_numbers};
 
 use super::House;
 use crate::orders::Ended;
 use crate::{Meter, Part};
 use dc_address::Identity;
-use dc_change::{Body, ChangeFault, END_OF_NUMBERS};
-use dc_io::NoMemory;
+use mbdc_change::{Body, ChangeFault, END_OF_NUMBERS};
+use mbdc_io::NoMemory;
 use std::alloc::Allocator;
 
 impl<A: Allocator + Copy> House<A> {

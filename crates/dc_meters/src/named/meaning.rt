@@ -6,7 +6,7 @@ ghost use Rattle.dc_meters.specs.Means.{AreMeant, IsNameFault, Means, has_number
 use crate::House;
 use crate::named::name::Named;
 use dc_address::Identity;
-use dc_io::NoMemory;
+use mbdc_io::NoMemory;
 use std::alloc::Allocator;
 
 /// Why a name means no meter.

@@ -5,7 +5,7 @@ ghost use Rattle.std.specs.Char.{is_ascii_digit};
 ghost use Rattle.std.specs.List.{list_all};
 ghost use Rattle.dc_address.specs.Text.{text_of};
 ghost use Rattle.dc_address.specs.declared.identity.Identity.{Identity as Meter};
-ghost use Rattle.dc_change.specs.Fields.{IsOfBytes};
+ghost use Rattle.mbdc_change.specs.Fields.{IsOfBytes};
 ghost use Rattle.dc_meters.specs.Name.{IsName, Spells, SpellsNumber, capital, capitals};
 ghost use Rattle.dc_meters.specs.declared.named.name.Named.{Named as Name};
 

@@ -1,14 +1,14 @@
 //! The line on standard error that says why a readout failed.
 
 ghost use Rattle.std.specs.Prelude.{◌≡◌, ◌++◌, codes};
-ghost use Rattle.dc_io.specs.Written.{Wrote};
+ghost use Rattle.mbdc_io.specs.Written.{Wrote};
 ghost use Rattle.dc_readout.specs.Reason.{has_none, line_of, number_after, owner_text, reason_line};
 ghost use Rattle.dc_readout.specs.Reason.{reason_text, sentence_line};
 
 use crate::misses::misses::Misses;
 use crate::misses::text::put_misses;
 use dc_address::Identity;
-use dc_io::{IoFault, Sink, put_number};
+use mbdc_io::{IoFault, Sink, put_number};
 
 /// Whose failed tries these are.
 #[derive(Clone, Copy)]
@@ -48,7 +48,7 @@ fn has_none(misses: &Misses) -> bool
     misses.silent == 0 && misses.noise == 0 && misses.others == 0
 }
 
-#[tactic(auto, using(dc_io::proofs::Pieces::written), unfolding(crate::specs::Reason::reason_line))]
+#[tactic(auto, using(mbdc_io::proofs::Pieces::written), unfolding(crate::specs::Reason::reason_line))]
 fn put_line<W: Sink>(out: &mut W, owner: &Owner, misses: &Misses) -> Result<(), IoFault>
     ensures { Wrote W.Sink result out.old out.new (reason_line owner.now misses.now) }
 {
@@ -57,7 +57,7 @@ fn put_line<W: Sink>(out: &mut W, owner: &Owner, misses: &Misses) -> Result<(), 
     put_sentence_line(out, misses)
 }
 
-#[tactic(auto, using(dc_io::proofs::Pieces::written), unfolding(crate::specs::Reason::sentence_line))]
+#[tactic(auto, using(mbdc_io::proofs::Pieces::written), unfolding(crate::specs::Reason::sentence_line))]
 fn put_sentence_line<W: Sink>(out: &mut W, misses: &Misses) -> Result<(), IoFault>
     ensures { Wrote W.Sink result out.old out.new (sentence_line misses.now) }
 {
@@ -66,7 +66,7 @@ fn put_sentence_line<W: Sink>(out: &mut W, misses: &Misses) -> Result<(), IoFaul
     out.put(b"\n")
 }
 
-#[tactic(auto, using(dc_io::proofs::Pieces::written))]
+#[tactic(auto, using(mbdc_io::proofs::Pieces::written))]
 fn put_owner<W: Sink>(out: &mut W, owner: &Owner) -> Result<(), IoFault>
     ensures { Wrote W.Sink result out.old out.new (owner_text owner.now) }
 {
@@ -78,7 +78,7 @@ fn put_owner<W: Sink>(out: &mut W, owner: &Owner) -> Result<(), IoFault>
     }
 }
 
-#[tactic(auto, using(dc_io::proofs::Pieces::written), unfolding(crate::specs::Reason::line_of))]
+#[tactic(auto, using(mbdc_io::proofs::Pieces::written), unfolding(crate::specs::Reason::line_of))]
 fn put_on_line<W: Sink>(out: &mut W, line: u8, meter: &Identity) -> Result<(), IoFault>
     ensures { Wrote W.Sink result out.old out.new (line_of line meter.now) }
 {
@@ -87,7 +87,7 @@ fn put_on_line<W: Sink>(out: &mut W, line: u8, meter: &Identity) -> Result<(), I
     out.put(&meter.text())
 }
 
-#[tactic(auto, using(dc_io::proofs::Pieces::written), unfolding(crate::specs::Reason::number_after))]
+#[tactic(auto, using(mbdc_io::proofs::Pieces::written), unfolding(crate::specs::Reason::number_after))]
 fn put_number_after<W: Sink>(out: &mut W, before: &[u8], number: u8) -> Result<(), IoFault>
     ensures { Wrote W.Sink result out.old out.new (number_after before.now number) }
 {

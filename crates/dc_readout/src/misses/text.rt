@@ -1,16 +1,16 @@
 //! The sentence that says what the failed tries of a readout brought.
 
 ghost use Rattle.std.specs.Prelude.{◌≡◌};
-ghost use Rattle.dc_io.specs.Written.{Wrote};
+ghost use Rattle.mbdc_io.specs.Written.{Wrote};
 ghost use Rattle.dc_readout.specs.Text.{before_count, has_frames_alone, noise_text, others_text};
 ghost use Rattle.dc_readout.specs.Text.{part_text, sentence_of, silent_text, tries_text};
 
 use crate::misses::misses::Misses;
-use dc_io::{IoFault, Sink, put_number};
+use mbdc_io::{IoFault, Sink, put_number};
 
 /// Writes the counts that aren't 0: `3 tries failed: 2 silent, 1 unreadable`, and ` with a wrong frame` after the
 /// number of frames that weren't the answer. Of no failed try it writes `0 tries failed`.
-#[tactic(auto, using(dc_io::proofs::Pieces::written), unfolding(crate::specs::Text::sentence_of))]
+#[tactic(auto, using(mbdc_io::proofs::Pieces::written), unfolding(crate::specs::Text::sentence_of))]
 pub fn put_misses<W: Sink>(out: &mut W, misses: &Misses) -> Result<(), IoFault>
     ensures { Wrote W.Sink result out.old out.new (sentence_of misses.now) }
 {
@@ -50,7 +50,7 @@ fn has_frames_alone(misses: &Misses) -> bool
 }
 
 // Writes how many tries failed.
-#[tactic(auto, using(dc_io::proofs::Pieces::written), unfolding(crate::specs::Text::tries_text))]
+#[tactic(auto, using(mbdc_io::proofs::Pieces::written), unfolding(crate::specs::Text::tries_text))]
 fn put_tries<W: Sink>(out: &mut W, misses: &Misses) -> Result<(), IoFault>
     ensures { Wrote W.Sink result out.old out.new (tries_text misses.now) }
 {
@@ -64,7 +64,7 @@ fn put_tries<W: Sink>(out: &mut W, misses: &Misses) -> Result<(), IoFault>
 }
 
 // Writes a count with its words, unless it is 0.
-#[tactic(auto, using(dc_io::proofs::Pieces::written), unfolding(crate::specs::Text::part_text))]
+#[tactic(auto, using(mbdc_io::proofs::Pieces::written), unfolding(crate::specs::Text::part_text))]
 fn put_part<W: Sink>(out: &mut W, is_first: bool, count: u8, words: &[u8]) -> Result<(), IoFault>
     ensures { Wrote W.Sink result out.old out.new (part_text is_first count words.now) }
 {

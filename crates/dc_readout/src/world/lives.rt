@@ -8,7 +8,7 @@ use crate::world::event::WorldEvent;
 use crate::world::held::Held;
 use crate::world::script::MeterScript;
 use crate::world::world::World;
-use dc_io::NoMemory;
+use mbdc_io::NoMemory;
 use std::alloc::Allocator;
 
 /// Plays these events, and returns the finished readouts in order: each is a whole readout of one

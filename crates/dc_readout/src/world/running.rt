@@ -6,7 +6,7 @@ ghost use Rattle.dc_readout.specs.World.{running_after};
 
 use crate::world::body::Body;
 use crate::world::script::MeterScript;
-use dc_io::NoMemory;
+use mbdc_io::NoMemory;
 use crate::{Heard, Session};
 use std::alloc::Allocator;
 use std::marker::Model;

@@ -16,7 +16,7 @@ use crate::world::reply::{Reply, reply_to};
 use crate::world::request::{Request, request_of};
 use crate::world::running::Running;
 use crate::world::script::MeterScript;
-use dc_io::NoMemory;
+use mbdc_io::NoMemory;
 use std::alloc::Allocator;
 use std::marker::Model;
 use std::mem::replace;

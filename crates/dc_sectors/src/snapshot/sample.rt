@@ -3,7 +3,7 @@
 ghost use Rattle.std.specs.Prelude.{◌≡◌, ◌≢◌, ◌⊎◌, ◌<◌, ◌≤◌, ◌∷◌, ℕ, None, Some, Option, Ok, true, false, []};
 ghost use Rattle.std.specs.Prelude.{IfErr, IsOk, IsErr};
 ghost use Rattle.std.specs.List.{All};
-ghost use Rattle.dc_io.specs.Failures.{HasRisen};
+ghost use Rattle.mbdc_io.specs.Failures.{HasRisen};
 ghost use Rattle.dc_sectors.specs.FileCalls.{Measured};
 ghost use Rattle.dc_sectors.specs.Readings.{HasChanged, IsSampled, StandsAgain, given};
 

@@ -1,7 +1,7 @@
 use Rattle.std.proofs.Common.{◌++◌, codes, sym, subst, refl, arith, Result, ℕ}
-use Rattle.dc_io.specs.Stream.{PutsFront}
-use Rattle.dc_io.proofs.Pieces.{puts_front-first, puts_front-within}
-use Rattle.dc_io.specs.Words.{number_word}
+use Rattle.mbdc_io.specs.Stream.{PutsFront}
+use Rattle.mbdc_io.proofs.Pieces.{puts_front-first, puts_front-within}
+use Rattle.mbdc_io.specs.Words.{number_word}
 use Rattle.dc_core.specs.declared.fault.CommitFault.{CommitFault}
 use Rattle.dc_core.specs.Text.{committed_text}
 use Rattle.dc_core.proofs.telling.put_committed.Goals as goal

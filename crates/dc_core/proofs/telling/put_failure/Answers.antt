@@ -1,7 +1,7 @@
 use Rattle.std.proofs.Common.{◌++◌, codes, arith}
-use Rattle.dc_io.specs.Stream.{PutsFront}
-use Rattle.dc_io.proofs.Pieces.{puts_front-first}
-use Rattle.dc_io.specs.Words.{fault_text}
+use Rattle.mbdc_io.specs.Stream.{PutsFront}
+use Rattle.mbdc_io.proofs.Pieces.{puts_front-first}
+use Rattle.mbdc_io.specs.Words.{fault_text}
 use Rattle.dc_core.proofs.telling.put_failure.Goals as goal
 
 pub returns-in_err-put : goal.returns-in_err-put

@@ -1,5 +1,5 @@
 use Rattle.std.proofs.Common.{◌≡◌, ◌*◌, ◌≤◌, take}
-use Rattle.dc_change.specs.Size.{parts_size}
+use Rattle.mbdc_change.specs.Size.{parts_size}
 use Rattle.dc_meters.proofs.part.parts_size.Given as goal
 
 -- the sizes so far

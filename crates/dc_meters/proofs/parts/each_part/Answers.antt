@@ -1,6 +1,6 @@
 use Rattle.std.proofs.lemmas.Result.{err_from_is_err_and}
-use Rattle.dc_change.specs.Pieces.{many}
-use Rattle.dc_change.specs.Reading.{part_at}
+use Rattle.mbdc_change.specs.Pieces.{many}
+use Rattle.mbdc_change.specs.Reading.{part_at}
 use Rattle.dc_meters.proofs.Counts.{goes_on, ends, is_done}
 use Rattle.dc_meters.proofs.parts.each_part.Goals as goal
 

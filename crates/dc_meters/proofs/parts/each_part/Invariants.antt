@@ -1,6 +1,6 @@
 use Rattle.std.proofs.Common.{◌≡◌, ◌-◌}
-use Rattle.dc_change.specs.Pieces.{many}
-use Rattle.dc_change.specs.Reading.{part_at}
+use Rattle.mbdc_change.specs.Pieces.{many}
+use Rattle.mbdc_change.specs.Reading.{part_at}
 use Rattle.dc_meters.proofs.Counts.{with_front}
 use Rattle.dc_meters.proofs.parts.each_part.Given as goal
 

@@ -1,7 +1,7 @@
 use Rattle.std.proofs.Common.{arith}
-use Rattle.dc_change.specs.Reading.{parts_at}
-use Rattle.dc_change.proofs.Exact.{as_taken}
-use Rattle.dc_change.proofs.PieceSpellings.{Exact-parts}
+use Rattle.mbdc_change.specs.Reading.{parts_at}
+use Rattle.mbdc_change.proofs.Exact.{as_taken}
+use Rattle.mbdc_change.proofs.PieceSpellings.{Exact-parts}
 use Rattle.dc_meters.proofs.parts.parts_at.Goals as goal
 
 pub returns-clause-are_parts : goal.returns-clause-are_parts

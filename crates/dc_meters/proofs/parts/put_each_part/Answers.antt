@@ -1,6 +1,6 @@
 use Rattle.std.proofs.Common.{arith}
-use Rattle.dc_change.specs.Encoding.{part_bytes}
-use Rattle.dc_io.proofs.Writes.{on_any_err}
+use Rattle.mbdc_change.specs.Encoding.{part_bytes}
+use Rattle.mbdc_io.proofs.Writes.{on_any_err}
 use Rattle.dc_meters.proofs.Loops.{written_more, stopped_within}
 use Rattle.dc_meters.proofs.parts.put_each_part.Goals as goal
 

@@ -1,7 +1,7 @@
 use Rattle.std.specs.List.{flat_map}
 use Rattle.std.proofs.Common.{take}
-use Rattle.dc_change.specs.Encoding.{part_bytes}
-use Rattle.dc_io.specs.Written.{IsWritten}
+use Rattle.mbdc_change.specs.Encoding.{part_bytes}
+use Rattle.mbdc_io.specs.Written.{IsWritten}
 use Rattle.dc_meters.proofs.parts.put_each_part.Given as goal
 
 -- those so far went in

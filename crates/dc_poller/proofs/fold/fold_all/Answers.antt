@@ -1,9 +1,9 @@
 use Rattle.std.proofs.Common.{arith, ◌≡◌, Bool, List, ℕ, [], false, eqb-true, sym, subst}
 use Rattle.std.specs.Prelude.{◌||◌}
 use Rattle.dc_poller.specs.Fold.{AreSteps}
-use Rattle.dc_io.specs.Lines.{lines_of}
-use Rattle.dc_decode.proofs.Inputs.{no_line}
-use Rattle.dc_io.proofs.Bools.{or_assoc, or_false}
+use Rattle.mbdc_io.specs.Lines.{lines_of}
+use Rattle.mbdc_decode.proofs.Inputs.{no_line}
+use Rattle.mbdc_io.proofs.Bools.{or_assoc, or_false}
 use Rattle.dc_poller.proofs.Steps.{no_steps, step_and_steps}
 use Rattle.dc_poller.proofs.fold.fold_all.Goals as goal
 

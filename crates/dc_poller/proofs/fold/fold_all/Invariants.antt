@@ -1,9 +1,9 @@
 use Rattle.std.proofs.Common.{◌≤◌, ◌*◌, length, Bool, List, ℕ}
 use Rattle.std.specs.Prelude.{◌||◌}
-use Rattle.dc_change.specs.ChangeLine.{longest_change_line}
-use Rattle.dc_change.specs.State.{Held}
+use Rattle.mbdc_change.specs.ChangeLine.{longest_change_line}
+use Rattle.mbdc_change.specs.State.{Held}
 use Rattle.dc_poller.specs.Fold.{AreSteps}
-use Rattle.dc_io.specs.Lines.{lines_of}
+use Rattle.mbdc_io.specs.Lines.{lines_of}
 use Rattle.dc_poller.proofs.fold.fold_all.Given as goal
 
 -- whatever the rest does, the input does with what was done so far

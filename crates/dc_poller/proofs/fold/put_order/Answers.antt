@@ -1,7 +1,7 @@
 use Rattle.std.proofs.Common.{◌++◌, ℕ, codes, ap, subst, arith}
-use Rattle.dc_io.specs.Stream.{PutsFront}
-use Rattle.dc_io.proofs.Pieces.{puts_front-first, puts_front-second}
-use Rattle.dc_io.specs.Words.{number_word}
+use Rattle.mbdc_io.specs.Stream.{PutsFront}
+use Rattle.mbdc_io.proofs.Pieces.{puts_front-first, puts_front-second}
+use Rattle.mbdc_io.specs.Words.{number_word}
 use Rattle.dc_poller.specs.Fold.{order_line}
 use Rattle.dc_poller.proofs.fold.put_order.Goals as goal
 

@@ -1,10 +1,10 @@
 use Rattle.std.proofs.Common.{◌≡◌, refl, ap, subst, ◌∙◌, Bool, true, false, Result, Ok}
 use Rattle.std.specs.Prelude.{OnOk}
 use Rattle.dc_core.specs.declared.fault.HearFault.{HearFault}
-use Rattle.dc_io.proofs.Pieces.{puts-none}
+use Rattle.mbdc_io.proofs.Pieces.{puts-none}
 use Rattle.dc_core.specs.declared.line_heard.LineHeard.{LineHeard}
 use Rattle.dc_poller.specs.Link.{Link}
-use Rattle.dc_io.specs.Stream.{Puts}
+use Rattle.mbdc_io.specs.Stream.{Puts}
 use Rattle.dc_poller.specs.Poll.{Due, Phase, behind_heard}
 use Rattle.dc_poller.specs.Way.{goes_on}
 use Rattle.dc_poller.proofs.Ways.{spends_then, way_none}

@@ -1,7 +1,7 @@
 use Rattle.std.proofs.Common.{ℕ, List, refl, ap, subst, ◌∙◌, Option, Some, None}
 use Rattle.std.proofs.lemmas.Result.{err_from_is_err_and}
-use Rattle.dc_io.specs.Stream.{Puts}
-use Rattle.dc_io.proofs.Pieces.{puts-both}
+use Rattle.mbdc_io.specs.Stream.{Puts}
+use Rattle.mbdc_io.proofs.Pieces.{puts-both}
 use Rattle.dc_core.specs.Event.{asks, asked}
 use Rattle.dc_poller.specs.Link.{link_by}
 use Rattle.dc_poller.specs.Poll.{does, to_ask, told_text}

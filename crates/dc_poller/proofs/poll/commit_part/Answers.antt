@@ -1,7 +1,7 @@
 use Rattle.std.proofs.Common.{◌≡◌, ◌∙◌, ℕ, refl, ap, sym, subst, Result, Ok, Err}
 use Rattle.std.specs.Prelude.{is_ok}
 use Rattle.std.proofs.lemmas.Result.{err_from_is_err_and}
-use Rattle.dc_io.specs.Stream.{Puts}
+use Rattle.mbdc_io.specs.Stream.{Puts}
 use Rattle.dc_core.specs.Event.{Answer, commits, committed}
 use Rattle.dc_core.specs.declared.fault.CommitFault.{CommitFault}
 use Rattle.dc_poller.specs.Poll.{does, Due, to_commit, behind_turn, told_text}

@@ -1,8 +1,8 @@
 use Rattle.std.proofs.Common.{ℕ, List, [], ◌≤◌, length, arith, sym, subst, refl}
 use Rattle.std.proofs.lemmas.Result.{err_from_is_err_and}
-use Rattle.dc_io.specs.Stream.{Puts}
-use Rattle.dc_io.proofs.Pieces.{puts-both}
-use Rattle.dc_bus.specs.Limits.{most_answer}
+use Rattle.mbdc_io.specs.Stream.{Puts}
+use Rattle.mbdc_io.proofs.Pieces.{puts-both}
+use Rattle.mbdc_bus.specs.Limits.{most_answer}
 use Rattle.dc_poller.specs.Link.{link_by, IsHeardOver}
 use Rattle.dc_poller.specs.Poll.{to_hear}
 use Rattle.dc_poller.proofs.LineRuns.{on_ok}

@@ -1,8 +1,8 @@
 use Rattle.std.proofs.Common.{◌<◌, refl, ap, subst, ◌∙◌, Result, Ok, Err}
 use Rattle.std.specs.Prelude.{OnOk}
 use Rattle.std.proofs.lemmas.Result.{err_from_is_err_and}
-use Rattle.dc_io.specs.Stream.{Puts}
-use Rattle.dc_io.proofs.Pieces.{puts-both}
+use Rattle.mbdc_io.specs.Stream.{Puts}
+use Rattle.mbdc_io.proofs.Pieces.{puts-both}
 use Rattle.dc_core.specs.Event.{hears, heard}
 use Rattle.dc_core.specs.declared.fault.HearFault.{HearFault}
 use Rattle.dc_core.specs.declared.fault.HearFault.TheVariants.{PendingFull}

@@ -1,6 +1,6 @@
 use Rattle.std.proofs.Common.{refl}
 use Rattle.std.proofs.lemmas.Result.{err_from_is_err_and}
-use Rattle.dc_io.proofs.Pieces.{puts-both}
+use Rattle.mbdc_io.proofs.Pieces.{puts-both}
 use Rattle.dc_core.specs.Event.{hears, heard}
 use Rattle.dc_poller.specs.Poll.{does, to_hear_again, told_text}
 use Rattle.dc_poller.proofs.LineRuns.{on_ok}

@@ -1,7 +1,7 @@
 use Rattle.std.proofs.Common.{refl, ap, subst, ◌∙◌, Result, Ok, Err}
 use Rattle.std.proofs.lemmas.Result.{err_from_is_err_and}
-use Rattle.dc_io.specs.Stream.{Puts}
-use Rattle.dc_io.proofs.Pieces.{puts-both}
+use Rattle.mbdc_io.specs.Stream.{Puts}
+use Rattle.mbdc_io.proofs.Pieces.{puts-both}
 use Rattle.dc_core.specs.Event.{starts, started}
 use Rattle.dc_core.specs.declared.fault.StartFault.{StartFault}
 use Rattle.dc_poller.specs.Link.{link_by}

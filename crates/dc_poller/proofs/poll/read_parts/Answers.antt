@@ -1,10 +1,10 @@
 use Rattle.std.proofs.Common.{ℕ, refl, ap, subst, ◌∙◌, Bool}
 use Rattle.std.proofs.lemmas.Result.{err_from_is_err_and}
-use Rattle.dc_io.proofs.Pieces.{puts-both, puts-none}
+use Rattle.mbdc_io.proofs.Pieces.{puts-both, puts-none}
 use Rattle.dc_poller.specs.Link.{link_by}
 use Rattle.dc_poller.specs.Way.{goes_on}
 use Rattle.dc_core.proofs.Wents.{went_none}
-use Rattle.dc_io.specs.Failures.{HasRisen}
+use Rattle.mbdc_io.specs.Failures.{HasRisen}
 use Rattle.dc_poller.proofs.Traffics.{untouched_both}
 use Rattle.dc_poller.proofs.Ways.{way_none, way_then, exchanged_after, fails_after}
 use Rattle.dc_poller.proofs.poll.read_parts.Goals as goal

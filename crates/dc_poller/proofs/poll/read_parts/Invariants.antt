@@ -1,11 +1,11 @@
 use Rattle.std.proofs.Common.{◌≡◌, true, List}
 use Rattle.dc_address.specs.declared.identity.Identity.{Identity}
-use Rattle.dc_change.specs.State.{State}
+use Rattle.mbdc_change.specs.State.{State}
 use Rattle.dc_core.specs.Core.{opened}
 use Rattle.dc_core.specs.Images.{IsAt}
 use Rattle.dc_core.specs.Transcript.{Turn, leads, IsChain}
-use Rattle.dc_bus.specs.Bus.{AreExchanged}
-use Rattle.dc_io.specs.Stream.{Puts}
+use Rattle.mbdc_bus.specs.Bus.{AreExchanged}
+use Rattle.mbdc_io.specs.Stream.{Puts}
 use Rattle.dc_core.specs.Lines.{requests_on}
 use Rattle.dc_poller.specs.Run.{run_of}
 use Rattle.dc_poller.specs.Link.{link_by}

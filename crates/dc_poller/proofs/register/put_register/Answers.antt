@@ -1,10 +1,10 @@
 use Rattle.std.proofs.Common.{◌≡◌, ◌++◌, ℕ, List, codes, length, refl, ap, ◌∙◌, subst, arith}
 use Rattle.std.proofs.lemmas.Grind.{common_steps}
-use Rattle.dc_change.specs.Size.{size_of}
-use Rattle.dc_change.specs.State.{State}
-use Rattle.dc_io.specs.Stream.{PutsFront}
-use Rattle.dc_io.proofs.Pieces.{puts_front-first, puts_front-second}
-use Rattle.dc_io.specs.Words.{number_word}
+use Rattle.mbdc_change.specs.Size.{size_of}
+use Rattle.mbdc_change.specs.State.{State}
+use Rattle.mbdc_io.specs.Stream.{PutsFront}
+use Rattle.mbdc_io.proofs.Pieces.{puts_front-first, puts_front-second}
+use Rattle.mbdc_io.specs.Words.{number_word}
 use Rattle.dc_upload.specs.Register.{meter_lines}
 use Rattle.dc_poller.specs.Register.{register_text}
 use Rattle.dc_poller.proofs.register.put_register.Goals as goal

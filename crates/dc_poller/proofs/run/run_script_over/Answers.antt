@@ -1,12 +1,12 @@
 use Rattle.std.proofs.Common.{Bool, inr, refl, ◌≡◌, List, ℕ, [], sym, subst}
 use Rattle.std.specs.Prelude.{IfSome}
-use Rattle.dc_change.specs.State.{State}
+use Rattle.mbdc_change.specs.State.{State}
 use Rattle.dc_core.specs.Core.{opened}
 use Rattle.dc_core.specs.Images.{Machine, IsAt}
-use Rattle.dc_log.specs.Halves.{half_of}
+use Rattle.mbdc_log.specs.Halves.{half_of}
 use Rattle.dc_core.specs.PendingImages.{EachStands}
-use Rattle.dc_io.specs.Stream.{Puts}
-use Rattle.dc_io.specs.Lines.{lines_of}
+use Rattle.mbdc_io.specs.Stream.{Puts}
+use Rattle.mbdc_io.specs.Lines.{lines_of}
 use Rattle.dc_poller.specs.Run.{run_of}
 use Rattle.dc_poller.specs.ImageRun.{ImageWent}
 use Rattle.dc_poller.specs.Link.{AreAbsent, links_of}

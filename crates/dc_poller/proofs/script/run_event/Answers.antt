@@ -1,6 +1,6 @@
 use Rattle.std.proofs.lemmas.List.Elements.{All-nil, All-cons}
 use Rattle.std.proofs.Common.{◌≡◌, ◌+◌, ◌∷◌, [], ℕ, List, take, map, append-nil, subst, arith}
-use Rattle.dc_io.specs.Stream.{Puts}
+use Rattle.mbdc_io.specs.Stream.{Puts}
 use Rattle.dc_core.specs.Run.{event_of, IsInTime, Ran}
 use Rattle.dc_core.specs.Text.{answer_text}
 use Rattle.dc_core.proofs.Wents.{event_went}

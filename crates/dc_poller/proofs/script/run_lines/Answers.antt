@@ -1,19 +1,19 @@
 use Rattle.std.proofs.Common.{Bool, ◌≡◌, ◌+◌, ◌++◌, ◌∷◌, [], ℕ, List, inl, inr, append-nil, eqb-true, refl, sym, subst, ◌∙◌, arith, codes}
-use Rattle.dc_io.specs.Stream.{Puts}
-use Rattle.dc_io.proofs.Pieces.{puts-both, puts-none}
-use Rattle.dc_io.specs.Words.{number_word}
-use Rattle.dc_change.specs.State.{State}
+use Rattle.mbdc_io.specs.Stream.{Puts}
+use Rattle.mbdc_io.proofs.Pieces.{puts-both, puts-none}
+use Rattle.mbdc_io.specs.Words.{number_word}
+use Rattle.mbdc_change.specs.State.{State}
 use Rattle.dc_core.specs.Core.{opened}
 use Rattle.dc_core.specs.Images.{IsAt}
 use Rattle.dc_core.specs.Transcript.{Turn, leads, IsChain}
-use Rattle.dc_io.specs.Lines.{lines_of}
+use Rattle.mbdc_io.specs.Lines.{lines_of}
 use Rattle.dc_poller.specs.Run.{run_of}
 use Rattle.dc_poller.specs.Link.{AreAbsent, links_of}
 use Rattle.dc_poller.specs.Script.{AskFor, LineRan, LineCut, ScriptCut, deeds_turns, deeds_text}
 use Rattle.dc_poller.specs.ScriptLine.{seen}
 use Rattle.dc_poller.specs.Starved.{LineStarved, ScriptStarved}
 use Rattle.dc_poller.proofs.Halts.{on_write, on_no_memory}
-use Rattle.dc_decode.proofs.Inputs.{no_line}
+use Rattle.mbdc_decode.proofs.Inputs.{no_line}
 use Rattle.dc_poller.specs.Traffic.{AreCarried, IsCarried}
 use Rattle.dc_poller.proofs.LineRuns.{SoFar, one_more, cut_here, lines_none}
 use Rattle.dc_poller.proofs.Starvings.{starved_here}

@@ -1,7 +1,7 @@
 use Rattle.std.proofs.Common.{◌≡◌, ◌≤◌, ◌+◌, ◌*◌, length}
-use Rattle.dc_change.specs.Fields.{last_moment}
-use Rattle.dc_io.specs.Stream.{Puts}
-use Rattle.dc_io.specs.Lines.{lines_of, longest_input_line}
+use Rattle.mbdc_change.specs.Fields.{last_moment}
+use Rattle.mbdc_io.specs.Stream.{Puts}
+use Rattle.mbdc_io.specs.Lines.{lines_of, longest_input_line}
 use Rattle.dc_poller.specs.Link.{AreAbsent, links_of}
 use Rattle.dc_poller.specs.Traffic.{AreCarried}
 use Rattle.dc_poller.proofs.LineRuns.{SoFar}

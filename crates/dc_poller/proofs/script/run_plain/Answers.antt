@@ -1,6 +1,6 @@
 use Rattle.std.proofs.Common.{[], ℕ, Bool, Option, List, refl, sym, subst, ⊎_elim}
-use Rattle.dc_io.specs.Stream.{Puts}
-use Rattle.dc_io.proofs.Pieces.{puts-none}
+use Rattle.mbdc_io.specs.Stream.{Puts}
+use Rattle.mbdc_io.proofs.Pieces.{puts-none}
 use Rattle.dc_core.specs.Event.{starts, asks, hears, commits, offices}
 use Rattle.dc_poller.specs.Link.{LineLink, links_of}
 use Rattle.dc_poller.specs.Script.{Does}

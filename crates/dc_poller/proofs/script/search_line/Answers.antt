@@ -1,6 +1,6 @@
 use Rattle.std.proofs.Common.{List, [], get_or, inr, refl, sym, subst, ap, ◌∙◌}
 use Rattle.std.specs.Prelude.{OnOk}
-use Rattle.dc_io.specs.Stream.{Puts}
+use Rattle.mbdc_io.specs.Stream.{Puts}
 use Rattle.dc_poller.specs.Run.{run_of}
 use Rattle.dc_poller.specs.Link.{AreAbsent, LineLink, link_in, links_of}
 use Rattle.dc_poller.specs.Script.{LineRan, no_gateway}

@@ -1,5 +1,5 @@
 use Rattle.std.proofs.Common.{Option, inr, refl, ap, sym, ◌∙◌}
-use Rattle.dc_io.specs.Stream.{Puts}
+use Rattle.mbdc_io.specs.Stream.{Puts}
 use Rattle.dc_poller.specs.Link.{LineLink, Link, link_by, line_of, link_in, with_link}
 use Rattle.dc_poller.specs.Script.{no_gateway}
 use Rattle.dc_poller.specs.ScriptLine.{search as searches}

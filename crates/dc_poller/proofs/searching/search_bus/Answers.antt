@@ -1,6 +1,6 @@
 use Rattle.std.proofs.Common.{◌++◌, ◌∙◌, inr, ap, subst}
-use Rattle.dc_io.specs.Stream.{Puts}
-use Rattle.dc_io.proofs.Pieces.{puts-both}
+use Rattle.mbdc_io.specs.Stream.{Puts}
+use Rattle.mbdc_io.proofs.Pieces.{puts-both}
 use Rattle.dc_poller.specs.Link.{link_by, loss_text}
 use Rattle.dc_poller.specs.Search.{late_by, late_text}
 use Rattle.dc_poller.specs.Traffic.{IsSearchedFor}

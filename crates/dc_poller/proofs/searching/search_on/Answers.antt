@@ -1,7 +1,7 @@
 use Rattle.std.proofs.Common.{◌≡◌, List, ℕ, [], ◌∷◌, Some, None, Err, inl, refl, ap, sym, subst, ◌∙◌}
-use Rattle.dc_io.specs.Stream.{Puts}
+use Rattle.mbdc_io.specs.Stream.{Puts}
 use Rattle.dc_core.specs.Event.{Answer, commits, committed}
-use Rattle.dc_bus.specs.Bus.{Exchange}
+use Rattle.mbdc_bus.specs.Bus.{Exchange}
 use Rattle.dc_poller.specs.Link.{link_by}
 use Rattle.dc_poller.specs.Search.{Comes, late_by}
 use Rattle.dc_poller.specs.Traffic.{IsSearchedFor}

@@ -1,6 +1,6 @@
 use Rattle.std.proofs.Common.{refl, ap}
 use Rattle.std.proofs.lemmas.Result.{err_from_is_err_and}
-use Rattle.dc_io.proofs.Pieces.{puts-none}
+use Rattle.mbdc_io.proofs.Pieces.{puts-none}
 use Rattle.dc_core.specs.Event.{asks, asked}
 use Rattle.dc_core.proofs.SingleTurns.{rested}
 use Rattle.dc_poller.proofs.told.told_ask.Goals as goal

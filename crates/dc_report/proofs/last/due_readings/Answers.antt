@@ -4,7 +4,7 @@ use Rattle.std.specs.List.Sorted.{IsStrictlySortedBy}
 use Rattle.std.specs.BTreeMap.{get}
 use Rattle.std.specs.FinMap.{find}
 use Rattle.dc_address.specs.declared.identity.Identity.{Identity}
-use Rattle.dc_change.specs.State.{ReadingRow}
+use Rattle.mbdc_change.specs.State.{ReadingRow}
 use Rattle.dc_meters.specs.declared.place.Place.{Place}
 use Rattle.dc_report.specs.Ascending.{at_key}
 use Rattle.dc_meters.specs.Places.{place_cmp}

@@ -2,7 +2,7 @@ use Rattle.std.proofs.Common.{◌≡◌, ◌+◌, ◌∷◌, ℕ, List, drop, ap
 use Rattle.std.proofs.lemmas.Grind.{common_steps}
 use Rattle.std.specs.Prelude.{flat_map}
 use Rattle.dc_address.specs.declared.identity.Identity.{Identity}
-use Rattle.dc_io.specs.Stream.{PutsFront}
+use Rattle.mbdc_io.specs.Stream.{PutsFront}
 use Rattle.dc_search.specs.Found.{found_line}
 use Rattle.dc_search.proofs.TextFronts.{front_of_all}
 use Rattle.dc_search.proofs.found.put_found.Goals as goal

@@ -1,8 +1,8 @@
 use Rattle.std.proofs.Common.{◌++◌, ℕ, List, codes, map, ap, arith}
 use Rattle.dc_address.specs.Digits.{decimal_digits}
 use Rattle.dc_address.specs.Text.{decimal_code}
-use Rattle.dc_io.specs.Stream.{PutsFront}
-use Rattle.dc_io.proofs.Pieces.{puts_front-first, puts_front-within}
+use Rattle.mbdc_io.specs.Stream.{PutsFront}
+use Rattle.mbdc_io.proofs.Pieces.{puts_front-first, puts_front-within}
 use Rattle.dc_search.specs.Found.{shared_line}
 use Rattle.dc_search.proofs.found.put_number.Goals as goal
 

@@ -1,7 +1,7 @@
 use Rattle.std.proofs.Common.{ℕ, List, ◌++◌, ap, ◌∙◌, subst}
 use Rattle.std.specs.Prelude.{flat_map}
 use Rattle.dc_search.specs.declared.step.Step.{Step}
-use Rattle.dc_io.specs.Written.{Wrote}
+use Rattle.mbdc_io.specs.Written.{Wrote}
 use Rattle.dc_search.specs.Found.{budget_line, selections_line, shared_line}
 use Rattle.dc_search.proofs.Founds.{wrote_both}
 use Rattle.dc_search.proofs.found.put_rest.Goals as goal

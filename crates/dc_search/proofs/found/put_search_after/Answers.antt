@@ -2,7 +2,7 @@ use Rattle.std.proofs.Common.{List, ℕ, ◌+◌, ◌++◌, ◌∙◌, ap, subst
 use Rattle.std.specs.Prelude.{flat_map}
 use Rattle.dc_address.specs.declared.identity.Identity.{Identity}
 use Rattle.dc_search.specs.State.{step_of}
-use Rattle.dc_io.specs.Written.{Wrote}
+use Rattle.mbdc_io.specs.Written.{Wrote}
 use Rattle.dc_search.specs.Found.{budget_line, found_line, selections_line, shared_line}
 use Rattle.dc_search.proofs.Founds.{wrote_both}
 use Rattle.dc_search.proofs.found.put_search_after.Goals as goal

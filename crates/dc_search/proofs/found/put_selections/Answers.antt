@@ -1,7 +1,7 @@
 use Rattle.std.proofs.Common.{◌++◌, codes, refl, arith}
-use Rattle.dc_io.specs.Stream.{PutsFront}
-use Rattle.dc_io.proofs.Pieces.{puts_front-first, puts_front-within}
-use Rattle.dc_io.specs.Words.{number_word}
+use Rattle.mbdc_io.specs.Stream.{PutsFront}
+use Rattle.mbdc_io.proofs.Pieces.{puts_front-first, puts_front-within}
+use Rattle.mbdc_io.specs.Words.{number_word}
 use Rattle.dc_search.specs.Found.{selections_line}
 use Rattle.dc_search.proofs.found.put_selections.Goals as goal
 

@@ -1,7 +1,7 @@
 use Rattle.std.proofs.Common.{◌≡◌, ◌+◌, ◌∷◌, ℕ, List, drop, get_or, ap, arith}
 use Rattle.std.proofs.lemmas.Grind.{common_steps}
 use Rattle.std.specs.Prelude.{flat_map}
-use Rattle.dc_io.specs.Stream.{PutsFront}
+use Rattle.mbdc_io.specs.Stream.{PutsFront}
 use Rattle.dc_search.specs.Found.{shared_line}
 use Rattle.dc_search.proofs.TextFronts.{front_of_all}
 use Rattle.dc_search.proofs.found.put_shared.Goals as goal

@@ -1,5 +1,5 @@
 use Rattle.std.proofs.Common.{arith}
-use Rattle.dc_io.proofs.Pieces.{written}
+use Rattle.mbdc_io.proofs.Pieces.{written}
 use Rattle.dc_upload.specs.Register.{place_words}
 use Rattle.dc_upload.proofs.register.put_place.Goals as goal
 

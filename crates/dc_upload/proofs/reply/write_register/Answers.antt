@@ -1,5 +1,5 @@
 use Rattle.std.proofs.Common.{arith}
-use Rattle.dc_io.proofs.Pieces.{written}
+use Rattle.mbdc_io.proofs.Pieces.{written}
 use Rattle.dc_upload.specs.Reply.{register_text}
 use Rattle.dc_upload.proofs.reply.write_register.Goals as goal
 

@@ -1,6 +1,6 @@
 use Rattle.std.proofs.Common.{ℕ, List, ◌++◌, ap, ◌∙◌, subst, arith}
 use Rattle.std.specs.Io.KnownBytes.{append_known}
-use Rattle.dc_io.specs.Stream.{PutsFront}
+use Rattle.mbdc_io.specs.Stream.{PutsFront}
 use Rattle.dc_report.specs.DueTable.{due_text}
 use Rattle.dc_upload.specs.Reply.{end_line, report_text}
 use Rattle.dc_upload.proofs.reply.write_report.Goals as goal

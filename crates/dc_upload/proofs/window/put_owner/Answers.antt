@@ -1,5 +1,5 @@
 use Rattle.std.proofs.Common.{arith}
-use Rattle.dc_io.proofs.Pieces.{written}
+use Rattle.mbdc_io.proofs.Pieces.{written}
 use Rattle.dc_upload.specs.Window.{owner_words}
 use Rattle.dc_upload.proofs.window.put_owner.Goals as goal
 

@@ -1,8 +1,8 @@
 use Rattle.std.proofs.Common.{◌≡◌, ◌++◌, ℕ, List, codes, ap, ◌∙◌, sym, arith, append_assoc}
-use Rattle.dc_io.specs.Stream.{PutsFront}
-use Rattle.dc_io.proofs.Pieces.{puts_front-first, puts_front-within, puts-both}
-use Rattle.dc_io.specs.Words.{number_word}
-use Rattle.dc_change.specs.State.{ReadingRow}
+use Rattle.mbdc_io.specs.Stream.{PutsFront}
+use Rattle.mbdc_io.proofs.Pieces.{puts_front-first, puts_front-within, puts-both}
+use Rattle.mbdc_io.specs.Words.{number_word}
+use Rattle.mbdc_change.specs.State.{ReadingRow}
 use Rattle.dc_upload.specs.Window.{owner_words, reading_line}
 use Rattle.dc_upload.proofs.window.write_head.Goals as goal
 

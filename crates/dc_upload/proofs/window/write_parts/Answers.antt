@@ -1,7 +1,7 @@
 use Rattle.std.proofs.Common.{◌≡◌, ◌+◌, ◌∷◌, ℕ, List, drop, ap, arith}
 use Rattle.std.proofs.lemmas.Grind.{common_steps}
-use Rattle.dc_io.specs.Stream.{PutsFront}
-use Rattle.dc_change.specs.State.{PartRow}
+use Rattle.mbdc_io.specs.Stream.{PutsFront}
+use Rattle.mbdc_change.specs.State.{PartRow}
 use Rattle.dc_upload.specs.Window.{part_line, part_lines}
 use Rattle.dc_upload.proofs.Prefixes.{front_of_all}
 use Rattle.dc_upload.proofs.window.write_parts.Goals as goal

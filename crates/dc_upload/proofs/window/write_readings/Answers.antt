@@ -2,9 +2,9 @@ use Rattle.std.proofs.Common.{◌≡◌, ℕ, ◌-◌, ◌+◌, List, ◌++◌, 
 use Rattle.std.specs.Prelude.{flat_map}
 use Rattle.std.specs.Io.KnownBytes.{append_known}
 use Rattle.std.specs.VecDeque.Iter.{deque_iter_rest}
-use Rattle.dc_io.specs.Stream.{PutsFront}
-use Rattle.dc_io.proofs.Pieces.{append_known-more}
-use Rattle.dc_change.specs.State.{ReadingRow}
+use Rattle.mbdc_io.specs.Stream.{PutsFront}
+use Rattle.mbdc_io.proofs.Pieces.{append_known-more}
+use Rattle.mbdc_change.specs.State.{ReadingRow}
 use Rattle.dc_upload.specs.Window.{reading_lines}
 use Rattle.dc_upload.proofs.Prefixes.{front_of_all}
 use Rattle.dc_upload.proofs.window.write_readings.Goals as goal

@@ -2,9 +2,9 @@ use Rattle.std.proofs.Common.{◌≡◌, List, take, subst, arith}
 use Rattle.std.proofs.lemmas.Grind.{common_steps}
 use Rattle.std.specs.Prelude.{flat_map}
 use Rattle.std.specs.VecDeque.Iter.{deque_iter_rest}
-use Rattle.dc_io.specs.Stream.{PutsFront}
-use Rattle.dc_io.proofs.Pieces.{puts_front-first}
-use Rattle.dc_change.specs.State.{ReadingRow}
+use Rattle.mbdc_io.specs.Stream.{PutsFront}
+use Rattle.mbdc_io.proofs.Pieces.{puts_front-first}
+use Rattle.mbdc_change.specs.State.{ReadingRow}
 use Rattle.dc_upload.specs.Reply.{window_text}
 use Rattle.dc_upload.specs.Window.{reading_lines, window}
 use Rattle.dc_upload.proofs.window.write_window.Goals as goal

@@ -1,5 +1,5 @@
 use Rattle.std.proofs.Common.{◌≡◌, ◌⊎◌, ⊎_elim, ap, sym, subst, ◌∙◌, refl, List, ℕ}
-use Rattle.dc_io.specs.Written.{Wrote}
+use Rattle.mbdc_io.specs.Written.{Wrote}
 use Rattle.dc_upload.specs.Verdict.{verdict_of}
 use Rattle.dc_upload.specs.Reply.{refusal_line, reply_text, TakesMemory}
 use Rattle.dc_upload.specs.declared.code.Code.TheVariants.{Memory}

@@ -1,8 +1,8 @@
 use Rattle.std.proofs.Common.{◌≡◌, sym, subst}
 use Rattle.dc_sectors.specs.Disk.{Image, IsImage}
-use Rattle.dc_log.specs.Halves.{half_of}
+use Rattle.mbdc_log.specs.Halves.{half_of}
 use Rattle.dc_core.specs.PendingImages.{Stands, Reads}
-use Rattle.dc_log.proofs.Life.{close_open}
+use Rattle.mbdc_log.proofs.Life.{close_open}
 use Rattle.dc_meters.specs.Language.{register}
 use Rattle.dc_core.proofs.concentrator.Concentrator.close.Goals as goal
 

@@ -2,11 +2,11 @@ use Rattle.std.proofs.Common.{◌≡◌, ⊎_elim, inl, sym, subst, ◌∙◌, r
 use Rattle.dc_sectors.specs.Disk.{Image, IsImage}
 use Rattle.dc_sectors.specs.Runs.{LeavesOnly}
 use Rattle.dc_sectors.proofs.Moments.{started, weakened, at_end}
-use Rattle.dc_change.specs.History.{AcceptsAll}
-use Rattle.dc_log.specs.Halves.{half_of, half_len_of}
+use Rattle.mbdc_change.specs.History.{AcceptsAll}
+use Rattle.mbdc_log.specs.Halves.{half_of, half_len_of}
 use Rattle.dc_core.specs.PendingImages.{StandsForFront}
-use Rattle.dc_log.specs.Store.{Fits, Opened}
-use Rattle.dc_log.proofs.Fronts.{either_is_front}
+use Rattle.mbdc_log.specs.Store.{Fits, Opened}
+use Rattle.mbdc_log.proofs.Fronts.{either_is_front}
 use Rattle.dc_meters.specs.Language.{register}
 use Rattle.dc_core.specs.Lines.{NoMoreRequests}
 use Rattle.dc_core.specs.Writing.{IsWornFor}

@@ -18,10 +18,10 @@ use Rattle.dc_core.specs.Fault.{hear_fault}
 use Rattle.dc_core.specs.declared.pending.fault.TakeFault.{TakeFault}
 use Rattle.dc_core.specs.Taking.{change_of, IsTaken, refuses}
 use Rattle.dc_core.specs.Waiting.{Waiting}
-use Rattle.dc_change.specs.State.{Held, State}
+use Rattle.mbdc_change.specs.State.{Held, State}
 use Rattle.dc_core.specs.Images.{Machine}
 use Rattle.dc_core.proofs.At.{at_heard, at_taken}
-use Rattle.dc_log.specs.Store.{Opened}
+use Rattle.mbdc_log.specs.Store.{Opened}
 use Rattle.dc_core.proofs.concentrator.Concentrator.hear.Given.{Over}
 use Rattle.dc_core.proofs.concentrator.Concentrator.hear.Goals.{After-hear}
 use Rattle.dc_core.proofs.concentrator.Concentrator.hear.Goals as goal

@@ -1,7 +1,7 @@
 use Rattle.std.proofs.Common.{◌≡◌, ⊎_elim, ap, sym, subst, ◌∙◌, List, ℕ}
-use Rattle.dc_io.specs.Written.{Wrote}
-use Rattle.dc_change.specs.State.{Held}
-use Rattle.dc_change.specs.Apply.{applied}
+use Rattle.mbdc_io.specs.Written.{Wrote}
+use Rattle.mbdc_change.specs.State.{Held}
+use Rattle.mbdc_change.specs.Apply.{applied}
 use Rattle.dc_upload.specs.declared.verdict.Verdict.TheVariants.{Repeat}
 use Rattle.dc_upload.specs.Verdict.{verdict_of}
 use Rattle.dc_upload.specs.Reply.{reply_text}

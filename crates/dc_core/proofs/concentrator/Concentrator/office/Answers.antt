@@ -1,6 +1,6 @@
 use Rattle.std.proofs.Common.{Ok, Result}
-use Rattle.dc_io.specs.Written.{Wrote}
-use Rattle.dc_io.specs.declared.stream.IoFault.{IoFault}
+use Rattle.mbdc_io.specs.Written.{Wrote}
+use Rattle.mbdc_io.specs.declared.stream.IoFault.{IoFault}
 use Rattle.dc_core.specs.declared.fault.WriteFault.{WriteFault}
 use Rattle.dc_core.specs.Event.{offices}
 use Rattle.dc_core.proofs.Answering.{turned_by}

@@ -1,5 +1,5 @@
 use Rattle.std.proofs.Common.{rules, ap, sym, subst}
-use Rattle.dc_log.specs.Halves.{half_of}
+use Rattle.mbdc_log.specs.Halves.{half_of}
 use Rattle.dc_core.specs.PendingImages.{EachStands}
 use Rattle.dc_core.specs.Waiting.{Waiting}
 use Rattle.dc_core.specs.Images.{Machine}

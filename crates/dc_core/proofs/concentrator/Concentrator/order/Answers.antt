@@ -1,5 +1,5 @@
 use Rattle.std.proofs.Common.{◌≡◌, ap, sym, subst, ◌∙◌, refl}
-use Rattle.dc_change.specs.Accepts.{Accepts}
+use Rattle.mbdc_change.specs.Accepts.{Accepts}
 use Rattle.dc_core.specs.Images.{Machine, IsAt}
 use Rattle.dc_core.proofs.At.{at_ordered}
 use Rattle.dc_core.proofs.concentrator.Concentrator.order.Goals as goal

@@ -1,5 +1,5 @@
 use Rattle.std.proofs.Common.{ap, sym, ◌∙◌, List, ℕ}
-use Rattle.dc_io.specs.Written.{Wrote}
+use Rattle.mbdc_io.specs.Written.{Wrote}
 use Rattle.dc_core.specs.Step.{Spells}
 use Rattle.dc_core.proofs.Answering.{still_running, turned_unread, turned_unstored, turned_answered}
 use Rattle.dc_core.specs.Step.{settled}

@@ -2,11 +2,11 @@ use Rattle.std.proofs.Common.{refl, arith, length, Result, Ok, ◌<◌, ◌≡�
 use Rattle.std.proofs.lemmas.List.{map-append, take_more}
 use Rattle.std.proofs.lemmas.List.Elements.{All-get_or}
 use Rattle.std.proofs.Math.Seq.{take-length}
-use Rattle.dc_io.specs.Failures.{HasRisen}
-use Rattle.dc_io.specs.declared.stream.IoFault.{IoFault}
-use Rattle.dc_io.specs.Stream.{Puts}
-use Rattle.dc_io.specs.Written.{Wrote}
-use Rattle.dc_io.proofs.Pieces.{puts-both, puts-none}
+use Rattle.mbdc_io.specs.Failures.{HasRisen}
+use Rattle.mbdc_io.specs.declared.stream.IoFault.{IoFault}
+use Rattle.mbdc_io.specs.Stream.{Puts}
+use Rattle.mbdc_io.specs.Written.{Wrote}
+use Rattle.mbdc_io.proofs.Pieces.{puts-both, puts-none}
 use Rattle.dc_core.specs.declared.event.Event as declared
 use Rattle.dc_core.specs.Core.{opened}
 use Rattle.dc_core.specs.Event.{Event}

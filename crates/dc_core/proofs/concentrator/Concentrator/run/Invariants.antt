@@ -1,6 +1,6 @@
 use Rattle.std.proofs.Common.{◌≡◌, List, map, take}
-use Rattle.dc_io.specs.Stream.{Puts}
-use Rattle.dc_change.specs.State.{State}
+use Rattle.mbdc_io.specs.Stream.{Puts}
+use Rattle.mbdc_change.specs.State.{State}
 use Rattle.dc_core.specs.Core.{opened}
 use Rattle.dc_core.specs.Transcript.{Turn, leads, IsChain}
 use Rattle.dc_core.specs.Images.{IsAt}

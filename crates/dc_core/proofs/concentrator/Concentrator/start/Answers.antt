@@ -1,6 +1,6 @@
 use Rattle.std.proofs.Common.{◌≡◌, ◌<◌, ℕ, zero, suc, true, ap, sym, subst, ◌∙◌, Option, Some, arith}
 use Rattle.std.proofs.lemmas.Grind.{common_steps}
-use Rattle.dc_change.specs.State.{MeterRow, Held, row_of}
+use Rattle.mbdc_change.specs.State.{MeterRow, Held, row_of}
 use Rattle.dc_readout.specs.Summary.{Summary, begun}
 use Rattle.dc_readout.specs.Bound.{most_requests, requests_left}
 use Rattle.dc_core.specs.Lines.{is_line, on_line, put_on, requests_of, requests_on}

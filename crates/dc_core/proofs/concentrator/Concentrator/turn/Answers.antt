@@ -1,8 +1,8 @@
 use Rattle.std.proofs.Common.{refl, subst, [], ◌++◌}
 use Rattle.dc_sectors.proofs.Moments.{weakened}
-use Rattle.dc_log.specs.Halves.{half_of}
+use Rattle.mbdc_log.specs.Halves.{half_of}
 use Rattle.dc_core.specs.PendingImages.{StandsForFront}
-use Rattle.dc_log.proofs.Fronts.{longer_front}
+use Rattle.mbdc_log.proofs.Fronts.{longer_front}
 use Rattle.dc_meters.specs.Language.{register}
 use Rattle.dc_core.specs.Run.{IsInTime}
 use Rattle.dc_core.specs.Event.{starts, asks, hears, started, asked, heard, committed}

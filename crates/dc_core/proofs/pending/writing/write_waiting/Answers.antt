@@ -1,9 +1,9 @@
 use Rattle.std.proofs.Common.{subst, OnOk, ⊎_elim, inl, inr, length, rules}
 use Rattle.dc_sectors.specs.Runs.{LeavesOnly}
-use Rattle.dc_change.specs.State.{State}
-use Rattle.dc_log.specs.Halves.{half_of}
+use Rattle.mbdc_change.specs.State.{State}
+use Rattle.mbdc_log.specs.Halves.{half_of}
 use Rattle.dc_core.specs.PendingImages.{StandsForEither, Keeps}
-use Rattle.dc_log.specs.Store.{Fits}
+use Rattle.mbdc_log.specs.Store.{Fits}
 use Rattle.dc_core.proofs.pending.writing.write_waiting.Goals as goal
 
 pub returns-then-fits-clause-goes_on : goal.returns-then-fits-clause-goes_on

@@ -1,9 +1,9 @@
 use Rattle.std.proofs.Common.{◌≡◌, ◌+◌, [], false, ap, sym, ◌∙◌, arith}
 use Rattle.std.specs.Prelude.{is_some}
-use Rattle.dc_change.specs.State.{State, Held, MeterRow, row_of}
-use Rattle.dc_change.specs.Apply.{fitted}
-use Rattle.dc_change.specs.Accepts.{is_taken}
-use Rattle.dc_change.specs.Size.{size_of}
+use Rattle.mbdc_change.specs.State.{State, Held, MeterRow, row_of}
+use Rattle.mbdc_change.specs.Apply.{fitted}
+use Rattle.mbdc_change.specs.Accepts.{is_taken}
+use Rattle.mbdc_change.specs.Size.{size_of}
 use Rattle.dc_meters.proofs.Fields.{state_in}
 use Rattle.dc_meters.proofs.Sizes.{size_of-fitted}
 use Rattle.dc_meters.proofs.Acceptance.{none_of}

@@ -1,7 +1,7 @@
 use Rattle.std.proofs.Common.{◌≡◌, ◌+◌, ◌-◌, Some, ap, sym, ◌∙◌, arith, length}
-use Rattle.dc_change.specs.State.{State, Held, MeterRow, row_of}
-use Rattle.dc_change.specs.Apply.{moved}
-use Rattle.dc_change.specs.Size.{size_of}
+use Rattle.mbdc_change.specs.State.{State, Held, MeterRow, row_of}
+use Rattle.mbdc_change.specs.Apply.{moved}
+use Rattle.mbdc_change.specs.Size.{size_of}
 use Rattle.dc_meters.proofs.Fields.{state_in}
 use Rattle.dc_meters.proofs.Sizes.{size_of-moved, meter_size-le}
 use Rattle.dc_meters.proofs.house.House.check_move.Given.{Over}

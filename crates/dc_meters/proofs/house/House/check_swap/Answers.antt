@@ -3,8 +3,8 @@ use Rattle.std.specs.Prelude.{is_some, not, ◌&&◌}
 use Rattle.std.specs.List.{list_any}
 use Rattle.std.specs.BTreeMap.{is_at}
 use Rattle.dc_address.specs.Identity.{identity_cmp}
-use Rattle.dc_change.specs.State.{Held, MeterRow, row_of}
-use Rattle.dc_change.specs.Accepts.{occupies}
+use Rattle.mbdc_change.specs.State.{Held, MeterRow, row_of}
+use Rattle.mbdc_change.specs.Accepts.{occupies}
 use Rattle.dc_meters.proofs.house.House.check_swap.Goals as goal
 
 pub returns-in_default : goal.returns-in_default

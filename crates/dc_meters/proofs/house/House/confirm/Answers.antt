@@ -1,7 +1,7 @@
 use Rattle.std.proofs.Common.{◌≡◌, ◌+◌, ◌-◌, ◌<◌, List, ap, subst, sym, arith, sum_by, filter, nat_lt}
-use Rattle.dc_change.specs.State.{State, Held, ReadingRow}
-use Rattle.dc_change.specs.Size.{reading_size}
-use Rattle.dc_change.specs.Apply.{confirmed_up_to}
+use Rattle.mbdc_change.specs.State.{State, Held, ReadingRow}
+use Rattle.mbdc_change.specs.Size.{reading_size}
+use Rattle.mbdc_change.specs.Apply.{confirmed_up_to}
 use Rattle.dc_meters.proofs.Fields.{state_in}
 use Rattle.dc_meters.proofs.Keeps.{IsKept-confirmed}
 use Rattle.dc_meters.proofs.Readings.{confirmed_before}

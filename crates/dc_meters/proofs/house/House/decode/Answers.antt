@@ -2,9 +2,9 @@ use Rattle.std.proofs.Common.{◌≡◌, length, List, ℕ, [], Err, Some, refl,
 use Rattle.std.proofs.lemmas.Bool.Decides.{nat_tests}
 use Rattle.std.proofs.lemmas.List.{nil_from_length}
 use Rattle.std.proofs.lemmas.Result.{err_from_is_err_and}
-use Rattle.dc_change.specs.declared.decode_fault.DecodeFault.{DecodeFault}
-use Rattle.dc_change.specs.Reading.{Head}
-use Rattle.dc_change.proofs.Runs.{is_bad}
+use Rattle.mbdc_change.specs.declared.decode_fault.DecodeFault.{DecodeFault}
+use Rattle.mbdc_change.specs.Reading.{Head}
+use Rattle.mbdc_change.proofs.Runs.{is_bad}
 use Rattle.dc_meters.specs.declared.house.decode.Head as declared
 use Rattle.dc_meters.proofs.Decoded.{behind_head, no_head, too_large, behind_meters, ascend_of, behind_readings, line_within, IsDecoded, state_with, decoded}
 use Rattle.dc_meters.proofs.house.House.decode.Given.{Over}

@@ -1,11 +1,11 @@
 use Rattle.std.proofs.Common.{◌≡◌, sym, ap, ◌∙◌, arith, length, List}
 use Rattle.dc_address.specs.declared.identity.Identity.{Identity}
-use Rattle.dc_change.specs.State.{State, Held, MeterRow, ReadingRow}
+use Rattle.mbdc_change.specs.State.{State, Held, MeterRow, ReadingRow}
 use Rattle.dc_meters.proofs.Fields.{state_in}
 use Rattle.dc_meters.proofs.Sizes.{meters-le, readings-le}
-use Rattle.dc_change.specs.Size.{size_of}
-use Rattle.dc_io.proofs.Writes.{written_both, stopped_first, stopped_second}
-use Rattle.dc_io.proofs.Writes.{on_any_err}
+use Rattle.mbdc_change.specs.Size.{size_of}
+use Rattle.mbdc_io.proofs.Writes.{written_both, stopped_first, stopped_second}
+use Rattle.mbdc_io.proofs.Writes.{on_any_err}
 use Rattle.dc_meters.proofs.house.House.encode.Goals as goal
 
 pub returns-in_err-put_head-clause-err : goal.returns-in_err-put_head-clause-err

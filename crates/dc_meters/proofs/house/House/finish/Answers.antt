@@ -1,9 +1,9 @@
 use Rattle.std.proofs.Common.{◌≡◌, ◌+◌, ◌-◌, ◌<◌, ◌≤◌, [], Some, false, refl, ap, subst, sym, ◌∙◌, arith}
-use Rattle.dc_change.specs.State.{State, Held, MeterRow, ReadingRow, row_of}
-use Rattle.dc_change.specs.Accepts.{continues}
-use Rattle.dc_change.specs.Apply.{heard, joined}
-use Rattle.dc_change.specs.Fields.{end_of_numbers}
-use Rattle.dc_change.specs.Size.{size_of}
+use Rattle.mbdc_change.specs.State.{State, Held, MeterRow, ReadingRow, row_of}
+use Rattle.mbdc_change.specs.Accepts.{continues}
+use Rattle.mbdc_change.specs.Apply.{heard, joined}
+use Rattle.mbdc_change.specs.Fields.{end_of_numbers}
+use Rattle.mbdc_change.specs.Size.{size_of}
 use Rattle.dc_meters.specs.Kept.{IsKept}
 use Rattle.dc_meters.proofs.Fields.{state_in}
 use Rattle.dc_meters.proofs.Sizes.{meter_size-le}

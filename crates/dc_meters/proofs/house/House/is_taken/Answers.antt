@@ -1,8 +1,8 @@
 use Rattle.std.proofs.Common.{Option, Some, ℕ, ap, sym, ◌∙◌}
 use Rattle.std.specs.List.{list_any}
 use Rattle.std.specs.Map.{values_of}
-use Rattle.dc_change.specs.State.{Held}
-use Rattle.dc_change.specs.Accepts.{is_taken, occupies}
+use Rattle.mbdc_change.specs.State.{Held}
+use Rattle.mbdc_change.specs.Accepts.{is_taken, occupies}
 use Rattle.dc_meters.proofs.Unaddressed.{free_by_identity}
 use Rattle.dc_meters.proofs.house.House.is_taken.Goals as goal
 

@@ -4,8 +4,8 @@ use Rattle.std.specs.List.{list_any}
 use Rattle.std.specs.BTreeMap.{is_at}
 use Rattle.dc_address.specs.declared.identity.Identity.{Identity}
 use Rattle.dc_address.specs.Identity.{identity_cmp}
-use Rattle.dc_change.specs.State.{Held, MeterRow}
-use Rattle.dc_change.specs.Accepts.{occupies}
+use Rattle.mbdc_change.specs.State.{Held, MeterRow}
+use Rattle.mbdc_change.specs.Accepts.{occupies}
 use Rattle.dc_meters.proofs.Unaddressed.{free_of_others}
 use Rattle.dc_meters.proofs.house.House.is_taken_by_other.Goals as goal
 

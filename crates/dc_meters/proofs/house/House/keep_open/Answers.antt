@@ -1,8 +1,8 @@
 use Rattle.std.proofs.Common.{◌≡◌, ◌+◌, ◌-◌, ◌≤◌, Option, Some, true, ap, subst, sym, ◌∙◌, arith}
-use Rattle.dc_change.specs.State.{State, Held, MeterRow, row_of}
-use Rattle.dc_change.specs.Accepts.{continues}
-use Rattle.dc_change.specs.Apply.{heard, joined}
-use Rattle.dc_change.specs.Size.{size_of}
+use Rattle.mbdc_change.specs.State.{State, Held, MeterRow, row_of}
+use Rattle.mbdc_change.specs.Accepts.{continues}
+use Rattle.mbdc_change.specs.Apply.{heard, joined}
+use Rattle.mbdc_change.specs.Size.{size_of}
 use Rattle.dc_meters.specs.Kept.{IsKept}
 use Rattle.dc_meters.proofs.Fields.{state_in}
 use Rattle.dc_meters.proofs.Sizes.{meter_size-le}

@@ -1,9 +1,9 @@
 use Rattle.std.proofs.Common.{◌≡◌, ℕ, ◌+◌, ◌-◌, ◌≤◌, List, length, Option, Some, ap, subst, sym, ◌∙◌, arith}
-use Rattle.dc_change.specs.State.{State, Held, MeterRow, row_of}
-use Rattle.dc_change.specs.Apply.{moved}
-use Rattle.dc_change.specs.Flat.{IsFlat}
-use Rattle.dc_change.specs.Size.{size_of, meter_size}
-use Rattle.dc_change.specs.Valid.{IsMeter}
+use Rattle.mbdc_change.specs.State.{State, Held, MeterRow, row_of}
+use Rattle.mbdc_change.specs.Apply.{moved}
+use Rattle.mbdc_change.specs.Flat.{IsFlat}
+use Rattle.mbdc_change.specs.Size.{size_of, meter_size}
+use Rattle.mbdc_change.specs.Valid.{IsMeter}
 use Rattle.dc_meters.specs.Places.{moved_in}
 use Rattle.dc_meters.specs.Kept.{IsKept}
 use Rattle.dc_meters.proofs.Fields.{state_in}

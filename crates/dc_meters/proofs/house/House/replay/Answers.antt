@@ -1,9 +1,9 @@
 use Rattle.std.proofs.Common.{◌<◌, length, Err, ap, arith}
 use Rattle.std.proofs.lemmas.Bool.Decides.{nat_tests}
 use Rattle.std.proofs.lemmas.Result.{err_from_is_err_and}
-use Rattle.dc_change.specs.declared.decode_fault.DecodeFault.{DecodeFault}
-use Rattle.dc_change.specs.declared.decode_fault.DecodeFault.TheVariants.{NoMemory}
-use Rattle.dc_change.proofs.Runs.{fault_is, is_bad, none_spelled, read_on}
+use Rattle.mbdc_change.specs.declared.decode_fault.DecodeFault.{DecodeFault}
+use Rattle.mbdc_change.specs.declared.decode_fault.DecodeFault.TheVariants.{NoMemory}
+use Rattle.mbdc_change.proofs.Runs.{fault_is, is_bad, none_spelled, read_on}
 use Rattle.dc_meters.proofs.Replays.{up_to, held_up, apply_on, none_accepted, left_unread, left_refused}
 use Rattle.dc_meters.proofs.house.House.replay.Goals as goal
 

@@ -1,8 +1,8 @@
 use Rattle.std.proofs.Common.{ℕ, List, length, Bool, ◌≡◌, ◌+◌, Some, ap, ◌∙◌, arith}
 use Rattle.std.specs.Prelude.{if◌then◌else◌}
-use Rattle.dc_change.specs.State.{State, Held, row_of}
-use Rattle.dc_change.specs.Apply.{told}
-use Rattle.dc_change.specs.Size.{size_of}
+use Rattle.mbdc_change.specs.State.{State, Held, row_of}
+use Rattle.mbdc_change.specs.Apply.{told}
+use Rattle.mbdc_change.specs.Size.{size_of}
 use Rattle.dc_meters.proofs.Fields.{state_in}
 use Rattle.dc_meters.proofs.Sizes.{size_of-told, dropped-le}
 use Rattle.dc_meters.proofs.house.House.size_with.Goals as goal

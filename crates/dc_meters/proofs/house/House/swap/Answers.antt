@@ -4,10 +4,10 @@ use Rattle.std.specs.BTreeMap.{is_at}
 use Rattle.std.specs.List.Sorted.{IsStrictlySortedBy}
 use Rattle.dc_address.specs.declared.identity.Identity.{Identity}
 use Rattle.dc_address.specs.Identity.{identity_cmp}
-use Rattle.dc_change.specs.State.{State, Held, MeterRow, row_of}
-use Rattle.dc_change.specs.Apply.{fitted}
-use Rattle.dc_change.specs.Size.{meter_size}
-use Rattle.dc_change.specs.Valid.{IsMeter}
+use Rattle.mbdc_change.specs.State.{State, Held, MeterRow, row_of}
+use Rattle.mbdc_change.specs.Apply.{fitted}
+use Rattle.mbdc_change.specs.Size.{meter_size}
+use Rattle.mbdc_change.specs.Valid.{IsMeter}
 use Rattle.dc_meters.specs.Kept.{IsKept}
 use Rattle.dc_meters.proofs.Fields.{state_in}
 use Rattle.dc_meters.proofs.Identities.{apart_from_rows}

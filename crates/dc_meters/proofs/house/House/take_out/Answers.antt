@@ -3,7 +3,7 @@ use Rattle.std.specs.Map.{keys_of}
 use Rattle.std.specs.List.Sorted.{IsStrictlySortedBy}
 use Rattle.dc_address.specs.declared.identity.Identity.{Identity}
 use Rattle.dc_address.specs.Identity.{identity_cmp}
-use Rattle.dc_change.specs.State.{State, MeterRow}
+use Rattle.mbdc_change.specs.State.{State, MeterRow}
 use Rattle.dc_meters.proofs.Fields.{state_in}
 use Rattle.dc_meters.proofs.Sizes.{meter_size-le}
 use Rattle.dc_meters.proofs.Keeps.{IsKept-taken_out}

@@ -1,8 +1,8 @@
 use Rattle.std.proofs.lemmas.Result.{err_from_is_err_and}
-use Rattle.dc_change.specs.Pieces.{many}
-use Rattle.dc_change.specs.Reading.{reading_at}
+use Rattle.mbdc_change.specs.Pieces.{many}
+use Rattle.mbdc_change.specs.Reading.{reading_at}
 use Rattle.dc_meters.proofs.Counts.{ends, is_done}
-use Rattle.dc_change.proofs.Runs.{bad_exit}
+use Rattle.mbdc_change.proofs.Runs.{bad_exit}
 use Rattle.dc_meters.proofs.Lists.{no_readings, reading_refused, reading_kept}
 use Rattle.dc_meters.proofs.house.decode.each_reading.Goals as goal
 

@@ -1,11 +1,11 @@
 use Rattle.std.proofs.Common.{rules, ◌≡◌, List, [], ◌∷◌, ◌++◌, ap, sym, subst, ◌∙◌, append_assoc}
 use Rattle.std.specs.List.{flat_map}
 use Rattle.dc_address.specs.declared.identity.Identity.{Identity}
-use Rattle.dc_change.specs.State.{MeterRow}
-use Rattle.dc_change.specs.Encoding.{meter_bytes}
-use Rattle.dc_io.specs.Written.{IsStopped}
-use Rattle.dc_io.proofs.Writes.{written_none, written_both, stopped_first, stopped_second}
-use Rattle.dc_io.proofs.Writes.{on_any_err}
+use Rattle.mbdc_change.specs.State.{MeterRow}
+use Rattle.mbdc_change.specs.Encoding.{meter_bytes}
+use Rattle.mbdc_io.specs.Written.{IsStopped}
+use Rattle.mbdc_io.proofs.Writes.{written_none, written_both, stopped_first, stopped_second}
+use Rattle.mbdc_io.proofs.Writes.{on_any_err}
 use Rattle.dc_meters.proofs.house.encode.put_each_meter.Goals as goal
 
 pub loop-meter-init : goal.loop-meter-init

@@ -1,7 +1,7 @@
 use Rattle.std.proofs.Common.{◌≡◌, ℕ, List, ◌++◌}
 use Rattle.std.specs.List.{flat_map}
-use Rattle.dc_change.specs.Encoding.{meter_bytes}
-use Rattle.dc_io.specs.Written.{IsWritten}
+use Rattle.mbdc_change.specs.Encoding.{meter_bytes}
+use Rattle.mbdc_io.specs.Written.{IsWritten}
 use Rattle.dc_meters.proofs.house.encode.put_each_meter.Given as goal
 
 -- those so far went in, and those that are left make the rest

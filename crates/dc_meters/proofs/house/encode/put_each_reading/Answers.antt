@@ -1,11 +1,11 @@
 use Rattle.std.proofs.Common.{rules, ◌≡◌, List, [], ◌∷◌, ◌++◌, ap, sym, subst, ◌∙◌, append_assoc}
 use Rattle.std.specs.List.{flat_map}
 use Rattle.std.specs.VecDeque.Iter.{deque_iter_rest}
-use Rattle.dc_change.specs.State.{ReadingRow}
-use Rattle.dc_change.specs.Encoding.{reading_bytes}
-use Rattle.dc_io.specs.Written.{IsStopped}
-use Rattle.dc_io.proofs.Writes.{written_none, written_both, stopped_first, stopped_second}
-use Rattle.dc_io.proofs.Writes.{on_any_err}
+use Rattle.mbdc_change.specs.State.{ReadingRow}
+use Rattle.mbdc_change.specs.Encoding.{reading_bytes}
+use Rattle.mbdc_io.specs.Written.{IsStopped}
+use Rattle.mbdc_io.proofs.Writes.{written_none, written_both, stopped_first, stopped_second}
+use Rattle.mbdc_io.proofs.Writes.{on_any_err}
 use Rattle.dc_meters.proofs.house.encode.put_each_reading.Goals as goal
 
 pub loop-reading-init : goal.loop-reading-init

@@ -1,8 +1,8 @@
 use Rattle.std.proofs.Common.{◌≡◌, ℕ, List, ◌++◌}
 use Rattle.std.specs.List.{flat_map}
 use Rattle.std.specs.VecDeque.Iter.{deque_iter_rest}
-use Rattle.dc_change.specs.Encoding.{reading_bytes}
-use Rattle.dc_io.specs.Written.{IsWritten}
+use Rattle.mbdc_change.specs.Encoding.{reading_bytes}
+use Rattle.mbdc_io.specs.Written.{IsWritten}
 use Rattle.dc_meters.proofs.house.encode.put_each_reading.Given as goal
 
 -- those so far went in, and those that are left make the rest

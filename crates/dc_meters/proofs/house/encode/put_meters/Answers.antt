@@ -1,5 +1,5 @@
-use Rattle.dc_io.proofs.Writes.{written_both, stopped_first, stopped_second}
-use Rattle.dc_io.proofs.Writes.{on_any_err}
+use Rattle.mbdc_io.proofs.Writes.{written_both, stopped_first, stopped_second}
+use Rattle.mbdc_io.proofs.Writes.{on_any_err}
 use Rattle.dc_meters.proofs.house.encode.put_meters.Goals as goal
 
 pub returns-in_err-put_count-clause-err : goal.returns-in_err-put_count-clause-err

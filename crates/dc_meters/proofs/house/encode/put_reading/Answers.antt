@@ -1,6 +1,6 @@
-use Rattle.dc_io.proofs.Writes.{written_both, stopped_first, stopped_second}
-use Rattle.dc_io.proofs.Writes.{on_any_err}
-use Rattle.dc_change.specs.Encoding.{reading_bytes}
+use Rattle.mbdc_io.proofs.Writes.{written_both, stopped_first, stopped_second}
+use Rattle.mbdc_io.proofs.Writes.{on_any_err}
+use Rattle.mbdc_change.specs.Encoding.{reading_bytes}
 use Rattle.dc_meters.proofs.house.encode.put_reading.Goals as goal
 
 pub returns-in_err-put_long-clause-err : goal.returns-in_err-put_long-clause-err

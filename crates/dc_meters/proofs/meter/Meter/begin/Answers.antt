@@ -1,5 +1,5 @@
 use Rattle.std.proofs.Common.{rules, ◌≡◌, [], ◌∷◌}
-use Rattle.dc_change.specs.State.{MeterRow}
+use Rattle.mbdc_change.specs.State.{MeterRow}
 use Rattle.dc_meters.proofs.PartLists.{IsMeter-begun}
 use Rattle.dc_meters.proofs.meter.Meter.begin.Goals as goal
 

@@ -1,8 +1,8 @@
 use Rattle.std.proofs.Common.{◌≡◌, Bool, false, [], ◌∷◌, ◌++◌, cond, subst, sym, arith}
 use Rattle.std.specs.Prelude.{◌==◌}
 use Rattle.std.proofs.lemmas.Bool.Decides.{nat_tests}
-use Rattle.dc_change.specs.State.{MeterRow}
-use Rattle.dc_change.specs.Valid.{IsReading}
+use Rattle.mbdc_change.specs.State.{MeterRow}
+use Rattle.mbdc_change.specs.Valid.{IsReading}
 use Rattle.dc_meters.proofs.meter.Meter.finish.Goals as goal
 
 pub returns-in-Ok-clause-is_reading : goal.returns-in-Ok-clause-is_reading

@@ -1,5 +1,5 @@
 use Rattle.std.proofs.Common.{arith, ap, length}
-use Rattle.dc_change.specs.State.{MeterRow}
+use Rattle.mbdc_change.specs.State.{MeterRow}
 use Rattle.dc_meters.proofs.PartLists.{IsMeter-pushed}
 use Rattle.dc_meters.proofs.meter.Meter.push.Goals as goal
 

@@ -2,8 +2,8 @@ use Rattle.std.proofs.Common.{◌≡◌, Option, true, ap, subst, sym, ◌∙◌
 use Rattle.std.specs.Map.{lookup}
 use Rattle.std.specs.BTreeMap.{is_at}
 use Rattle.dc_address.specs.Identity.{identity_cmp}
-use Rattle.dc_change.specs.State.{MeterRow}
-use Rattle.dc_change.specs.Accepts.{continues}
+use Rattle.mbdc_change.specs.State.{MeterRow}
+use Rattle.mbdc_change.specs.Accepts.{continues}
 use Rattle.dc_meters.specs.Places.{MeterRows}
 use Rattle.dc_meters.proofs.Identities.{one_row}
 use Rattle.dc_meters.proofs.Indexed.{indexed_same}

@@ -1,7 +1,7 @@
 use Rattle.std.proofs.Common.{Some, true, ap, sym, ◌∙◌}
 use Rattle.std.specs.List.{list_any}
 use Rattle.std.specs.Map.{values_of}
-use Rattle.dc_change.specs.Accepts.{occupies}
+use Rattle.mbdc_change.specs.Accepts.{occupies}
 use Rattle.dc_meters.specs.Places.{MeterRows, is_on_bus}
 use Rattle.dc_meters.proofs.OnBus.{any_on_bus, any_and_all, any_value, first_there}
 use Rattle.dc_meters.proofs.meter_map.MeterMap.is_taken.Goals as goal

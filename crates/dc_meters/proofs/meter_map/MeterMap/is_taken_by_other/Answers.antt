@@ -6,8 +6,8 @@ use Rattle.std.proofs.lemmas.Iterator.Search.{any_from_yields_List}
 use Rattle.std.proofs.lemmas.Iterator.Consumers.{YieldsList-from_rest}
 use Rattle.dc_address.specs.declared.identity.Identity.{Identity}
 use Rattle.dc_address.specs.Identity.{identity_cmp}
-use Rattle.dc_change.specs.State.{MeterRow}
-use Rattle.dc_change.specs.Accepts.{occupies}
+use Rattle.mbdc_change.specs.State.{MeterRow}
+use Rattle.mbdc_change.specs.Accepts.{occupies}
 use Rattle.dc_meters.specs.declared.place.BusPlace.{BusPlace}
 use Rattle.dc_meters.specs.Places.{MeterRows, is_on_bus}
 use Rattle.dc_meters.proofs.OnBus.{any_kept, any_on_bus}

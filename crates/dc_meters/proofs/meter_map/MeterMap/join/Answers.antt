@@ -2,11 +2,11 @@ use Rattle.std.proofs.Common.{◌≡◌, Option, true, ap, subst, sym, ◌∙◌
 use Rattle.std.specs.Map.{lookup}
 use Rattle.std.specs.BTreeMap.{is_at}
 use Rattle.dc_address.specs.Identity.{identity_cmp}
-use Rattle.dc_change.specs.State.{MeterRow}
-use Rattle.dc_change.specs.Accepts.{continues}
-use Rattle.dc_change.specs.Apply.{joined}
-use Rattle.dc_change.specs.Size.{meter_size}
-use Rattle.dc_change.specs.Valid.{IsMeter}
+use Rattle.mbdc_change.specs.State.{MeterRow}
+use Rattle.mbdc_change.specs.Accepts.{continues}
+use Rattle.mbdc_change.specs.Apply.{joined}
+use Rattle.mbdc_change.specs.Size.{meter_size}
+use Rattle.mbdc_change.specs.Valid.{IsMeter}
 use Rattle.dc_meters.specs.Places.{MeterRows}
 use Rattle.dc_meters.proofs.Identities.{one_row}
 use Rattle.dc_meters.proofs.Indexed.{indexed_same}

@@ -4,8 +4,8 @@ use Rattle.std.specs.Option.{option_copied_mut}
 use Rattle.std.specs.Map.{lookup}
 use Rattle.std.specs.BTreeMap.{is_at}
 use Rattle.dc_address.specs.Identity.{identity_cmp}
-use Rattle.dc_change.specs.State.{MeterRow}
-use Rattle.dc_change.proofs.Exact.{some_is}
+use Rattle.mbdc_change.specs.State.{MeterRow}
+use Rattle.mbdc_change.proofs.Exact.{some_is}
 use Rattle.dc_meters.specs.Places.{MeterRows, place_cmp, among, moved_in}
 use Rattle.dc_meters.proofs.PlaceOrder.{own_place, put_in, taken_out}
 use Rattle.dc_meters.proofs.Indexed.{indexed_moved, moved_nowhere}

@@ -1,7 +1,7 @@
 use Rattle.std.proofs.Common.{◌≡◌, ◌++◌, ℕ, List, [], ◌∷◌, length, arith, subst}
 use Rattle.std.proofs.lemmas.List.{append-nil}
 use Rattle.dc_address.specs.declared.identity.Identity.{Identity as Meter}
-use Rattle.dc_change.specs.State.{State}
+use Rattle.mbdc_change.specs.State.{State}
 use Rattle.dc_meters.specs.Means.{AreMeant}
 use Rattle.dc_meters.specs.declared.named.name.Named.{Named}
 use Rattle.dc_meters.proofs.named.meaning.resolve_all.Goals as goal

@@ -1,6 +1,6 @@
 use Rattle.std.proofs.Common.{List, ◌≡◌, ◌<◌, ap, subst, sym, ◌∙◌}
 use Rattle.std.specs.Prelude.{All}
-use Rattle.dc_change.specs.State.{ReadingRow, PartRow}
+use Rattle.mbdc_change.specs.State.{ReadingRow, PartRow}
 use Rattle.dc_meters.specs.Due.{due_days}
 use Rattle.dc_meters.specs.Points.{points_of}
 use Rattle.dc_meters.specs.Orders.{ReadingRows}

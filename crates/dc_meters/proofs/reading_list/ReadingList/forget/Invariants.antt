@@ -1,5 +1,5 @@
 use Rattle.std.proofs.Common.{◌≡◌, ◌+◌, filter, nat_lt, sum_by, length}
-use Rattle.dc_change.specs.Size.{reading_size}
+use Rattle.mbdc_change.specs.Size.{reading_size}
 use Rattle.dc_meters.proofs.reading_list.ReadingList.forget.Given as goal
 
 -- those that are gone, and of those that are left the ones that stay

@@ -3,7 +3,7 @@ use Rattle.std.specs.Prelude.{nat_lt}
 use Rattle.std.specs.List.Sorted.{IsNonDecreasingBy}
 use Rattle.std.specs.VecDeque.Iter.{deque_iter_rest}
 use Rattle.std.proofs.lemmas.List.Sorted.{IsPartitionedBy-ltb, IsPartitionPoint-from_clause}
-use Rattle.dc_change.specs.State.{ReadingRow}
+use Rattle.mbdc_change.specs.State.{ReadingRow}
 use Rattle.dc_meters.specs.Orders.{ReadingRows, readings_from}
 use Rattle.dc_meters.proofs.FromSerial.{from_point, serials_rise}
 use Rattle.dc_meters.proofs.reading_list.ReadingList.from.Goals as goal

@@ -1,5 +1,5 @@
 use Rattle.std.proofs.Common.{◌≡◌, ◌∷◌, subst}
-use Rattle.dc_change.specs.State.{ReadingRow}
+use Rattle.mbdc_change.specs.State.{ReadingRow}
 use Rattle.dc_meters.specs.Orders.{AreOrdered}
 use Rattle.dc_meters.proofs.FromSerial.{all_stay}
 use Rattle.dc_meters.proofs.Ordered.{ordered_less}

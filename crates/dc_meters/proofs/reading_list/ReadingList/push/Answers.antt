@@ -1,6 +1,6 @@
 use Rattle.std.proofs.Common.{◌<◌, subst, sym}
 use Rattle.std.specs.Prelude.{All}
-use Rattle.dc_change.specs.State.{ReadingRow}
+use Rattle.mbdc_change.specs.State.{ReadingRow}
 use Rattle.dc_meters.specs.Orders.{ReadingRows}
 use Rattle.dc_meters.proofs.Ordered.{unfiled_meter, unfiled_day, ordered_more, ordered_same}
 use Rattle.dc_meters.proofs.reading_list.ReadingList.push.Given.{Over}

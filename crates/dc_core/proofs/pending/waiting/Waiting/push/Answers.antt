@@ -1,6 +1,6 @@
 use Rattle.std.proofs.Common.{◌≡◌, ◌≤◌, ◌+◌, ◌*◌, ◌++◌, length, ap, arith, length-append}
-use Rattle.dc_change.specs.Encoding.{change_bytes, longest_change}
-use Rattle.dc_change.proofs.CommandSpellings.{change_len, change_some}
+use Rattle.mbdc_change.specs.Encoding.{change_bytes, longest_change}
+use Rattle.mbdc_change.proofs.CommandSpellings.{change_len, change_some}
 use Rattle.dc_core.specs.Waiting.{Waiting, most_waiting}
 use Rattle.dc_core.proofs.Broken.{no_break}
 use Rattle.dc_core.proofs.pending.waiting.Waiting.push.Goals.{After-encode_change}

@@ -1,5 +1,0 @@
-use Rattle.std.proofs.Common.{length}
-use Rattle.dc_audit.proofs.smallest.+digits_on.Given as goal
-
-abbrev pub decreases-digits_on : goal.decreases-digits_on
-decreases-digits_on l = length l.text.now

@@ -1,4 +1,0 @@
-use Rattle.dc_bus.proofs.windows.+insist.Given as goal
-
-abbrev pub decreases-insist : goal.decreases-insist
-decreases-insist g l = l.most

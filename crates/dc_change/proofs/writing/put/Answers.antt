@@ -1,5 +1,0 @@
-use Rattle.dc_io.proofs.Writes.{written_one}
-use Rattle.dc_change.proofs.writing.put.Goals as goal
-
-pub returns-clause-ok : goal.returns-clause-ok
-returns-clause-ok g c = written_one c.args.sink.now c.put.new.self c.args.bytes.now c.in_ok-put.ensures.bytes c.in_ok-put.ensures.well c.in_ok-put.ensures.step

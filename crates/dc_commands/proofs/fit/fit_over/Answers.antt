@@ -1,8 +1,0 @@
-use Rattle.std.proofs.Common.{inl, inr}
-use Rattle.dc_commands.proofs.fit.fit_over.Goals as goal
-
-pub returns-in-Err : goal.returns-in-Err
-returns-in-Err g c = inr c.in-Err.ensures.shut
-
-pub returns : goal.returns
-returns g c = inl (c.guarded.new.disk, c.in-Ok.ensures.ready, c.fit_printed.ensures)

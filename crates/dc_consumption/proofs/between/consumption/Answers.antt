@@ -1,9 +1,0 @@
-use Rattle.dc_consumption.proofs.Risen.{rises_along}
-use Rattle.dc_consumption.proofs.between.consumption.Goals as goal
-
-pub walk-first-requires-clause-before : goal.walk-first-requires-clause-before
-walk-first-requires-clause-before c = c.start.ensures c.args.from c.args.entries.now
-
-pub difference-requires : goal.difference-requires
-difference-requires c =
-    rises_along c.args.entries.now c.requires.order c.args.from c.args.to c.requires.period _ _ c.amount_at-before.ensures c.amount_at-after.ensures

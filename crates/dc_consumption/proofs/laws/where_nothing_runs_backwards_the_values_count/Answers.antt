@@ -1,5 +1,0 @@
-use Rattle.dc_consumption.proofs.Clean.{consumption_where_none_is_marked}
-use Rattle.dc_consumption.proofs.laws.where_nothing_runs_backwards_the_values_count.Goals as goal
-
-pub returns : goal.returns
-returns c = consumption_where_none_is_marked

@@ -1,9 +1,0 @@
--- the exchanges so far, and those still to come, are those of all the entries
-use Rattle.std.proofs.Common.{◌≡◌, ◌+◌, ◌≤◌, ◌∷◌, drop, length}
-use Rattle.dc_consumption.specs.Mark.{exchanges_in}
-use Rattle.dc_consumption.proofs.mark.exchanges.Given as goal
-
-abbrev pub invariant-loop-after : goal.invariant-loop-after
-invariant-loop-after l =
-    (l.count + length (exchanges_in (l.before ∷ drop l.after-index l.later) l.from l.to) ≡ length (exchanges_in l.fn.entries l.from l.to))
-    × (l.count ≤ l.after-index)

@@ -1,1 +1,0 @@
--- lemmas by topic

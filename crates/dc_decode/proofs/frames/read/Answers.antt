@@ -1,5 +1,0 @@
-use Rattle.dc_decode.proofs.Spelled.{parse_is_parsed}
-use Rattle.dc_decode.proofs.frames.read.Goals as goal
-
-pub returns : goal.returns
-returns c = parse_is_parsed c.args.text.now c.parse.result c.parse.ensures.exact c.parse.ensures.refused

@@ -1,6 +1,0 @@
-use Rattle.std.proofs.Common.{◌≡◌, ◌-◌, ◌*◌, ◌++◌, length, drop}
-use Rattle.dc_io.specs.Hex.{upper_hex}
-use Rattle.dc_decode.proofs.line.put_hex_before.Given as goal
-
-abbrev pub invariant-bytes : goal.invariant-bytes
-invariant-bytes l = drop (l.end - 2 * l.i) l.room ≡ upper_hex (drop (length l.bytes - l.i) l.bytes) ++ drop l.end l.initial.room

@@ -1,5 +1,0 @@
-use Rattle.dc_in_time.proofs.Orderly.{answers_it}
-use Rattle.dc_in_time.proofs.laws.every_answer_is_to_its_request.Goals as goal
-
-pub returns : goal.returns
-returns g c old new request answer reply runs asks = answers_it g.W.Wire old new request answer reply runs asks

@@ -1,5 +1,0 @@
-use Rattle.std.proofs.Common.{length}
-use Rattle.dc_installer.proofs.number.+fix.Given as goal
-
-abbrev pub decreases-fix : goal.decreases-fix
-decreases-fix l = length l.codes.now

@@ -1,8 +1,0 @@
-use Rattle.std.proofs.Common.{◌≢◌, [], rules}
-use Rattle.dc_installer.specs.Scan.{answers}
-use Rattle.dc_installer.proofs.primary.call.Goals as goal
-
-pub returns : goal.returns
-returns g c =
-    let some : c.insist-answer.result ≢ [] = search rules in
-    answers some c.insist-answer.ensures.asked c.ask_telegram-telegram.ensures

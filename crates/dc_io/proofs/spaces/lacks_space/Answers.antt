@@ -1,6 +1,0 @@
-use Rattle.std.proofs.Common.{arith}
-use Rattle.dc_io.proofs.Solid.{filter_solid}
-use Rattle.dc_io.proofs.spaces.lacks_space.Goals as goal
-
-pub returns-in-None : goal.returns-in-None
-returns-in-None c h = filter_solid c.args.line.now (λ k below. c.in-None.ensures k (omega arith) below)

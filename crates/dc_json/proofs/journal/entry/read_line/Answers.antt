@@ -1,8 +1,0 @@
-use Rattle.std.proofs.Common.{IfOk, Option, subst, sym}
-use Rattle.json.specs.Json.{Json}
-use Rattle.dc_json.specs.Journal.{IsKept}
-use Rattle.dc_json.proofs.journal.entry.read_line.Goals as goal
-
-pub returns-in-Ok-clause-text : goal.returns-in-Ok-clause-text
-returns-in-Ok-clause-text g c =
-    subst (λ (json : Option Json). IfOk c.line_of.result (IsKept c.args.keeps c.args.line.now json)) (sym c.in-Ok.ensures.ok.1) c.line_of.ensures.text

@@ -1,1 +1,0 @@
--- the definitions that contracts cite

@@ -1,5 +1,0 @@
-use Rattle.std.proofs.Common.{length}
-use Rattle.dc_links.proofs.reach.reaching.+reach_from.Given as goal
-
-abbrev pub decreases-reach_from : goal.decreases-reach_from
-decreases-reach_from g l = length l.links.now

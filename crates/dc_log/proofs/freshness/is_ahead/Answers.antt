@@ -1,5 +1,0 @@
-use Rattle.dc_log.proofs.Ahead.{unstamped}
-use Rattle.dc_log.proofs.freshness.is_ahead.Goals as goal
-
-pub returns-in-None : goal.returns-in-None
-returns-in-None c = (λ is. absurd (cc is), λ is. absurd (unstamped _ _ _ c.in-None.ensures is))

@@ -1,5 +1,0 @@
-use Rattle.dc_log.proofs.Once.{reads_once}
-use Rattle.dc_log.proofs.laws.reads_as_one_state.Goals as goal
-
-pub returns : goal.returns
-returns g c = reads_once g.K.Language

@@ -1,5 +1,0 @@
-use Rattle.dc_poll.proofs.Leaving.{settled_at, settled_told}
-use Rattle.dc_poll.proofs.laws.what_is_read_is_committed.Goals as goal
-
-pub returns : goal.returns
-returns g c = record { asked = settled_at g.T.Timer.tells g.T.Timer.passes; told = settled_told }

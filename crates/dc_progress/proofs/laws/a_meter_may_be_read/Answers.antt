@@ -1,5 +1,0 @@
-use Rattle.dc_progress.proofs.Example.{premises_are_met}
-use Rattle.dc_progress.proofs.laws.a_meter_may_be_read.Goals as goal
-
-pub returns : goal.returns
-returns c = premises_are_met

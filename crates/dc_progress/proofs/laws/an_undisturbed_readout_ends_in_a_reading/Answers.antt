@@ -1,5 +1,0 @@
-use Rattle.dc_progress.proofs.Along.{undisturbed_readouts_end}
-use Rattle.dc_progress.proofs.laws.an_undisturbed_readout_ends_in_a_reading.Goals as goal
-
-pub returns : goal.returns
-returns c = undisturbed_readouts_end

@@ -1,5 +1,0 @@
-use Rattle.dc_progress.proofs.Rows.{readouts_of_a_run_end}
-use Rattle.dc_progress.proofs.laws.each_readout_of_a_run_ends_in_a_reading.Goals as goal
-
-pub returns : goal.returns
-returns c = readouts_of_a_run_end

@@ -1,5 +1,0 @@
-use Rattle.dc_progress.proofs.RoomRow.{room_row_suffices}
-use Rattle.dc_progress.proofs.poll.laws.a_register_has_room_where_the_row_room_suffices.Goals as goal
-
-pub returns : goal.returns
-returns g c = room_row_suffices {B = g.row.B.Denot} g.B.HalfBus

@@ -1,5 +1,0 @@
-use Rattle.dc_progress.proofs.OnePoll.{is_met}
-use Rattle.dc_progress.proofs.poll.laws.every_meter_may_be_read.Goals as goal
-
-pub returns : goal.returns
-returns c = is_met

@@ -1,5 +1,0 @@
-use Rattle.dc_progress.proofs.Polls.{polls_end}
-use Rattle.dc_progress.proofs.script.laws.a_poll_ends_in_a_reading.Goals as goal
-
-pub returns : goal.returns
-returns c = polls_end

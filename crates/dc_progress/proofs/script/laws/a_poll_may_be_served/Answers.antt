@@ -1,5 +1,0 @@
-use Rattle.dc_progress.proofs.Served.{polls_are_served}
-use Rattle.dc_progress.proofs.script.laws.a_poll_may_be_served.Goals as goal
-
-pub returns : goal.returns
-returns c = polls_are_served

@@ -1,5 +1,0 @@
-use Rattle.dc_raw.proofs.Steps.{gives_heard}
-use Rattle.dc_raw.proofs.laws.what_a_line_gives_is_heard.Goals as goal
-
-pub returns : goal.returns
-returns g c = gives_heard g.W.Wire

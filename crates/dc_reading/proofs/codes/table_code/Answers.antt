@@ -1,5 +1,0 @@
-use Rattle.std.proofs.Common.{refl}
-use Rattle.dc_reading.proofs.codes.table_code.Goals as goal
-
-pub code_in-requires : goal.code_in-requires
-code_in-requires c = refl

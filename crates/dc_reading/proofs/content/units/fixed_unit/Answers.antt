@@ -1,5 +1,0 @@
-use Rattle.std.proofs.Common.{refl}
-use Rattle.dc_reading.proofs.content.units.fixed_unit.Goals as goal
-
-pub unit_in-requires : goal.unit_in-requires
-unit_in-requires c = refl

@@ -1,5 +1,0 @@
-use Rattle.std.proofs.Common.{length}
-use Rattle.dc_reading.proofs.front.+is_printed.Given as goal
-
-abbrev pub decreases-is_printed : goal.decreases-is_printed
-decreases-is_printed l = length l.text.now

@@ -1,4 +1,0 @@
-use Rattle.dc_reading.proofs.real.+doubled.Given as goal
-
-abbrev pub decreases-doubled : goal.decreases-doubled
-decreases-doubled l = l.count

@@ -1,5 +1,0 @@
-use Rattle.std.proofs.Common.{length}
-use Rattle.dc_reading.proofs.real.+first_of.Given as goal
-
-abbrev pub decreases-first_of : goal.decreases-first_of
-decreases-first_of l = length l.cuts.now

@@ -1,4 +1,0 @@
-use Rattle.dc_reading.proofs.real.+halved.Given as goal
-
-abbrev pub decreases-halved : goal.decreases-halved
-decreases-halved l = l.count

@@ -1,9 +1,0 @@
-use Rattle.std.proofs.Common.{◌≡◌, length}
-use Rattle.dc_reading.specs.Sent.{end_at}
-use Rattle.dc_reading.proofs.sent.end_of.Given as goal
-
-abbrev pub invariant-fronts : goal.invariant-fronts
-invariant-fronts l = end_at l.left ≡ end_at l.bytes
-
-abbrev pub decreases-fronts : goal.decreases-fronts
-decreases-fronts l = length l.left

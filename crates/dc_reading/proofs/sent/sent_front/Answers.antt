@@ -1,5 +1,0 @@
-use Rattle.dc_reading.proofs.Turns.{sent_given}
-use Rattle.dc_reading.proofs.sent.sent_front.Goals as goal
-
-pub returns : goal.returns
-returns c = sent_given _ _ c.wide_front.ensures

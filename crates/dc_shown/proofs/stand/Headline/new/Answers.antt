@@ -1,6 +1,0 @@
-use Rattle.dc_shown.specs.Stand.{all_sent}
-use Rattle.dc_shown.proofs.Sents.{all_left}
-use Rattle.dc_shown.proofs.stand.Headline.new.Goals as goal
-
-pub returns : goal.returns
-returns g c = all_left c.args.kind c.of.result (all_sent c.args.body.now c.args.parts.now) c.of.ensures

@@ -1,1 +1,0 @@
--- no definitions: the tests use those of the crates below

@@ -1,7 +1,0 @@
-use Rattle.std.proofs.Common.{refl}
-use Rattle.json.specs.Token as Token
-use Rattle.dc_tokens.proofs.Adding.{first_added}
-use Rattle.dc_tokens.proofs.writer.TokenWriter.begin_array.Goals as goal
-
-pub returns : goal.returns
-returns g c = first_added Token.begin_array refl c.put_first.ensures c.note.ensures refl

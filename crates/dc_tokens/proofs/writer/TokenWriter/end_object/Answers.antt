@@ -1,7 +1,0 @@
-use Rattle.std.proofs.Common.{refl}
-use Rattle.json.specs.Token as Token
-use Rattle.dc_tokens.proofs.Adding.{last_added}
-use Rattle.dc_tokens.proofs.writer.TokenWriter.end_object.Goals as goal
-
-pub returns : goal.returns
-returns g c = last_added Token.end_object refl c.put.ensures c.note.ensures refl

@@ -1,5 +1,0 @@
-use Rattle.dc_tokens.proofs.Adding.{◌>>◌}
-use Rattle.dc_tokens.proofs.writer.TokenWriter.put_flag.Goals as goal
-
-pub returns : goal.returns
-returns g c = c.put_name.ensures >> c.put_boolean.ensures

@@ -1,0 +1,63 @@
+//! Waiting for the buses of a poll.
+
+ghost use Rattle.mbdc_commands.specs.Waiting.{AddsAwaited, AddsOne};
+ghost use Rattle.mbdc_poll.specs.Waiting.{is_awaited};
+
+use mbdc_bus::HalfBus;
+use mbdc_raw::links::{Watch, Watched};
+use mbdc_poll::{Station, is_awaited};
+use std::mem;
+
+/// Waits until one of several buses may have received something.
+pub trait Waits<B> {
+    // It added a bus to those that it waits for.
+    ghost adds: { Self → B → Self → Type 0 };
+
+    // It waited for the buses that were added.
+    ghost waited: { Self → Self → Type 0 } = { λ _ _. Unit {0} };
+
+    /// Adds a bus to those that the next wait is for.
+    fn add_bus(&mut self, bus: &B)
+        ensures { adds self.old bus.now self.new };
+
+    /// Waits for the buses that were added, and forgets them.
+    fn wait_for_all(&mut self)
+        ensures { waited self.old self.new };
+}
+
+impl<B: Watched> Waits<B> for Watch {
+    ghost use Rattle.std.specs.Prelude.{⊤};
+
+    // What a wait does is in no contract.
+    ghost adds = { λ _ _ _. ⊤ };
+
+    fn add_bus(&mut self, bus: &B) {
+        bus.add_to(self);
+    }
+
+    fn wait_for_all(&mut self) {
+        let watch = mem::replace(self, Watch::new());
+        watch.wait();
+    }
+}
+
+/// Adds the buses of the lines that are awaited, and no others, in the order of the lines.
+pub fn add_awaited<B: HalfBus + Drop, W: Waits<B>>(stations: &[Station<'_, B>], waits: &mut W)
+    ensures { AddsAwaited W.adds stations.now waits.old waits.new }
+{
+    let Some((station, others)) = stations.split_first() else {
+        return;
+    };
+    add_one(station, waits);
+    add_awaited(others, waits);
+}
+
+// Adds the bus of a line, if it is awaited.
+fn add_one<B: HalfBus + Drop, W: Waits<B>>(station: &Station<'_, B>, waits: &mut W)
+    ensures { AddsOne W.adds (is_awaited station.now) station.now.bus
+        waits.old waits.new }
+{
+    if is_awaited(station) {
+        waits.add_bus(&station.bus);
+    }
+}

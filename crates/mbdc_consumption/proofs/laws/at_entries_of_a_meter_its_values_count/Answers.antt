@@ -1,0 +1,6 @@
+use Rattle.mbdc_consumption.proofs.Runs.{run_ascends, consumption_of_run}
+use Rattle.mbdc_consumption.proofs.laws.at_entries_of_a_meter_its_values_count.Goals as goal
+
+pub returns : goal.returns
+returns c = λ front a middle b back meter order run settled settled'.
+    (run_ascends meter a middle b run, consumption_of_run front a middle b back meter order run settled settled')

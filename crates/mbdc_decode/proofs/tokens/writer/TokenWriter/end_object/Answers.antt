@@ -1,0 +1,7 @@
+use Rattle.std.proofs.Common.{refl}
+use Rattle.json.specs.Token as Token
+use Rattle.mbdc_decode.proofs.Adding.{last_added}
+use Rattle.mbdc_decode.proofs.tokens.writer.TokenWriter.end_object.Goals as goal
+
+pub returns : goal.returns
+returns g c = last_added Token.end_object refl c.put.ensures c.note.ensures refl

@@ -1,0 +1,7 @@
+use Rattle.std.proofs.Common.{refl}
+use Rattle.json.specs.Token as Token
+use Rattle.mbdc_decode.proofs.Adding.{first_added}
+use Rattle.mbdc_decode.proofs.tokens.writer.TokenWriter.put_null.Goals as goal
+
+pub returns : goal.returns
+returns g c = first_added Token.null refl c.put_first.ensures c.note.ensures refl

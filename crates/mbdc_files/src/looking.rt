@@ -1,0 +1,154 @@
+//! The file of an image that is looked at. Another program may write it meanwhile.
+
+ghost use Rattle.std.specs.Prelude.{◌≡◌, ◌⊎◌, [], IfErr, IfOk};
+ghost use Rattle.mbdc_ending.specs.Outcome.{IsOfFile};
+ghost use Rattle.mbdc_ending.specs.declared.ending.Ending.TheVariants.{Open, Memory};
+ghost use Rattle.mbdc_log.specs.declared.fault.OpenFault.TheVariants.{Device};
+ghost use Rattle.dc_sectors.specs.File.{IsOpened};
+ghost use Rattle.mbdc_files.specs.Copied.{IsOfCopy};
+
+use crate::host::Host;
+use crate::image::{drop_cached, open_to_look, wait};
+use crate::why::{Noted, Why};
+use dc_sectors::snapshot::{Sample, SampleFault};
+use dc_sectors::{FileDisk, Logged};
+use mbdc_ending::Ending;
+use mbdc_log::OpenFault;
+use libc::types::timespec;
+use std::alloc::Global;
+use std::fs::{File, OpenFile};
+use std::io;
+use std::io::ErrorKind;
+use std::rt::Files;
+
+/// Maximum number of times that a look is begun, with a pause after each.
+pub const ROUNDS: u32 = 100;
+
+// Milliseconds after which no look is begun.
+const PATIENCE: i64 = 2000;
+
+/// What a look reads of an image, as a disk.
+pub type LookDisk<'h> = Sample<Global, Logged<Noted<'h, File>>>;
+
+/// The file of an image that is looked at.
+#[derive(Drop)]
+pub struct LookedAt<'h> {
+    pub(crate) file: File,
+    pub(crate) why: &'h Why,
+    begun: i64,
+}
+
+impl<'h> LookedAt<'h> {
+    /// Opens the file.
+    ///
+    /// # Errors
+    /// The ending of the command: it can't be opened.
+    pub fn open<'a, R: Files<File = File>>(
+        host: &Host<'h, R>,
+        name: &'a str,
+    ) -> Result<LookedAt<'h>, Ending<'a>>
+        ensures { IfErr result (λ ending. IsOfFile ending name.now) }
+    {
+        match open_to_look(host.rt, name) {
+            Ok(file) => Ok(LookedAt {
+                file,
+                why: host.why,
+                begun: milliseconds(),
+            }),
+            Err(error) => Err(host.why.file(name, error)),
+        }
+    }
+
+    /// The file as a disk, each read of which comes from the drive, after a sync. What is written meanwhile may be read
+    /// or not.
+    ///
+    /// # Errors
+    /// The ending of the command: a call of the file failed.
+    pub fn disk<'a>(&self, name: &'a str) -> Result<FileDisk<Noted<'h, File>>, Ending<'a>>
+        ensures opened { IfOk result (λ disk. IsOpened [] disk) }
+        ensures failed { IfErr result (λ ending. IsOfFile ending name.now) }
+    {
+        // Where the sync fails, the drive lacks what was written, and the next read shows it.
+        let _ = self.file.sync_data();
+        let _ = drop_cached(&self.file);
+        let file = match self.file.try_clone() {
+            Ok(file) => file,
+            Err(error) => return Err(self.why.file(name, error)),
+        };
+        match FileDisk::new(Noted::look(file, self.why)) {
+            Ok(disk) => Ok(disk),
+            Err(error) => Err(self.why.file(name, error)),
+        }
+    }
+
+    /// The same as a disk that keeps what is read of it.
+    ///
+    /// # Errors
+    /// The ending of the command: a call of the file failed.
+    pub fn sample<'a>(&self, alloc: Global, name: &'a str) -> Result<LookDisk<'h>, Ending<'a>>
+        ensures { IfErr result (λ ending. IsOfFile ending name.now) }
+    {
+        match self.disk(name) {
+            Ok(disk) => Ok(Sample::new(alloc, disk)),
+            Err(ending) => Err(ending),
+        }
+    }
+
+    /// Whether what was read stood in the file at one instant, and is durable. If it doesn't, waits, so that the look
+    /// may begin anew.
+    ///
+    /// # Errors
+    /// The ending of the command: a call of the file failed, out of memory, or the file changed within each look for
+    /// two seconds.
+    pub fn stands<'a>(&self, sample: LookDisk<'h>, name: &'a str) -> Result<bool, Ending<'a>>
+        ensures { IfErr result (λ ending. IsOfCopy ending name.now) }
+    {
+        match sample.stands() {
+            (Ok(true), _) if self.is_durable() => Ok(true),
+            (Ok(_), _) if milliseconds().saturating_sub(self.begun) < PATIENCE => {
+                wait();
+                Ok(false)
+            }
+            (Ok(_), _) => Err(self.busy(name)),
+            (Err(fault), _) => Err(ending_of_sample(fault)),
+        }
+    }
+
+    /// The ending of a look in which the file changed each time.
+    pub fn busy<'a>(&self, name: &'a str) -> Ending<'a>
+        ensures { IsOfFile result name.now }
+    {
+        let error = io::Error::new(ErrorKind::WouldBlock, "it changed at each reading");
+        self.why.file(name, error)
+    }
+
+    // Makes durable what was written up to now. A drive that takes no syncs isn't written.
+    fn is_durable(&self) -> bool {
+        match self.file.sync_data() {
+            Ok(()) => true,
+            Err(error) => error.kind() == ErrorKind::InvalidInput,
+        }
+    }
+}
+
+/// The ending of a look that couldn't be made.
+pub(crate) fn ending_of_sample<'a>(fault: SampleFault) -> Ending<'a>
+    ensures { (result ≡ Open Device) ⊎ (result ≡ Memory) }
+{
+    match fault {
+        SampleFault::Failed => Ending::Open(OpenFault::Device),
+        SampleFault::NoMemory => Ending::Memory,
+    }
+}
+
+// The milliseconds of the system's monotonic clock.
+fn milliseconds() -> i64 {
+    let mut time = timespec {
+        tv_sec: 0,
+        tv_nsec: 0,
+    };
+    libc::clock_gettime(libc::CLOCK_MONOTONIC, &mut time);
+    time.tv_sec
+        .saturating_mul(1000)
+        .saturating_add(time.tv_nsec / 1_000_000)
+}

@@ -1,0 +1,332 @@
+//! The verdict on a row: what it asks of a register.
+
+ghost use Rattle.std.specs.Prelude.{◌≡◌, ◌++◌, ◌≤◌, option_copied, IfSome, OnOk, true, false, codes};
+ghost use Rattle.mbdc_io.specs.Written.{Wrote};
+ghost use Rattle.mbdc_io.specs.Words.{number_word};
+ghost use Rattle.mbdc_change.specs.Accepts.{Accepts, occupies};
+ghost use Rattle.mbdc_change.specs.Valid.{IsChange, IsMeter};
+ghost use Rattle.mbdc_fit.specs.Rows.{IsRow};
+ghost use Rattle.mbdc_fit.specs.Plan.{address_text, change_of, command_of, fault_words, holder_in, holder_words};
+ghost use Rattle.mbdc_fit.specs.Plan.{is_at_place, known_words, mark_words, place_words};
+ghost use Rattle.mbdc_fit.specs.Plan.{refusal_words, said, same_address, stands, verdict_on};
+ghost use Rattle.mbdc_fit.specs.Plan.{is_at_words, taken_words, verdict_words};
+
+use crate::list::row::{Row, RowFault};
+use dc_address::{Identity, Primary};
+use mbdc_change::{Change, ChangeFault, Command, END_OF_NUMBERS};
+use mbdc_io::{IoFault, Sink, put_number, put_number_word};
+use dc_meters::{House, Meter};
+use std::alloc::Allocator;
+
+/// What a row asks of a register.
+#[derive(Clone, Copy)]
+pub enum Verdict {
+    /// Nothing: the meter is at this very place.
+    Stands,
+    /// It is refused.
+    Refused(ChangeFault),
+    /// No number is left for its command.
+    Spent,
+    /// A new meter.
+    New,
+}
+
+// The command of a row.
+pub(crate) fn command_of(row: &Row) -> Command
+    ensures { result ≡ command_of row.now }
+{
+    Command::Fit {
+        meter: row.meter,
+        line: row.line,
+        address: row.address,
+        flat: row.flat,
+    }
+}
+
+// Its command under the number after the last one.
+pub(crate) fn change_of<A: Allocator + Copy>(row: &Row, house: &House<A>) -> Change<'static>
+    ensures { result ≡ change_of row.now house.now.state }
+{
+    Change::Command {
+        number: house.last_number() + 1,
+        command: command_of(row),
+    }
+}
+
+fn same_address(known: Option<Primary>, address: Option<Primary>) -> bool
+    ensures { result ≡ same_address known address }
+{
+    match (known, address) {
+        (None, None) => true,
+        (Some(known), Some(address)) => known.get() == address.get(),
+        _ => false,
+    }
+}
+
+// Whether a meter is at the place of a row.
+fn is_at_place<A: Allocator + Copy>(row: &Row, known: &Meter<A>) -> bool
+    ensures { result ≡ is_at_place row.now (Some known.now) }
+{
+    known.line() == row.line
+        && same_address(known.address(), row.address)
+        && known.flat().as_slice() == row.flat.as_slice()
+}
+
+fn stands<A: Allocator + Copy>(row: &Row, house: &House<A>) -> bool
+    ensures { result ≡ stands row.now house.now.state }
+{
+    match house.meter(&row.meter) {
+        Some(known) => is_at_place(row, known),
+        None => false,
+    }
+}
+
+/// What a row asks of a house.
+#[tactic(auto, unfolding(crate::specs::Plan::verdict_on))]
+pub fn verdict_on<A: Allocator + Copy>(row: &Row, house: &House<A>) -> Verdict
+    requires { IsRow row.now }
+    ensures verdict { result ≡ verdict_on house.now.budget row.now house.now.state }
+    ensures accepted { result ≡ Verdict.New
+        → IsChange (change_of row.now house.now.state)
+        × Accepts house.now.budget (change_of row.now house.now.state) house.now.state }
+{
+    if stands(row, house) {
+        return Verdict::Stands;
+    }
+    if house.last_number() + 1 >= END_OF_NUMBERS {
+        return Verdict::Spent;
+    }
+    match house.check(&change_of(row, house)) {
+        Ok(()) => Verdict::New,
+        Err(fault) => Verdict::Refused(fault),
+    }
+}
+
+// ---- texts
+
+/// What is said of a row that isn't one.
+pub(crate) fn fault_words(fault: RowFault) -> &'static str
+    ensures { result.now ≡ fault_words fault }
+{
+    match fault {
+        RowFault::Columns => "a row has four fields: meter, line, address, flat",
+        RowFault::Meter => "a meter is its identity, as 12345678.PAD.01.07",
+        RowFault::Line => "a line is a number from 1 to 8",
+        RowFault::Address => "an address is a number from 1 to 250, or S",
+        RowFault::Flat => "a flat is 1 to 12 of A-Z a-z 0-9 . - / _",
+    }
+}
+
+// Words between what is said of a row.
+#[derive(Clone, Copy)]
+enum Mark {
+    WithAddress,
+    WithFlat,
+    IsAt,
+    AnAddress,
+    IsThatOf,
+}
+
+#[tactic(auto, unfolding(crate::specs::Plan::mark_words))]
+fn put_mark<W: Sink>(out: &mut W, mark: Mark) -> Result<(), IoFault>
+    ensures { Wrote W.Sink result out.old out.new (mark_words mark) }
+{
+    match mark {
+        Mark::WithAddress => out.put(b", address "),
+        Mark::WithFlat => out.put(b", flat "),
+        Mark::IsAt => out.put(b" is at "),
+        Mark::AnAddress => out.put(b"address "),
+        Mark::IsThatOf => out.put(b" is that of "),
+    }
+}
+
+// Writes a primary address, or S.
+#[tactic(auto, unfolding(crate::specs::Plan::address_text))]
+fn put_address<W: Sink>(out: &mut W, address: Option<Primary>) -> Result<(), IoFault>
+    ensures { Wrote W.Sink result out.old out.new (address_text address) }
+{
+    match address {
+        Some(address) => put_number(out, u64::from(address.get())),
+        None => out.put(b"S"),
+    }
+}
+
+// Writes a place.
+#[tactic(auto, using(mbdc_io::proofs::Pieces::written), unfolding(crate::specs::Plan::place_words))]
+fn put_place<W: Sink>(
+    out: &mut W,
+    line: u8,
+    address: Option<Primary>,
+    flat: &[u8],
+) -> Result<(), IoFault>
+    ensures { Wrote W.Sink result out.old out.new (place_words line address flat.now) }
+{
+    out.put(b"line")?;
+    put_number_word(out, u64::from(line))?;
+    put_mark(out, Mark::WithAddress)?;
+    put_address(out, address)?;
+    put_mark(out, Mark::WithFlat)?;
+    out.put(flat)
+}
+
+// Writes the place of a meter that the register has.
+#[tactic(auto, unfolding(crate::specs::Plan::known_words))]
+fn put_known<A: Allocator + Copy, W: Sink>(
+    out: &mut W,
+    known: Option<&Meter<A>>,
+) -> Result<(), IoFault>
+    ensures { Wrote W.Sink result out.old out.new (known_words (option_copied known.entry)) }
+{
+    match known {
+        Some(known) => put_place(out, known.line(), known.address(), known.flat().as_slice()),
+        None => Ok(()),
+    }
+}
+
+// The first meter that has this primary address on the line.
+fn holder<A: Allocator + Copy>(
+    house: &House<A>,
+    line: u8,
+    address: &Option<Primary>,
+) -> Option<Identity>
+    ensures { result ≡ holder_in line address.now house.now.state.meters }
+{
+    'meters: for (meter, known) in house.meters() {
+        if occupies(line, address, known) {
+            return Some(*meter);
+        }
+    }
+    None
+}
+
+// Whether a meter has this primary address on the line.
+fn occupies<A: Allocator + Copy>(line: u8, address: &Option<Primary>, known: &Meter<A>) -> bool
+    ensures { result ≡ occupies line address.now known.now }
+{
+    match (*address, known.address()) {
+        (Some(address), Some(taken)) => known.line() == line && taken.get() == address.get(),
+        _ => false,
+    }
+}
+
+// Writes a meter, if there is one.
+#[tactic(auto, unfolding(crate::specs::Plan::holder_words))]
+fn put_holder<W: Sink>(out: &mut W, meter: Option<Identity>) -> Result<(), IoFault>
+    ensures { Wrote W.Sink result out.old out.new (holder_words meter) }
+{
+    match meter {
+        Some(meter) => out.put(&meter.text()),
+        None => Ok(()),
+    }
+}
+
+// Writes where a meter is registered.
+#[tactic(auto, using(mbdc_io::proofs::Pieces::written), unfolding(crate::specs::Plan::is_at_words))]
+pub(crate) fn put_is_at<A: Allocator + Copy, W: Sink>(
+    out: &mut W,
+    meter: &Identity,
+    house: &House<A>,
+) -> Result<(), IoFault>
+    ensures { Wrote W.Sink result out.old out.new (is_at_words meter.now house.now.state) }
+{
+    out.put(&meter.text())?;
+    put_mark(out, Mark::IsAt)?;
+    put_known(out, house.meter(meter))
+}
+
+// Writes which meter has a primary address on a bus line.
+#[tactic(auto, using(mbdc_io::proofs::Pieces::written), unfolding(crate::specs::Plan::taken_words))]
+pub(crate) fn put_taken<A: Allocator + Copy, W: Sink>(
+    out: &mut W,
+    line: u8,
+    address: &Option<Primary>,
+    house: &House<A>,
+) -> Result<(), IoFault>
+    ensures { Wrote W.Sink result out.old out.new (taken_words line address.now house.now.state) }
+{
+    put_mark(out, Mark::AnAddress)?;
+    put_address(out, *address)?;
+    put_mark(out, Mark::IsThatOf)?;
+    put_holder(out, holder(house, line, address))
+}
+
+// Writes why a row is refused.
+#[tactic(auto, unfolding(crate::specs::Plan::refusal_words))]
+fn put_refusal<A: Allocator + Copy, W: Sink>(
+    out: &mut W,
+    fault: ChangeFault,
+    row: &Row,
+    house: &House<A>,
+) -> Result<(), IoFault>
+    ensures { Wrote W.Sink result out.old out.new (refusal_words fault row.now house.now.state) }
+{
+    match fault {
+        ChangeFault::Known => put_is_at(out, &row.meter, house),
+        ChangeFault::AddressTaken => put_taken(out, row.line, &row.address, house),
+        ChangeFault::Full => out.put(b"the image is full"),
+        ChangeFault::Unknown | ChangeFault::Beyond => Ok(()),
+    }
+}
+
+// Writes what is said of a row.
+#[tactic(auto, using(mbdc_io::proofs::Pieces::written), unfolding(crate::specs::Plan::verdict_words))]
+pub(crate) fn put_verdict<A: Allocator + Copy, W: Sink>(
+    out: &mut W,
+    verdict: Verdict,
+    row: &Row,
+    house: &House<A>,
+) -> Result<(), IoFault>
+    requires { verdict ≡ Verdict.New → IsChange (change_of row.now house.now.state) }
+    ensures { Wrote W.Sink result out.old out.new (verdict_words verdict row.now house.now.state) }
+{
+    match verdict {
+        Verdict::New => {
+            let line = command_of(row).line(house.last_number() + 1);
+            out.put(line.as_slice())
+        }
+        Verdict::Stands => {
+            out.put(&row.meter.text())?;
+            out.put(b" stands already")
+        }
+        Verdict::Spent => out.put(b"no number is left for a command"),
+        Verdict::Refused(fault) => put_refusal(out, fault, row, house),
+    }
+}
+
+// Writes a line of the list, and what is said of its row.
+#[tactic(auto, using(mbdc_io::proofs::Pieces::written), unfolding(crate::specs::Plan::said))]
+pub(crate) fn put_row<A: Allocator + Copy, W: Sink>(
+    out: &mut W,
+    number: u64,
+    verdict: Verdict,
+    row: &Row,
+    house: &House<A>,
+) -> Result<(), IoFault>
+    requires { verdict ≡ Verdict.New → IsChange (change_of row.now house.now.state) }
+    ensures { Wrote W.Sink result out.old out.new
+        (said number (verdict_words verdict row.now house.now.state)) }
+{
+    put_head(out, number)?;
+    put_verdict(out, verdict, row, house)?;
+    out.put(b"\n")
+}
+
+// Writes a line of the list, and what is said of it.
+#[tactic(auto, using(mbdc_io::proofs::Pieces::written), unfolding(crate::specs::Plan::said))]
+pub(crate) fn put_said<W: Sink>(out: &mut W, number: u64, words: &str) -> Result<(), IoFault>
+    ensures { Wrote W.Sink result out.old out.new (said number words.now) }
+{
+    put_head(out, number)?;
+    out.put(words.as_bytes())?;
+    out.put(b"\n")
+}
+
+// Writes the number of a line of the list.
+#[tactic(auto, using(mbdc_io::proofs::Pieces::written))]
+fn put_head<W: Sink>(out: &mut W, number: u64) -> Result<(), IoFault>
+    ensures { Wrote W.Sink result out.old out.new (codes "line" ++ (number_word number ++ codes ": ")) }
+{
+    out.put(b"line")?;
+    put_number_word(out, number)?;
+    out.put(b": ")
+}

@@ -1,0 +1,20 @@
+-- lemmas by topic
+-- addresses that are asked in turn
+mod Addresses
+-- after a failure nothing is asked
+mod Failures
+-- a readout, exchange by exchange
+mod Readouts
+-- what is said of a result where it is Ok
+mod Results
+-- the counts of a search's course, exchange by exchange
+mod Courses
+-- the tries that find a meter by its number
+mod Numbers
+-- of the module `bench`
+
+-- lemmas by topic
+-- a text, and what is printed after it
+mod Texts
+-- the ways to a readout
+mod Ways

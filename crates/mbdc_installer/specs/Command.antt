@@ -1,0 +1,127 @@
+-- The commands `scan`, `read` and `address`: what goes over the bus, what is printed, and how they end (this product).
+use Rattle.std.specs.Prelude.{◌==◌, ◌++◌, ℕ, Bool, true, false, not, List, codes, None, Some}
+use Rattle.std.specs.Prelude.{Result, Ok, Err, Option, SomeIff}
+use Rattle.std.specs.List.{range_with_len}
+use Rattle.dc_address.specs.Primary.{IsPrimary}
+use Rattle.dc_address.specs.declared.identity.Identity.{Identity}
+use Rattle.mbdc_installer.specs.Ending.{EndsOver, IsStopped, late_text}
+use Rattle.mbdc_installer.specs.declared.bench.command.Done.{Done}
+use Rattle.mbdc_installer.specs.declared.bench.command.Done.TheVariants.{Searched, ReadOut, Addressed}
+use Rattle.mbdc_installer.specs.declared.bench.command.Work.{Work}
+use Rattle.mbdc_installer.specs.declared.bench.command.Work.TheVariants.{Search, Read, Address}
+use Rattle.mbdc_bus.specs.declared.bus.Bus.{Ghosts as BusGhosts}
+use Rattle.mbdc_ending.specs.declared.ending.Ending.{Ending}
+use Rattle.mbdc_installer.specs.Address.{IsAddressed, addressing_text}
+use Rattle.mbdc_installer.specs.Number.{IsFound, unfound_text}
+use Rattle.mbdc_installer.specs.Read.{IsReadOn, Tells}
+use Rattle.mbdc_installer.specs.Scan.{AsksEach, Counts, Identifies, Scanned, greatest}
+use Rattle.mbdc_installer.specs.declared.address.Addressing.{Addressing}
+use Rattle.mbdc_installer.specs.declared.address.Target.{Target}
+use Rattle.mbdc_installer.specs.declared.address.Addressing.TheVariants.{Set, Taken, Nobody as NobodyThere}
+use Rattle.mbdc_installer.specs.declared.address.Addressing.TheVariants.{Unclear, Unconfirmed}
+use Rattle.mbdc_installer.specs.declared.number.Numbered.TheVariants.{One, Shared, Nobody}
+use Rattle.mbdc_installer.specs.declared.reading.Readout.{Readout}
+use Rattle.mbdc_installer.specs.declared.reading.Readout.TheVariants.{Whole, Failed}
+use Rattle.mbdc_installer.specs.declared.wildcards.Count.{Count}
+use Rattle.mbdc_installer.specs.declared.wildcards.ScanFault.{ScanFault}
+use Rattle.mbdc_io.specs.Written.{PutsInto}
+use Rattle.mbdc_io.specs.declared.stream.IoFault.{IoFault}
+use Rattle.mbdc_io.specs.declared.stream.Sink.{Ghosts}
+use Rattle.dc_readout.specs.declared.misses.misses.Misses.{Misses}
+use Rattle.dc_readout.specs.Summary.{begun}
+use Rattle.mbdc_words.specs.declared.task.MeterName.{MeterName}
+use Rattle.mbdc_words.specs.declared.task.MeterName.TheVariants.{Identity as ByIdentity, Address as ByAddress, Number as ByNumber}
+use Rattle.mbdc_words.specs.declared.task.Scan.TheVariants.{Wildcards, Primary}
+
+-- ---- what goes over the bus
+
+-- THE READOUT OF A METER by its name. An address is asked for its meter, and a number is looked for; where either names
+-- no one meter, nothing more goes out. At another address than a primary one, as 0, the meter is selected.
+pub data IsRead {B : Type 0} (bus : BusGhosts B) (wrote : List ℕ → Type 0)
+    : MeterName → B → B → Readout → Type 0 where
+  by_identity : {old new : B} {readout : Readout} (meter : Identity)
+      → IsReadOn bus.asks old new (begun meter None) wrote (Tells readout)
+      → IsRead bus wrote (ByIdentity meter) old new readout
+  by_address : {old between new : B} {readout : Readout} (address : ℕ) (primary : Option ℕ)
+      (meter : Identity) → SomeIff primary (IsPrimary address) address
+      → Identifies bus.asks_all address old (Ok meter) between
+      → IsReadOn bus.asks between new (begun meter primary) wrote (Tells readout)
+      → IsRead bus wrote (ByAddress address) old new readout
+  unidentified : {old new : B} (address : ℕ) (misses : Misses)
+      → Identifies bus.asks_all address old (Err misses) new
+      → wrote (codes "FAILED 1 NoAnswer\n")
+      → IsRead bus wrote (ByAddress address) old new (Failed misses)
+  by_number : {old between new : B} {readout : Readout} (digits : List ℕ) (meter : Identity)
+      → IsFound bus.asks_all digits old (One meter) between
+      → IsReadOn bus.asks between new (begun meter None) wrote (Tells readout)
+      → IsRead bus wrote (ByNumber digits) old new readout
+  shared : {old new : B} (digits : List ℕ) (misses : Misses)
+      → IsFound bus.asks_all digits old (Shared misses) new → wrote (unfound_text digits true)
+      → IsRead bus wrote (ByNumber digits) old new (Failed misses)
+  unfound : {old new : B} (digits : List ℕ) (misses : Misses)
+      → IsFound bus.asks_all digits old (Nobody misses) new → wrote (unfound_text digits false)
+      → IsRead bus wrote (ByNumber digits) old new (Failed misses)
+
+-- a readout that found no one meter, once that is printed
+abbrev pub missed_by : Misses → Result (Unit {0}) IoFault → Result Readout IoFault
+missed_by misses (Ok put) = Ok (Failed misses)
+missed_by misses (Err fault) = Err fault
+
+-- WHAT A COMMAND DOES to the bus, and prints of that. How much a search at primary addresses finds isn't counted.
+pub data IsDone {B : Type 0} (bus : BusGhosts B) (wrote : List ℕ → Type 0)
+    : Work → B → B → Done → Type 0 where
+  scans : {old new : B} (budget : ℕ) (count : Count)
+      → Scanned bus.asks_all bus.meters budget old new wrote (Counts count)
+      → IsDone bus wrote (Search (Wildcards budget)) old new (Searched (Some count))
+  asks_each : {old new : B} (text : List ℕ)
+      → AsksEach bus.asks_all (range_with_len 1 greatest) old text new → wrote text
+      → IsDone bus wrote (Search Primary) old new (Searched None)
+  reads : {old new : B} {readout : Readout} (meter : MeterName)
+      → IsRead bus wrote meter old new readout
+      → IsDone bus wrote (Read meter) old new (ReadOut readout)
+  addresses : {old new : B} {outcome : Addressing} (target : Target) (to : ℕ)
+      → IsAddressed bus.asks bus.asks_all target to old outcome new
+      → wrote (addressing_text target to outcome)
+      → IsDone bus wrote (Address target to) old new (Addressed outcome)
+
+-- ---- what was at fault
+
+abbrev pub has_failed : Readout → Bool
+has_failed Whole = false
+has_failed (Failed misses) = true
+
+-- the meter doesn't answer at its new address
+abbrev pub is_unset : Addressing → Bool
+is_unset (Set meter) = false
+is_unset Taken = true
+is_unset NobodyThere = true
+is_unset Unclear = true
+is_unset (Unconfirmed meter) = true
+
+-- a search that heard bytes which nothing on the bus could have sent may have missed a meter
+abbrev pub is_faulty : (late : ℕ) → Done → Bool
+is_faulty late (Searched count) = not (late == 0)
+is_faulty late (ReadOut readout) = has_failed readout
+is_faulty late (Addressed outcome) = is_unset outcome
+
+-- ---- the whole command
+
+-- what was done, or what stopped it
+abbrev pub DoesOrStops : {B S : Type 0} → BusGhosts B → Ghosts S → Work → B → B → S → S
+    → Result Done ScanFault → Type 0
+DoesOrStops bus g work old new before behind (Ok done) = IsDone bus
+    (λ text. PutsInto g before behind (text ++ late_text (bus.late new))) work old new done
+DoesOrStops bus g work old new before behind (Err fault) = IsStopped g before behind fault
+
+-- whether it was at fault
+abbrev pub fault_of : (late : ℕ) → Result Done ScanFault → Result Bool ScanFault
+fault_of late (Ok done) = Ok (is_faulty late done)
+fault_of late (Err fault) = Err fault
+
+-- THE COMMAND, from the bus to its ending. Where it wasn't stopped, the text that was printed is that of what it did, and
+-- then the number of late answers.
+pub record Works {B S : Type 0} (bus : BusGhosts B) (g : Ghosts S) (work : Work) (old new : B)
+    (before behind : S) (ending : Ending) : Type 0 where
+  pub outcome : Result Done ScanFault
+  pub does : DoesOrStops bus g work old new before behind outcome
+  pub ends : EndsOver (bus.lost new) (fault_of (bus.late new) outcome) ending

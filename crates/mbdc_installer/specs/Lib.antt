@@ -1,0 +1,24 @@
+-- the definitions that contracts cite
+-- the readout of one meter
+pub mod Read
+-- the search for meters
+pub mod Scan
+-- setting a primary address
+pub mod Address
+-- how far a search is
+pub mod Course
+-- what is said of answers that can't be read
+pub mod Unread
+-- the one meter with a number
+pub mod Number
+-- of the module `bench`
+
+-- the definitions that contracts cite
+-- how a command over a bus ends
+pub mod Ending
+-- what a command does and prints
+pub mod Command
+-- a search that hears noise alone
+pub mod Listening
+-- what standard error says after a command
+pub mod Remark

@@ -1,0 +1,36 @@
+-- A bus on which a search is given up that hears noise alone (this product).
+use Rattle.std.specs.Prelude.{◌≡◌, ◌-◌, ◌==◌, ◌||◌, ℕ, Bool, true, false, List, [], ◌∷◌, Option, None, Some}
+use Rattle.std.specs.Prelude.{if◌then◌else◌}
+use Rattle.mbdc_installer.specs.declared.bench.listening.Listening.{Listening}
+use Rattle.dc_linkframe.specs.Frame.{FrameSeen}
+use Rattle.dc_linkframe.specs.Reading.{frame_of}
+
+abbrev pub unless_frame : Option FrameSeen → ℕ → Option ℕ
+unless_frame None left = Some (left - 1)
+unless_frame (Some frame) left = None
+
+-- how many answers may still be noise after this one: silence is none, and after a frame nothing is given up
+abbrev pub left_after : List ℕ → Option ℕ → Option ℕ
+left_after answer None = None
+left_after [] (Some left) = Some left
+left_after (byte ∷ bytes) (Some left) = unless_frame (frame_of (byte ∷ bytes)) left
+
+abbrev pub is_given_up : Option ℕ → Bool
+is_given_up None = false
+is_given_up (Some left) = left == 0
+
+-- the answer by which a search is given up is taken for silence
+abbrev pub heard_as : Option ℕ → List ℕ → List ℕ
+heard_as left answer = if is_given_up left then [] else answer
+
+-- once the search is given up, or the bus is lost, the answer is silence
+abbrev pub IsSilent : Bool → List ℕ → Type 0
+IsSilent is_lost answer = is_lost ≡ true → answer ≡ []
+
+-- A REQUEST AND ITS ANSWER: what the bus does, until the search is given up; then nothing goes out.
+pub record Hears {B : Type 0} (lost : B → Bool) (asks : B → List ℕ → List ℕ → B → Type 0)
+    (old : Listening B) (request answer : List ℕ) (new : Listening B) : Type 0 where
+  pub untouched : is_given_up old.left ≡ true → new ≡ old
+  pub silence : IsSilent (is_given_up new.left || lost new.bus) answer
+  pub asked : is_given_up old.left ≡ false → (heard : List ℕ) × asks old.bus request heard new.bus
+      × (new.left ≡ left_after heard old.left) × (answer ≡ heard_as new.left heard)

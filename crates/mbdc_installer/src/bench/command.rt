@@ -1,0 +1,187 @@
+//! The commands over one bus: a search, a readout, a new address.
+
+ghost use Rattle.std.specs.Prelude.{◌≡◌, IfOk, IfErr, OnOk};
+ghost use Rattle.mbdc_io.specs.Written.{PutsInto};
+ghost use Rattle.mbdc_installer.specs.Command.{DoesOrStops, IsDone, Works, fault_of};
+ghost use Rattle.mbdc_installer.specs.Ending.{IsStopped};
+
+use crate::bench::ending::{ended, finish};
+use crate::bench::listening::{Listening, MOST_NOISE};
+use crate::bench::listing::list_over;
+use crate::bench::printer::Printer;
+use crate::bench::progress::{Cleared, Progress};
+use crate::bench::reading::read_named;
+use mbdc_bus::Bus;
+use mbdc_ending::Ending;
+use crate::{
+    Addressing, Count, Readout, ScanFault, Target, put_addressing, scan, scan_primary, set_address,
+};
+use mbdc_io::{IoFault, Sink, WriteSink};
+use mbdc_words::{Listing, MeterName, Scan};
+use std::alloc::Global;
+use std::io::{LineWriter, Write};
+use std::rt::Clock;
+
+// What 16 answers without a frame mean.
+const NOISE: &str =
+    "mbdc: 16 answers, none of them a frame: given up. Are speed and parity right? Is another master on the bus?\n";
+
+/// What is done on a bus.
+#[derive(Clone, Copy)]
+pub enum Work {
+    /// A search for meters.
+    Search(Scan),
+    /// The readout of a meter.
+    Read(MeterName),
+    /// A new primary address for the meter that is reached so.
+    Address(Target, u8),
+}
+
+/// What came of it.
+#[derive(Clone, Copy)]
+pub enum Done {
+    /// How much a search by wildcards found.
+    Searched(Option<Count>),
+    /// The end of a readout.
+    ReadOut(Readout),
+    /// What came of setting an address.
+    Addressed(Addressing),
+}
+
+/// Does the work on a bus, prints it line by line, and says on standard error what is to be known of it. Returns how
+/// the command ends. A search may be listed in another form. One that hears noise alone is given up, and prints no
+/// more: after 16 answers, none of which is a frame.
+pub fn run_over<'a, R, B, O>(
+    alloc: Global,
+    work: Work,
+    listing: Listing,
+    bus: B,
+    out: O,
+    progress: &Progress<'_, R>,
+) -> Ending<'a>
+where
+    R: Clock + Eprint,
+    B: Bus + Drop,
+    O: Write + Drop,
+{
+    let out = Cleared {
+        writer: out,
+        progress,
+    };
+    let Ok(out) = LineWriter::new(alloc, out) else {
+        return Ending::Memory;
+    };
+    let mut bus = Listening {
+        bus,
+        left: if matches!(work, Work::Search(_)) {
+            Some(MOST_NOISE)
+        } else {
+            None
+        },
+        is_hushed: &progress.is_hushed,
+    };
+    let mut out = WriteSink::new(out);
+    let ending = match (work, listing) {
+        (Work::Search(scan), Listing::Csv(_) | Listing::Json) => {
+            list_over(alloc, scan, listing, &mut bus, &mut out, progress)
+        }
+        _ => work_over(alloc, work, &mut bus, &mut out, progress),
+    };
+    if !bus.is_given_up() {
+        return ending;
+    }
+    progress.say(NOISE.as_bytes());
+    Ending::Faulty
+}
+
+/// Does the work on a bus, and prints it. Returns how the command ends: a search is at fault where bytes came that
+/// nothing on the bus could have sent, for it may have missed a meter; a readout where it failed; and an address where
+/// the meter doesn't answer at the new one.
+pub fn work_over<'a, R, B, W>(
+    alloc: Global,
+    work: Work,
+    bus: &mut B,
+    out: &mut W,
+    progress: &Progress<'_, R>,
+) -> Ending<'a>
+where
+    R: Clock + Eprint,
+    B: Bus,
+    W: Printer,
+    ensures { Works B.Bus W.Sink work bus.old bus.new out.old out.new result }
+{
+    let outcome = do_and_finish(alloc, work, bus, out);
+    let is_lost = bus.is_lost();
+    if let Ok(done) = &outcome
+        && !is_lost
+    {
+        progress.remark(&work, done);
+    }
+    ended(is_lost, fault_of(bus.late(), &outcome))
+}
+
+// Does the work, and prints what comes last.
+fn do_and_finish<B: Bus, W: Printer>(
+    alloc: Global,
+    work: Work,
+    bus: &mut B,
+    out: &mut W,
+) -> Result<Done, ScanFault>
+    ensures { DoesOrStops B.Bus W.Sink work bus.old bus.new out.old out.new result }
+{
+    match do_work(alloc, work, bus, out) {
+        Ok(done) => match finish(bus.late(), out) {
+            Ok(()) => Ok(done),
+            Err(IoFault) => Err(ScanFault::Write),
+        },
+        Err(fault) => Err(fault),
+    }
+}
+
+fn do_work<B: Bus, W: Sink>(
+    alloc: Global,
+    work: Work,
+    bus: &mut B,
+    out: &mut W,
+) -> Result<Done, ScanFault>
+    ensures done { IfOk result (λ done. IsDone B.Bus (PutsInto W.Sink out.old out.new) work
+        bus.old bus.new done) }
+    ensures well { OnOk result (W.put_failures out.new ≡ W.put_failures out.old) }
+    ensures stopped { IfErr result (IsStopped W.Sink out.old out.new) }
+{
+    match work {
+        Work::Search(what) => match what {
+            Scan::Wildcards(budget) => match scan(alloc, budget, bus, out) {
+                Ok(count) => Ok(Done::Searched(Some(count))),
+                Err(fault) => Err(fault),
+            },
+            Scan::Primary => match scan_primary(bus, out) {
+                Ok(()) => Ok(Done::Searched(None)),
+                Err(IoFault) => Err(ScanFault::Write),
+            },
+        },
+        Work::Read(meter) => match read_named(bus, &meter, out) {
+            Ok(readout) => Ok(Done::ReadOut(readout)),
+            Err(IoFault) => Err(ScanFault::Write),
+        },
+        Work::Address(target, to) => {
+            let outcome = set_address(bus, &target, to);
+            match put_addressing(&target, to, &outcome, out) {
+                Ok(()) => Ok(Done::Addressed(outcome)),
+                Err(IoFault) => Err(ScanFault::Write),
+            }
+        }
+    }
+}
+
+// Whether something was at fault, or what stopped it.
+fn fault_of(late: u64, outcome: &Result<Done, ScanFault>) -> Result<bool, ScanFault>
+    ensures { result ≡ fault_of late outcome.now }
+{
+    match outcome {
+        Ok(Done::Searched(_)) => Ok(late != 0),
+        Ok(Done::ReadOut(Readout::Whole) | Done::Addressed(Addressing::Set(_))) => Ok(false),
+        Ok(Done::ReadOut(Readout::Failed(_)) | Done::Addressed(_)) => Ok(true),
+        Err(fault) => Err(*fault),
+    }
+}

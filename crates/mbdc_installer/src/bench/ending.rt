@@ -1,0 +1,49 @@
+//! How a command over a bus ends.
+
+ghost use Rattle.std.specs.Prelude.{◌≡◌, OnOk, OnErr};
+ghost use Rattle.mbdc_io.specs.Failures.{HasRisen};
+ghost use Rattle.mbdc_io.specs.Written.{PutsInto, Wrote};
+ghost use Rattle.mbdc_installer.specs.Ending.{EndsOver, late_text};
+
+use crate::bench::printer::Printer;
+use mbdc_ending::{Ending, STREAM};
+use crate::ScanFault;
+use mbdc_io::{IoFault, Sink};
+use mbdc_decode::tokens::{Piece, put_pieces};
+
+/// Prints last how often bytes came that nothing on the bus could have sent, and writes out what is held back.
+pub(crate) fn finish<W: Printer>(late: u64, out: &mut W) -> Result<(), IoFault>
+    ensures text { OnOk result (PutsInto W.Sink out.old out.new (late_text late)) }
+    ensures failed { OnErr result (HasRisen (W.put_failures out.old) (W.put_failures out.new)) }
+{
+    match put_late(late, out) {
+        Ok(()) => out.flush(),
+        Err(fault) => Err(fault),
+    }
+}
+
+#[tactic(auto, unfolding(crate::specs::Ending::late_line))]
+fn put_late<W: Sink>(late: u64, out: &mut W) -> Result<(), IoFault>
+    ensures { Wrote W.Sink result out.old out.new (late_text late) }
+{
+    match late {
+        0 => Ok(()),
+        _ => put_pieces(
+            out,
+            &[Piece::Text(b"LATE"), Piece::Word(late), Piece::Text(b"\n")],
+        ),
+    }
+}
+
+/// The ending of a command, by whether something was at fault, or by what stopped it. A lost bus comes before a fault.
+pub(crate) fn ended<'a>(is_lost: bool, outcome: Result<bool, ScanFault>) -> Ending<'a>
+    ensures { EndsOver is_lost outcome result }
+{
+    match outcome {
+        Ok(_) if is_lost => Ending::Gateway,
+        Ok(true) => Ending::Faulty,
+        Ok(false) => Ending::Clean,
+        Err(ScanFault::Write) => Ending::File(STREAM),
+        Err(ScanFault::NoMemory) => Ending::Memory,
+    }
+}

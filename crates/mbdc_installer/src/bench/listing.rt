@@ -1,0 +1,252 @@
+//! What a search finds as a list for `fit`, and as JSON Lines. Its text is in no contract.
+
+use crate::bench::command::{Done, Work};
+use crate::bench::ending::ended;
+use crate::bench::printer::Printer;
+use crate::bench::progress::Progress;
+use dc_address::Identity;
+use mbdc_bus::{Bus, search_windows};
+use mbdc_decode::put_point;
+use mbdc_ending::Ending;
+use crate::{Count, GREATEST, ScanFault, ask_address, is_there, sender_at};
+use mbdc_io::{FixedSink, IoFault, Sink, put_number};
+use dc_records::names::medium_name;
+use dc_units::{Point, TEXT_ROOM};
+use dc_search::Step;
+use mbdc_decode::tokens::{Piece, put_pieces};
+use mbdc_words::{Listing, Scan};
+use std::alloc::Global;
+use std::rt::Clock;
+
+const HEADER: &[u8] = b"meter,line,address,flat,medium,value\n";
+
+// The longest line on standard error.
+const ROOM: usize = 100;
+
+// A list that is written.
+#[derive(Drop)]
+struct List<'l, 'h, W, R> {
+    out: &'l mut W,
+    listing: Listing,
+    progress: &'l Progress<'h, R>,
+}
+
+/// Searches for meters, and lists them. Returns how the command ends, as [`work_over`](crate::bench::work_over) does.
+pub(crate) fn list_over<'a, R, B, W>(
+    alloc: Global,
+    scan: Scan,
+    listing: Listing,
+    bus: &mut B,
+    out: &mut W,
+    progress: &Progress<'_, R>,
+) -> Ending<'a>
+where
+    R: Clock + Eprint,
+    B: Bus,
+    W: Printer,
+{
+    let mut list = List {
+        out,
+        listing,
+        progress,
+    };
+    let outcome = list.all(alloc, scan, bus);
+    let is_lost = bus.is_lost();
+    match outcome {
+        Ok(count) => {
+            if !is_lost {
+                progress.remark(&Work::Search(scan), &Done::Searched(count));
+            }
+            ended(is_lost, Ok(bus.late() != 0))
+        }
+        Err(fault) => ended(is_lost, Err(fault)),
+    }
+}
+
+impl<W: Printer, R: Clock + Eprint> List<'_, '_, W, R> {
+    // Searches, and writes what is found.
+    fn all<B: Bus>(
+        &mut self,
+        alloc: Global,
+        scan: Scan,
+        bus: &mut B,
+    ) -> Result<Option<Count>, ScanFault> {
+        if let Listing::Csv(_) = self.listing
+            && self.out.put(HEADER).is_err()
+        {
+            return Err(ScanFault::Write);
+        }
+        let count = match scan {
+            Scan::Wildcards(budget) => Some(self.search(alloc, budget, bus)?),
+            Scan::Primary => {
+                self.ask_each(bus)?;
+                None
+            }
+        };
+        if bus.late() != 0 {
+            let late = Piece::Number(bus.late());
+            self.put_event(b"LATE ", b"late\",\"answers\":", late, b"}\n")?;
+        }
+        match self.out.flush() {
+            Ok(()) => Ok(count),
+            Err(IoFault) => Err(ScanFault::Write),
+        }
+    }
+
+    // Searches by wildcards.
+    fn search<B: Bus>(
+        &mut self,
+        alloc: Global,
+        budget: u32,
+        bus: &mut B,
+    ) -> Result<Count, ScanFault> {
+        let Ok(search) = search_windows(alloc, budget, bus) else {
+            return Err(ScanFault::NoMemory);
+        };
+        for meter in search.found() {
+            self.put_meter(meter, None)?;
+        }
+        for number in search.shared() {
+            let number = digits_of(*number);
+            self.put_event(
+                b"SHARED ",
+                b"shared\",\"number\":\"",
+                Piece::Text(&number),
+                b"\"}\n",
+            )?;
+        }
+        if let Step::Budget = search.next() {
+            self.put_event(b"BUDGET", b"budget", Piece::Text(b""), b"\"}\n")?;
+        }
+        // A list has no line of its end.
+        let selections = Piece::Number(u64::from(search.selections()));
+        self.put_event(b"", b"end\",\"selections\":", selections, b"}\n")?;
+        Ok(Count {
+            meters: search.found().len(),
+            shared: search.shared().len(),
+        })
+    }
+
+    // Asks each primary address.
+    fn ask_each<B: Bus>(&mut self, bus: &mut B) -> Result<(), ScanFault> {
+        for address in 1..=GREATEST {
+            let asked = ask_address(bus, address);
+            if is_there(&asked) {
+                match sender_at(address, &asked.telegram) {
+                    Some(meter) => self.put_meter(&meter, Some(address))?,
+                    // Somebody answers, but no meter alone.
+                    None => {
+                        let address = Piece::Number(u64::from(address));
+                        self.put_event(b"ADDRESS ", b"unread\",\"address\":", address, b"}\n")?;
+                    }
+                }
+            }
+        }
+        Ok(())
+    }
+
+    // Writes a meter, found at its primary address or by wildcards, as a row or an object.
+    fn put_meter(&mut self, meter: &Identity, address: Option<u8>) -> Result<(), ScanFault> {
+        let value = self.progress.value_of(meter);
+        let put = match self.listing {
+            Listing::Csv(line) => put_row(self.out, line, meter, address, value),
+            _ => put_found(self.out, meter, address, value),
+        };
+        match put {
+            Ok(()) => Ok(()),
+            Err(IoFault) => Err(ScanFault::Write),
+        }
+    }
+
+    // Writes what else was found: an object; beside a list a line of words on standard error.
+    fn put_event<'p>(
+        &mut self,
+        words: &'p [u8],
+        event: &'p [u8],
+        number: Piece<'p>,
+        end: &'p [u8],
+    ) -> Result<(), ScanFault> {
+        let mut text: FixedSink<ROOM> = FixedSink::new();
+        let before = Piece::Text(b"{\"event\":\"");
+        let put = match self.listing {
+            Listing::Csv(_) if words.is_empty() || self.progress.is_hushed.get() => Ok(()),
+            Listing::Csv(_) => {
+                let before = Piece::Text(b"mbdc: ");
+                let row = [before, Piece::Text(words), number, Piece::Text(b"\n")];
+                let put = put_pieces(&mut text, &row);
+                self.progress.say(text.as_slice());
+                put
+            }
+            _ => put_pieces(
+                self.out,
+                &[before, Piece::Text(event), number, Piece::Text(end)],
+            ),
+        };
+        match put {
+            Ok(()) => Ok(()),
+            Err(IoFault) => Err(ScanFault::Write),
+        }
+    }
+}
+
+fn put_row<W: Sink>(
+    out: &mut W,
+    line: u8,
+    meter: &Identity,
+    address: Option<u8>,
+    value: Option<Point>,
+) -> Result<(), IoFault> {
+    out.put(&meter.text())?;
+    out.put(b",")?;
+    put_number(out, u64::from(line))?;
+    out.put(b",")?;
+    match address {
+        Some(address) => put_number(out, u64::from(address))?,
+        None => out.put(b"S")?,
+    }
+    out.put(b",,")?;
+    out.put(medium_name(meter.kind).as_bytes())?;
+    out.put(b",")?;
+    if let Some(point) = value {
+        put_point(&point, out)?;
+    }
+    out.put(b"\n")
+}
+
+// The eight digits of a number.
+fn digits_of(number: u32) -> [u8; 8] {
+    let mut left = number;
+    let mut digits = [b'0'; 8];
+    for digit in digits.iter_mut().rev() {
+        *digit = b'0' + (left % 10) as u8;
+        left /= 10;
+    }
+    digits
+}
+
+// Writes the object of a meter.
+fn put_found<W: Sink>(
+    out: &mut W,
+    meter: &Identity,
+    address: Option<u8>,
+    value: Option<Point>,
+) -> Result<(), IoFault> {
+    out.put(b"{\"event\":\"found\",\"meter\":\"")?;
+    out.put(&meter.text())?;
+    out.put(b"\",\"address\":")?;
+    match address {
+        Some(address) => put_number(out, u64::from(address))?,
+        None => out.put(b"null")?,
+    }
+    out.put(b",\"medium\":\"")?;
+    out.put(medium_name(meter.kind).as_bytes())?;
+    let Some(point) = value else {
+        return out.put(b"\",\"value\":null,\"unit\":null}\n");
+    };
+    let mut room = [0u8; TEXT_ROOM];
+    out.put(b"\",\"value\":\"")?;
+    out.put(point.value.write_into(&mut room))?;
+    out.put(b"\",\"unit\":\"")?;
+    out.put(point.quantity.unit().as_bytes())?;
+    out.put(b"\"}\n")
+}

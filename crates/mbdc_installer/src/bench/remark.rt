@@ -1,0 +1,69 @@
+//! What standard error says after a command.
+
+ghost use Rattle.std.specs.Prelude.{◌≡◌};
+ghost use Rattle.mbdc_io.specs.Written.{Wrote};
+ghost use Rattle.mbdc_installer.specs.Remark.{hint, owner_of, remark_text};
+
+use crate::bench::command::{Done, Work};
+use crate::{Count, Course, Readout, is_all_read, put_unread};
+use mbdc_io::{IoFault, Sink};
+use dc_readout::misses::{Owner, put_reason};
+use mbdc_words::MeterName;
+
+/// Writes what is to be known of a command besides its text: after a search how many answers can't be read, and to a
+/// person what to do where nothing was found, and with numbers that several meters have; after a readout that failed
+/// what its failed tries brought.
+#[tactic(auto, using(mbdc_io::proofs::Pieces::written), unfolding(crate::specs::Remark::advice_text))]
+pub fn put_remark<W: Sink>(
+    work: &Work,
+    done: &Done,
+    course: &Course,
+    is_watched: bool,
+    out: &mut W,
+) -> Result<(), IoFault>
+    ensures { Wrote W.Sink result out.old out.new
+        (remark_text work.now done.now course.now is_watched) }
+{
+    match (work, done) {
+        (_, Done::Searched(count)) => {
+            put_unread(out, course)?;
+            out.put(hint(course, *count, is_watched))
+        }
+        (Work::Read(meter), Done::ReadOut(Readout::Failed(misses))) => {
+            put_reason(out, &owner_of(meter), misses)
+        }
+        _ => Ok(()),
+    }
+}
+
+// What a person does next; nothing where no person reads it.
+fn hint(course: &Course, count: Option<Count>, is_watched: bool) -> &'static [u8]
+    ensures { result.now ≡ hint course.now count is_watched }
+{
+    if !is_watched {
+        return b"";
+    }
+    if !course.is_answered {
+        return b"nobody answered: is the bus powered, are speed and parity right?\n";
+    }
+    match count {
+        Some(count) if count.shared != 0 => {
+            b"SHARED: find these meters by scan --primary, and read each by its address\n"
+        }
+        Some(count) if count.meters == 0 && is_all_read(course) => {
+            b"answers came, but of no meter: look at speed, parity and noise\n"
+        }
+        _ => b"",
+    }
+}
+
+// Whose readout it is, in the words of the person who asked for it.
+fn owner_of(meter: &MeterName) -> Owner
+    ensures { result ≡ owner_of meter.now }
+{
+    match meter {
+        MeterName::Identity(meter) => Owner::Meter(*meter),
+        MeterName::Address(address) => Owner::Address(*address),
+        MeterName::Number(digits) => Owner::Number(*digits),
+    }
+}

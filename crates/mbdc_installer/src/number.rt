@@ -1,0 +1,175 @@
+//! Finds the one meter with an identification number.
+
+ghost use Rattle.std.specs.Prelude.{◌≡◌, ◌≤◌, ◌+◌, ◌&&◌, ◌++◌, length, map};
+ghost use Rattle.dc_linkframe.specs.Frame.{spelling};
+ghost use Rattle.mbdc_installer.specs.Number.{IsFound, Tries, digit_of, ending};
+ghost use Rattle.mbdc_installer.specs.Number.{selection_to, unfound_text, with_number};
+ghost use Rattle.mbdc_io.specs.Written.{Wrote};
+ghost use Rattle.dc_readout.specs.Misses.{and_missed, is_noise, is_silent};
+ghost use Rattle.dc_search.specs.Prefix.{mask_of_digits};
+
+use crate::primary::ask_telegram;
+use dc_address::{Identity, Mask};
+use mbdc_bus::{AnswerBuf, Bus};
+use dc_linkframe::FrameBuf;
+use dc_linkframe::control::{SELECTED, write_selection};
+use mbdc_io::{IoFault, Sink};
+use dc_readout::misses::{Misses, is_noise};
+use dc_search::{Branch, meter_of};
+use mbdc_decode::tokens::{Piece, put_pieces};
+
+// Number of tries.
+const TRIES: u8 = 3;
+
+/// What came of asking for the meter of a number.
+#[derive(Clone, Copy)]
+pub enum Numbered {
+    /// One meter answered, and has the number.
+    One(Identity),
+    /// Bytes came to each selection, and bytes that are no frame to each request: several meters have the number, or
+    /// the answers of one are damaged. This is what the tries brought.
+    Shared(Misses),
+    /// No meter with the number was heard. This is what the tries brought.
+    Nobody(Misses),
+}
+
+/// Finds the one meter with a number, of eight digits in ASCII: selects it, with wildcards for manufacturer,
+/// version and type (EN 13757-3), and requests its telegram, which has to come twice from one meter, alone. The meter
+/// repeats it to the next readout. It tries three times.
+pub fn find_number<B: Bus>(bus: &mut B, digits: &[u8; 8]) -> Numbered
+    ensures { IsFound B.asks_all digits.now bus.old result bus.new }
+{
+    try_on(bus, digits, TRIES, true, Misses::none())
+}
+
+// The tries that are left, after failed ones that brought this, and each of which collided or not.
+fn try_on<B: Bus>(
+    bus: &mut B,
+    digits: &[u8; 8],
+    left: u8,
+    collided: bool,
+    misses: Misses,
+) -> Numbered
+    ensures { Tries B.asks_all digits.now left collided misses bus.old result bus.new }
+{
+    if left == 0 {
+        return ending(collided, misses);
+    }
+    let answer = ask_selection(bus, digits);
+    if is_silent(&answer) {
+        return try_on(bus, digits, left - 1, false, and_missed(&answer, misses));
+    }
+    let telegram = ask_telegram(bus, SELECTED);
+    match with_number(&telegram, digits) {
+        Some(meter) => Numbered::One(meter),
+        None => {
+            let collided = have_collided(collided, &telegram);
+            try_on(
+                bus,
+                digits,
+                left - 1,
+                collided,
+                and_missed(&telegram, misses),
+            )
+        }
+    }
+}
+
+fn is_silent(answer: &AnswerBuf) -> bool
+    ensures { result ≡ is_silent answer.now }
+{
+    answer.as_slice().is_empty()
+}
+
+// Whether each try up to this one collided.
+fn have_collided(collided: bool, telegram: &AnswerBuf) -> bool
+    ensures { result ≡ (collided && is_noise telegram.now) }
+{
+    collided && is_noise(telegram.as_slice())
+}
+
+// The counts, and one failed try more.
+fn and_missed(answer: &AnswerBuf, misses: Misses) -> Misses
+    ensures { result ≡ and_missed answer.now misses }
+{
+    let mut misses = misses;
+    misses.count(answer.as_slice());
+    misses
+}
+
+// What came of tries without a meter.
+fn ending(collided: bool, misses: Misses) -> Numbered
+    ensures { result ≡ ending collided misses }
+{
+    if collided {
+        Numbered::Shared(misses)
+    } else {
+        Numbered::Nobody(misses)
+    }
+}
+
+fn ask_selection<B: Bus>(bus: &mut B, digits: &[u8; 8]) -> AnswerBuf
+    ensures { B.asks_all bus.old (spelling (selection_to digits.now)) result bus.new }
+{
+    let mut request = FrameBuf::new();
+    write_selection(&mask_of(digits).wire(), &mut request);
+    bus.ask_all(&request)
+}
+
+// The mask of all meters with a number.
+fn mask_of(digits: &[u8; 8]) -> Mask
+    ensures { result ≡ mask_of_digits (map digit_of digits.now) }
+{
+    fix(Branch::root(), digits).mask()
+}
+
+// The mask with these digits fixed next.
+#[tactic(auto, using(crate::proofs::Numbers::fixed_first))]
+fn fix(branch: Branch, codes: &[u8]) -> Branch
+    requires { length branch + length codes.now ≤ 8 }
+    ensures { result ≡ branch ++ map digit_of codes.now }
+{
+    match codes.split_first() {
+        Some((code, more)) => fix(branch.child(digit_of(*code)), more),
+        None => branch,
+    }
+}
+
+// The digit of its code.
+fn digit_of(code: u8) -> u8
+    ensures exact { result ≡ digit_of code }
+    ensures digit { result ≤ 9 }
+{
+    code.saturating_sub(b'0') % 10
+}
+
+// The meter of a telegram, if it has the number.
+fn with_number(telegram: &AnswerBuf, digits: &[u8; 8]) -> Option<Identity>
+    ensures { result ≡ with_number digits.now telegram.now }
+{
+    let meter = meter_of(telegram.as_slice())?;
+    if meter.text().starts_with(digits) {
+        Some(meter)
+    } else {
+        None
+    }
+}
+
+/// Prints that a number names no one meter: `SHARED 12345678`, or `FAILED 1 NoAnswer`.
+#[tactic(auto, unfolding(crate::specs::Number::between))]
+pub fn put_unfound<W: Sink>(digits: &[u8; 8], is_shared: bool, out: &mut W) -> Result<(), IoFault>
+    ensures { Wrote W.Sink result out.old out.new (unfound_text digits.now is_shared) }
+{
+    if is_shared {
+        put_pieces(
+            out,
+            &[
+                Piece::Text(b"SHARED "),
+                Piece::Text(digits),
+                Piece::Text(b"\n"),
+            ],
+        )
+    } else {
+        out.put(b"FAILED 1 NoAnswer\n")
+    }
+}

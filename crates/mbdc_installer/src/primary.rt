@@ -1,0 +1,240 @@
+//! The search at primary addresses.
+
+ghost use Rattle.std.specs.Prelude.{◌≡◌, ◌≤◌, ◌+◌, ◌∷◌, [], true, List, ℕ, OnOk, OnErr, length};
+ghost use Rattle.std.specs.List.{range_with_len};
+ghost use Rattle.mbdc_bus.specs.Limits.{most_request};
+ghost use Rattle.mbdc_bus.specs.Windows.{Insists, Reads, most_tries};
+ghost use Rattle.dc_linkframe.specs.Control.{request_to, reset_to};
+ghost use Rattle.dc_linkframe.specs.Frame.{spelling};
+ghost use Rattle.dc_linkframe.specs.Reading.{frame_of};
+ghost use Rattle.mbdc_io.specs.Failures.{HasRisen};
+ghost use Rattle.mbdc_io.specs.Written.{PutsInto, Wrote};
+ghost use Rattle.dc_readout.specs.Misses.{misses_of};
+ghost use Rattle.mbdc_installer.specs.Scan.{AsksEach, AsksOne, Identifies, IsAsked, IsCalled, address_line};
+ghost use Rattle.mbdc_installer.specs.Scan.{greatest, identified, is_ack, is_sent_from};
+ghost use Rattle.mbdc_installer.specs.Scan.{is_there, line_of, sender_at};
+
+use dc_address::Identity;
+use mbdc_bus::{AnswerBuf, Bus, TRIES, insist, read_twice};
+use dc_linkframe::control::{write_request, write_reset};
+use dc_linkframe::{Frame, FrameBuf, parse};
+use mbdc_io::{IoFault, Sink};
+use dc_readout::misses::Misses;
+use dc_search::meter_of;
+use mbdc_decode::tokens::{Piece, put_pieces};
+
+/// The greatest primary address (EN 13757-2).
+pub const GREATEST: u8 = 250;
+
+/// What came to the reset of an address, and to the request for its telegram.
+#[derive(Drop)]
+pub struct Asked {
+    /// The bytes that came to the reset.
+    pub answer: AnswerBuf,
+    /// The bytes that came to the request; none where it wasn't sent.
+    pub telegram: AnswerBuf,
+}
+
+/// Asks each primary address from 1 to 250 (EN 13757-2), and prints each at which somebody answers, with the meter
+/// where one answers alone and its telegram comes from that address.
+///
+/// # Errors
+/// A write failed.
+pub fn scan_primary<B: Bus, W: Sink>(bus: &mut B, out: &mut W) -> Result<(), IoFault>
+    ensures asked { OnOk result ((text : List ℕ)
+        × AsksEach B.asks_all (range_with_len 1 greatest) bus.old text bus.new
+        × PutsInto W.Sink out.old out.new text) }
+    ensures failed { OnErr result (HasRisen (W.put_failures out.old) (W.put_failures out.new)) }
+    ensures well { OnOk result (W.put_failures out.new ≡ W.put_failures out.old) }
+{
+    scan_range(1, GREATEST, bus, out)
+}
+
+/// Identifies the meter at a primary address, or at 0, which a meter has that got none. The meter repeats its telegram
+/// to the next readout.
+///
+/// # Errors
+/// No telegram of one meter came from that address. The try that failed is counted by what it brought.
+pub fn identify<B: Bus>(bus: &mut B, address: u8) -> Result<Identity, Misses>
+    ensures { Identifies B.asks_all address bus.old result bus.new }
+{
+    let asked = ask_address(bus, address);
+    identified(sender_at(address, &asked.telegram), &asked.telegram)
+}
+
+// The meter, or what the failed try brought.
+fn identified(meter: Option<Identity>, telegram: &AnswerBuf) -> Result<Identity, Misses>
+    ensures { result ≡ identified meter telegram.now }
+{
+    match meter {
+        Some(meter) => Ok(meter),
+        None => Err(missed(telegram)),
+    }
+}
+
+// The count of one failed try.
+fn missed(answer: &AnswerBuf) -> Misses
+    ensures { result ≡ misses_of (answer.now ∷ []) }
+{
+    let mut misses = Misses::none();
+    misses.count(answer.as_slice());
+    misses
+}
+
+// `count` addresses from the first one on.
+fn scan_range<B: Bus, W: Sink>(
+    first: u8,
+    count: u8,
+    bus: &mut B,
+    out: &mut W,
+) -> Result<(), IoFault>
+    requires { first + count ≤ 251 }
+    ensures asked { OnOk result ((text : List ℕ)
+        × AsksEach B.asks_all (range_with_len first count) bus.old text bus.new
+        × PutsInto W.Sink out.old out.new text) }
+    ensures failed { OnErr result (HasRisen (W.put_failures out.old) (W.put_failures out.new)) }
+    ensures well { OnOk result (W.put_failures out.new ≡ W.put_failures out.old) }
+{
+    if count == 0 {
+        return Ok(());
+    }
+    match scan_one(first, bus, out) {
+        Ok(()) => scan_range(first + 1, count - 1, bus, out),
+        Err(fault) => Err(fault),
+    }
+}
+
+fn scan_one<B: Bus, W: Sink>(address: u8, bus: &mut B, out: &mut W) -> Result<(), IoFault>
+    ensures asked { OnOk result ((line : List ℕ)
+        × AsksOne B.asks_all address bus.old line bus.new
+        × PutsInto W.Sink out.old out.new line) }
+    ensures failed { OnErr result (HasRisen (W.put_failures out.old) (W.put_failures out.new)) }
+    ensures well { OnOk result (W.put_failures out.new ≡ W.put_failures out.old) }
+{
+    let asked = ask_address(bus, address);
+    put_asked(address, &asked, out)
+}
+
+// Prints an address at which somebody answers.
+fn put_asked<W: Sink>(address: u8, asked: &Asked, out: &mut W) -> Result<(), IoFault>
+    ensures { Wrote W.Sink result out.old out.new
+        (line_of address asked.now.answer asked.now.telegram) }
+{
+    if !is_there(asked) {
+        return Ok(());
+    }
+    put_address(address, sender_at(address, &asked.telegram), out)
+}
+
+/// Whether somebody answers.
+pub fn is_there(asked: &Asked) -> bool
+    ensures { result ≡ is_there asked.now.answer asked.now.telegram }
+{
+    is_ack(&asked.answer) || !asked.telegram.as_slice().is_empty()
+}
+
+/// Resets an address, and requests its telegram where bytes come to that.
+pub fn ask_address<B: Bus>(bus: &mut B, address: u8) -> Asked
+    ensures { IsAsked B.asks_all address bus.old result.answer result.telegram bus.new }
+{
+    let mut request = FrameBuf::new();
+    write_reset(address, &mut request);
+    call(bus, &request, address)
+}
+
+/// Sends a frame, and requests a telegram at an address where bytes come to that.
+pub(crate) fn call<B: Bus>(bus: &mut B, request: &FrameBuf, address: u8) -> Asked
+    requires { length request.now ≤ most_request }
+    ensures { IsCalled B.asks_all request.now address bus.old result.answer result.telegram bus.new }
+{
+    let answer = insist(bus, request, TRIES);
+    if answer.as_slice().is_empty() {
+        return Asked {
+            answer,
+            telegram: AnswerBuf::new(),
+        };
+    }
+    let telegram = ask_telegram(bus, address);
+    Asked { answer, telegram }
+}
+
+/// Resets an address, and returns what comes to that.
+pub(crate) fn ask_reset<B: Bus>(bus: &mut B, address: u8) -> AnswerBuf
+    ensures { Insists B.asks_all (spelling (reset_to address)) most_tries bus.old result bus.new }
+{
+    let mut request = FrameBuf::new();
+    write_reset(address, &mut request);
+    insist(bus, &request, TRIES)
+}
+
+/// Requests a telegram, and returns it where it comes twice from one meter.
+pub(crate) fn ask_telegram<B: Bus>(bus: &mut B, address: u8) -> AnswerBuf
+    ensures { Reads B.asks_all (spelling (request_to true address)) bus.old result bus.new }
+{
+    let mut request = FrameBuf::new();
+    write_request(true, address, &mut request);
+    read_twice(bus, &request)
+}
+
+// Whether an answer is an acknowledgement.
+pub(crate) fn is_ack(answer: &AnswerBuf) -> bool
+    ensures { result ≡ is_ack (frame_of answer.now) }
+{
+    matches!(parse(answer.as_slice()), Ok(Frame::Ack))
+}
+
+/// The meter of a telegram that comes from this address.
+pub fn sender_at(address: u8, telegram: &AnswerBuf) -> Option<Identity>
+    ensures { result ≡ sender_at address telegram.now }
+{
+    if is_sent_from(address, telegram) {
+        meter_of(telegram.as_slice())
+    } else {
+        None
+    }
+}
+
+fn is_sent_from(address: u8, telegram: &AnswerBuf) -> bool
+    ensures { result ≡ is_sent_from address (frame_of telegram.now) }
+{
+    match parse(telegram.as_slice()) {
+        Ok(
+            Frame::Long {
+                address: sender,
+                ..
+            },
+        ) => sender == address,
+        _ => false,
+    }
+}
+
+/// Writes an address, and the meter that answers there, if one alone does.
+pub(crate) fn put_address<W: Sink>(
+    address: u8,
+    meter: Option<Identity>,
+    out: &mut W,
+) -> Result<(), IoFault>
+    ensures { Wrote W.Sink result out.old out.new (address_line address meter) }
+{
+    let number = u64::from(address);
+    match meter {
+        Some(meter) => put_pieces(
+            out,
+            &[
+                Piece::Text(b"ADDRESS"),
+                Piece::Word(number),
+                Piece::Text(b" "),
+                Piece::Text(&meter.text()),
+                Piece::Text(b"\n"),
+            ],
+        ),
+        None => put_pieces(
+            out,
+            &[
+                Piece::Text(b"ADDRESS"),
+                Piece::Word(number),
+                Piece::Text(b"\n"),
+            ],
+        ),
+    }
+}

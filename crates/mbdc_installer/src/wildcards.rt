@@ -1,0 +1,75 @@
+//! Searches for meters by wildcards.
+
+ghost use Rattle.std.specs.Prelude.{◌≡◌, IfOk, IsErrOf, OnOk};
+ghost use Rattle.mbdc_io.specs.Failures.{HasRisen};
+ghost use Rattle.mbdc_io.specs.Written.{PutsInto};
+ghost use Rattle.dc_search.specs.Found.{search_text};
+ghost use Rattle.mbdc_installer.specs.Scan.{Counts, Scanned};
+
+use mbdc_bus::{Bus, search_windows};
+use mbdc_io::{IoFault, NoMemory, Sink};
+use dc_search::{Search, put_search};
+use std::alloc::Allocator;
+use thiserror::Error;
+
+/// Why a scan didn't end.
+#[derive(Clone, Copy, Debug, Error)]
+pub enum ScanFault {
+    /// A write failed.
+    #[error("a write failed")]
+    Write,
+    /// Out of memory.
+    #[error("out of memory")]
+    NoMemory,
+}
+
+/// How much a search found.
+#[derive(Clone, Copy)]
+pub struct Count {
+    /// Number of meters.
+    pub meters: usize,
+    /// Number of identification numbers that more than one meter has.
+    pub shared: usize,
+}
+
+/// Searches a bus for meters by wildcards (EN 13757-3), with at most `budget` selections, and prints what it found:
+/// each meter, each number that more than one meter has, whether the budget was spent, and the number of selections.
+/// Returns how much it found.
+///
+/// # Errors
+/// [`ScanFault::Write`], and [`ScanFault::NoMemory`] with nothing written.
+pub fn scan<A: Allocator + Copy, B: Bus, W: Sink>(
+    alloc: A,
+    budget: u32,
+    bus: &mut B,
+    out: &mut W,
+) -> Result<Count, ScanFault>
+    ensures scanned { IfOk result (λ count. Scanned B.asks_all B.meters budget bus.old bus.new
+        (PutsInto W.Sink out.old out.new) (Counts count)) }
+    ensures write { IsErrOf result ScanFault.Write
+        → HasRisen (W.put_failures out.old) (W.put_failures out.new) }
+    ensures well { OnOk result (W.put_failures out.new ≡ W.put_failures out.old) }
+    ensures unwritten { IsErrOf result ScanFault.NoMemory → out.new ≡ out.old }
+{
+    match search_windows(alloc, budget, bus) {
+        Ok(search) => print(&search, out),
+        Err(NoMemory) => Err(ScanFault::NoMemory),
+    }
+}
+
+fn print<A: Allocator + Copy, W: Sink>(search: &Search<A>, out: &mut W) -> Result<Count, ScanFault>
+    ensures counted { IfOk result (λ count. Counts count search.now) }
+    ensures text { OnOk result (PutsInto W.Sink out.old out.new (search_text search.now)) }
+    ensures write { IsErrOf result ScanFault.Write
+        → HasRisen (W.put_failures out.old) (W.put_failures out.new) }
+    ensures well { OnOk result (W.put_failures out.new ≡ W.put_failures out.old) }
+    ensures only { IsErrOf result ScanFault.NoMemory → ⊥ }
+{
+    match put_search(search, out) {
+        Ok(()) => Ok(Count {
+            meters: search.found().len(),
+            shared: search.shared().len(),
+        }),
+        Err(IoFault) => Err(ScanFault::Write),
+    }
+}

@@ -1,0 +1,208 @@
+//! A table for readers: the frames of lines of hex digits, in words and aligned.
+//!
+//! Its text has no contract: it is proved safe, and its faults are those of `decode_lines`.
+
+ghost use Rattle.std.specs.Prelude.{◌≡◌, ◌≢◌, ◌<◌, ◌≤◌, length, IfSome, IfOk, IfErr, OnOk, IsErrOf};
+ghost use Rattle.mbdc_io.specs.Failures.{HasRisen};
+ghost use Rattle.mbdc_io.specs.Lines.{most_input};
+ghost use Rattle.dc_linkframe.specs.Frame.{seen};
+ghost use Rattle.mbdc_decode.specs.Frames.{is_bad, is_bad_content, is_bad_frame};
+ghost use Rattle.mbdc_decode.specs.Text.{has_fault};
+
+use crate::place::{body_place, frame_place};
+use crate::table::put_content;
+use mbdc_decode::{Input, LineForm, read_frame};
+use dc_linkframe::Frame;
+use dc_linkframe::control::VARIABLE_DATA;
+use mbdc_io::{Bytes, IoFault, Sink, Source, TextFault, put_byte, put_fault, put_number};
+use mbdc_reading::content::content_of;
+use dc_records::Telegram;
+use dc_records::names::{ci_name, control_name};
+use std::alloc::Allocator;
+
+// Number of bytes of a long frame before its body.
+const BODY: usize = 7;
+
+// Writes the place of a fault in the line and what was expected there.
+fn put_expected<W: Sink>(out: &mut W, place: usize, expected: &str) -> Result<(), IoFault> {
+    out.put(b" at byte ")?;
+    put_number(out, place as u64)?;
+    out.put(b": expected ")?;
+    out.put(expected.as_bytes())?;
+    out.put(b"\n")
+}
+
+// Writes a control byte and an address in words.
+fn put_link<W: Sink>(out: &mut W, control: u8, address: u8) -> Result<(), IoFault> {
+    out.put(control_name(control).as_bytes())?;
+    out.put(b" (")?;
+    put_byte(out, control)?;
+    out.put(b"), address ")?;
+    put_number(out, u64::from(address))
+}
+
+// Writes a body in words, and its fault if the CI field states a telegram; returns whether it has one.
+// `start` is its place in the line.
+#[tactic(auto, unfolding(mbdc_decode::specs::Frames::is_bad_content))]
+fn put_body<W: Sink>(out: &mut W, start: usize, ci: u8, body: &[u8]) -> Result<bool, IoFault>
+    ensures { IfOk result (λ bad. bad ≡ is_bad_content ci body.now) }
+{
+    if ci != VARIABLE_DATA {
+        put_told(out, ci, body, false)?;
+        return Ok(false);
+    }
+    match Telegram::parse(body) {
+        Ok(_) => {
+            put_told(out, ci, body, true)?;
+            Ok(false)
+        }
+        Err(fault) => {
+            let (place, expected) = body_place(body, fault);
+            out.put(b"  body fault ")?;
+            put_fault(out, fault.number(), fault.name())?;
+            put_expected(out, start.saturating_add(place), expected)?;
+            put_told(out, ci, body, false)?;
+            Ok(true)
+        }
+    }
+}
+
+// Writes what a body says.
+fn put_told<W: Sink>(out: &mut W, ci: u8, body: &[u8], is_telegram: bool) -> Result<(), IoFault> {
+    match content_of(ci, body) {
+        Some(content) => put_content(out, &content, is_telegram),
+        None => Ok(()),
+    }
+}
+
+// Writes a frame that begins at this place of a line, and returns whether its body has a fault.
+fn put_frame<W: Sink>(out: &mut W, start: usize, frame: Frame<'_>) -> Result<bool, IoFault>
+    ensures { IfOk result (λ bad. bad ≡ is_bad_frame (seen frame.entry)) }
+{
+    match frame {
+        Frame::Ack => {
+            out.put(b"acknowledgement\n")?;
+            Ok(false)
+        }
+        Frame::Short { control, address } => {
+            out.put(b"short frame, ")?;
+            put_link(out, control, address)?;
+            out.put(b"\n")?;
+            Ok(false)
+        }
+        Frame::Long {
+            control,
+            address,
+            ci,
+            body,
+        } => {
+            out.put(b"long frame, ")?;
+            put_link(out, control, address)?;
+            out.put(b", ")?;
+            out.put(ci_name(ci).as_bytes())?;
+            out.put(b" (")?;
+            put_byte(out, ci)?;
+            out.put(b")\n")?;
+            put_body(out, start.saturating_add(BODY), ci, body)
+        }
+    }
+}
+
+// Writes a text that begins at this place of a line, and returns whether it has a fault.
+#[tactic(auto, unfolding(mbdc_decode::specs::Frames::is_bad))]
+fn put_text_table<W: Sink>(out: &mut W, start: usize, text: &[u8]) -> Result<bool, IoFault>
+    ensures { IfOk result (λ bad. bad ≡ is_bad text.now) }
+{
+    match read_frame(text) {
+        Ok(frame) => put_frame(out, start, frame),
+        Err(fault) => {
+            let (place, expected) = frame_place(text, fault);
+            out.put(b"frame fault ")?;
+            put_fault(out, fault.number(), fault.name())?;
+            put_expected(out, start.saturating_add(place), expected)?;
+            Ok(true)
+        }
+    }
+}
+
+/// The form of `decode --explain`: words and tables.
+struct Table;
+
+impl LineForm for Table {
+    ghost use Rattle.std.specs.Prelude.{[]};
+
+    ghost IsDefined = { ⊥ };
+
+    ghost frame_text = { λ _ _. [] };
+
+    ghost fault_text = { λ _. [] };
+
+    fn put_frame<W: Sink>(
+        line: u64,
+        start: usize,
+        bytes: &[u8],
+        out: &mut W,
+    ) -> Result<bool, IoFault> {
+        put_place(out, line)?;
+        put_text_table(out, start, bytes)
+    }
+
+    fn put_hex_fault<W: Sink>(line: u64, out: &mut W) -> Result<(), IoFault> {
+        put_place(out, line)?;
+        out.put(b"no line of pairs of hex digits, or longer than 4096 characters\n")
+    }
+}
+
+// Writes the number of a line.
+fn put_place<W: Sink>(out: &mut W, line: u64) -> Result<(), IoFault> {
+    out.put(b"line ")?;
+    put_number(out, line)?;
+    out.put(b": ")
+}
+
+/// Writes the lines of hex digits left in the reader in words: each frame, the meter, its status, a
+/// table of its records, and for each fault its place in the line (in bytes, from 0) and what was
+/// expected there. Returns whether a line, a frame or a body has a fault.
+///
+/// The whole input is read, and the whole text built, before anything is written.
+///
+/// # Errors
+/// [`TextFault::Read`] and [`TextFault::Write`] if the reader or the writer failed,
+/// [`TextFault::TooLong`] over 1 MiB, [`TextFault::NoMemory`] if memory ran out. Only after `Write`
+/// may something have been written.
+pub fn explain_lines<A: Allocator + Copy, R: Source, W: Sink>(
+    alloc: A,
+    reader: &mut R,
+    writer: &mut W,
+) -> Result<bool, TextFault>
+    // The result is whether a line, a frame or a body of the whole input has a fault.
+    ensures fault { IfOk result (λ found.
+        IfSome (R.left reader.old) (λ input. found ≡ has_fault input)) }
+
+    // Exactly the inputs over the limit are rejected for their length.
+    ensures fits { OnOk result (IfSome (R.left reader.old) (λ input. length input ≤ most_input)) }
+    ensures too_long { IsErrOf result TextFault.TooLong
+        → IfSome (R.left reader.old) (λ input. most_input < length input) }
+
+    // A read or write fault is returned only if that end counted a failure.
+    ensures read { IsErrOf result TextFault.Read
+        → HasRisen (R.take_failures reader.old) (R.take_failures reader.new) }
+    ensures write { IsErrOf result TextFault.Write
+        → HasRisen (W.put_failures writer.old) (W.put_failures writer.new) }
+
+    ensures ok { OnOk result ((R.take_failures reader.new ≡ R.take_failures reader.old)
+        × (W.put_failures writer.new ≡ W.put_failures writer.old)) }
+
+    // After any fault but a failed write the writer is unchanged.
+    ensures untouched { IfErr result (λ fault. fault ≢ TextFault.Write → writer.new ≡ writer.old) }
+{
+    let input = Input::read(alloc, reader)?;
+    let mut text = Bytes::new(alloc);
+    let Ok(found) = input.put_as::<Table, Bytes<A>>(&mut text) else {
+        return Err(TextFault::NoMemory);
+    };
+    match writer.put(text.as_slice()) {
+        Ok(()) => Ok(found),
+        Err(_) => Err(TextFault::Write),
+    }
+}

@@ -1,0 +1,181 @@
+//! What is shown of a registered meter.
+
+ghost use Rattle.std.specs.Prelude.{◌≡◌, ◌≤◌, Some, None, IfSome, if◌then◌else◌, option_copied, option_map};
+ghost use Rattle.mbdc_change.specs.Fields.{last_moment};
+ghost use Rattle.mbdc_json.specs.Heard.{ago};
+ghost use Rattle.mbdc_json.specs.Row.{code_of, failing_at, failing_since, is_later, number_in, row_at};
+ghost use Rattle.mbdc_json.specs.Row.{status_in, taken_at, within};
+
+use crate::journal::{Failing, Journal, Taken};
+use crate::latest::{last_reading, part_in};
+use crate::status::silence::{Clock, heard, is_silent};
+use dc_address::Identity;
+use mbdc_change::{Flat, LAST_MOMENT};
+use dc_meters::{House, Part, Place};
+use std::alloc::Allocator;
+
+/// What is shown of a registered meter, in any form.
+#[derive(Clone, Copy)]
+pub(crate) struct Row {
+    /// Its flat.
+    pub(crate) flat: Flat,
+    /// The meter.
+    pub(crate) meter: Identity,
+    /// The moment at which it was last heard.
+    pub(crate) heard: Option<u64>,
+    /// Seconds since then.
+    pub(crate) age: Option<u64>,
+    /// Whether it is silent.
+    pub(crate) is_silent: bool,
+    /// The status byte of its last reading.
+    pub(crate) status: Option<u8>,
+    /// What the journal says, where there is one.
+    pub(crate) told: Option<Told>,
+}
+
+/// What the journal says of a meter.
+#[derive(Clone, Copy)]
+pub(crate) struct Told {
+    /// Whether the last reading is the journal's.
+    pub(crate) is_noted: bool,
+    /// When its last readout failed since.
+    pub(crate) failed: Option<u64>,
+    /// The number of that failure.
+    pub(crate) number: u8,
+}
+
+/// The row of a meter at a clock.
+#[tactic(auto, unfolding(crate::specs::Row::row_at, crate::specs::Row::heard_by, crate::specs::Row::status_by))]
+pub(crate) fn row_at<A: Allocator + Copy>(
+    house: &House<A>,
+    clock: Clock,
+    journal: &Journal<A>,
+    place: &Place,
+) -> Row
+    ensures row { result ≡ row_at clock.patience clock.now journal.now house.now.state place.now }
+    ensures within { IfSome result.heard (λ moment. moment ≤ last_moment) }
+    ensures told { IfSome result.told (λ told. IfSome told.failed (λ moment. moment ≤ last_moment)) }
+{
+    let held = heard(house, &place.meter);
+    let noted = journal.of(&place.meter);
+    let taken = taken_at(noted.read);
+    let is_noted = is_later(taken, held);
+    let heard = if is_noted { taken } else { held };
+    Row {
+        flat: place.flat,
+        meter: place.meter,
+        heard,
+        age: age(clock.now, heard),
+        is_silent: is_silent(
+            clock,
+            house.confirmed(),
+            failing_since(noted.failing),
+            heard,
+        ),
+        status: if is_noted {
+            status_in(noted.read)
+        } else {
+            code_of(part_in(last_reading(house, &place.meter)))
+        },
+        told: told_by(journal.is_there(), is_noted, noted.failing),
+    }
+}
+
+// A moment that is a time stamp.
+fn within(moment: u64) -> Option<u64>
+    ensures within { result ≡ within moment }
+    ensures fits { IfSome result (λ moment. moment ≤ last_moment) }
+{
+    if moment <= LAST_MOMENT {
+        Some(moment)
+    } else {
+        None
+    }
+}
+
+/// When a reading was taken, where that is a time stamp.
+pub(crate) fn taken_at(taken: Option<Taken>) -> Option<u64>
+    ensures at { result ≡ taken_at taken }
+    ensures fits { IfSome result (λ moment. moment ≤ last_moment) }
+{
+    match taken {
+        Some(taken) => within(taken.moment),
+        None => None,
+    }
+}
+
+fn status_in(taken: Option<Taken>) -> Option<u8>
+    ensures { result ≡ status_in taken }
+{
+    match taken {
+        Some(taken) => Some(taken.status),
+        None => None,
+    }
+}
+
+fn failing_since(failing: Option<Failing>) -> Option<u64>
+    ensures { result ≡ failing_since failing }
+{
+    match failing {
+        Some(failing) => Some(failing.since),
+        None => None,
+    }
+}
+
+/// Whether the journal's reading is later than what the image holds.
+pub(crate) fn is_later(noted: Option<u64>, held: Option<u64>) -> bool
+    ensures { result ≡ is_later noted held }
+{
+    match (noted, held) {
+        (None, _) => false,
+        (Some(_), None) => true,
+        (Some(noted), Some(held)) => noted > held,
+    }
+}
+
+// What the journal says, where there is one.
+fn told_by(is_there: bool, is_noted: bool, failing: Option<Failing>) -> Option<Told>
+    ensures told { result ≡ (if is_there then Some (record {
+      is_noted = is_noted;
+      failed = failing_at failing;
+      number = number_in failing;
+    }) else None) }
+    ensures fits { IfSome result (λ told. IfSome told.failed (λ moment. moment ≤ last_moment)) }
+{
+    if !is_there {
+        return None;
+    }
+    Some(match failing {
+        Some(failing) => Told {
+            is_noted,
+            failed: within(failing.at),
+            number: failing.number,
+        },
+        None => Told {
+            is_noted,
+            failed: None,
+            number: 0,
+        },
+    })
+}
+
+// Seconds since a moment.
+fn age(now: u64, moment: Option<u64>) -> Option<u64>
+    ensures { result ≡ option_map (ago now) moment }
+{
+    match moment {
+        Some(moment) => Some(now.saturating_sub(moment)),
+        None => None,
+    }
+}
+
+// The status byte of a part.
+#[tactic(auto, unfolding(crate::specs::Row::code_of))]
+fn code_of<A: Allocator>(part: Option<&Part<A>>) -> Option<u8>
+    ensures { result ≡ code_of (option_copied part.entry) }
+{
+    match part {
+        Some(part) => Some(part.telegram().header().status),
+        None => None,
+    }
+}

@@ -1,0 +1,271 @@
+//! A telegram, or what another body says, as an aligned table.
+
+use crate::latest::{put_byte_words, put_names};
+use dc_address::Identity;
+use mbdc_io::{IoFault, Sink, put_byte, put_hex, put_number};
+use mbdc_reading::content::{
+    Content, Counter, FixedData, REASON_ROOM, Security, Variable, medium_of, security_name,
+};
+use mbdc_reading::{
+    How, READING_ROOM, Reading, Sent, SentRecords, code_at, digits_text, label_text, maker_of,
+    number_of, reading_of, told_of, unit_text, value_text,
+};
+use dc_records::names::{function_name, medium_name};
+use dc_records::{End, Record};
+use itoa::Buffer;
+
+// The widths of the columns, in characters.
+const QUANTITY: usize = 30;
+
+const VALUE: usize = 20;
+
+const UNIT: usize = 11;
+
+const NUMBER: usize = 8;
+
+// Writes this many spaces, and one more.
+fn put_spaces<W: Sink>(out: &mut W, count: usize) -> Result<(), IoFault> {
+    'spaces: for _ in 0..count {
+        out.put(b" ")?;
+    }
+    out.put(b" ")
+}
+
+// Writes a cell of a column.
+fn put_cell<W: Sink>(out: &mut W, text: &[u8], width: usize) -> Result<(), IoFault> {
+    out.put(text)?;
+    put_spaces(out, width.saturating_sub(text.len()))
+}
+
+// Writes the meter, where a header names it, and the access number and the status of a header.
+fn put_header<W: Sink>(
+    out: &mut W,
+    meter: Option<Identity>,
+    access: u8,
+    status: u8,
+) -> Result<(), IoFault> {
+    out.put(b"  meter   ")?;
+    match meter {
+        Some(meter) => {
+            out.put(&meter.text())?;
+            out.put(b", ")?;
+            out.put(medium_name(meter.kind).as_bytes())?;
+        }
+        None => out.put(b"not named")?,
+    }
+    put_state(out, access, status)
+}
+
+// Writes an access number and a status byte.
+fn put_state<W: Sink>(out: &mut W, access: u8, status: u8) -> Result<(), IoFault> {
+    out.put(b", access number ")?;
+    put_number(out, u64::from(access))?;
+    out.put(b"\n  status  ")?;
+    put_byte(out, status)?;
+    out.put(b": application:")?;
+    put_byte_words(out, status)?;
+    out.put(b"\n")
+}
+
+// Writes a text from a meter, with a point for each control character.
+fn put_shown<W: Sink>(out: &mut W, text: &[u8]) -> Result<(), IoFault> {
+    'bytes: for byte in text {
+        if *byte < 0x20 || *byte == 0x7F {
+            out.put(b".")?;
+        } else {
+            out.put(&[*byte])?;
+        }
+    }
+    Ok(())
+}
+
+// Writes a record's value, or why it has none, or its data in hex.
+fn put_value<W: Sink>(out: &mut W, found: &Record<'_>, reading: &Reading) -> Result<(), IoFault> {
+    let mut room = [0u8; READING_ROOM];
+    if let Some(text) = value_text(reading, found.content, &mut room) {
+        put_shown(out, text)?;
+        return put_spaces(out, VALUE.saturating_sub(text.len()));
+    }
+    if let Some(fault) = reading.found.fault_name() {
+        out.put(b"none (")?;
+        out.put(fault.as_bytes())?;
+        return put_cell(
+            out,
+            b")",
+            VALUE.saturating_sub(6).saturating_sub(fault.len()),
+        );
+    }
+    put_hex(out, found.content)?;
+    put_spaces(
+        out,
+        VALUE.saturating_sub(found.content.len().saturating_mul(2)),
+    )
+}
+
+// Writes the row of a record: what it is of, its value information block where it has one, its unit, and what is read.
+fn put_told<W: Sink>(
+    out: &mut W,
+    found: &Record<'_>,
+    name: &str,
+    vib: &[u8],
+    unit: &[u8],
+    reading: &Reading,
+) -> Result<(), IoFault> {
+    out.put(b"  ")?;
+    put_cell(out, name.as_bytes(), QUANTITY)?;
+    put_value(out, found, reading)?;
+    if matches!(reading.how, How::Other) {
+        put_cell(out, b"hex", UNIT)?;
+    } else {
+        put_shown(out, unit)?;
+        put_spaces(out, UNIT.saturating_sub(unit.len()))?;
+    }
+    let mut number = Buffer::new();
+    put_cell(out, number.format(found.storage).as_bytes(), NUMBER)?;
+    put_cell(out, number.format(found.tariff).as_bytes(), NUMBER)?;
+    put_cell(out, number.format(found.subunit).as_bytes(), NUMBER)?;
+    out.put(function_name(found.function).as_bytes())?;
+    put_qualifiers(out, vib)?;
+    out.put(b"\n")
+}
+
+// Writes the row of a record.
+fn put_row<W: Sink>(out: &mut W, sent: &Sent<'_>) -> Result<(), IoFault> {
+    let (vib, reading) = (sent.record.vib, reading_of(&sent.record, sent.len));
+    let mut room = [0u8; READING_ROOM];
+    let unit = unit_text(&reading, vib, &mut room);
+    put_told(
+        out,
+        &sent.record,
+        code_at(number_of(vib)).name,
+        vib,
+        unit,
+        &reading,
+    )
+}
+
+// Writes the row of a counter of fixed data.
+fn put_counter<W: Sink>(out: &mut W, counter: &Counter<'_>) -> Result<(), IoFault> {
+    let unit = counter.unit.as_bytes();
+    put_told(
+        out,
+        &counter.record,
+        counter.name,
+        &[],
+        unit,
+        &counter.reading,
+    )
+}
+
+// Writes the names of a record's VIFEs, the manufacturer's bytes and the text of a unit in plain text.
+fn put_qualifiers<W: Sink>(out: &mut W, vib: &[u8]) -> Result<(), IoFault> {
+    put_names(out, told_of(vib))?;
+    if let Some(maker) = maker_of(vib) {
+        out.put(b", maker ")?;
+        put_hex(out, maker)?;
+    }
+    let mut room = [0u8; READING_ROOM];
+    if let Some(label) = label_text(vib, &mut room) {
+        out.put(b", text ")?;
+        put_shown(out, label)?;
+    }
+    Ok(())
+}
+
+// Writes the names of the columns.
+fn put_columns<W: Sink>(out: &mut W) -> Result<(), IoFault> {
+    out.put(b"  ")?;
+    put_cell(out, b"quantity", QUANTITY)?;
+    put_cell(out, b"value", VALUE)?;
+    put_cell(out, b"unit", UNIT)?;
+    put_cell(out, b"storage", NUMBER)?;
+    put_cell(out, b"tariff", NUMBER)?;
+    put_cell(out, b"subunit", NUMBER)?;
+    out.put(b"function\n")
+}
+
+// Writes the names of the columns and a row for each record.
+fn put_records<W: Sink>(out: &mut W, records: SentRecords<'_>) -> Result<(), IoFault> {
+    put_columns(out)?;
+    'records: for found in records {
+        put_row(out, &found)?;
+    }
+    Ok(())
+}
+
+// Writes the header of variable data, and a row for each record before the first fault; of what is no telegram also its
+// structure.
+fn put_variable<W: Sink>(
+    out: &mut W,
+    variable: &Variable<'_>,
+    is_telegram: bool,
+) -> Result<(), IoFault> {
+    if !is_telegram {
+        put_structure(out, variable)?;
+    }
+    if let Some(head) = variable.head {
+        put_header(out, variable.meter, head.access, head.status)?;
+    }
+    if variable.refused.is_none() {
+        put_records(out, variable.records())?;
+    }
+    if is_telegram && matches!(variable.end(), Ok(End::More(_))) {
+        out.put(b"  more records follow in the next telegram\n")?;
+    }
+    Ok(())
+}
+
+// Writes the structure of variable data, and its security mode.
+fn put_structure<W: Sink>(out: &mut W, variable: &Variable<'_>) -> Result<(), IoFault> {
+    out.put(b"  body    ")?;
+    out.put(variable.structure.name().as_bytes())?;
+    if let Some(head) = variable.head {
+        let mode = Security::of(head.config).mode;
+        out.put(b", security mode ")?;
+        put_number(out, u64::from(mode))?;
+        out.put(b" (")?;
+        out.put(security_name(mode).as_bytes())?;
+        out.put(b")")?;
+    }
+    out.put(b"\n")
+}
+
+// Writes the meter of fixed data, and its counters.
+fn put_fixed<W: Sink>(out: &mut W, data: &FixedData<'_>) -> Result<(), IoFault> {
+    out.put(b"  body    fixed data\n  meter   ")?;
+    if data.has_number() {
+        let mut room = [0u8; 8];
+        out.put(digits_text(data.number, &mut room))?;
+        out.put(b", ")?;
+        out.put(medium_of(data.medium).as_bytes())?;
+    } else {
+        out.put(b"not named")?;
+    }
+    put_state(out, data.access, data.status)?;
+    if data.shows_counters() {
+        put_columns(out)?;
+        put_counter(out, &data.first)?;
+        put_counter(out, &data.second)?;
+    }
+    Ok(())
+}
+
+/// Writes what a body says: its header, a row for each record, and why the register refuses it.
+pub(crate) fn put_content<W: Sink>(
+    out: &mut W,
+    content: &Content<'_>,
+    is_telegram: bool,
+) -> Result<(), IoFault> {
+    match content {
+        Content::Variable(variable) => put_variable(out, variable, is_telegram)?,
+        Content::Fixed(Some(data)) => put_fixed(out, data)?,
+        Content::Fixed(None) => {}
+    }
+    if let Some(reason) = content.reason() {
+        let mut room = [0u8; REASON_ROOM];
+        out.put(b"  reason  ")?;
+        out.put(reason.text(&mut room))?;
+        out.put(b"\n")?;
+    }
+    Ok(())
+}

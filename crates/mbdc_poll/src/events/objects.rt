@@ -1,0 +1,221 @@
+//! The events of a poll as JSON objects (RFC 8259).
+
+ghost use Rattle.json.specs.Tree.{json_tokens};
+ghost use Rattle.mbdc_io.specs.Written.{Wrote};
+ghost use Rattle.mbdc_decode.specs.Content.{content_field};
+ghost use Rattle.mbdc_decode.specs.JsonText.{value_line};
+ghost use Rattle.mbdc_decode.specs.Object.{fields_tokens};
+ghost use Rattle.mbdc_decode.specs.Writing.{Added};
+ghost use Rattle.mbdc_poll.specs.Content.{untaken};
+ghost use Rattle.mbdc_poll.specs.Object.{body_fields, failed_fields, fault_fields, fields_of, heard_fields};
+ghost use Rattle.mbdc_poll.specs.Object.{json_of, object_of, read_fields, refused_fields};
+ghost use Rattle.mbdc_poll.specs.Read.{last_fields};
+
+use crate::events::content::untaken;
+use crate::{Brought, Event, LastPart, Refusal, Teller};
+use dc_address::Identity;
+use mbdc_decode::json::Cell::{Number, Text};
+use mbdc_decode::json::{put_content, put_row};
+use mbdc_io::{IoFault, Sink};
+use dc_readout::Why;
+use dc_readout::misses::Misses;
+use mbdc_shown::put_reported;
+use mbdc_decode::tokens::TokenWriter;
+
+/// Prints a JSON object for each event, in a line of its own.
+#[derive(Drop)]
+pub struct JsonTeller<W: Sink + Drop> {
+    /// Where it prints to.
+    pub out: W,
+}
+
+impl<W: Sink + Drop> Teller for JsonTeller<W> {
+    ghost use Rattle.mbdc_poll.specs.Printed.{PrintsObject, PrintsSomeOfObject};
+
+    ghost takes = { λ old event new. PrintsObject W.Sink old event new };
+
+    ghost breaks = { λ old event new. PrintsSomeOfObject W.Sink old event new };
+
+    ghost failures = { λ teller. W.put_failures teller.out };
+
+    fn tell(&mut self, event: &Event<'_>) -> Result<(), IoFault> {
+        put_object(&mut self.out, event)
+    }
+}
+
+/// Writes the object of an event, with its line feed.
+#[tactic(auto, using(mbdc_decode::proofs::Adding::whole, mbdc_io::proofs::Pieces::written), unfolding(mbdc_decode::specs::JsonText::value_line))]
+pub fn put_object<W: Sink>(out: &mut W, event: &Event<'_>) -> Result<(), IoFault>
+    ensures { Wrote W.Sink result out.old out.new (object_of event.now) }
+{
+    let mut tokens = TokenWriter::new(out);
+    put_json(&mut tokens, event);
+    tokens.outcome()?;
+    out.put(b"\n")
+}
+
+fn put_json<W: Sink>(out: &mut TokenWriter<'_, W>, event: &Event<'_>)
+    ensures { Added W.Sink out.old out.new (json_tokens (json_of event.now)) }
+{
+    out.begin_object();
+    put_fields(out, event);
+    out.end_object();
+}
+
+// Writes the fields of an event.
+fn put_fields<W: Sink>(out: &mut TokenWriter<'_, W>, event: &Event<'_>)
+    ensures { Added W.Sink out.old out.new (fields_tokens (fields_of event.now)) }
+{
+    match event {
+        Event::Read {
+            meter,
+            serial,
+            parts,
+            last,
+        } => put_read(out, meter, *serial, *parts, last),
+        Event::Failed {
+            line,
+            meter,
+            why,
+            brought,
+        } => put_failed(out, *line, meter, *why, brought),
+        Event::Refused { meter, refusal } => put_refused(out, meter, *refusal),
+        Event::Lost { line } => put_row(
+            out,
+            &[Text("event", b"lost"), Number("line", u64::from(*line))],
+        ),
+        Event::Late { line, answers } => put_row(
+            out,
+            &[
+                Text("event", b"late"),
+                Number("line", u64::from(*line)),
+                Number("answers", *answers),
+            ],
+        ),
+        Event::End { read, failed } => put_row(
+            out,
+            &[
+                Text("event", b"end"),
+                Number("read", *read),
+                Number("failed", *failed),
+            ],
+        ),
+    }
+}
+
+// Writes the fields of a meter that was read, and what the last part of its reading reports.
+fn put_read<W: Sink>(
+    out: &mut TokenWriter<'_, W>,
+    meter: &Identity,
+    serial: u64,
+    parts: u64,
+    last: &Option<LastPart<'_>>,
+)
+    ensures { Added W.Sink out.old out.new
+        (fields_tokens (read_fields meter.now serial parts (last_fields last.now))) }
+{
+    put_row(
+        out,
+        &[
+            Text("event", b"read"),
+            Text("meter", &meter.text()),
+            Number("serial", serial),
+            Number("parts", parts),
+        ],
+    );
+    put_last(out, last);
+}
+
+fn put_last<W: Sink>(out: &mut TokenWriter<'_, W>, last: &Option<LastPart<'_>>)
+    ensures { Added W.Sink out.old out.new (fields_tokens (last_fields last.now)) }
+{
+    if let Some(part) = last {
+        put_reported(out, part.moment(), &part.telegram());
+    }
+}
+
+// Writes the fields of a failed readout, and what its tries brought.
+fn put_failed<W: Sink>(
+    out: &mut TokenWriter<'_, W>,
+    line: u8,
+    meter: &Identity,
+    why: Why,
+    brought: &Brought,
+)
+    ensures { Added W.Sink out.old out.new
+        (fields_tokens (failed_fields line meter.now why brought.now)) }
+{
+    put_row(
+        out,
+        &[Text("event", b"failed"), Text("meter", &meter.text())],
+    );
+    put_code(out, why.number(), why.name());
+    put_body_fault(out, why);
+    put_heard(out, line, &brought.misses);
+    put_untaken(out, brought.last.as_slice());
+}
+
+// Writes the fields of a meter whose readout was refused.
+fn put_refused<W: Sink>(out: &mut TokenWriter<'_, W>, meter: &Identity, refusal: Refusal)
+    ensures { Added W.Sink out.old out.new (fields_tokens (refused_fields meter.now refusal)) }
+{
+    let (number, name) = refusal.code();
+    put_row(
+        out,
+        &[Text("event", b"refused"), Text("meter", &meter.text())],
+    );
+    put_code(out, number, name);
+}
+
+// Writes the number and the name of a fault.
+#[tactic(auto, unfolding(crate::specs::Object::fault_fields))]
+fn put_code<W: Sink>(out: &mut TokenWriter<'_, W>, number: u8, name: &'static str)
+    ensures { Added W.Sink out.old out.new (fields_tokens (fault_fields number name.now)) }
+{
+    put_row(
+        out,
+        &[
+            Number("number", u64::from(number)),
+            Text("name", name.as_bytes()),
+        ],
+    );
+}
+
+// Writes the fault of the body, of a fault of content.
+fn put_body_fault<W: Sink>(out: &mut TokenWriter<'_, W>, why: Why)
+    ensures { Added W.Sink out.old out.new (fields_tokens (body_fields why)) }
+{
+    if let Why::Content(fault) = why {
+        out.put_name("fault");
+        out.begin_object();
+        put_code(out, fault.number(), fault.name());
+        out.end_object();
+    }
+}
+
+// Writes the line of a failed readout, and how many of its failed tries brought what.
+fn put_heard<W: Sink>(out: &mut TokenWriter<'_, W>, line: u8, misses: &Misses)
+    ensures { Added W.Sink out.old out.new (fields_tokens (heard_fields line misses.now)) }
+{
+    out.put_count("line", u64::from(line));
+    out.put_name("heard");
+    mbdc_decode::json::put_object(
+        out,
+        &[
+            Number("silent", u64::from(misses.silent)),
+            Number("noise", u64::from(misses.noise)),
+            Number("others", u64::from(misses.others)),
+        ],
+    );
+}
+
+// Writes what the last answer says where the register doesn't take it.
+fn put_untaken<W: Sink>(out: &mut TokenWriter<'_, W>, answer: &[u8])
+    ensures { Added W.Sink out.old out.new
+        (fields_tokens (content_field (untaken answer.now))) }
+{
+    if let Some(content) = untaken(answer) {
+        out.put_name("content");
+        put_content(out, &content);
+    }
+}

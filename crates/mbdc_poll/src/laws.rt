@@ -1,0 +1,101 @@
+//! What holds of the definitions alone.
+
+ghost use Rattle.std.specs.Prelude.{◌≡◌, ◌<◌, ◌≤◌, ◌*◌, ◌++◌, ◌∷◌, ℕ, Bool, List, []};
+ghost use Rattle.std.specs.Prelude.{length};
+ghost use Rattle.std.specs.List.{AllByRecursion};
+ghost use Rattle.std.specs.List.Sorted.{IsStrictlySortedBy};
+ghost use Rattle.std.specs.Map.{keys_of};
+ghost use Rattle.dc_address.specs.Identity.{identity_cmp};
+ghost use Rattle.dc_address.specs.declared.identity.Identity.{Identity};
+ghost use Rattle.mbdc_change.specs.State.{State};
+ghost use Rattle.dc_core.specs.Core.{Core};
+ghost use Rattle.dc_core.specs.Transcript.{Turn, IsChain, leads};
+ghost use Rattle.mbdc_poll.specs.Committed.{IsCommittedWhereNoneIsAsked};
+ghost use Rattle.mbdc_poll.specs.Failures.{BroughtIsTold};
+ghost use Rattle.mbdc_poll.specs.Happening.{Happening, happened_turns, tells};
+ghost use Rattle.mbdc_poll.specs.Keeping.{AreTrue, IsSettled, Store, all_kept, store_behind};
+ghost use Rattle.mbdc_poll.specs.PendingRoom.{AnswersFindRoom};
+ghost use Rattle.mbdc_poll.specs.Planned.{queue_on};
+ghost use Rattle.mbdc_poll.specs.Queue.{Part, part, AreApart, Goes, GoesWell, IsToldAs, IsTried};
+ghost use Rattle.mbdc_poll.specs.Queue.{Lacks, meter_of, most_asks, read_in, requests_in};
+ghost use Rattle.mbdc_poll.specs.Queue.{starts_in};
+ghost use Rattle.mbdc_poll.specs.declared.end.End.{End};
+ghost use Rattle.mbdc_poll.specs.declared.event.Event.{Event as Told};
+ghost use Rattle.mbdc_poll.specs.declared.phase.Phase.{Phase};
+ghost use Rattle.mbdc_poll.specs.declared.phase.Phase.TheVariants.{Free};
+
+use crate::timer::Timer;
+use mbdc_bus::HalfBus;
+
+/// A queue that is at its end went through all its meters, in passes: in the first each was started, in order, and in
+/// each later one those that failed in the one before it. There are no more passes than tries, so each was started once
+/// at least and no more often than the tries.
+pub fn every_meter_of_a_queue_is_started()
+    ensures { (tries line : ℕ) (meters : List Identity) (happened : List Happening) (pass : ℕ)
+        (stop : Phase) →
+        Goes tries line (part meters [] 1 Free) happened (part [] [] pass stop) →
+        IsTried tries meters (starts_in happened) }
+{}
+
+/// However far a queue went, no more starts were made than its meters times the tries, and in each no more requests
+/// were sent than any readout sends.
+pub fn a_queue_comes_to_its_end()
+    ensures { (tries line : ℕ) (meters : List Identity) (happened : List Happening) (last : Part) →
+        0 < tries → Goes tries line (part meters [] 1 Free) happened last →
+        (length (starts_in happened) ≤ tries * length meters)
+        × (requests_in happened ≤ most_asks * (tries * length meters)) }
+{}
+
+/// After the event of how a meter ended (it was read, its last try failed, or it was refused) it isn't
+/// started again.
+pub fn what_is_read_is_not_begun_again()
+    ensures { (tries line : ℕ) (meters : List Identity) (front back : List Happening) (end : End)
+        (told : Told) (last : Part) →
+        AreApart meters → IsToldAs end told →
+        Goes tries line (part meters [] 1 Free) (front ++ tells line told ∷ back) last →
+        Lacks (meter_of end) (starts_in back) }
+{}
+
+/// The event of a failed readout has its line and its last answer, and says how many of its failed tries brought what.
+pub fn what_a_failed_readout_brought_is_told<B: HalfBus + Drop>()
+    ensures { BroughtIsTold B.HalfBus }
+{}
+
+/// The queues of a plan have each meter once, where those of the register ascend.
+pub fn the_meters_of_a_queue_are_apart()
+    ensures { (state : State) (only : List Identity) (line : ℕ) (lost : Bool) →
+        IsStrictlySortedBy identity_cmp (keys_of state.meters) →
+        AreApart (queue_on state only line lost) }
+{}
+
+/// Where no start, answer or commit of a line is refused and no readout of it fails, every meter of its queue is
+/// started once and read, in order.
+pub fn where_nothing_fails_every_meter_is_read()
+    ensures { (tries line : ℕ) (meters : List Identity) (happened : List Happening) (pass : ℕ) →
+        AllByRecursion GoesWell happened →
+        Goes tries line (part meters [] 1 Free) happened (part [] [] pass Free) →
+        (starts_in happened ≡ meters) × (read_in happened ≡ meters) }
+{}
+
+/// Where the turns of a run say that all is committed, nothing is pending in the concentrator.
+pub fn what_is_committed_waits_no_more()
+    ensures { (budget : ℕ) (core : Core) (turns : List Turn) →
+        core.pending ≡ [] → IsChain budget core turns →
+        store_behind all_kept turns ≡ all_kept → (leads core turns).pending ≡ [] }
+{}
+
+/// Where a line has no request any more, all that was accepted is committed, unless a commit answered
+/// a fault; and the same at each event.
+pub fn what_is_read_is_committed<B: HalfBus + Drop, T: Timer<B>>()
+    ensures asked { IsCommittedWhereNoneIsAsked T.tells T.passes }
+    ensures told { (core : Core) (store : Store) (front back : List Happening) (line : ℕ)
+        (told : Told) →
+        AreTrue core store (front ++ tells line told ∷ back) →
+        IsSettled (store_behind store (happened_turns front)) }
+{}
+
+/// In a poll each answer is received with fewer changes pending than the maximum. So none is refused because too many
+/// are pending.
+pub fn each_answer_finds_room_among_the_pending_changes<B: HalfBus + Drop, T: Timer<B>>()
+    ensures { AnswersFindRoom T.tells T.passes }
+{}

@@ -1,0 +1,57 @@
+//! The newest reading of a meter in a register.
+
+ghost use Rattle.std.specs.Prelude.{◌≡◌, option_copied};
+ghost use Rattle.mbdc_poll.specs.Happening.{newest_serial, newest_parts, newest_last};
+ghost use Rattle.mbdc_poll.specs.Happening.{parts_in, last_in};
+ghost use Rattle.mbdc_poll.specs.declared.event.Event.TheVariants.{Read};
+
+use crate::event::Event;
+use crate::last_part::LastPart;
+use dc_address::Identity;
+use dc_meters::{House, Reading};
+use std::alloc::Allocator;
+
+/// The event of a meter that was read, with its newest reading.
+pub(crate) fn newest_reading<A: Allocator + Copy>(house: &House<A>, meter: Identity) -> Event<'_>
+    ensures { result ≡ Read meter (newest_serial meter house.now.state)
+        (newest_parts meter house.now.state) (newest_last meter house.now.state) }
+{
+    let serial = newest_serial(house, &meter);
+    let reading = house.reading(serial);
+    Event::Read {
+        meter,
+        serial,
+        parts: parts_in(reading) as u64,
+        last: last_in(reading),
+    }
+}
+
+/// The serial of a meter's newest reading; 0 if there isn't one.
+fn newest_serial<A: Allocator + Copy>(house: &House<A>, meter: &Identity) -> u64
+    ensures { result ≡ newest_serial meter.now house.now.state }
+{
+    let mut newest = 0;
+    for serial in house.serials_of(meter) {
+        newest = serial;
+    }
+    newest
+}
+
+// Number of parts of a reading.
+fn parts_in<A: Allocator>(reading: Option<&Reading<A>>) -> usize
+    ensures { result ≡ parts_in (option_copied reading.entry) }
+{
+    match reading {
+        Some(reading) => reading.parts().len(),
+        None => 0,
+    }
+}
+
+// The last part of a reading.
+fn last_in<A: Allocator>(reading: Option<&Reading<A>>) -> Option<LastPart<'_>>
+    ensures { result ≡ last_in (option_copied reading.entry) }
+{
+    let parts = reading?.parts();
+    let last = parts.get(parts.len().saturating_sub(1))?;
+    Some(LastPart::of(last))
+}

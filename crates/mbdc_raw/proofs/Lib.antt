@@ -1,0 +1,21 @@
+-- lemmas by topic
+
+-- the echo of a request, and what is wanted of an answer
+pub mod Echoes
+-- what is received, piece by piece
+pub mod Pieces
+-- what is dropped, and what is gathered
+pub mod Drops
+-- one call of a line
+pub mod Calls
+-- what a line receives in several steps
+pub mod Steps
+-- a life of a wire over a reader and a writer
+pub mod Life
+-- of the module `links`
+
+-- lemmas by topic
+-- of the module `reach`
+
+-- one line, and the lines after it
+pub mod Joining

@@ -1,0 +1,23 @@
+use Rattle.std.proofs.Common.{ℕ, false, ap, refl}
+use Rattle.mbdc_raw.specs.declared.poll_wire.Until.TheVariants.{Still}
+use Rattle.mbdc_raw.specs.PollWire.{at_gap, at_silence, not_yet}
+use Rattle.mbdc_raw.proofs.poll_wire.PollWire.nothing.Goals as goal
+
+pub returns-then-rest-eq0-clause-step : goal.returns-then-rest-eq0-clause-step
+returns-then-rest-eq0-clause-step g c =
+    at_silence (c.rest.ensures c.if-rest-eq0.true)
+    (ap (λ (waited : ℕ). record c.args.self.now {
+      since = c.args.self.now.at;
+      begun = false;
+      asks = false;
+      waited = waited;
+      noise = 0;
+      until = Still;
+      limit = c.args.self.now.patience;
+    }) c.waited_then-self.ensures)
+
+pub returns-then-between-ge-GAP_MICROS-clause-step : goal.returns-then-between-ge-GAP_MICROS-clause-step
+returns-then-between-ge-GAP_MICROS-clause-step g c = at_gap refl
+
+pub returns-clause-step : goal.returns-clause-step
+returns-clause-step g c = not_yet refl

@@ -1,0 +1,10 @@
+use Rattle.std.proofs.Common.{ℕ, List, ◌++◌, take, ap, ◌∙◌}
+use Rattle.std.proofs.lemmas.List.{take_all}
+use Rattle.mbdc_bus.specs.Limits.{most_answer}
+use Rattle.mbdc_raw.proofs.state.copy_of.Goals as goal
+
+pub returns : goal.returns
+returns c =
+    c.append.ensures ∙ ap (λ (xs : List ℕ). take most_answer (xs ++ c.as_slice.result.now)) c.new-copy.ensures
+    ∙ ap (take most_answer) c.as_slice.ensures.bytes
+    ∙ take_all most_answer c.args.answer.now c.as_slice.ensures.fits

@@ -1,0 +1,29 @@
+-- A life of a wire over a reader and a writer: what was heard on it, and how long requests waited in vain (this product).
+use Rattle.std.specs.Prelude.{◌≡◌, ℕ, ◌+◌, List, [], ◌∷◌, Bool, Option, if◌then◌else◌}
+use Rattle.mbdc_raw.specs.PollWire.{WireHears, WireReopens, WireSends}
+use Rattle.mbdc_raw.specs.Wire.{Sound, piece, nothing, gap, silence}
+use Rattle.mbdc_raw.specs.declared.poll_wire.PollWire.{PollWire}
+use Rattle.mbdc_raw.specs.declared.wire.Asking.{Asking}
+
+-- how long a request waited that meets this sound: its whole time-out, by the clock, at silence
+abbrev pub wait_of : {R W C : Type 0} → PollWire R W C → Sound → ℕ
+wait_of wire (piece bytes) = 0
+wait_of wire nothing = 0
+wait_of wire gap = 0
+wait_of wire silence = if wire.asks then wire.limit else 0
+
+-- THIS WAS HEARD on a wire, one after the other, between requests that went out, and they waited so
+-- long in all
+pub data Lives {R W C : Type 0} (contents : W → Option (List ℕ)) (remaining : R → Option (List ℕ))
+    : PollWire R W C → List Sound → ℕ → PollWire R W C → Type 0 where
+  rests : {old new : PollWire R W C} → new ≡ old → Lives contents remaining old [] 0 new
+  sent : {old between new : PollWire R W C} {sounds : List Sound} {waited : ℕ} {bytes : List ℕ}
+      {asking : Asking} → WireSends contents old bytes asking between
+      → Lives contents remaining between sounds waited new
+      → Lives contents remaining old sounds waited new
+  opened : {old between new : PollWire R W C} {sounds : List Sound} {waited : ℕ} {again : Bool}
+      → WireReopens old again between → Lives contents remaining between sounds waited new
+      → Lives contents remaining old sounds waited new
+  heard : {old between new : PollWire R W C} {sound : Sound} {sounds : List Sound} {waited : ℕ}
+      → WireHears remaining old sound between → Lives contents remaining between sounds waited new
+      → Lives contents remaining old (sound ∷ sounds) (wait_of old sound + waited) new

@@ -1,0 +1,153 @@
+-- How long a line is listened to (EN 13757-2: a meter begins its answer within 330 bits and 50 ms), in microseconds.
+use Rattle.std.specs.Prelude.{ℕ, ◌+◌, ◌-◌, ◌*◌, ◌/◌, ◌^◌, min, max, nat_le, Bool}
+use Rattle.std.specs.Prelude.{not, ◌==◌, ◌&&◌, List, [], ◌∷◌, length, Option, Some, None, if◌then◌else◌}
+use Rattle.std.specs.Prelude.{true, false}
+use Rattle.dc_linkframe.specs.Reading.{frame_of}
+use Rattle.mbdc_raw.specs.Turn.{is_reset, wants_ack}
+use Rattle.mbdc_raw.specs.declared.pace.Pace.{Pace}
+
+-- 330 bits are 30 bytes of 11 bits
+abbrev pub answering_bytes : ℕ
+answering_bytes = 30
+
+abbrev pub answering_rest : ℕ
+answering_rest = 50_000
+
+-- counts saturate here
+abbrev pub most_count : ℕ
+most_count = 2 ^ 64 - 1
+
+-- a meter begins its answer within this time, where a byte takes so long
+abbrev pub answering : ℕ → ℕ
+answering byte = min (min (byte * answering_bytes) most_count + answering_rest) most_count
+
+abbrev pub or_none : Option ℕ → ℕ
+or_none None = 0
+or_none (Some time) = time
+
+abbrev pub or_most : Option ℕ → ℕ
+or_most None = most_count
+or_most (Some time) = time
+
+-- a selection has so many bytes more than the reset, a short frame
+abbrev pub longer : ℕ
+longer = 12
+
+-- the acknowledgement of a short request comes so much sooner than that of a selection
+abbrev pub sooner : Option ℕ → ℕ → ℕ
+sooner least_byte spent = spent - min (or_none least_byte * longer) most_count
+
+-- THE RESET OF ALL SELECTED METERS takes, from its end, the longest delay of an acknowledgement and
+-- 50 ms; at most as long as a meter may take, and the last delay; at most the patience
+abbrev pub reset_wait : Option ℕ → ℕ → Option ℕ → Option ℕ → ℕ → ℕ
+reset_wait None last byte least_byte patience = patience
+reset_wait (Some delay) last None least_byte patience =
+    min patience (min (sooner least_byte delay + answering_rest) most_count)
+reset_wait (Some delay) last (Some byte) least_byte patience =
+    min (min patience (min (sooner least_byte delay + answering_rest) most_count))
+    (min (answering byte + sooner least_byte last) most_count)
+
+-- THE WINDOW in which one of several meters may begin its answer: as long as a meter may take, and
+-- the longest delay; until both are known, the patience
+abbrev pub window_of : Option ℕ → Option ℕ → ℕ → ℕ
+window_of None byte patience = patience
+window_of (Some delay) None patience = patience
+window_of (Some delay) (Some byte) patience = min patience (min (answering byte + delay) most_count)
+
+-- how long nothing comes after the last of several answers: 120 ms, or four bytes' time where that
+-- is longer
+abbrev pub pause_of : Option ℕ → ℕ
+pause_of None = 120_000
+pause_of (Some byte) = max 120_000 (min (byte * 4) most_count)
+
+-- THE PATIENCE after so many times at which bytes came late: each doubles it, to 16 s
+abbrev pub longest_patience : ℕ
+longest_patience = 16_000_000
+
+abbrev pub most_doublings : ℕ
+most_doublings = 14
+
+abbrev pub patience_after : ℕ → ℕ → ℕ
+patience_after late patience =
+    max patience (min longest_patience (patience * 2 ^ min late most_doublings))
+
+-- ---- what is learned of the line
+
+-- number of bytes of a short frame, and the byte that begins one
+abbrev pub short_frame : ℕ
+short_frame = 5
+
+abbrev pub short_start : ℕ
+short_start = 0x10
+
+-- the byte of an acknowledgement
+abbrev pub acknowledged : ℕ
+acknowledged = 0xE5
+
+-- number of bytes of the shortest answer that shows how long a byte takes
+abbrev pub showing : ℕ
+showing = 16
+
+abbrev pub begins_as : ℕ → List ℕ → Bool
+begins_as start [] = false
+begins_as start (byte ∷ bytes) = byte == start
+
+-- an answer is measured if the request was a short frame, and it doesn't begin as one: a line that
+-- echoes isn't measured
+abbrev pub is_measured : List ℕ → Pace → Bool
+is_measured bytes pace = pace.measured && not (pace.came == 0 && begins_as short_start bytes)
+
+-- an acknowledgement that was due shows its delay
+abbrev pub delay_with : ℕ → List ℕ → Pace → Pace
+delay_with spent bytes pace = if pace.acks && begins_as acknowledged bytes
+    then record pace { delay = Some (max (or_none pace.delay) spent); last = spent; acks = false }
+    else record pace { acks = false }
+
+-- a byte of the short request or of the answer took at most this long
+abbrev pub came_with : ℕ → Pace → ℕ
+came_with count pace = min (pace.came + count) most_count
+
+abbrev pub each_took : ℕ → ℕ → ℕ
+each_took spent came = spent / min (came + short_frame) most_count
+
+abbrev pub bytes_with : ℕ → List ℕ → Pace → Pace
+bytes_with spent bytes pace = if is_measured bytes pace
+    then record pace {
+      measured = true;
+      came = came_with (length bytes) pace;
+      spent = spent;
+      least = min pace.least (each_took spent (came_with (length bytes) pace));
+    }
+    else record pace { measured = false }
+
+-- THESE BYTES CAME this long after the request
+abbrev pub pace_with : ℕ → List ℕ → Pace → Pace
+pace_with spent bytes pace = bytes_with spent bytes (delay_with spent bytes pace)
+
+-- how long a byte takes at most, by the answer that is over: one that is long enough shows it
+abbrev pub byte_shown : Pace → Option ℕ
+byte_shown pace = if nat_le showing pace.came
+    then Some (min (or_most pace.byte) pace.least) else pace.byte
+
+-- how long a byte takes at least, by a telegram that began as late as the slowest acknowledgement:
+-- it came later than that, by its own bytes less those that a selection has more
+abbrev pub least_by : Pace → Option ℕ → Option ℕ
+least_by pace None = pace.least_byte
+least_by pace (Some delay) = Some (min
+    (min (or_most pace.least_byte) ((pace.spent - delay) / (pace.came - longer)))
+    (or_most (byte_shown pace)))
+
+abbrev pub least_shown : Pace → Option ℕ
+least_shown pace = if nat_le showing pace.came then least_by pace pace.delay else pace.least_byte
+
+-- A REQUEST BEGINS
+abbrev pub pace_begun : List ℕ → Pace → Pace
+pace_begun request pace = record pace {
+  byte = byte_shown pace;
+  least_byte = least_shown pace;
+  acks = wants_ack (frame_of request) && not (is_reset (frame_of request));
+  measured = length request == short_frame;
+  came = 0;
+  spent = 0;
+  least = most_count;
+}

@@ -1,0 +1,150 @@
+-- What a wire over a reader and a writer does to both, and how long it waits (this product).
+use Rattle.std.specs.Prelude.{◌≡◌, ℕ, ◌+◌, ◌-◌, ◌*◌, ◌^◌, ◌≤◌, min, Bool, true, false, List, Option}
+use Rattle.std.specs.Prelude.{if◌then◌else◌}
+use Rattle.std.specs.Io.KnownBytes.{Appends}
+use Rattle.std.specs.Time.{instant_nanos}
+use Rattle.std.specs.declared.time.Instant.{Instant}
+use Rattle.dc_linkframe.specs.Reading.{frame_of}
+use Rattle.mbdc_raw.specs.Noise.{IsPast}
+use Rattle.mbdc_raw.specs.Pace.{patience_after, reset_wait, window_of}
+use Rattle.mbdc_raw.specs.Turn.{is_reset, wants_ack}
+use Rattle.mbdc_raw.specs.Wire.{Sound, nothing, gap, silence, bytes_of}
+use Rattle.mbdc_raw.specs.declared.pace.Pace.{Pace}
+use Rattle.mbdc_raw.specs.declared.poll_wire.PollWire.{PollWire}
+use Rattle.mbdc_raw.specs.declared.poll_wire.Until.{Until}
+use Rattle.mbdc_raw.specs.declared.poll_wire.Until.TheVariants.{Still, Over, Paused}
+use Rattle.mbdc_raw.specs.declared.wire.Asking.{Asking}
+
+-- ---- the clock
+
+-- so many microseconds lie between two moments
+abbrev pub HasPassed : ℕ → Instant → Instant → Type 0
+HasPassed micros since at = micros * 1_000 ≤ instant_nanos at - instant_nanos since
+
+-- THE TIME-OUT IS OVER: since the request or the last byte, or since the request whatever came
+abbrev pub IsOver : {R W C : Type 0} → Until → PollWire R W C → Instant → Type 0
+IsOver Still wire at = HasPassed wire.limit wire.since at
+IsOver Over wire at = HasPassed wire.limit wire.asked at
+IsOver Paused wire at = HasPassed wire.limit wire.asked at
+
+abbrev pub Ends : {R W C : Type 0} → PollWire R W C → Instant → Type 0
+Ends wire at = IsOver wire.until wire at
+
+-- ---- a request
+
+-- when silence comes after a request: after the reset of all selected meters in a fixed time; after
+-- one that several meters may answer at the end of their window; else after the patience
+abbrev pub until_by : Bool → Bool → Until
+until_by true many = Over
+until_by false true = Paused
+until_by false false = Still
+
+abbrev pub limit_by : Bool → Bool → Bool → Pace → ℕ → ℕ
+limit_by true many acks pace patience =
+    reset_wait pace.delay pace.last pace.byte pace.least_byte patience
+limit_by false true true pace patience = window_of pace.delay pace.byte patience
+limit_by false true false pace patience = patience
+limit_by false false acks pace patience = patience
+
+-- The bytes were written, and nothing was read. The patience is that of so many late bytes.
+pub record WireSends {R W C : Type 0} (contents : W → Option (List ℕ)) (old : PollWire R W C)
+    (bytes : List ℕ) (asking : Asking) (new : PollWire R W C) : Type 0 where
+  pub written : Appends (contents old.writer) (contents new.writer) bytes
+  pub reader : new.reader ≡ old.reader
+  pub stated : new.stated ≡ old.stated
+  pub patience : new.patience ≡ patience_after asking.late old.stated
+  pub since : new.since ≡ new.asked
+  pub begun : new.begun ≡ false
+  pub came : new.came ≡ old.came
+  pub asks : new.asks ≡ true
+  pub waited : new.waited ≡ old.waited
+  pub until : new.until ≡ until_by (is_reset (frame_of bytes)) asking.many
+  pub limit : new.limit ≡ limit_by (is_reset (frame_of bytes)) asking.many
+      (wants_ack (frame_of bytes)) new.pace new.patience
+
+-- ---- what comes
+
+abbrev pub limit_then : Until → ℕ → ℕ → ℕ → ℕ
+limit_then Still limit patience window = patience
+limit_then Over limit patience window = limit
+limit_then Paused limit patience window = window
+
+-- Bytes came: the time-out of a patience begins anew, and the window of several meters is known
+-- better.
+pub record IsHeard {R W C : Type 0} (old new : PollWire R W C) : Type 0 where
+  pub reader : new.reader ≡ old.reader
+  pub writer : new.writer ≡ old.writer
+  pub stated : new.stated ≡ old.stated
+  pub patience : new.patience ≡ old.patience
+  pub asked : new.asked ≡ old.asked
+  pub since : new.since ≡ old.at
+  pub came : new.came ≡ true
+  pub until : new.until ≡ old.until
+  pub limit : new.limit ≡ limit_then old.until old.limit old.patience
+      (window_of new.pace.delay new.pace.byte old.patience)
+
+-- how long requests have waited that met silence, where the last one does now; it saturates
+abbrev pub waited_then : {R W C : Type 0} → PollWire R W C → ℕ
+waited_then wire = if wire.asks then min (wire.waited + wire.limit) (2 ^ 64 - 1) else wire.waited
+
+-- NOBODY ANSWERS: no byte has come, and requests have waited for 120 s
+abbrev pub most_waited : ℕ
+most_waited = 120_000_000
+
+pub record IsDeserted {R W C : Type 0} (old : PollWire R W C) (at : Instant) : Type 0 where
+  pub silent : old.came ≡ false
+  pub over : Ends old at
+  pub long : most_waited ≤ waited_then old
+
+-- Nothing came: silence is returned once the time-out is over, and then the patience begins anew.
+pub data IsStill {R W C : Type 0} (old : PollWire R W C) : Sound → PollWire R W C → Type 0 where
+  not_yet : {new : PollWire R W C} → new ≡ record old { waits = new.waits } → IsStill old nothing new
+  at_gap : {new : PollWire R W C} → new ≡ record old { waits = new.waits; begun = false }
+      → IsStill old gap new
+  at_silence : {new : PollWire R W C} → Ends old old.at
+      → new ≡ record old {
+        since = old.at;
+        begun = false;
+        asks = false;
+        waited = waited_then old;
+        noise = 0;
+        until = Still;
+        limit = old.patience;
+      }
+      → IsStill old silence new
+
+-- noise is taken, too, where an answer has begun, and where several meters may answer: their answers may collide
+abbrev pub takes_all_until : Until → (begun : Bool) → Bool
+takes_all_until Still begun = begun
+takes_all_until Over begun = begun
+takes_all_until Paused begun = true
+
+abbrev pub takes_all : {R W C : Type 0} → PollWire R W C → Bool
+takes_all wire = takes_all_until wire.until wire.begun
+
+-- These bytes were read behind noise, and nothing was written. The time of noise isn't taken.
+pub data WireHears {R W C : Type 0} (remaining : R → Option (List ℕ)) (old : PollWire R W C)
+    (sound : Sound) (new : PollWire R W C) : Type 0 where
+  bytes_came : (between : PollWire R W C)
+      → IsPast (remaining old.reader) (remaining between.reader) (takes_all old) (bytes_of sound)
+      → between ≡ record old { reader = between.reader; at = between.at }
+      → IsHeard between new → WireHears remaining old sound new
+  none_came : (between : PollWire R W C)
+      → IsPast (remaining old.reader) (remaining between.reader) (takes_all old) (bytes_of sound)
+      → between ≡ record old { reader = between.reader; at = between.at }
+      → IsStill between sound new → WireHears remaining old sound new
+
+-- The link is open again, and nothing came on it; or it hadn't closed, or can't be opened.
+pub data WireReopens {R W C : Type 0} (old : PollWire R W C) : Bool → PollWire R W C → Type 0 where
+  is_open : {new : PollWire R W C} → new ≡ record old {
+    writer = new.writer;
+    since = new.since;
+    begun = false;
+    asks = false;
+    noise = 0;
+    until = Still;
+    limit = old.patience;
+  }
+      → WireReopens old true new
+  is_as_before : {new : PollWire R W C} → new ≡ record old { writer = new.writer }
+      → WireReopens old false new

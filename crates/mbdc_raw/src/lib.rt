@@ -1,0 +1,39 @@
+//! A bus line through a transparent level converter: the raw bytes of EN 13757-2, in which nothing
+//! marks the end of an answer.
+//!
+//! A [`Wire`] sends bytes and returns what has arrived so far; no call waits. A [`Line`] is a wire on
+//! which one request at most is under way, until it fails: a request goes out on a quiet line, or
+//! after an answer that it doesn't repeat; it waits for that within [`take`](Line::take). Its answer
+//! is the first whole frame, or all bytes before the silence, at most 300
+//! ([`AnswerBuf`](mbdc_bus::AnswerBuf)), without the echo of the request that some converters send.
+//! After a request that several meters may answer it is all that comes while one of them may begin.
+//! A line is a [`HalfBus`](mbdc_bus::HalfBus), so one thread can serve several.
+//!
+//! [`PollWire`] is the wire over a descriptor, of a TCP stream or a terminal; its bytes aren't
+//! known to contracts. [`Tape`] is a wire in memory.
+#![tactic(auto)]
+
+pub mod links;
+mod hearing;
+mod laws;
+mod line;
+mod listening;
+mod pace;
+mod poll_wire;
+mod polling;
+mod state;
+mod tape;
+mod wire;
+
+pub use hearing::Hearing;
+pub use laws::{
+    nobody_answers_on_a_deserted_line, what_a_line_gives_is_heard,
+    what_is_heard_depends_on_the_bytes_alone,
+};
+pub use line::{Gone, Held, Line};
+pub use listening::{drain, gather, hear, without_echo};
+pub use pace::Pace;
+pub use poll_wire::{GAP, Link, PollWire, Until};
+pub use state::{Kind, State};
+pub use tape::{Event, Tape};
+pub use wire::{Asking, Came, Wire};

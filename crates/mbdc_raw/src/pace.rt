@@ -1,0 +1,177 @@
+//! How long a bus line takes to answer, as its own answers have shown.
+
+ghost use Rattle.std.specs.Prelude.{◌≡◌, None};
+ghost use Rattle.mbdc_raw.specs.Pace.{pace_begun, pace_with, pause_of, reset_wait, window_of, answering};
+ghost use Rattle.mbdc_raw.specs.Pace.{sooner};
+
+use crate::state::{is_reset, wants_ack};
+
+// A meter answers within 330 bits and 50 ms (EN 13757-2); a byte has 11 bits. In microseconds.
+const ANSWERING_BYTES: u64 = 30;
+
+const ANSWERING_REST: u64 = 50_000;
+
+// Number of bytes of the shortest answer that shows how long a byte takes.
+const SHOWING: u64 = 16;
+
+// Number of bytes of a short frame, and the byte that begins one.
+const SHORT_FRAME: usize = 5;
+
+const SHORT_START: u8 = 0x10;
+
+// The byte of an acknowledgement.
+const ACKNOWLEDGED: u8 = 0xE5;
+
+// Number of bytes that a selection has more than a short frame.
+const LONGER: u64 = 12;
+
+// The shortest pause after which nothing more comes of several answers, in microseconds and in bytes.
+const PAUSE: u64 = 120_000;
+
+const PAUSE_BYTES: u64 = 4;
+
+/// How long a line's acknowledgements and its bytes take, in microseconds.
+///
+/// Answers to short frames are measured. A byte of the request or of the answer takes at most the
+/// time since the request divided by the number of both, also where a converter passes several
+/// bytes on at once. A line that echoes isn't measured.
+#[derive(Drop)]
+pub struct Pace {
+    /// The longest time from a request to its acknowledgement; `None` before the first.
+    pub delay: Option<u64>,
+    /// The time to the last acknowledgement.
+    pub last: u64,
+    /// How long a byte takes at most; `None` before the first telegram.
+    pub byte: Option<u64>,
+    /// How long a byte takes at least, where a telegram begins no later than the slowest
+    /// acknowledgement; `None` before the first telegram after one.
+    pub least_byte: Option<u64>,
+    // Whether an acknowledgement is due, of which the delay is taken.
+    acks: bool,
+    // Of the answer under way: whether it is measured, the number of its bytes, the time to the last
+    // of them, and how long a byte takes at most by its pieces so far.
+    measured: bool,
+    came: u64,
+    spent: u64,
+    least: u64,
+}
+
+impl Pace {
+    /// Returns the pace of a line of which nothing is known.
+    pub fn new() -> Self
+        ensures delay { result.delay ≡ None }
+        ensures byte { result.byte ≡ None }
+        ensures least_byte { result.least_byte ≡ None }
+    {
+        Pace {
+            delay: None,
+            last: 0,
+            byte: None,
+            least_byte: None,
+            acks: false,
+            measured: false,
+            came: 0,
+            spent: 0,
+            least: u64::MAX,
+        }
+    }
+
+    /// Begins with this request, so that the answer to the one before it is over. It learns a byte's
+    /// time from that one.
+    pub fn begin(&mut self, request: &[u8])
+        ensures { self.new ≡ pace_begun request.now self.old }
+    {
+        if self.came >= SHOWING {
+            let byte = self.byte.unwrap_or(u64::MAX).min(self.least);
+            self.byte = Some(byte);
+            if let Some(delay) = self.delay {
+                let each = self.spent.saturating_sub(delay) / (self.came - LONGER);
+                let most = self.least_byte.unwrap_or(u64::MAX);
+                self.least_byte = Some(most.min(each).min(byte));
+            }
+        }
+        self.acks = wants_ack(request) && !is_reset(request);
+        self.measured = request.len() == SHORT_FRAME;
+        self.came = 0;
+        self.spent = 0;
+        self.least = u64::MAX;
+    }
+
+    /// Takes that these bytes came, this long after the request: it learns the delay of an
+    /// acknowledgement, and the time of a byte from an answer that is measured.
+    pub fn take(&mut self, spent: u64, bytes: &[u8])
+        ensures { self.new ≡ pace_with spent bytes.now self.old }
+    {
+        if self.acks && bytes.first() == Some(&ACKNOWLEDGED) {
+            self.delay = Some(self.delay.unwrap_or(0).max(spent));
+            self.last = spent;
+        }
+        self.acks = false;
+        if self.came == 0 {
+            self.measured = self.measured && bytes.first() != Some(&SHORT_START);
+        }
+        if self.measured {
+            self.came = self.came.saturating_add(bytes.len() as u64);
+            self.spent = spent;
+            let on_the_wire = self.came.saturating_add(SHORT_FRAME as u64);
+            self.least = self.least.min(spent / on_the_wire);
+        }
+    }
+
+    /// How long the reset of all selected meters takes: as long as the slowest acknowledgement, and
+    /// no longer than one may take after the last; before the first, the patience. Both are measured
+    /// from the end of the request: the reset is shorter than the selection that was acknowledged.
+    pub fn reset_wait(&self, patience: u64) -> u64
+        ensures { result ≡ reset_wait self.now.delay self.now.last self.now.byte
+            self.now.least_byte patience }
+    {
+        let Some(delay) = self.delay else {
+            return patience;
+        };
+        let wait = patience.min(self.sooner(delay).saturating_add(ANSWERING_REST));
+        match self.byte {
+            Some(byte) => wait.min(answering(byte).saturating_add(self.sooner(self.last))),
+            None => wait,
+        }
+    }
+
+    // The time from a short request to its acknowledgement where that of a selection took so long.
+    fn sooner(&self, spent: u64) -> u64
+        ensures { result ≡ sooner self.now.least_byte spent }
+    {
+        let byte = self.least_byte.unwrap_or(0);
+        spent.saturating_sub(byte.saturating_mul(LONGER))
+    }
+
+    /// How long one of several meters may take to begin its answer; the patience, until an
+    /// acknowledgement and a telegram came.
+    pub fn window(&self, patience: u64) -> u64
+        ensures { result ≡ window_of self.now.delay self.now.byte patience }
+    {
+        let Some(delay) = self.delay else {
+            return patience;
+        };
+        match self.byte {
+            Some(byte) => patience.min(answering(byte).saturating_add(delay)),
+            None => patience,
+        }
+    }
+
+    /// How long nothing comes after the last of several answers.
+    pub fn pause(&self) -> u64
+        ensures { result ≡ pause_of self.now.byte }
+    {
+        match self.byte {
+            Some(byte) => PAUSE.max(byte.saturating_mul(PAUSE_BYTES)),
+            None => PAUSE,
+        }
+    }
+}
+
+// How long a meter may take to begin its answer where a byte takes this long.
+fn answering(byte: u64) -> u64
+    ensures { result ≡ answering byte }
+{
+    byte.saturating_mul(ANSWERING_BYTES)
+        .saturating_add(ANSWERING_REST)
+}

@@ -1,0 +1,439 @@
+//! A wire over a descriptor that can be polled: a TCP stream or a terminal.
+
+ghost use Rattle.std.specs.Prelude.{◌≡◌, ◌*◌, ◌≤◌, ◌<◌, [], length, true, false, IfOk, OnOk, OnErr};
+ghost use Rattle.mbdc_io.specs.Failures.{HasRisen};
+ghost use Rattle.mbdc_raw.specs.Looks.{waits_of};
+ghost use Rattle.mbdc_raw.specs.Pace.{patience_after};
+ghost use Rattle.mbdc_raw.specs.PollWire.{Ends, IsHeard, IsStill, WireHears, WireSends, limit_by, takes_all};
+ghost use Rattle.mbdc_raw.specs.PollWire.{IsDeserted, WireReopens, until_by, waited_then};
+ghost use Rattle.mbdc_raw.specs.Turn.{is_reset, wants_ack};
+ghost use Rattle.dc_linkframe.specs.Reading.{frame_of};
+ghost use Rattle.mbdc_raw.specs.declared.poll_wire.Until.TheVariants.{Still};
+ghost use Rattle.mbdc_raw.specs.Wire.{FitsRoom, Wanes, sound_of};
+
+use crate::pace::Pace;
+use crate::polling::{between, now, read_past_noise, wait_millis};
+use crate::state::{is_reset, wants_ack};
+use crate::wire::{Asking, Came, Wire};
+use mbdc_io::{IoFault, one_failure_more};
+use std::io;
+use std::io::{Read, Write};
+use std::os::fd::AsRawFd;
+use std::rt::Clock;
+use std::time::{Duration, Instant};
+
+/// The gap that ends an answer which has begun, in milliseconds.
+pub const GAP: u64 = 500;
+
+// The same in microseconds.
+const GAP_MICROS: u64 = 500_000;
+
+// How long bytes may keep coming: this many patiences, or this many microseconds where that is longer.
+// The longest answer takes 10 s at 300 baud.
+const MOST_PATIENCES: u64 = 10;
+
+const LONGEST_ANSWER: u64 = 15_000_000;
+
+// The longest patience to which late bytes lead, in microseconds, and the number of times that they
+// double it.
+const LONGEST_PATIENCE: u64 = 16_000_000;
+
+const MOST_DOUBLINGS: u64 = 14;
+
+// Maximum number of times that nothing may come after a request, before the wire itself waits for
+// the rest of its time-out.
+const MOST_WAITS: u16 = 32_767;
+
+// How long requests go out in a row on a line on which no byte has come, until it is given up, in
+// microseconds.
+const MOST_WAITED: u64 = 120_000_000;
+
+/// A link that may close.
+pub trait Link {
+    /// Opens the link again, once, where it has closed. Returns whether it did.
+    fn reopen(&mut self) -> bool;
+
+    /// Takes that the line is given up, since nobody answers.
+    fn desert(&mut self);
+}
+
+/// When silence comes after a request.
+#[derive(Clone, Copy)]
+pub enum Until {
+    /// Nothing came for the time-out, since the request or the last byte.
+    Still,
+    /// The time-out is over since the request, whatever comes.
+    Over,
+    /// The time-out is over since the request, and nothing came for a pause.
+    Paused,
+}
+
+/// A TCP stream or a terminal as a wire, by polls that don't wait: its reader and its writer. A read
+/// that returns no byte when the descriptor is readable means the end of the stream.
+///
+/// After a request the time-out is the patience. After the reset of all selected meters it is as long
+/// as an acknowledgement takes, by the [`Pace`] of the line; after a request that several meters may
+/// answer, as long as one of them may take to begin. Bytes that begin no frame are dropped where no
+/// answer has begun and one meter alone may answer, and time goes on as if they hadn't come. A line on which bytes keep
+/// coming for ten patiences, or 15 s where that is longer, without a request or silence between them, fails. So
+/// does one on which requests met silence for 120 s, and no byte came since it was connected.
+#[derive(Drop)]
+pub struct PollWire<R: Read + AsRawFd + Drop, W: Write + Link + Drop, C: Clock + Drop> {
+    reader: R,
+    writer: W,
+    clock: C,
+    // The time-out that was stated, that of the line and that of the request, in microseconds.
+    stated: u64,
+    patience: u64,
+    limit: u64,
+    until: Until,
+    // The time at which the request was sent.
+    asked: Instant,
+    // The time at which the request was sent, the last byte came, or the last silence was returned.
+    since: Instant,
+    // The time of the last look at the wire.
+    at: Instant,
+    // Whether a byte came since, and no gap after it was returned.
+    begun: bool,
+    pace: Pace,
+    // For how long bytes have kept coming since the last request or silence, in microseconds.
+    noise: u64,
+    // Whether a byte came since the link was connected.
+    came: bool,
+    // Whether a request is out that hasn't met silence.
+    asks: bool,
+    // How long requests have waited that met silence, in microseconds.
+    waited: u64,
+    // Whether the line was given up, since nobody answers.
+    deserted: bool,
+    waits: u16,
+    failures: u64,
+}
+
+impl<R: Read + AsRawFd + Drop, W: Write + Link + Drop, C: Clock + Drop> PollWire<R, W, C> {
+    /// Returns the reader and the writer of a stream as a wire with a patience of this many
+    /// milliseconds.
+    ///
+    /// # Errors
+    /// The clock fails.
+    pub fn new(reader: R, writer: W, clock: C, patience: u16) -> io::Result<Self>
+        ensures failures { IfOk result (λ wire. wire.failures ≡ 0) }
+        ensures stated { IfOk result (λ wire. wire.stated ≡ patience * 1_000) }
+        ensures limit { IfOk result (λ wire. wire.limit ≡ patience * 1_000) }
+        ensures until { IfOk result (λ wire. wire.until ≡ Still) }
+        ensures came { IfOk result (λ wire. wire.came ≡ false) }
+        ensures waited { IfOk result (λ wire. wire.waited ≡ 0) }
+        ensures deserted { IfOk result (λ wire. wire.deserted ≡ false) }
+    {
+        let since = Instant::now(&clock)?;
+        let micros = u64::from(patience) * 1_000;
+        Ok(PollWire {
+            reader,
+            writer,
+            clock,
+            stated: micros,
+            patience: micros,
+            limit: micros,
+            until: Until::Still,
+            asked: since,
+            since,
+            at: since,
+            begun: false,
+            pace: Pace::new(),
+            noise: 0,
+            came: false,
+            asks: false,
+            waited: 0,
+            deserted: false,
+            waits: MOST_WAITS,
+            failures: 0,
+        })
+    }
+
+    /// The descriptor, for a caller that waits for the bytes of several wires at once.
+    pub fn fd(&self) -> i32 {
+        self.reader.as_raw_fd()
+    }
+
+    /// Whether the line was given up, since nobody answers.
+    pub fn is_deserted(&self) -> bool
+        ensures { result ≡ self.now.deserted }
+    {
+        self.deserted
+    }
+
+    /// The time until the next gap or silence, if no byte comes; zero if the clock fails.
+    pub fn left(&self) -> Duration {
+        let Ok(at) = now(&self.clock) else {
+            return Duration::ZERO;
+        };
+        let rest = self.rest(at);
+        if self.begun && self.until == Until::Still {
+            let gap = GAP_MICROS.saturating_sub(between(self.since, at));
+            return Duration::from_micros(rest.min(gap));
+        }
+        Duration::from_micros(rest)
+    }
+
+    // The time from this moment to silence, if no byte comes.
+    fn rest(&self, at: Instant) -> u64
+        ensures { result ≡ 0 → Ends self.now at }
+    {
+        let spent = between(self.since, at);
+        let left = self.limit.saturating_sub(between(self.asked, at));
+        match self.until {
+            Until::Still => self.limit.saturating_sub(spent),
+            Until::Over => left,
+            Until::Paused => {
+                if self.begun {
+                    left.max(self.pace.pause().saturating_sub(spent))
+                } else {
+                    left
+                }
+            }
+        }
+    }
+
+    // Whether bytes that begin no frame are taken, too: an answer has begun, or several meters may answer.
+    fn takes_all(&self) -> bool
+        ensures { result ≡ takes_all self.now }
+    {
+        match self.until {
+            Until::Paused => true,
+            Until::Still | Until::Over => self.begun,
+        }
+    }
+
+    // Takes what has arrived. After `MOST_WAITS` calls without a byte it waits for the rest of the
+    // time-out.
+    fn look(&mut self, room: &mut [u8]) -> Result<Came, IoFault>
+        requires { 0 < length room.old }
+        ensures fits { IfOk result (λ came. FitsRoom came (length room.old)) }
+        ensures fewer { IfOk result (λ came. Wanes came
+            (waits_of self.old.waits) (waits_of self.new.waits)) }
+        ensures well { self.new.failures ≡ self.old.failures }
+        ensures step { IfOk result (λ came.
+            WireHears R.remaining self.old (sound_of came room.new) self.new) }
+        ensures deserted { self.old.deserted ≡ false → self.new.deserted ≡ true
+            → IsDeserted self.old self.new.at }
+    {
+        let wait = if self.waits == 0 {
+            self.rest(now(&self.clock)?)
+        } else {
+            0
+        };
+        let takes_all = self.takes_all();
+        let count = read_past_noise(&mut self.reader, wait_millis(wait), takes_all, room)?;
+        self.at = now(&self.clock)?;
+        if count > 0 {
+            let (given, _) = room.split_at(count);
+            self.heard(given)?;
+            return Ok(Came::Bytes(count));
+        }
+        let still = self.nothing()?;
+        match still {
+            Came::Bytes(_) => Err(IoFault),
+            Came::Nothing => Ok(Came::Nothing),
+            Came::Gap => Ok(Came::Gap),
+            Came::Silence => Ok(Came::Silence),
+        }
+    }
+
+    // Some bytes came. A longer time than the patience since the last ones counts as one: the line
+    // wasn't looked at.
+    fn heard(&mut self, bytes: &[u8]) -> Result<(), IoFault>
+        ensures well { self.new.failures ≡ self.old.failures }
+        ensures waits { self.new.waits ≡ self.old.waits }
+        ensures kept { OnOk result (IsHeard self.old self.new) }
+        ensures deserted { self.new.deserted ≡ self.old.deserted }
+    {
+        let spent = between(self.since, self.at);
+        self.noise = self.noise.saturating_add(spent.min(self.patience));
+        if self.noise
+            > self
+                .patience
+                .saturating_mul(MOST_PATIENCES)
+                .max(LONGEST_ANSWER)
+        {
+            return Err(IoFault);
+        }
+        self.pace.take(between(self.asked, self.at), bytes);
+        self.since = self.at;
+        self.begun = true;
+        self.came = true;
+        match self.until {
+            Until::Still => self.limit = self.patience,
+            Until::Over => {}
+            Until::Paused => self.limit = self.pace.window(self.patience),
+        }
+        Ok(())
+    }
+
+    // The result where nothing has come.
+    fn nothing(&mut self) -> Result<Came, IoFault>
+        ensures fits { IfOk result (λ came. FitsRoom came 0) }
+        ensures fewer { IfOk result (λ came. Wanes came
+            (waits_of self.old.waits) (waits_of self.new.waits)) }
+        ensures well { self.new.failures ≡ self.old.failures }
+        ensures step { IfOk result (λ came. IsStill self.old (sound_of came []) self.new) }
+        ensures deserted { self.old.deserted ≡ false → self.new.deserted ≡ true
+            → IsDeserted self.old self.old.at }
+        ensures at { self.new.at ≡ self.old.at }
+    {
+        if self.rest(self.at) == 0 {
+            self.waited = self.waited_then();
+            self.asks = false;
+            if !self.came && self.waited >= MOST_WAITED {
+                self.deserted = true;
+                self.writer.desert();
+                return Err(IoFault);
+            }
+            self.since = self.at;
+            self.begun = false;
+            self.noise = 0;
+            self.until = Until::Still;
+            self.limit = self.patience;
+            return Ok(Came::Silence);
+        }
+        if self.waits == 0 {
+            return Err(IoFault);
+        }
+        self.waits = self.waits.min(MOST_WAITS) - 1;
+        if self.begun && self.until == Until::Still && between(self.since, self.at) >= GAP_MICROS {
+            self.begun = false;
+            return Ok(Came::Gap);
+        }
+        Ok(Came::Nothing)
+    }
+
+    // How long requests have waited that met silence, where the last one does now.
+    fn waited_then(&self) -> u64
+        ensures { result ≡ waited_then self.now }
+    {
+        if self.asks {
+            self.waited.saturating_add(self.limit)
+        } else {
+            self.waited
+        }
+    }
+
+    fn put(&mut self, bytes: &[u8], asking: Asking) -> Result<(), IoFault>
+        ensures well { self.new.failures ≡ self.old.failures }
+        ensures step { OnOk result (WireSends W.contents self.old bytes.now asking self.new) }
+        ensures deserted { self.new.deserted ≡ self.old.deserted }
+    {
+        if self.writer.write_all(bytes).is_err() {
+            return Err(IoFault);
+        }
+        self.asked = now(&self.clock)?;
+        self.since = self.asked;
+        self.begun = false;
+        self.asks = true;
+        self.noise = 0;
+        self.waits = MOST_WAITS;
+        self.pace.begin(bytes);
+        self.patience = patience_after(self.stated, asking.late);
+        self.until = until_by(is_reset(bytes), asking.many);
+        self.limit = self.limit_by(bytes, asking.many);
+        Ok(())
+    }
+
+    // Opens the link again where it has closed: nothing came on it yet.
+    fn open_again(&mut self) -> bool
+        ensures { WireReopens self.old result self.new }
+    {
+        if !self.writer.reopen() {
+            return false;
+        }
+        self.since = now(&self.clock).unwrap_or(self.since);
+        self.begun = false;
+        self.asks = false;
+        self.noise = 0;
+        self.until = Until::Still;
+        self.limit = self.patience;
+        true
+    }
+
+    // The time-out after this request.
+    fn limit_by(&self, request: &[u8], many: bool) -> u64
+        ensures { result ≡ limit_by (is_reset (frame_of request.now)) many
+            (wants_ack (frame_of request.now)) self.now.pace self.now.patience }
+    {
+        if is_reset(request) {
+            return self.pace.reset_wait(self.patience);
+        }
+        if many && wants_ack(request) {
+            return self.pace.window(self.patience);
+        }
+        self.patience
+    }
+}
+
+// When silence comes after a request: the reset of all selected meters, or one that several meters
+// may answer, or another one.
+fn until_by(resets: bool, many: bool) -> Until
+    ensures { result ≡ until_by resets many }
+{
+    if resets {
+        return Until::Over;
+    }
+    if many { Until::Paused } else { Until::Still }
+}
+
+// The patience after bytes have come late this often.
+fn patience_after(stated: u64, late: u64) -> u64
+    ensures { result ≡ patience_after late stated }
+{
+    let doubled = stated.saturating_mul(1 << late.min(MOST_DOUBLINGS));
+    stated.max(doubled.min(LONGEST_PATIENCE))
+}
+
+impl<R: Read + AsRawFd + Drop, W: Write + Link + Drop, C: Clock + Drop> Wire for PollWire<R, W, C> {
+    ghost use Rattle.std.proofs.Math.Nat.{min-le_right};
+    ghost use Rattle.mbdc_raw.specs.Looks.{most_looks, waits_of};
+    ghost use Rattle.mbdc_raw.specs.PollWire.{WireHears, WireReopens, WireSends};
+
+    ghost failures = { λ wire. wire.failures };
+
+    ghost waits_left = { λ wire. waits_of wire.waits };
+
+    ghost few = { λ wire. min-le_right wire.waits most_looks };
+
+    ghost sends = { WireSends W.contents };
+
+    ghost hears = { WireHears R.remaining };
+
+    ghost reopens = { WireReopens };
+
+    fn reopen(&mut self) -> bool {
+        self.open_again()
+    }
+
+    fn send(&mut self, bytes: &[u8], asking: Asking) -> Result<(), IoFault> {
+        let sent = self.put(bytes, asking);
+        if sent.is_err() {
+            self.failures = one_failure_more(self.failures);
+        }
+        sent
+    }
+
+    fn hear(&mut self, room: &mut [u8]) -> Result<Came, IoFault>
+        requires { 0 < length room.old }
+        ensures fits { IfOk result (λ came. FitsRoom came (length room.old)) }
+        ensures step { IfOk result (λ came.
+            WireHears R.remaining self.old (sound_of came room.new) self.new) }
+        ensures fewer { IfOk result (λ came. Wanes came
+            (waits_of self.old.waits) (waits_of self.new.waits)) }
+        ensures well { OnOk result (self.new.failures ≡ self.old.failures) }
+        ensures failed { OnErr result (HasRisen self.old.failures self.new.failures) }
+        // Nobody answers on a line that is given up.
+        ensures deserted { self.old.deserted ≡ false → self.new.deserted ≡ true
+            → IsDeserted self.old self.new.at }
+    {
+        let came = self.look(room);
+        if came.is_err() {
+            self.failures = one_failure_more(self.failures);
+        }
+        came
+    }
+}

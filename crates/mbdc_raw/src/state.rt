@@ -1,0 +1,176 @@
+//! What may be under way on a line, and which frame answers a request.
+
+ghost use Rattle.std.specs.Prelude.{◌≡◌, bytes_eq};
+ghost use Rattle.dc_linkframe.specs.Reading.{frame_of};
+ghost use Rattle.mbdc_raw.specs.Turn.{is_answer, is_copy, is_reset, is_wrong, kind_of};
+ghost use Rattle.mbdc_raw.specs.Turn.{last_behind, last_waited, may_go, quiet_by, telegram_in};
+ghost use Rattle.mbdc_raw.specs.Turn.{wants_ack};
+
+use mbdc_bus::AnswerBuf;
+use dc_linkframe::control::{SELECTED, SND_NKE, SND_UD};
+use dc_linkframe::{Frame, FrameBuf, parse};
+
+/// What may be under way on a line.
+#[derive(Clone, Copy)]
+pub enum State {
+    /// Nothing: nothing came for the patience since the last request and the last byte.
+    Quiet,
+    /// Nothing, if each meter began its answer within the window after a request that several may
+    /// answer: such requests alone go out at once.
+    Listened,
+    /// Nothing but a copy of the last answer: the one request since has its answer.
+    Answered,
+    /// The answer to the last request, or what came before it.
+    Busy,
+}
+
+/// How the answer to a request is taken.
+#[derive(Clone, Copy)]
+pub enum Kind {
+    /// The first frame: one meter answers.
+    One,
+    /// All bytes: several meters may answer.
+    All,
+    /// None: the reset of all selected meters.
+    Nobody,
+}
+
+/// Whether a request may go out, which several meters may answer or not: on a quiet line any, and
+/// after an answer one that differs from the request that it answered.
+pub fn may_go(state: State, last: &FrameBuf, request: &FrameBuf, many: bool) -> bool
+    ensures { result ≡ may_go state last.now request.now many }
+{
+    match state {
+        State::Quiet => true,
+        State::Listened => many,
+        State::Answered => last.as_slice() != request.as_slice(),
+        State::Busy => false,
+    }
+}
+
+/// How the answer to this request is taken, of which several meters may send one or not.
+pub fn kind_of(request: &FrameBuf, many: bool) -> Kind
+    ensures { result ≡ kind_of (frame_of request.now) many }
+{
+    if is_reset(request.as_slice()) {
+        return Kind::Nobody;
+    }
+    if many { Kind::All } else { Kind::One }
+}
+
+/// Whether these bytes are the reset of all selected meters.
+pub fn is_reset(request: &[u8]) -> bool
+    ensures { result ≡ is_reset (frame_of request.now) }
+{
+    match parse(request) {
+        Ok(Frame::Short { control, address }) => control == SND_NKE && address == SELECTED,
+        _ => false,
+    }
+}
+
+/// Whether an acknowledgement answers this request.
+pub fn wants_ack(request: &[u8]) -> bool
+    ensures { result ≡ wants_ack (frame_of request.now) }
+{
+    match parse(request) {
+        Ok(Frame::Short { control, .. }) => control == SND_NKE,
+        Ok(Frame::Long { control, .. }) => control == SND_UD,
+        _ => false,
+    }
+}
+
+/// Whether these bytes are a whole frame of the kind that answers the request.
+pub fn is_answer(request: &[u8], answer: &[u8]) -> bool
+    ensures { result ≡ is_answer (frame_of request.now) (frame_of answer.now) }
+{
+    match parse(answer) {
+        Ok(Frame::Ack) => wants_ack(request),
+        Ok(Frame::Long { .. }) => !wants_ack(request),
+        _ => false,
+    }
+}
+
+/// Whether these bytes are a frame of another kind.
+pub fn is_wrong(request: &[u8], answer: &[u8]) -> bool
+    ensures { result ≡ is_wrong (frame_of request.now) (frame_of answer.now) }
+{
+    match parse(answer) {
+        Ok(Frame::Ack) => !wants_ack(request),
+        Ok(Frame::Long { .. }) => wants_ack(request),
+        Ok(Frame::Short { .. }) => true,
+        Err(_) => false,
+    }
+}
+
+/// Whether an answer is that of before, byte for byte.
+pub fn is_copy(last: &Option<AnswerBuf>, answer: &AnswerBuf) -> bool
+    ensures { result ≡ is_copy last.now answer.now }
+{
+    match last {
+        Some(last) => last.as_slice() == answer.as_slice(),
+        None => false,
+    }
+}
+
+/// A copy of an answer.
+pub fn copy_of(answer: &AnswerBuf) -> AnswerBuf
+    ensures { result ≡ answer.now }
+{
+    let mut copy = AnswerBuf::new();
+    copy.append(answer.as_slice());
+    copy
+}
+
+/// The last answer, once a request goes out. On a quiet line a telegram is still remembered: its
+/// copy may come later than the patience allows, and would pass for the next telegram.
+pub fn last_behind(state: State, last: Option<AnswerBuf>) -> Option<AnswerBuf>
+    ensures { result ≡ last_behind state last }
+{
+    match state {
+        State::Quiet => telegram_in(last),
+        State::Listened => None,
+        State::Answered => last,
+        State::Busy => last,
+    }
+}
+
+// The last answer, if it isn't an acknowledgement.
+fn telegram_in(last: Option<AnswerBuf>) -> Option<AnswerBuf>
+    ensures { result ≡ telegram_in last }
+{
+    let answer = last?;
+    match parse(answer.as_slice()) {
+        Ok(Frame::Ack) => None,
+        _ => Some(answer),
+    }
+}
+
+/// The last answer, while a request waits. Where that one was answered, and the line is quiet now, it
+/// may have the same answer again.
+pub fn last_waited(
+    answered: &FrameBuf,
+    request: &FrameBuf,
+    before: State,
+    after: State,
+    last: Option<AnswerBuf>,
+) -> Option<AnswerBuf>
+    ensures { result ≡ last_waited (bytes_eq answered.now request.now) before after last }
+{
+    match (before, after) {
+        (State::Answered, State::Quiet) => {
+            if answered.as_slice() == request.as_slice() {
+                None
+            } else {
+                last
+            }
+        }
+        _ => last,
+    }
+}
+
+/// The next state where the line is quiet, and else this one.
+pub fn quiet_by(quiet: bool, next: State, state: State) -> State
+    ensures { result ≡ quiet_by quiet next state }
+{
+    if quiet { next } else { state }
+}

@@ -1,0 +1,452 @@
+-- A request goes out only where nothing but a copy of the last answer is under way: by what each step of a
+-- line keeps.
+use Rattle.std.proofs.Common.{◌≡◌, ◌⊎◌, inl, inr, ℕ, Bool, true, false, ◌==◌, List, [], ◌∷◌, ◌++◌, length, drop, Option, Some, None, cond, if◌then◌else◌, arith, refl, sym, ◌∙◌, ap, subst}
+use Rattle.std.specs.Str.{bytes_eq}
+use Rattle.std.proofs.lemmas.Bool.{eqb-true, false≢true}
+use Rattle.std.proofs.lemmas.Slice.Eq.{bytes_eq-Decides}
+use Rattle.dc_linkframe.specs.Frame.{FrameSeen}
+use Rattle.dc_linkframe.specs.Reading.{frame_of}
+use Rattle.mbdc_raw.specs.Heard.{Drains, Ends, IsGathered, state_with, has_gap, is_loud as loud_end, is_quiet, is_silent, is_whole}
+use Rattle.mbdc_raw.specs.Line.{behind as reopened, Gives, GivesNothing, GivesOne, GivesOver, GivesUp, Goes, LineSends, LineWaits, Looks, Skips, a_copy, gives_all, gives_nothing, gives_now, gives_one, gives_then, gives_up, goes_out, hold, no_copy, one_answer, out_of, too_loud, two_copies, waiting, waits_all, waits_held, waits_nothing, waits_on, waits_one}
+use Rattle.mbdc_raw.specs.Turn.{is_ack, is_answer, is_copy, is_reset, kind_of, last_behind, last_waited, may_go, quiet_by, state_by, state_taken, telegram_in}
+use Rattle.mbdc_raw.specs.Wire.{AreHeard, Sound, gap, nothing, piece, pieces, silence}
+use Rattle.mbdc_raw.specs.declared.line.Gone.{Gone}
+use Rattle.mbdc_raw.specs.declared.line.Gone.TheVariants.{Out, Waits as WaitsOn, Loud}
+use Rattle.mbdc_raw.specs.declared.line.Held.{Held}
+use Rattle.mbdc_raw.specs.declared.line.Line.{Line}
+use Rattle.mbdc_raw.specs.declared.state.Kind.TheVariants.{One, All, Nobody}
+use Rattle.mbdc_raw.specs.declared.state.State.{State}
+use Rattle.mbdc_raw.specs.declared.state.State.TheVariants.{Quiet, Listened, Answered, Busy}
+use Rattle.mbdc_raw.specs.declared.wire.Wire.{Ghosts as WireGhosts}
+use Rattle.dc_readout.proofs.Moves.{no_frame_of_nothing}
+use Rattle.mbdc_theorems.specs.Asked.{Asks, GivesNoStray, IsNew, IsToIt, NoStray, Runs, SkipsNoStray, WaitsNoStray, asks, connects}
+use Rattle.mbdc_theorems.specs.Way.{Comes, OnWay, Passes, Puts, no_frame, oldest, on_way}
+use Rattle.mbdc_theorems.proofs.Under.{Copies, Own, TakenOf, Under, Way, copies_drop, copies_none, drop_none, own_of_copies, puts_under, taken, under_drop}
+
+-- ---- the last answer
+
+copy_of_last : (last : Option (List ℕ)) (answer : List ℕ) → is_copy last answer ≡ true → last ≡ Some answer
+copy_of_last None answer is = absurd (false≢true is)
+copy_of_last (Some last) answer is = ap Some ((bytes_eq-Decides last answer).0 is)
+
+last_is_copy : (last : Option (List ℕ)) (answer : List ℕ) → last ≡ Some answer → is_copy last answer ≡ true
+last_is_copy last answer is = ap (λ (l : Option (List ℕ)). is_copy l answer) is ∙ (bytes_eq-Decides answer answer).1 refl
+
+no_frame_no_answer : (request : Option FrameSeen) (answer : List ℕ) → frame_of answer ≡ None → is_answer request (frame_of answer) ≡ false
+no_frame_no_answer request answer none = ap (is_answer request) none
+
+-- the last answer was a frame
+abbrev Framed : Option (List ℕ) → Type 0
+Framed last = (answer : List ℕ) → last ≡ Some answer → frame_of answer ≡ None → ⊥
+
+empty_is : (bytes : List ℕ) → (length bytes == 0) ≡ true → bytes ≡ []
+empty_is [] is = refl
+empty_is (b ∷ bs) is = absurd (let none = eqb-true (length (b ∷ bs)) 0 is in omega (arith, none))
+
+-- ---- between requests
+
+-- nothing is under way on a quiet line, and but for a copy of the last answer nothing on one that is answered
+record Standing (state : State) (last : Option (List ℕ)) (way : Way) : Type 0 where
+  quiet : state ≡ Quiet → way ≡ []
+  answered : state ≡ Answered → Copies last way
+
+busy_stands : (last : Option (List ℕ)) (way : Way) → Standing Busy last way
+busy_stands last way = record { quiet = λ e. absurd cc; answered = λ e. absurd cc }
+
+state_stands : (state : State) (last : Option (List ℕ)) (way : Way) → state ≡ Busy → Standing state last way
+state_stands state last way is = subst (λ (s : State). Standing s last way) (sym is) (busy_stands last way)
+
+-- where the answered request is repeated its answer is forgotten, once the line is quiet
+waited_stands : (repeats : Bool) (before after : State) (last : Option (List ℕ)) (way : Way) → Standing after last way → Standing after (last_waited repeats before after last) way
+waited_stands false before after last way stands = stands
+waited_stands true Quiet after last way stands = stands
+waited_stands true Listened after last way stands = stands
+waited_stands true Answered Quiet last way stands = record { quiet = stands.quiet; answered = λ e. absurd cc }
+waited_stands true Answered Listened last way stands = stands
+waited_stands true Answered Answered last way stands = stands
+waited_stands true Answered Busy last way stands = stands
+waited_stands true Busy after last way stands = stands
+
+waited_framed : (repeats : Bool) (before after : State) (last : Option (List ℕ)) → Framed last → Framed (last_waited repeats before after last)
+waited_framed false before after last framed = framed
+waited_framed true Quiet after last framed = framed
+waited_framed true Listened after last framed = framed
+waited_framed true Answered Quiet last framed = λ answer is. absurd cc
+waited_framed true Answered Listened last framed = framed
+waited_framed true Answered Answered last framed = framed
+waited_framed true Answered Busy last framed = framed
+waited_framed true Busy after last framed = framed
+
+sounded : (sound : Sound) (state : State) (last : Option (List ℕ)) (old new : Way) → Passes sound old new → Standing state last old → Standing (state_by sound state) last new
+sounded (piece bytes) state last old new passes stands = busy_stands last new
+sounded nothing state last old new passes stands = record {
+  quiet = λ e. passes.in_order ∙ drop_none passes.gone old (stands.quiet e);
+  answered = λ e. subst (Copies last) (sym passes.in_order) (copies_drop last passes.gone old (stands.answered e));
+}
+sounded gap state last old new passes stands = record {
+  quiet = λ e. passes.in_order ∙ drop_none passes.gone old (stands.quiet e);
+  answered = λ e. subst (Copies last) (sym passes.in_order) (copies_drop last passes.gone old (stands.answered e));
+}
+sounded silence state last old new passes stands = record {
+  quiet = λ e. passes.in_order ∙ drop_none passes.gone old (passes.patience refl);
+  answered = λ e. absurd cc;
+}
+
+module _ {W : Type 0} (wire : WireGhosts W) (reply : Option (List ℕ)) where
+  abbrev On : Type 0
+  On = OnWay W
+
+  abbrev g : WireGhosts On
+  g = on_way wire reply
+
+  -- ---- what comes on the wire
+
+  stood : (last : Option (List ℕ)) (sounds : List Sound) (old new : On) (state : State) → AreHeard g.hears old sounds new → Standing state last old.way → Standing (state_with sounds state) last new.way
+  stood last [] old new state same stands = subst (λ (on : On). Standing state last on.way) (sym same) stands
+  stood last (sound ∷ more) old new state heard stands = stood last more heard.0 new (state_by sound state) heard.2 (sounded sound state last old.way heard.0.way heard.1.1 stands)
+
+  under_heard : (last : Option (List ℕ)) (sounds : List Sound) (old new : On) → AreHeard g.hears old sounds new → Under last reply old.way → Under last reply new.way
+  under_heard last [] old new same under = subst (λ (on : On). Under last reply on.way) (sym same) under
+  under_heard last (sound ∷ more) old new heard under =
+      let passes : Passes sound old.way heard.0.way = heard.1.1 in
+      under_heard last more heard.0 new heard.2 (subst (Under last reply) (sym passes.in_order) (under_drop last reply passes.gone old.way under))
+
+  silenced : (sounds : List Sound) (old new : On) → AreHeard g.hears old (sounds ++ silence ∷ []) new → new.way ≡ []
+  silenced [] old new heard =
+      let passes : Passes silence old.way heard.0.way = heard.1.1 in
+      ap (λ (on : On). on.way) heard.2 ∙ passes.in_order ∙ drop_none passes.gone old.way (passes.patience refl)
+  silenced (sound ∷ more) old new heard = silenced more heard.0 new heard.2
+
+  ends_silent : (old new : On) (bursts : List (List ℕ)) (end : List Sound) → Ends [] end → AreHeard g.hears old (pieces bursts ++ end) new → new.way ≡ []
+  ends_silent old new bursts _ (is_whole over) heard = absurd cc
+  ends_silent old new bursts _ (is_silent lasts) heard = silenced (pieces bursts) old new heard
+  ends_silent old new bursts _ (has_gap lasts some) heard = absurd (omega (arith, some))
+
+  -- ---- a line between requests, and one whose request is out
+
+  record Orderly (line : Line On) : Type 0 where
+    standing : Standing line.state line.last line.wire.way
+    framed : Framed line.last
+
+  record IsOut (line : Line On) : Type 0 where
+    none : line.held ≡ None
+    busy : line.state ≡ Busy
+    under : Under line.last reply line.wire.way
+    framed : Framed line.last
+    kind : (line.kind ≡ All) → ⊥
+
+  record IsHeld (line : Line On) : Type 0 where
+    held : Held
+    is : line.held ≡ Some held
+    one : held.many ≡ false
+    orderly : Orderly line
+
+  abbrev Within : Line On → Type 0
+  Within line = IsHeld line ⊎ IsOut line
+
+  -- ---- a request
+
+  no_window : (frame : Option FrameSeen) (many : Bool) → many ≡ false → kind_of frame many ≡ All → ⊥
+  no_window frame many one is = go (is_reset frame) refl
+    where
+      go : (b : Bool) → is_reset frame ≡ b → ⊥
+      go true e = let bad : Nobody ≡ All = sym (ap (λ (b : Bool). cond b Nobody (cond many All One)) e) ∙ is in absurd cc
+      go false e = let bad : One ≡ All = sym (ap (λ (b : Bool). cond b Nobody (cond many All One)) e ∙ ap (λ (b : Bool). cond b All One) one) ∙ is in absurd cc
+
+  behind : (state : State) (last : Option (List ℕ)) (old new : Way) (before request : List ℕ) (many : Bool) → many ≡ false → may_go state before request many ≡ true → Standing state last old → Puts reply old new
+      → Under (last_behind state last) reply new
+  behind Quiet last old new before request many one may stands puts = puts_under (telegram_in last) reply old new (copies_none (telegram_in last) old (stands.quiet refl)) puts
+  behind Listened last old new before request many one may stands puts = absurd (false≢true (sym one ∙ may))
+  behind Answered last old new before request many one may stands puts = puts_under last reply old new (stands.answered refl) puts
+  behind Busy last old new before request many one may stands puts = absurd (false≢true may)
+
+  framed_telegram : (answer : List ℕ) (ack : Bool) → Framed (Some answer) → Framed (if ack then None else Some answer)
+  framed_telegram answer true framed = λ other is. absurd cc
+  framed_telegram answer false framed = framed
+
+  framed_behind : (state : State) (last : Option (List ℕ)) → Framed last → Framed (last_behind state last)
+  framed_behind Quiet None framed = framed
+  framed_behind Quiet (Some answer) framed = framed_telegram answer (is_ack (frame_of answer)) framed
+  framed_behind Listened last framed = λ answer is. absurd cc
+  framed_behind Answered last framed = framed
+  framed_behind Busy last framed = framed
+
+  drained : (request : List ℕ) (old : Line On) (loud : Bool) (between : On) (state : State) (late : ℕ) → Orderly old → Drains g.hears old.wire old.state old.late loud between state late
+      → Orderly (waiting request between state late old)
+  drained request old loud between state late orderly drains = record {
+    standing = waited_stands (bytes_eq old.hearing.request request) old.state state old.last between.way (subst (λ (s : State). Standing s old.last between.way) (sym drains.moved) (stood old.last (pieces drains.bursts ++ drains.end) old.wire between old.state drains.gave orderly.standing));
+    framed = waited_framed (bytes_eq old.hearing.request request) old.state state old.last orderly.framed;
+  }
+
+  gone_out : (request : List ℕ) (many : Bool) (line : Line On) (on : On) → many ≡ false → Orderly line → may_go line.state line.hearing.request request many ≡ true → Puts reply line.wire.way on.way
+      → IsOut (out_of request many line on)
+  gone_out request many line on one orderly may puts = record {
+    none = refl;
+    busy = refl;
+    under = behind line.state line.last line.wire.way on.way line.hearing.request request many one may orderly.standing puts;
+    framed = framed_behind line.state line.last orderly.framed;
+    kind = no_window (frame_of request) many one;
+  }
+
+  -- one look leaves the request held, or out
+  module _ (request : List ℕ) (many : Bool) (one : many ≡ false) (old new : Line On) (is_held : old.held ≡ Some (record { request = request; many = many })) (orderly : Orderly old) where
+    went : (gone : Gone) (line : Line On) → line.held ≡ old.held → Orderly line → Goes g request many line gone new → Within new
+    went Out line same is (goes_out on may sends same_new) = inr (subst IsOut (sym same_new) (gone_out request many line on one is may sends.1))
+    went WaitsOn line same is (waits_on may same_new) = inl (subst IsHeld (sym same_new) (record { held = record { request = request; many = many }; is = same ∙ is_held; one = one; orderly = is }))
+    went Loud line same is (too_loud same_new) = inl (subst IsHeld (sym same_new) (record { held = record { request = request; many = many }; is = same ∙ is_held; one = one; orderly = is }))
+
+    looked : (gone : Gone) → Looks g request many old gone new → Within new
+    looked gone looks = went gone (waiting request looks.between looks.state looks.late old) refl (drained request old _ looks.between looks.state looks.late orderly looks.drains) looks.goes
+
+    loud : Looks g request many old Loud new → Orderly new
+    loud looks = go looks.goes
+      where
+        line : Line On
+        line = waiting request looks.between looks.state looks.late old
+
+        go : Goes g request many line Loud new → Orderly new
+        go (too_loud same) = subst Orderly (sym same) (drained request old _ looks.between looks.state looks.late orderly looks.drains)
+
+  -- ---- the answer of one meter
+
+  skipped : (old new : Line On) → IsOut old → (skips : Skips g old new) → SkipsNoStray skips → IsOut new
+  skipped old new is (no_copy same) so = subst IsOut (sym same) is
+  skipped old new is (a_copy copy answers copied same) comes =
+      let was : old.last ≡ Some copy = copy_of_last old.last copy copied in
+      let last : new.last ≡ old.last = ap (λ (l : Line On). l.last) same in
+      record {
+        none = ap (λ (l : Line On). l.held) same ∙ is.none;
+        busy = ap (λ (l : Line On). l.state) same ∙ is.busy;
+        under = inl (own comes was);
+        framed = subst Framed (sym last) is.framed;
+        kind = λ e. is.kind (sym (ap (λ (l : Line On). l.kind) same) ∙ e);
+      }
+    where
+      by : TakenOf old.last reply copy new.wire.way → Own reply new.wire.way
+      by (inl t) = t.1
+      by (inr t) = own_of_copies reply new.wire.way t.1
+
+      own : Comes copy old.wire.way new.wire.way → old.last ≡ Some copy → Own reply new.wire.way
+      own (no_frame none) was = absurd (is.framed copy was none)
+      own (oldest lost left) was = by (taken old.last reply copy lost old.wire.way new.wire.way is.under left)
+
+  module _ (old : Line On) (answer : List ℕ) (new : Line On) (is : IsOut old) (gives : GivesOne g old answer new) (skips_so : SkipsNoStray gives.skips) (comes : Comes answer gives.between.wire.way new.wire.way) where
+    abbrev mid : Line On
+    mid = gives.between
+
+    abbrev request : Option FrameSeen
+    request = frame_of new.hearing.request
+
+    out : IsOut mid
+    out = skipped old mid is gives.skips skips_so
+
+    not_copy : mid.last ≡ Some answer → ⊥
+    not_copy last = false≢true (sym gives.plain ∙ last_is_copy mid.last answer last)
+
+    -- what was taken is the answer to the request, and at most a copy of it is left
+    replied : TakenOf mid.last reply answer new.wire.way → (reply ≡ Some answer) × Copies reply new.wire.way
+    replied (inl t) = absurd (not_copy t.0)
+    replied (inr t) = t
+
+    took : (lost : ℕ) → drop lost mid.wire.way ≡ answer ∷ new.wire.way → (reply ≡ Some answer) × Copies reply new.wire.way
+    took lost left = replied (taken mid.last reply answer lost mid.wire.way new.wire.way out.under left)
+
+    one_to_it : Comes answer mid.wire.way new.wire.way → IsToIt reply answer
+    one_to_it (no_frame none) = inl none
+    one_to_it (oldest lost left) = inr (took lost left).0
+
+    quiet_then : (length answer == 0) ≡ true → new.wire.way ≡ []
+    quiet_then short = by (empty_is answer short)
+      where
+        by : answer ≡ [] → new.wire.way ≡ []
+        by none = ends_silent mid.wire new.wire gives.heard.bursts gives.heard.end (subst (λ (a : List ℕ). Ends a gives.heard.end) none gives.heard.ends) gives.heard.gave
+
+    copies_then : Comes answer mid.wire.way new.wire.way → is_answer request (frame_of answer) ≡ true → Copies (Some answer) new.wire.way
+    copies_then (no_frame none) answered = absurd (false≢true (sym (no_frame_no_answer request answer none) ∙ answered))
+    copies_then (oldest lost left) answered = let t = took lost left in subst (λ (r : Option (List ℕ)). Copies r new.wire.way) t.0 t.1
+
+    stands_then : (short answered copied : Bool) → (length answer == 0) ≡ short → is_answer request (frame_of answer) ≡ answered
+        → Standing (state_taken short answered copied) (if answered then Some answer else mid.last) new.wire.way
+    stands_then true answered copied short_is answered_is = record { quiet = λ e. quiet_then short_is; answered = λ e. absurd cc }
+    stands_then false true true short_is answered_is = busy_stands _ new.wire.way
+    stands_then false true false short_is answered_is = record { quiet = λ e. absurd cc; answered = λ e. copies_then comes answered_is }
+    stands_then false false copied short_is answered_is = busy_stands _ new.wire.way
+
+    framed_then : (answered copied : Bool) → is_answer request (frame_of answer) ≡ answered → Framed (if answered then Some answer else mid.last)
+    framed_then true copied answered_is = λ last e none.
+        let same : answer ≡ last = cc in
+        false≢true (sym (no_frame_no_answer request answer (ap frame_of same ∙ none)) ∙ answered_is)
+    framed_then false copied answered_is = out.framed
+
+    one_orderly : Orderly new
+    one_orderly = subst Orderly (sym gives.kept) (record {
+      standing = stands_then (length answer == 0) (is_answer request (frame_of answer)) mid.copied refl refl;
+      framed = framed_then (is_answer request (frame_of answer)) mid.copied refl;
+    })
+
+  -- ---- copies alone
+
+  skips_state : (old new : Line On) → Skips g old new → new.state ≡ old.state
+  skips_state old new (no_copy same) = ap (λ (l : Line On). l.state) same
+  skips_state old new (a_copy copy answers copied same) = ap (λ (l : Line On). l.state) same
+
+  skips_last : (old new : Line On) → Skips g old new → new.last ≡ old.last
+  skips_last old new (no_copy same) = ap (λ (l : Line On). l.last) same
+  skips_last old new (a_copy copy answers copied same) = ap (λ (l : Line On). l.last) same
+
+  given_up_orderly : (old new : Line On) → IsOut old → GivesUp g old new → Orderly new
+  given_up_orderly old new is gives = record {
+    standing = state_stands new.state new.last new.wire.way (ap (λ (l : Line On). l.state) gives.kept ∙ skips_state old gives.between gives.skips ∙ is.busy);
+    framed = subst Framed (sym (ap (λ (l : Line On). l.last) gives.kept ∙ skips_last old gives.between gives.skips)) is.framed;
+  }
+
+  -- ---- the reset of all selected meters
+
+  reset_orderly : (old new : Line On) → IsOut old → GivesNothing g old new → Orderly new
+  reset_orderly old new is gives = subst Orderly (sym gives.kept) (record {
+    standing = go gives.quiet gives.gathers.end gives.gathers.ends gives.gathers.gave;
+    framed = is.framed;
+  })
+    where
+      go : (quiet : Bool) (end : List Sound) → IsGathered gives.gathers.bursts (Some quiet) end → AreHeard g.hears old.wire (pieces gives.gathers.bursts ++ end) new.wire
+          → Standing (quiet_by quiet Answered old.state) old.last new.wire.way
+      go _ _ is_quiet heard = record { quiet = λ e. absurd cc; answered = λ e. copies_none old.last new.wire.way (silenced (pieces gives.gathers.bursts) old.wire new.wire heard) }
+      go _ _ (loud_end many) heard = state_stands old.state old.last new.wire.way is.busy
+
+  -- ---- one call
+
+  still_out : (old new : Line On) → IsOut old → Under old.last reply new.wire.way → new.held ≡ old.held → new.state ≡ old.state → new.last ≡ old.last → new.kind ≡ old.kind → IsOut new
+  still_out old new is under held state last kind = record {
+    none = held ∙ is.none;
+    busy = state ∙ is.busy;
+    under = subst (λ (l : Option (List ℕ)). Under l reply new.wire.way) (sym last) under;
+    framed = subst Framed (sym last) is.framed;
+    kind = λ e. is.kind (sym kind ∙ e);
+  }
+
+  same_held : (held given : Held) → Some held ≡ Some given → held ≡ given
+  same_held held given is = cc
+
+  not_out : (old : Line On) (held : Held) → IsOut old → old.held ≡ Some held → ⊥
+  not_out old held is some = let bad : None ≡ Some held = sym is.none ∙ some in absurd cc
+
+  not_held : (old : Line On) → IsHeld old → old.held ≡ None → ⊥
+  not_held old is none = let bad : None ≡ Some is.held = sym none ∙ is.is in absurd cc
+
+  the_held : (old : Line On) (held : Held) → IsHeld old → old.held ≡ Some held → held.many ≡ false
+  the_held old held is some = sym (ap (λ (h : Held). h.many) (same_held is.held held (sym is.is ∙ some))) ∙ is.one
+
+  waited : (old new : Line On) → Within old → (waits : LineWaits g old new) → WaitsNoStray waits → Within new
+  waited old new (inl is) (waits_held held gone runs some quiet looks) so = looked held.request held.many (the_held old held is some) old new some is.orderly gone looks
+  waited old new (inr is) (waits_held held gone runs some quiet looks) so = absurd (not_out old held is some)
+  waited old new (inl is) (waits_one runs none one waits) so = absurd (not_held old is none)
+  waited old new (inr is) (waits_one runs none one waits) so =
+      let mid : Line On = waits.between in
+      let out : IsOut mid = skipped old mid is waits.skips so in
+      inr (still_out mid new out
+      (under_heard mid.last (pieces waits.waits.bursts ++ waits.waits.last ∷ []) mid.wire new.wire waits.waits.gave out.under)
+      (ap (λ (l : Line On). l.held) waits.kept) (ap (λ (l : Line On). l.state) waits.kept) (ap (λ (l : Line On). l.last) waits.kept) (ap (λ (l : Line On). l.kind) waits.kept))
+  waited old new (inl is) (waits_all runs none all waits) so = absurd (not_held old is none)
+  waited old new (inr is) (waits_all runs none all waits) so = absurd (is.kind all)
+  waited old new (inl is) (waits_nothing runs none nobody waits) so = absurd (not_held old is none)
+  waited old new (inr is) (waits_nothing runs none nobody waits) so =
+      inr (still_out old new is
+      (under_heard old.last (pieces waits.gathers.bursts ++ waits.gathers.end) old.wire new.wire waits.gathers.gave is.under)
+      (ap (λ (l : Line On). l.held) waits.kept) (ap (λ (l : Line On). l.state) waits.kept) (ap (λ (l : Line On). l.last) waits.kept) (ap (λ (l : Line On). l.kind) waits.kept))
+
+  waits_run : (old new : Line On) → (waits : LineWaits g old new) → old.lost ≡ false
+  waits_run old new (waits_held held gone runs some quiet looks) = runs
+  waits_run old new (waits_one runs none one waits) = runs
+  waits_run old new (waits_all runs none all waits) = runs
+  waits_run old new (waits_nothing runs none nobody waits) = runs
+
+  -- the line is orderly again, and what it gave answers the request
+  record Ended (answer : List ℕ) (new : Line On) : Type 0 where
+    orderly : new.lost ≡ false → Orderly new
+    to_it : IsToIt reply answer
+
+  silent_ended : (answer : List ℕ) (new : Line On) → answer ≡ [] → (new.lost ≡ false → Orderly new) → Ended answer new
+  silent_ended answer new none orderly = record { orderly = orderly; to_it = inl (ap frame_of none ∙ no_frame_of_nothing) }
+
+  gave : (old new : Line On) (answer : List ℕ) → Within old → (gives : Gives g old answer new) → GivesNoStray gives → Ended answer new
+  gave old new answer (inl is) (gives_up held line some none looks same) so =
+      silent_ended answer new none (λ runs. subst Orderly (sym same) (given_up (loud held.request held.many (the_held old held is some) old line some is.orderly looks)))
+    where
+      given_up : Orderly line → Orderly (record line { held = None })
+      given_up orderly = record { standing = orderly.standing; framed = orderly.framed }
+  gave old new answer (inr is) (gives_up held line some none looks same) so = absurd (not_out old held is some)
+  gave old new answer (inl is) (gives_one none one gives) so = absurd (not_held old is none)
+  gave old new answer (inr is) (gives_one none one (two_copies silent gives)) so = silent_ended answer new silent (λ runs. given_up_orderly old new is gives)
+  gave old new answer (inr is) (gives_one none one (one_answer gives)) so = record {
+    orderly = λ runs. one_orderly old answer new is gives so.0 so.1;
+    to_it = one_to_it old answer new is gives so.0 so.1 so.1;
+  }
+  gave old new answer (inl is) (gives_all none all gives) so = absurd (not_held old is none)
+  gave old new answer (inr is) (gives_all none all gives) so = absurd (is.kind all)
+  gave old new answer (inl is) (gives_nothing none nobody silent gives) so = absurd (not_held old is none)
+  gave old new answer (inr is) (gives_nothing none nobody silent gives) so = silent_ended answer new silent (λ runs. reset_orderly old new is gives)
+
+  -- ---- from the request to the answer
+
+  over : (old new : Line On) (answer : List ℕ) → Within old → (given : GivesOver g old answer new) → NoStray given → Ended answer new
+  over old new answer within (gives_now gives) so = go new.lost refl
+    where
+      go : (lost : Bool) → new.lost ≡ lost → Ended answer new
+      go true lost = silent_ended answer new (gives.silence lost) (λ runs. absurd (false≢true (sym runs ∙ lost)))
+      go false runs = gave old new answer within (gives.given runs) (so runs)
+  over old new answer within (gives_then {between = between} waits more) so = over between new answer (waited old between within waits so.0) more so.1
+
+  lost_over : (old new : Line On) (answer : List ℕ) → old.lost ≡ true → GivesOver g old answer new → Ended answer new
+  lost_over old new answer lost (gives_now gives) =
+      let still : new.lost ≡ true = ap (λ (l : Line On). l.lost) (gives.loss.untouched lost) ∙ lost in
+      silent_ended answer new (gives.silence still) (λ runs. absurd (false≢true (sym runs ∙ still)))
+  lost_over old new answer lost (gives_then {between = between} waits more) = absurd (false≢true (sym (waits_run old between waits) ∙ lost))
+
+  reopened_orderly : (again : Bool) (link : On) (old : Line On) → g.reopens old.wire again link → Orderly old → Orderly (reopened again link old)
+  reopened_orderly true link old opened is = record { standing = busy_stands old.last link.way; framed = is.framed }
+  reopened_orderly false link old opened is = record {
+    standing = subst (λ (way : Way). Standing old.state old.last way) (sym opened.1) is.standing;
+    framed = is.framed;
+  }
+
+  sent : (old out : Line On) (request : List ℕ) → (old.lost ≡ false → Orderly old) → LineSends g false old request out → out.lost ≡ false → Within out
+  sent old out request orderly sends runs = go old.lost refl
+    where
+      held : (line : Line On) → Orderly line → Orderly (hold request false line)
+      held line is = record { standing = is.standing; framed = is.framed }
+
+      go : (lost : Bool) → old.lost ≡ lost → Within out
+      go true lost = absurd (false≢true (sym runs ∙ ap (λ (l : Line On). l.lost) (sends.loss.untouched lost) ∙ lost))
+      go false was =
+          let s = sends.sent runs in
+          let line : Line On = reopened s.0 s.1 old in
+          looked request false refl (hold request false line) out refl (held line (reopened_orderly s.0 s.1 old s.2 (orderly was))) s.3 s.4
+
+  ended : (old out new : Line On) (request answer : List ℕ) → (old.lost ≡ false → Orderly old) → LineSends g false old request out → (given : GivesOver g out answer new) → NoStray given → Ended answer new
+  ended old out new request answer orderly sends given so = go out.lost refl
+    where
+      go : (lost : Bool) → out.lost ≡ lost → Ended answer new
+      go true lost = lost_over out new answer lost given
+      go false runs = over out new answer (sent old out request orderly sends runs) given so
+
+-- ---- a run
+
+module _ {W : Type 0} (wire : WireGhosts W) where
+  new_orderly : (line : Line (OnWay W)) → IsNew line → Orderly wire None line
+  new_orderly line is = record {
+    standing = state_stands line.state line.last line.wire.way is.busy;
+    framed = λ answer e. absurd (let bad : None ≡ Some answer = sym is.last ∙ e in cc);
+  }
+
+  -- what an orderly line is doesn't depend on the answer that is due
+  any_reply : (reply other : Option (List ℕ)) (line : Line (OnWay W)) → Orderly wire reply line → Orderly wire other line
+  any_reply reply other line is = record { standing = is.standing; framed = is.framed }
+
+  runs_orderly : (line : Line (OnWay W)) → Runs wire line → line.lost ≡ false → Orderly wire None line
+  runs_orderly line (connects is) runs = new_orderly line is
+  runs_orderly new (asks {old = old} {request = request} {answer = answer} {reply = reply} before a) runs =
+      any_reply reply None new ((ended wire reply old a.out new request answer (λ was. any_reply None reply old (runs_orderly old before was)) a.sent a.given a.no_stray).orderly runs)
+
+  pub answers_it : (old new : Line (OnWay W)) (request answer : List ℕ) (reply : Option (List ℕ)) → Runs wire old → Asks wire request reply old answer new → IsToIt reply answer
+  answers_it old new request answer reply before a =
+      (ended wire reply old a.out new request answer (λ was. any_reply None reply old (runs_orderly old before was)) a.sent a.given a.no_stray).to_it

@@ -1,0 +1,58 @@
+-- the definitions that contracts cite
+
+-- the rounds of a readout, and what the line loses in them
+pub mod Rounds
+-- which answers end an exchange
+pub mod Answering
+-- what a readout needs
+pub mod Needs
+-- what a readout comes to
+pub mod Progress
+-- a readout beside those of other lines
+pub mod Beside
+-- of the module `script`
+
+-- a poll over a line that loses little, and what it comes to
+pub mod Polled
+-- of the module `poll`
+
+-- a readout within the talk on a bus, and what it comes to
+pub mod Talked
+-- the talk that a line carries, and a concentrator that refuses nothing
+pub mod Carried
+-- every meter is read
+pub mod Every
+-- what the row ROOM of `status` says of a poll
+pub mod RoomRow
+-- a whole poll that meets all premises
+pub mod Met
+-- of the module `in_time`
+
+-- the definitions that contracts cite
+
+-- what is under way on a wire
+pub mod Way
+-- one request on a line, and its answer
+pub mod Asked
+-- readouts over such a line
+pub mod Lives
+-- meters whose telegrams have other values at each repeat
+pub mod Fresh
+-- the premises can be met at once
+pub mod InTimeMet
+-- of the module `searching`
+
+-- the definitions that contracts cite
+
+-- a search whose windows these meters answer
+pub mod Answered
+-- of the module `counter`
+
+-- the definitions that contracts cite
+
+-- how numbers are spelled and added
+pub mod Counting
+-- what a store's proofs need of them
+pub mod Laws
+-- what an image of a counter reads as
+pub mod Images

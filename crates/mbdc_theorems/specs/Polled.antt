@@ -1,0 +1,117 @@
+-- A `POLL` ends in one whole reading (this product): the meters of the line follow the standard,
+-- the bus isn't lost, nothing is lost three times in a row, the disk doesn't fail, and memory is
+-- available.
+use Rattle.std.specs.Prelude.{◌≡◌, ◌≢◌, ℕ, ◌+◌, ◌*◌, ◌≤◌, ◌<◌, Some, Err, List, [], ◌∷◌}
+use Rattle.dc_linkframe.specs.Frame.{FrameSeen}
+use Rattle.dc_linkframe.specs.Reading.{frame_of}
+use Rattle.dc_readout.specs.declared.world.event.Outcome.{Outcome}
+use Rattle.dc_readout.specs.Meter.{Meter, Position}
+use Rattle.dc_readout.specs.World.{positions_after, heard_in}
+use Rattle.mbdc_bus.specs.Bus.{Exchange}
+use Rattle.mbdc_change.specs.State.{MeterRow}
+use Rattle.dc_core.specs.declared.fault.HearFault.TheVariants.{NoMemory}
+use Rattle.dc_core.specs.Core.{Core}
+use Rattle.dc_core.specs.Event.{Event, Answer, asks, hears, commits, heard, committed}
+use Rattle.dc_core.specs.Transcript.{Turn, leads, IsChain}
+use Rattle.mbdc_theorems.specs.Needs.{MayBeRead}
+use Rattle.mbdc_theorems.specs.Progress.{IsRead, requests_of}
+use Rattle.mbdc_theorems.specs.Rounds.{Scene, row_after}
+use Rattle.dc_poller.specs.declared.port.Port.{Port}
+use Rattle.dc_poller.specs.Link.{Link, linked}
+use Rattle.dc_poller.specs.Poll.{Happening, does, talks, loses, Polls}
+
+-- ---- what the line and the machine do
+
+-- the meters' positions, and the number of exchanges in a row that lost something
+pub record Bus : Type 0 where
+  pub positions : List Position
+  pub row : ℕ
+
+-- before the first exchange
+abbrev pub bus_at_first : List Position → Bus
+bus_at_first positions = record { positions = positions; row = 0 }
+
+-- The concentrator isn't out of memory, and no commit fails.
+abbrev pub Works : Event → Answer → Type 0
+Works (hears line moment bytes) (heard answer) = answer ≢ Err NoMemory
+Works commits (committed (Err fault)) = ⊥
+Works event answer = Unit {0}
+
+module _ (meters : List Meter) where
+  abbrev pub bus_after : Outcome → FrameSeen → Bus → Bus
+  bus_after outcome frame bus = record {
+    positions = positions_after outcome frame meters bus.positions;
+    row = row_after bus.row outcome;
+  }
+
+  -- The request reaches the meters of the line, and this is what comes back. It isn't the third
+  -- loss in a row, and so it goes on.
+  pub record GivesTo (bus : Bus) (exchange : Exchange) (goes_on : Bus → Type 0) : Type 0 where
+    pub outcome : Outcome
+    pub frame : FrameSeen
+    pub is_frame : frame_of exchange.request ≡ Some frame
+    pub answer_is : exchange.answer ≡ heard_in outcome frame meters bus.positions
+    pub few : row_after bus.row outcome < 3
+    pub then_on : goes_on (bus_after outcome frame bus)
+
+  -- ALL THAT HAPPENS IS SERVED by the line and by the machine. The bus isn't lost.
+  abbrev pub IsServed : Bus → List Happening → Type 0
+  IsServed bus [] = Unit {0}
+  IsServed bus (does turn ∷ more) = Works turn.0 turn.1 × IsServed bus more
+  IsServed bus (talks exchange ∷ more) =
+      GivesTo bus exchange (λ (now : Bus). IsServed now more)
+  IsServed bus (loses ∷ more) = ⊥
+
+-- ---- what a poll comes to
+
+-- number of requests asked for
+abbrev pub asks_by : Event → ℕ
+asks_by (asks line) = 1
+asks_by event = 0
+
+abbrev pub count_of : Happening → ℕ
+count_of (does turn) = asks_by turn.0
+count_of (talks exchange) = 0
+count_of loses = 0
+
+abbrev pub rounds_in : List Happening → ℕ
+rounds_in [] = 0
+rounds_in (happening ∷ more) = count_of happening + rounds_in more
+
+-- The meter is read, after no more requests than three for each that its readout has. The last
+-- look, at which nothing is asked any more, counts as one.
+pub record EndsRead (line : ℕ) (meter : Meter) (row : MeterRow) (parts : List (List ℕ))
+    (happened : List Happening) (before now : Core) : Type 0 where
+  pub within : rounds_in happened ≤ 3 * requests_of meter.address parts + 1
+  pub read : IsRead line meter.identity row parts before now
+
+-- A POLL ENDS IN A READING, where nothing is pending when it begins.
+abbrev pub PollsEnd : Type 0
+PollsEnd = (port : Port) (budget moment place : ℕ) (meters : List Meter) (scene : Scene)
+    (meter : Meter) (row : MeterRow) (parts : List (List ℕ)) (left : Link) (turns : List Turn)
+    (exchanges : List Exchange) (text : List ℕ)
+    (polls : Polls port moment meter.identity linked left turns exchanges text)
+    → MayBeRead budget port.line meters scene place meter row parts
+    → scene.core.pending ≡ []
+    → IsChain budget scene.core turns
+    → IsServed meters (bus_at_first scene.positions) polls.happened
+    → EndsRead port.line meter row parts polls.happened scene.core (leads scene.core turns)
+
+-- a poll of this meter, all of which is served
+pub record ServedPoll (port : Port) (budget moment : ℕ) (meters : List Meter) (scene : Scene)
+    (meter : Meter) : Type 0 where
+  pub left : Link
+  pub turns : List Turn
+  pub exchanges : List Exchange
+  pub text : List ℕ
+  pub polls : Polls port moment meter.identity linked left turns exchanges text
+  pub chain : IsChain budget scene.core turns
+  pub served : IsServed meters (bus_at_first scene.positions) polls.happened
+
+-- SUCH A POLL EXISTS, at each moment.
+abbrev pub PollsAreServed : Type 0
+PollsAreServed = (port : Port) (budget moment place : ℕ) (meters : List Meter) (scene : Scene)
+    (meter : Meter) (row : MeterRow) (parts : List (List ℕ))
+    → MayBeRead budget port.line meters scene place meter row parts
+    → scene.core.pending ≡ []
+    → ServedPoll port budget moment meters scene meter

@@ -1,0 +1,46 @@
+//! The theorems about a poll. The functions have no effect; their contracts state the theorems.
+
+ghost use Rattle.mbdc_theorems.specs.Every.{EveryMeterIsRead};
+ghost use Rattle.mbdc_theorems.specs.Met.{IsMet};
+ghost use Rattle.mbdc_theorems.specs.RoomRow.{RoomRowSuffices};
+ghost use Rattle.mbdc_theorems.specs.Talked.{ReadoutsOfAPollEnd};
+
+use mbdc_bus::HalfBus;
+use dc_sectors::Disk;
+use mbdc_poll::{Teller, Timer};
+
+/// Each readout of a poll ends in one whole reading, while the talk on its bus is served.
+///
+/// The meters of its line follow the standard, nothing is lost three times in a row, no answer is
+/// refused, and no commit fails. What the other lines do is free.
+pub fn each_readout_of_a_poll_ends_in_a_reading<B: HalfBus>()
+    ensures { ReadoutsOfAPollEnd B.HalfBus }
+{}
+
+/// Every meter is read by a poll of an image, and that is committed.
+///
+/// The meters of its lines are there and follow the standard, each line carries what is said and
+/// loses nothing three times in a row, the register has room for one reading of each, no telegram is
+/// refused because memory ran out, and no commit fails. Then what is read on each line is its queue,
+/// in order, and each meter of it has one reading more than before, whole and in order, whose serial
+/// the poll reports. No readout fails, and the counts say so.
+pub fn every_meter_is_read<D: Disk + Drop, B: HalfBus + Drop, T: Timer<B>, N: Teller>()
+    ensures { EveryMeterIsRead D.Disk B.HalfBus T.tells T.passes T.warns N.takes }
+{}
+
+/// A register whose row ROOM (`status`) has at least as many readings as meters are to be
+/// read has room for a poll of them.
+///
+/// The reading of each takes at most what those that are held take on average, as that row counts.
+pub fn a_register_has_room_where_the_row_room_suffices<B: HalfBus>()
+    ensures { RoomRowSuffices B.HalfBus }
+{}
+
+/// All premises of [`every_meter_is_read`] can be met at once: a whole poll of a register with one
+/// meter, after which the register and its disk have one reading more.
+///
+/// The disk keeps the disk model. What is written to it is durable at once. The bus, the clock and
+/// the teller may do anything.
+pub fn every_meter_may_be_read()
+    ensures { IsMet }
+{}

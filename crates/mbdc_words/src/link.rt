@@ -1,0 +1,93 @@
+//! The name of a link: how a bus line is reached.
+
+ghost use Rattle.std.specs.Prelude.{◌≡◌, ◌++◌, IfOk, IfErr, MatchOption, MatchResult, codes};
+ghost use Rattle.mbdc_words.specs.Link.{word_of, IsLink, IsMistake, IsPlace, IsPort};
+
+use crate::fault::LinkFault;
+
+/// How a bus line is reached.
+#[derive(Clone, Copy)]
+pub enum LinkName<'a> {
+    /// A transparent gateway at `HOST:PORT`: the bytes of the bus over TCP.
+    Tcp(&'a str),
+    /// A serial level converter at a terminal.
+    Serial(&'a str),
+    /// A gateway at `HOST:PORT` that speaks the block protocol.
+    Blocks(&'a str),
+}
+
+const TCP: &str = "tcp://";
+
+const SERIAL: &str = "serial:";
+
+const BLOCKS: &str = "blocks://";
+
+impl<'a> LinkName<'a> {
+    /// The link that a word names.
+    ///
+    /// # Errors
+    /// [`LinkFault::Scheme`], [`LinkFault::Port`] and [`LinkFault::Path`].
+    pub fn parse(word: &'a str) -> Result<LinkName<'a>, LinkFault>
+        ensures spelled { IfOk result (λ link. word.now ≡ word_of link) }
+        ensures whole { IfOk result IsLink }
+        ensures refused { IfErr result (λ fault. IsMistake fault word.now) }
+    {
+        if let Some(place) = word.strip_prefix(TCP) {
+            return Ok(LinkName::Tcp(with_port(place)?));
+        }
+        if let Some(place) = word.strip_prefix(BLOCKS) {
+            return Ok(LinkName::Blocks(with_port(place)?));
+        }
+        match word.strip_prefix(SERIAL) {
+            Some("") => Err(LinkFault::Path),
+            Some(path) => Ok(LinkName::Serial(path)),
+            None => Err(LinkFault::Scheme),
+        }
+    }
+
+    /// The link of a gateway, which speaks the block protocol.
+    ///
+    /// # Errors
+    /// [`LinkFault::Port`].
+    pub fn gateway(place: &'a str) -> Result<LinkName<'a>, LinkFault>
+        ensures blocks { IfOk result (λ link. word_of link ≡ codes "blocks://" ++ place.now) }
+        ensures whole { IfOk result (λ _. IsPlace place.now) }
+        ensures refused { IfErr result (λ fault. (fault ≡ LinkFault.Port) × ¬ (IsPlace place.now)) }
+    {
+        Ok(LinkName::Blocks(with_port(place)?))
+    }
+}
+
+// The place, where a port from 1 to 65535 follows its last colon.
+fn with_port(place: &str) -> Result<&str, LinkFault>
+    ensures { MatchResult result (λ same. (same.now ≡ place.now) × IsPlace place.now)
+        (λ fault. (fault ≡ LinkFault.Port) × ¬ (IsPlace place.now)) }
+{
+    match port_of(place) {
+        Some(_) => Ok(place),
+        None => Err(LinkFault::Port),
+    }
+}
+
+// The port of a place.
+fn port_of(place: &str) -> Option<u16>
+    ensures { MatchOption result (¬ (IsPlace place.now)) (λ _. IsPlace place.now) }
+{
+    match place.rsplit_once(':') {
+        Some((host, port)) if !host.is_empty() => port_number(port),
+        _ => None,
+    }
+}
+
+// The number that a port is.
+fn port_number(port: &str) -> Option<u16>
+    ensures { MatchOption result (¬ (IsPort port.now)) (λ _. IsPort port.now) }
+{
+    if port.starts_with('+') {
+        return None;
+    }
+    match port.parse::<u16>() {
+        Ok(0) | Err(_) => None,
+        Ok(number) => Some(number),
+    }
+}

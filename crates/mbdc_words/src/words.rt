@@ -1,0 +1,307 @@
+//! What the words ask for, by what `clap` matched.
+
+use crate::fault::{LinkFault, WordsFault};
+use crate::link::LinkName;
+use crate::links::Links;
+use crate::rows::program;
+use crate::silence::silence_of;
+use crate::task::{
+    BusTask, Call, Engine, Errand, Form, Listing, MeterName, OrderTask, PollTask, Reached, RunTask,
+    Scan, StatusForm, Task, Turn,
+};
+use clap::ArgMatches;
+use dc_address::Primary;
+use mbdc_change::{Flat, parse_number};
+use mbdc_consumption::table::Boundaries;
+use dc_meters::named::{Named, identity_of};
+use std::alloc::Global;
+
+// The greatest primary address.
+const GREATEST: u8 = 250;
+
+// The word for standard input.
+const DASH: &str = "-";
+
+// The word for secondary addressing.
+const SECONDARY: &str = "S";
+
+/// What the words ask for. The first word is the program's name.
+///
+/// # Errors
+/// [`WordsFault`]: they name no task. Help and the version are such, too.
+pub fn call_of<'a>(alloc: Global, words: &'a [String]) -> Result<Call<'a>, WordsFault> {
+    let matches = program(alloc)?.try_get_matches_from(words)?;
+    Ok(Call {
+        task: task_of(alloc, &matches)?,
+        is_verbose: matches.get_flag("VERBOSE"),
+    })
+}
+
+fn task_of<'a>(alloc: Global, matches: &ArgMatches<'a>) -> Result<Task<'a>, WordsFault> {
+    let Some((name, inner)) = matches.subcommand() else {
+        return Ok(Task::Lines {
+            engine: Engine::Decode(Form::Text),
+            file: None,
+        });
+    };
+    match name {
+        "decode" => Ok(Task::Lines {
+            engine: decoder_of(inner),
+            file: input_of(inner),
+        }),
+        "fold" => Ok(Task::Lines {
+            engine: Engine::Fold,
+            file: input_of(inner),
+        }),
+        "audit" => Ok(Task::Lines {
+            engine: if inner.get_flag("FILL") {
+                Engine::Fill
+            } else {
+                Engine::Audit
+            },
+            file: input_of(inner),
+        }),
+        "consumption" => Ok(Task::Consumption {
+            file: file_of(inner, "FILE")?,
+            boundaries: boundaries_of(alloc, inner.get_str("BOUNDARIES").unwrap_or_default())?,
+        }),
+        "demo" => Ok(Task::Demo),
+        "scan" | "read" | "address" => bus_task(name, inner),
+        _ => image_task(alloc, name, inner),
+    }
+}
+
+// The file of lines; - and no word are standard input.
+fn input_of<'a>(inner: &ArgMatches<'a>) -> Option<&'a str> {
+    match inner.get_str("FILE") {
+        Some(DASH) => None,
+        file => file,
+    }
+}
+
+// The name of a file that can't be standard input.
+fn file_of<'a>(inner: &ArgMatches<'a>, id: &str) -> Result<&'a str, WordsFault> {
+    match inner.get_str(id) {
+        Some(DASH) => Err(WordsFault::Dash),
+        file => Ok(file.unwrap_or_default()),
+    }
+}
+
+fn decoder_of(inner: &ArgMatches<'_>) -> Engine {
+    let form = match (inner.get_flag("JSON"), inner.get_flag("EXPLAIN")) {
+        (true, _) => Form::Json,
+        (false, true) => Form::Table,
+        (false, false) => Form::Text,
+    };
+    if inner.get_flag("LOOSE") {
+        Engine::Loose(form)
+    } else {
+        Engine::Decode(form)
+    }
+}
+
+// The tasks over one bus. Words that the command doesn't have are absent.
+fn bus_task<'a>(name: &str, inner: &ArgMatches<'a>) -> Result<Task<'a>, WordsFault> {
+    let link = LinkName::parse(inner.get_str("LINK").unwrap_or_default())?;
+    let errand = match name {
+        "scan" if inner.get_flag("PRIMARY") => Errand::Search(Scan::Primary),
+        "scan" => Errand::Search(Scan::Wildcards(inner.get_one("BUDGET").unwrap_or_default())),
+        "address" => Errand::Address(
+            reached_by(inner.get_str("OLD").unwrap_or_default())?,
+            inner.get_one("NEW").unwrap_or_default(),
+        ),
+        _ => {
+            let meter = inner.get_str("METER").unwrap_or_default();
+            Errand::Read(meter_of(meter).ok_or(WordsFault::Meter)?)
+        }
+    };
+    Ok(Task::Bus(BusTask {
+        link,
+        errand,
+        listing: match inner.get_one("CSV") {
+            Some(line) => Listing::Csv(line),
+            None if inner.get_flag("JSON") => Listing::Json,
+            None => Listing::Text,
+        },
+        patience: inner.get_one("PATIENCE").unwrap_or_default(),
+        trace: inner.get_str("TRACE"),
+    }))
+}
+
+// The meter that gets an address.
+fn reached_by(word: &str) -> Result<Reached, WordsFault> {
+    match meter_of(word) {
+        Some(MeterName::Identity(meter)) => Ok(Reached::Selected(meter)),
+        Some(MeterName::Address(address)) => Ok(Reached::At(address)),
+        Some(MeterName::Number(_)) | None => Err(WordsFault::Reached),
+    }
+}
+
+// The tasks over an image.
+fn image_task<'a>(
+    alloc: Global,
+    name: &str,
+    inner: &ArgMatches<'a>,
+) -> Result<Task<'a>, WordsFault> {
+    let image = file_of(inner, "IMAGE")?;
+    match name {
+        "format" => Ok(Task::Format {
+            image,
+            sectors: inner.get_one("SECTORS").unwrap_or_default(),
+        }),
+        "report" => Ok(Task::Report {
+            image,
+            table: inner.get_str("TABLE").unwrap_or_default(),
+            is_json: inner.get_flag("JSON"),
+        }),
+        "inspect" => Ok(Task::Inspect { image }),
+        "values" => Ok(Task::Values {
+            image,
+            is_json: inner.get_flag("JSON"),
+        }),
+        "status" => status_task(image, inner),
+        "fit" => Ok(Task::Fit {
+            image,
+            list: file_of(inner, "LIST")?,
+        }),
+        "swap" | "move" | "out" => order_task(name, image, inner),
+        "copy" => Ok(Task::Copy {
+            image,
+            file: file_of(inner, "FILE")?,
+        }),
+        "rescue" => Ok(Task::Rescue {
+            image,
+            file: file_of(inner, "FILE")?,
+        }),
+        "run" => run_task(image, inner),
+        _ => poll_task(alloc, image, inner),
+    }
+}
+
+// One command on the register.
+fn order_task<'a>(
+    name: &str,
+    image: &'a str,
+    inner: &ArgMatches<'a>,
+) -> Result<Task<'a>, WordsFault> {
+    let meter = inner.get_str("METER").unwrap_or_default();
+    let meter = Named::parse(meter.as_bytes()).ok_or(WordsFault::Meter)?;
+    let flat = match inner.get_str("FLAT") {
+        Some(word) => Some(Flat::new(word.as_bytes()).ok_or(WordsFault::Flat)?),
+        None => None,
+    };
+    let turn = match (name, flat) {
+        ("swap", flat) => swap_of(inner, flat)?,
+        (_, Some(flat)) => Turn::Move(flat),
+        (_, None) => Turn::Out,
+    };
+    Ok(Task::Order(OrderTask { image, meter, turn }))
+}
+
+fn swap_of(inner: &ArgMatches<'_>, flat: Option<Flat>) -> Result<Turn, WordsFault> {
+    let new = inner.get_str("NEWMETER").unwrap_or_default();
+    let new = identity_of(new.as_bytes()).ok_or(WordsFault::Meter)?;
+    let address = match inner.get_str("ADDRESS").unwrap_or(SECONDARY) {
+        SECONDARY => None,
+        word => {
+            let number = word.parse::<u8>().ok().ok_or(WordsFault::Address)?;
+            Some(Primary::new(number).ok_or(WordsFault::Address)?)
+        }
+    };
+    Ok(Turn::Swap { new, address, flat })
+}
+
+fn status_task<'a>(image: &'a str, inner: &ArgMatches<'a>) -> Result<Task<'a>, WordsFault> {
+    let word = inner.get_str("SILENT").unwrap_or_default();
+    let form = if inner.get_flag("JSON") {
+        StatusForm::Json
+    } else if inner.get_flag("PROMETHEUS") {
+        StatusForm::Prometheus
+    } else {
+        StatusForm::Text
+    };
+    Ok(Task::Status {
+        image,
+        silent: silence_of(word.as_bytes()).ok_or(WordsFault::Silence)?,
+        form,
+    })
+}
+
+fn run_task<'a>(image: &'a str, inner: &ArgMatches<'a>) -> Result<Task<'a>, WordsFault> {
+    let mut links = links_of(inner)?;
+    let gateway = inner.get_str("GATEWAY");
+    let is_gateway = links.is_empty() && gateway.is_some();
+    if let Some(place) = gateway {
+        links.add_gateway(place)?;
+    }
+    Ok(Task::Run(RunTask {
+        image,
+        script: file_of(inner, "SCRIPT")?,
+        links,
+        is_gateway,
+        patience: inner.get_one("PATIENCE"),
+    }))
+}
+
+fn poll_task<'a>(
+    alloc: Global,
+    image: &'a str,
+    inner: &ArgMatches<'a>,
+) -> Result<Task<'a>, WordsFault> {
+    let mut only = Vec::new(alloc);
+    for word in inner.get_strs("ONLY").unwrap_or_default() {
+        only.push(Named::parse(word.as_bytes()).ok_or(WordsFault::Meter)?)?;
+    }
+    let links = links_of(inner)?;
+    if links.is_empty() {
+        return Err(WordsFault::NoLink);
+    }
+    Ok(Task::Poll(PollTask {
+        image,
+        links,
+        only,
+        tries: inner.get_one("TRIES").unwrap_or_default(),
+        is_json: inner.get_flag("JSON"),
+        patience: inner.get_one("PATIENCE"),
+        trace: inner.get_str("TRACE"),
+        is_dry: inner.get_flag("DRY"),
+    }))
+}
+
+fn links_of<'a>(inner: &ArgMatches<'a>) -> Result<Links<'a>, LinkFault> {
+    let mut links = Links::none();
+    for word in inner.get_strs("LINE").unwrap_or_default() {
+        links.add(word)?;
+    }
+    Ok(links)
+}
+
+// An identity, the eight digits of a number, or a primary address.
+fn meter_of(word: &str) -> Option<MeterName> {
+    match Named::parse(word.as_bytes()) {
+        Some(Named::Identity(meter)) => Some(MeterName::Identity(meter)),
+        Some(Named::Number(digits)) => Some(MeterName::Number(digits)),
+        None => match word.parse::<u8>() {
+            Ok(address) if address <= GREATEST => Some(MeterName::Address(address)),
+            _ => None,
+        },
+    }
+}
+
+// Two moments or more, each later than the one before it.
+fn boundaries_of(alloc: Global, word: &str) -> Result<Boundaries<Global>, WordsFault> {
+    let mut moments = Vec::new(alloc);
+    let mut last = None;
+    for field in word.split(',') {
+        let moment = parse_number(field.as_bytes()).ok_or(WordsFault::Boundaries)?;
+        if last >= Some(moment) {
+            return Err(WordsFault::Boundaries);
+        }
+        last = Some(moment);
+        moments.push(moment)?;
+    }
+    if moments.len() < 2 {
+        return Err(WordsFault::Boundaries);
+    }
+    Boundaries::new(moments).ok_or(WordsFault::Boundaries)
+}
