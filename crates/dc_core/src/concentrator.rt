@@ -26,12 +26,12 @@ mod office;
 use crate::StartFault;
 use crate::pending::{Lines, Waiting, is_line};
 use dc_address::Identity;
-use dc_sectors::Disk;
 use dc_linkframe::FrameBuf;
-use mbdc_log::OpenFault;
-use dc_recovery::Store;
-use dc_readout::Session;
 use dc_meters::House;
+use dc_readout::Session;
+use dc_recovery::Store;
+use dc_sectors::Disk;
+use mbdc_log::OpenFault;
 use std::alloc::Allocator;
 use std::marker::Model;
 

@@ -9,8 +9,8 @@ ghost use Rattle.dc_core.specs.Text.{committed_text, refused_text};
 
 use crate::{CommitFault, HearFault, LineHeard, StartFault};
 use dc_linkframe::FrameBuf;
-use mbdc_io::{IoFault, Sink, put_fault, put_fault_line, put_hex, put_number_word};
 use dc_readout::Why;
+use mbdc_io::{IoFault, Sink, put_fault, put_fault_line, put_hex, put_number_word};
 
 fn put_refused<W: Sink>(out: &mut W, number: u8, name: &str) -> Result<(), IoFault>
     ensures { Wrote W.Sink result out.old out.new (refused_text number name.now) }

@@ -10,8 +10,8 @@ ghost use Rattle.dc_meters.specs.Due.{is_dating, dating_day, day_for, dated, is_
 ghost use Rattle.dc_meters.specs.Due.{is_due, due_value, due_days};
 
 use crate::{Part, Points};
-use mbdc_io::NoMemory;
 use dc_units::{Date, Point};
+use mbdc_io::NoMemory;
 use std::alloc::Allocator;
 use std::collections::BTreeMap;
 use std::marker::Model;

@@ -18,8 +18,8 @@ mod telegram;
 
 use crate::{Meter, MeterMap, Place, Reading, ReadingList, Serials};
 use dc_address::Identity;
-use mbdc_change::CommandLine;
 use dc_units::Date;
+use mbdc_change::CommandLine;
 use std::alloc::Allocator;
 use std::collections::btree_map::Iter;
 use std::collections::{VecDeque, btree_set, vec_deque};

@@ -33,12 +33,12 @@ mod reading;
 mod reading_list;
 mod serials;
 
-pub use mbdc_change::{
-    Change, ChangeFault, Command, DecodeFault, Numbered, decode_changes, encode_change,
-};
 pub use due::{DueDays, DuePoints, StorageDates};
 pub use filed::Filed;
 pub use house::House;
+pub use mbdc_change::{
+    Change, ChangeFault, Command, DecodeFault, Numbered, decode_changes, encode_change,
+};
 pub use meter::Meter;
 use meter_map::MeterMap;
 pub use part::Part;

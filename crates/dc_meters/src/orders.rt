@@ -7,8 +7,8 @@ ghost use Rattle.dc_meters.specs.Orders.{found, IsUnfiled, is_under_meter, is_un
 
 use crate::Filed;
 use dc_address::Identity;
-use mbdc_io::NoMemory;
 use dc_units::Date;
+use mbdc_io::NoMemory;
 use std::alloc::Allocator;
 use std::collections::BTreeSet;
 

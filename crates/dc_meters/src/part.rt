@@ -7,8 +7,8 @@ ghost use Rattle.mbdc_change.specs.Size.{part_size, parts_size};
 ghost use Rattle.mbdc_change.specs.Valid.{IsPart};
 ghost use Rattle.mbdc_change.specs.Fields.{most_parts};
 
-use mbdc_io::NoMemory;
 use dc_records::Telegram;
+use mbdc_io::NoMemory;
 use std::alloc::Allocator;
 use std::marker::Model;
 

@@ -9,8 +9,8 @@ ghost use Rattle.dc_meters.specs.Points.{points_of};
 use crate::Part;
 use crate::part::parts_size;
 use dc_address::Identity;
-use mbdc_change::Flat;
 use dc_units::Date;
+use mbdc_change::Flat;
 use std::alloc::Allocator;
 use std::marker::Model;
 

@@ -11,13 +11,13 @@ ghost use Rattle.dc_poller.specs.Fold.{order_line};
 ghost use Rattle.mbdc_io.specs.Lines.{lines_of, most_input};
 
 use crate::register::put_register;
+use dc_meters::House;
 use mbdc_change::{Change, LONGEST_CHANGE_LINE};
 use mbdc_ending::ProgramFault;
 use mbdc_io::{
     Bytes, CHUNK, IoFault, MOST, NoMemory, Sink, Source, first_line, put_fault_line,
     put_number_word, read_input, room,
 };
-use dc_meters::House;
 use std::alloc::Allocator;
 
 // Maximum size of the register in bytes: that of a disk of 131 sectors.

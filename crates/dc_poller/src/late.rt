@@ -5,8 +5,8 @@ ghost use Rattle.mbdc_io.specs.Written.{Wrote};
 ghost use Rattle.dc_poller.specs.Search.{late_text};
 
 use crate::port::Port;
-use mbdc_io::{IoFault, Sink};
 use mbdc_decode::tokens::{Piece, put_pieces};
+use mbdc_io::{IoFault, Sink};
 
 /// Writes the number of late answers, if any.
 pub fn put_late<W: Sink>(port: Port, late: u64, out: &mut W) -> Result<(), IoFault>

@@ -11,8 +11,8 @@ ghost use Rattle.dc_poller.specs.ImageRun.{IsOneLife};
 ghost use Rattle.dc_poller.specs.ScriptLine.{LineSeen, IsLineOf};
 ghost use Rattle.dc_poller.specs.Run.{IsRunOf, run_from};
 
-use mbdc_change::a_line_has_one_change;
 use dc_sectors::Disk;
+use mbdc_change::a_line_has_one_change;
 
 /// A line of a script asks for at most one thing.
 #[tactic(auto, using(crate::proofs::Scripts::one_line))]

@@ -37,12 +37,12 @@ mod slot;
 mod told;
 
 pub use decode::decode_lines;
-pub use mbdc_bus::AnswerBuf;
-pub use mbdc_bus::blocks::{Talk, exchange};
-pub use mbdc_ending::ProgramFault;
 pub use fold::fold_lines;
 pub use halt::Halt;
 pub use laws::{a_run_is_one_life, a_script_line_asks_for_one_thing, an_input_has_one_fold};
+pub use mbdc_bus::AnswerBuf;
+pub use mbdc_bus::blocks::{Talk, exchange};
+pub use mbdc_ending::ProgramFault;
 pub use notes::CommandNotes;
 pub use run::{run_script, run_script_over};
 pub use script_line::ScriptLine;

@@ -19,11 +19,11 @@ ghost use Rattle.dc_poller.specs.Run.{AnyRun};
 use crate::port::{Port, put_lost};
 use crate::told::{told_ask, told_commit, told_hear, told_start};
 use dc_address::Identity;
+use dc_core::{Concentrator, HearFault, LineHeard};
+use dc_linkframe::FrameBuf;
+use dc_sectors::Disk;
 use mbdc_bus::{AnswerBuf, Bus};
 use mbdc_change::Moment;
-use dc_core::{Concentrator, HearFault, LineHeard};
-use dc_sectors::Disk;
-use dc_linkframe::FrameBuf;
 use mbdc_io::{IoFault, Sink};
 use std::alloc::Allocator;
 

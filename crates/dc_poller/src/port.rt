@@ -3,8 +3,8 @@
 ghost use Rattle.mbdc_io.specs.Written.{Wrote};
 ghost use Rattle.dc_poller.specs.Link.{link_by, loss_line, loss_text};
 
-use mbdc_io::{IoFault, Sink};
 use mbdc_decode::tokens::{Piece, put_pieces};
+use mbdc_io::{IoFault, Sink};
 
 /// A bus line.
 #[derive(Clone, Copy)]

@@ -5,8 +5,8 @@ ghost use Rattle.dc_core.specs.Event.{asks, commits, asked, committed};
 ghost use Rattle.dc_poller.specs.Run.{AnyRun, OneTurn};
 
 use dc_core::{CommitFault, Concentrator};
-use dc_sectors::Disk;
 use dc_linkframe::FrameBuf;
+use dc_sectors::Disk;
 use std::alloc::Allocator;
 
 /// Commits the pending changes.

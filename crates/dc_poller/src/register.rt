@@ -3,9 +3,9 @@
 ghost use Rattle.mbdc_io.specs.Written.{Wrote};
 ghost use Rattle.dc_poller.specs.Register.{register_text};
 
-use mbdc_io::{IoFault, Sink, put_number_word};
-use dc_upload::write_meters;
 use dc_meters::House;
+use dc_upload::write_meters;
+use mbdc_io::{IoFault, Sink, put_number_word};
 use std::alloc::Allocator;
 
 /// Writes the register: a line for each meter, the number of readings, and the size.

@@ -25,12 +25,12 @@ use crate::script_line::ScriptLine;
 use crate::searching::search_on;
 use crate::slot::Slot;
 use dc_address::Identity;
+use dc_core::{Concentrator, Event, WriteFault};
+use dc_meters::House;
+use dc_sectors::Disk;
 use mbdc_bus::Bus;
 use mbdc_change::{Command, Moment};
-use dc_core::{Concentrator, Event, WriteFault};
-use dc_sectors::Disk;
 use mbdc_io::{IoFault, Sink, first_line, put_number_word};
-use dc_meters::House;
 use std::alloc::Allocator;
 
 /// Executes the lines of an input, up to the first that spells nothing, and returns whether there

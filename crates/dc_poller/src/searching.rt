@@ -14,11 +14,11 @@ use crate::halt::{Halt, written};
 use crate::late::put_late;
 use crate::port::{GATEWAY, Port, put_loss};
 use crate::quiet::{quiet_ask, quiet_commit};
-use mbdc_bus::{Bus, search_over, search_windows};
 use dc_core::{Concentrator, StartFault, put_committed, put_started};
-use dc_sectors::Disk;
-use mbdc_io::{IoFault, NoMemory, Sink};
 use dc_search::{Search, put_search};
+use dc_sectors::Disk;
+use mbdc_bus::{Bus, search_over, search_windows};
+use mbdc_io::{IoFault, NoMemory, Sink};
 use std::alloc::Allocator;
 
 /// Searches for meters over a bus, with at most `budget` selections. The pending changes are

@@ -11,13 +11,13 @@ ghost use Rattle.dc_poller.specs.Poll.{told_text};
 ghost use Rattle.dc_poller.specs.Run.{AnyRun, OneTurn};
 
 use dc_address::Identity;
-use mbdc_change::Moment;
 use dc_core::{
     CommitFault, Concentrator, HearFault, LineHeard, StartFault, put_asked, put_committed,
     put_heard, put_started,
 };
-use dc_sectors::Disk;
 use dc_linkframe::FrameBuf;
+use dc_sectors::Disk;
+use mbdc_change::Moment;
 use mbdc_io::{IoFault, Sink};
 use std::alloc::Allocator;
 

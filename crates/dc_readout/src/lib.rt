@@ -27,4 +27,7 @@ pub use laws::{
 };
 pub use session::Session;
 pub use why::Why;
-pub use world::{Bodies, Body, Outcome, WorldEvent, Held, a_meter_goes_on_from_what_is_committed, what_is_held_is_whole, play, SimulatedMeter, Reply, MeterScript, are_regular};
+pub use world::{
+    Bodies, Body, Held, MeterScript, Outcome, Reply, SimulatedMeter, WorldEvent,
+    a_meter_goes_on_from_what_is_committed, are_regular, play, what_is_held_is_whole,
+};

@@ -8,4 +8,3 @@ pub mod FirstByte
 pub mod Rows
 -- what is read is what is spelled, both ways
 pub mod Spellings
-

@@ -23,11 +23,11 @@ mod records;
 mod telegram;
 
 pub use end::End;
-pub use mbdc_io::{Bytes, IoFault, Sink, Source};
 pub use fault::BodyFault;
 pub use front::{Front, front_of};
 pub use header::Header;
 pub use laws::{first_fault, one_record, one_telegram, read_as_spelled};
+pub use mbdc_io::{Bytes, IoFault, Sink, Source};
 pub use reading::width;
 pub use record::Record;
 pub use records::Records;

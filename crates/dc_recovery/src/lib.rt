@@ -1,8 +1,8 @@
 //! The store of a house: the log whose states are registers.
 #![tactic(auto)]
 
-use mbdc_log::Log;
 use dc_meters::Register;
+use mbdc_log::Log;
 
 /// An open image of a house.
 pub type Store<D> = Log<D, Register>;

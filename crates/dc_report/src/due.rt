@@ -9,10 +9,10 @@ use crate::last::due_readings;
 use crate::line::{finish, new_table, put_line};
 use crate::{Row, Table};
 use csv::Writer;
-use mbdc_io::NoMemory;
-use dc_units::{Date, TEXT_ROOM};
 use dc_meters::{House, Reading, StorageDates};
+use dc_units::{Date, TEXT_ROOM};
 use itoa::Buffer;
+use mbdc_io::NoMemory;
 use std::alloc::Allocator;
 
 /// Writes the due-date table for a date (OMS Volume 2, due-date values): a header, and for each

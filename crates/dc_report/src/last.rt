@@ -9,9 +9,9 @@ ghost use Rattle.dc_report.specs.DueTable.{due_readings};
 ghost use Rattle.dc_report.specs.Last.{last_of};
 
 use dc_address::Identity;
-use mbdc_io::NoMemory;
-use dc_units::Date;
 use dc_meters::{House, Place, Reading};
+use dc_units::Date;
+use mbdc_io::NoMemory;
 use std::alloc::Allocator;
 use std::collections::BTreeMap;
 

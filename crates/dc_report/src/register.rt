@@ -12,9 +12,9 @@ use crate::line::{finish, new_table, put_line};
 use crate::medium::medium;
 use csv::Writer;
 use dc_address::{Identity, Primary};
-use mbdc_io::NoMemory;
 use dc_meters::{House, Meter};
 use itoa::Buffer;
+use mbdc_io::NoMemory;
 use std::alloc::Allocator;
 
 /// Writes the register table: a header, and a line for each registered meter, by flat and then by

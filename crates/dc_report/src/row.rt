@@ -1,8 +1,8 @@
 //! A row of the due-date table.
 
 use dc_address::Identity;
-use mbdc_change::Flat;
 use dc_units::Point;
+use mbdc_change::Flat;
 
 /// A row: a point of a reading's due-date value.
 #[derive(Clone, Copy)]

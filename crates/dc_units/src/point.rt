@@ -7,12 +7,11 @@ ghost use Rattle.dc_units.specs.declared.point.Point.{Point};
 ghost use Rattle.dc_units.specs.Quantity.{takes, is_integer};
 ghost use Rattle.dc_units.specs.Value.{value_in, number_in};
 
-use dc_records::Record;
-use dc_records::width;
 use crate::number::{bcd, integer, unsigned};
 use crate::quantity::is_integer;
 use crate::table::unit_at;
 use crate::{Decimal, Quantity, Value, time};
+use dc_records::{Record, width};
 
 /// What a record says, with the numbers of its storage, function, tariff and subunit.
 #[derive(Clone, Copy)]

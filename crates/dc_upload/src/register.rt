@@ -7,8 +7,8 @@ ghost use Rattle.dc_upload.specs.Register.{meter_line, meter_lines, place_words}
 
 use crate::words::put_word;
 use dc_address::{Identity, Primary};
-use mbdc_io::{IoFault, Sink, put_number_word};
 use dc_meters::{House, Meter};
+use mbdc_io::{IoFault, Sink, put_number_word};
 use std::alloc::Allocator;
 
 /// Writes a line for each meter, by identity: `METER ident line addr flat open`; `open` is the

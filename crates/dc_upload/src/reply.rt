@@ -9,11 +9,11 @@ ghost use Rattle.dc_upload.specs.Line.{IsOfficeLine};
 ghost use Rattle.dc_upload.specs.Verdict.{IfDo, verdict_of};
 
 use crate::register::write_meters;
-use dc_report::{Date, counted_due_table};
 use crate::window::write_window;
 use crate::{Code, OfficeLine, ReplyFault, Verdict, judge};
-use mbdc_io::{IoFault, Sink, put_number_word};
 use dc_meters::House;
+use dc_report::{Date, counted_due_table};
+use mbdc_io::{IoFault, Sink, put_number_word};
 use std::alloc::Allocator;
 
 /// Writes the reply to a line by the verdict on it ([`judge`](crate::judge)). The line is no new

@@ -10,8 +10,8 @@ ghost use Rattle.dc_upload.specs.Reply.{done_line, reply_text};
 ghost use Rattle.dc_upload.specs.Verdict.{IfDo, is_repeat, verdict_of};
 
 use crate::{Code, OfficeLine};
-use mbdc_change::{Change, Numbered};
 use dc_meters::House;
+use mbdc_change::{Change, Numbered};
 use std::alloc::Allocator;
 
 /// The verdict on a line.

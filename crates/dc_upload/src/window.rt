@@ -9,8 +9,8 @@ ghost use Rattle.dc_upload.specs.Window.{reading_lines};
 
 use crate::reply::write_end;
 use crate::words::put_word;
-use mbdc_io::{IoFault, Sink, put_hex, put_number_word};
 use dc_meters::{House, Part, Reading};
+use mbdc_io::{IoFault, Sink, put_hex, put_number_word};
 use std::alloc::Allocator;
 use std::collections::vec_deque::Iter;
 

@@ -2,11 +2,11 @@
 
 use crate::connecting::{connected, released};
 use crate::tracing::{shows_progress, trace_file_of, tracer_of};
-use mbdc_installer::bench::{Progress, Show, Target, Work, run_over};
 use mbdc_bus::Both;
 use mbdc_bus::trace::{Observed, Observer, Pair, TraceFile};
 use mbdc_ending::Ending;
 use mbdc_files::{Host, Noted};
+use mbdc_installer::bench::{Progress, Show, Target, Work, run_over};
 use mbdc_raw::links::{Peer, Waiter};
 use mbdc_words::{BusTask, Errand, Listing, Reached};
 use std::fs::File;

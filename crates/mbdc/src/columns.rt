@@ -1,8 +1,8 @@
 //! The columns of a list of `fit`, in any order: its rows as `meter,line,address,flat`, which the engine takes.
 
-use mbdc_io::first_line;
 use dc_meters::House;
 use dc_meters::named::{Named, resolve};
+use mbdc_io::first_line;
 use std::alloc::{AllocError, Global};
 use std::str;
 

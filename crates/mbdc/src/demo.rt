@@ -2,15 +2,15 @@
 
 use crate::tasks::{ROOM, flushed};
 use dc_address::{Identity, Primary};
-use dc_sectors::MemoryDisk;
-use mbdc_ending::{Ending, ProgramFault, STREAM, ending_of};
-use mbdc_files::{Host, Noted};
-use mbdc_io::{Buffered, Bytes, NoMemory, ReadSource, WriteSink};
-use dc_recovery::Store;
 use dc_meters::House;
 use dc_poller::run_script;
 use dc_readout::{Bodies, Body, MeterScript, SimulatedMeter};
+use dc_recovery::Store;
+use dc_sectors::MemoryDisk;
 use mbdc_bus::world::{Looped, SimulatedBus};
+use mbdc_ending::{Ending, ProgramFault, STREAM, ending_of};
+use mbdc_files::{Host, Noted};
+use mbdc_io::{Buffered, Bytes, NoMemory, ReadSource, WriteSink};
 use std::alloc::Global;
 use std::io;
 use std::net::{Net, TcpListener, TcpStream};

@@ -3,13 +3,13 @@
 use crate::inspect::scan_file;
 use crate::names::{ONLY, meters_in};
 use crate::tasks::{ROOM, flushed};
+use dc_meters::House;
 use mbdc_ending::{Ending, ProgramFault, STREAM, ending_of};
 use mbdc_files::{Host, LookedAt, Noted, ROUNDS};
-use mbdc_looks::register_of;
 use mbdc_io::{Buffered, WriteSink};
 use mbdc_log::OpenFault;
+use mbdc_looks::register_of;
 use mbdc_poll::dry::{Dry, LINES, put_dry};
-use dc_meters::House;
 use mbdc_words::PollTask;
 use std::alloc::Global;
 use std::fs::File;

@@ -2,14 +2,14 @@
 
 use crate::columns::in_order;
 use crate::journal::Noting;
-use mbdc_commands::fit_over;
 use dc_sectors::FileDisk;
+use mbdc_commands::fit_over;
 use mbdc_ending::{Ending, ProgramFault};
 use mbdc_files::{Host, Noted, open_disk};
 use mbdc_fit::list::Wish;
-use mbdc_looks::register_of;
 use mbdc_io::{CHUNK, MOST, ReadSource, Source, read_input, room};
 use mbdc_log::Greatest;
+use mbdc_looks::register_of;
 use std::alloc::Global;
 use std::fs::{File, OpenFile};
 use std::os::unix::fs::FileExt;

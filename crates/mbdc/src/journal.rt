@@ -2,13 +2,13 @@
 
 use crate::clock::moment;
 use dc_address::Identity;
+use dc_meters::House;
+use dc_poller::CommandNotes;
 use mbdc_change::Numbered;
 use mbdc_files::{Host, Journal};
 use mbdc_io::Bytes;
 use mbdc_poll::Event;
 use mbdc_poll::events::{Notes, put_command_note, put_note, put_object};
-use dc_meters::House;
-use dc_poller::CommandNotes;
 use std::alloc::Global;
 use std::fs::File;
 use std::rt::{Clock, Files};

@@ -21,10 +21,10 @@ mod script;
 mod tasks;
 mod tracing;
 
+use ending::{is_cut_off, told, told_disk, told_why, told_words};
 use mbdc_ending::Ending;
 use mbdc_files::{Host, NOWHERE, Why, hold};
 use mbdc_words::{Call, call_of};
-use ending::{is_cut_off, told, told_disk, told_why, told_words};
 use std::io::{ErrorKind, IsTerminal};
 use std::process::ExitCode;
 use std::rt::Env;

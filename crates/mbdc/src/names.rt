@@ -1,14 +1,14 @@
 //! The meters that words name, in the register of an image.
 
 use dc_address::Identity;
+use dc_meters::House;
+use dc_meters::named::{NameFault, Named, having, resolve_all};
 use dc_sectors::Disk;
 use mbdc_ending::{Ending, ending_of};
 use mbdc_files::Host;
-use mbdc_looks::register_of;
 use mbdc_io::{Bytes, IoFault, Sink, put_number};
 use mbdc_log::Greatest;
-use dc_meters::House;
-use dc_meters::named::{NameFault, Named, having, resolve_all};
+use mbdc_looks::register_of;
 use std::alloc::Global;
 use std::str;
 

@@ -3,14 +3,14 @@
 use crate::fit::wished;
 use crate::names::{leaked, meters_in};
 use dc_address::Identity;
+use dc_meters::House;
 use mbdc_change::Flat;
 use mbdc_ending::{Ending, ending_of};
 use mbdc_files::{Host, open_disk};
 use mbdc_fit::list::{Order, Wish};
-use mbdc_looks::register_of;
 use mbdc_io::{Bytes, IoFault, Sink, put_number};
 use mbdc_log::Greatest;
-use dc_meters::House;
+use mbdc_looks::register_of;
 use mbdc_words::{OrderTask, Turn};
 use std::alloc::Global;
 use std::fs::File;

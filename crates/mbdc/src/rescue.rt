@@ -1,14 +1,14 @@
 //! The command `rescue`: what is left of an image, in a new one.
 
-use mbdc_commands::{put_rescued, rescue_over};
+use dc_meters::House;
 use dc_sectors::{Disk, FileDisk};
+use mbdc_commands::{put_rescued, rescue_over};
 use mbdc_ending::{Ending, ProgramFault, STREAM, ending_of};
 use mbdc_files::{Host, Noted, begin_image, copy_disk, end_image};
-use mbdc_looks::{Asked, answer, scan};
 use mbdc_io::{Sink, WriteSink};
 use mbdc_json::journal::Journal;
 use mbdc_log::Rescued;
-use dc_meters::House;
+use mbdc_looks::{Asked, answer, scan};
 use std::alloc::Global;
 use std::fs::File;
 use std::io;

@@ -2,13 +2,13 @@
 
 use crate::connecting::{connected, released};
 use crate::journal::Noting;
+use dc_poller::Slot;
+use dc_sectors::FileDisk;
 use mbdc_bus::Both;
 use mbdc_commands::run_over;
-use dc_sectors::FileDisk;
 use mbdc_ending::Ending;
 use mbdc_files::{Host, Noted, open_disk};
 use mbdc_raw::links::{Peer, SystemBus, Waiter};
-use dc_poller::Slot;
 use mbdc_words::RunTask;
 use std::fs::{File, OpenFile};
 use std::io::Read;

@@ -16,9 +16,9 @@ use crate::moment::ended_day;
 use crate::smallest::of_decimal;
 use crate::uses::{Counted, size_of};
 use dc_address::Identity;
-use mbdc_reading::{Datum, Found, Reading, Sent, SentRecords, reading_of};
-use dc_units::{Decimal, Seen, Value, point_of, unit_at};
 use dc_records::{Record, Telegram};
+use dc_units::{Decimal, Seen, Value, point_of, unit_at};
+use mbdc_reading::{Datum, Found, Reading, Sent, SentRecords, reading_of};
 use std::alloc::Allocator;
 
 /// Why telegrams give no value.

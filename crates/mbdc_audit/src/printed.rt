@@ -13,8 +13,8 @@ use crate::field::{Fields, is_word};
 use crate::grade::Grade;
 use crate::number::Signed;
 use crate::smallest::decimal_in;
-use mbdc_io::{IoFault, Sink};
 use dc_units::{Decimal, TEXT_ROOM, Value};
+use mbdc_io::{IoFault, Sink};
 
 /// Most decimals of a published number.
 const MOST_DECIMALS: usize = 3;

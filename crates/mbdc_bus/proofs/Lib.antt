@@ -22,7 +22,6 @@ pub mod Taking
 pub mod Reading
 -- where no answer begins
 pub mod Missing
-
 -- of the module `trace`
 -- of the module `world`
 

@@ -9,8 +9,8 @@ ghost use Rattle.dc_search.specs.State.{SearchState, is_idle, step_of};
 
 use crate::answer_buf::AnswerBuf;
 use dc_linkframe::FrameBuf;
-use mbdc_io::NoMemory;
 use dc_search::Search;
+use mbdc_io::NoMemory;
 use std::alloc::Allocator;
 
 /// Meters that take request frames and answer them.

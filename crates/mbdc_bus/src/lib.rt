@@ -9,7 +9,6 @@
 //! Nothing here waits, and an answer uses no heap memory.
 #![tactic(auto)]
 
-pub mod world;
 mod answer_buf;
 pub mod blocks;
 mod both;
@@ -17,6 +16,7 @@ mod bus;
 mod half;
 pub mod trace;
 mod windows;
+pub mod world;
 
 pub use answer_buf::{AnswerBuf, MOST_ANSWER};
 pub use both::{Both, Pause};

@@ -17,8 +17,8 @@ use crate::answer_buf::AnswerBuf;
 use crate::bus::Bus;
 use dc_address::Identity;
 use dc_linkframe::{Frame, FrameBuf, parse};
-use mbdc_io::NoMemory;
 use dc_search::{Search, Step, meter_of};
+use mbdc_io::NoMemory;
 use std::alloc::Allocator;
 
 /// Maximum number of windows of one request.

@@ -3,11 +3,11 @@
 use crate::fault::CaseFault;
 use crate::printing::{put_house, put_line};
 use crate::words::{bytes, small, split};
-use mbdc_change::Change;
-use mbdc_looks::Report;
-use mbdc_io::{Bytes, Sink, first_line, put_fault};
-use dc_report::{due_table, register_table};
 use dc_meters::House;
+use dc_report::{due_table, register_table};
+use mbdc_change::Change;
+use mbdc_io::{Bytes, Sink, first_line, put_fault};
+use mbdc_looks::Report;
 use std::alloc::Global;
 
 // Budget of the smallest image.

@@ -1,9 +1,9 @@
 //! What commands print: hex digits, a word with its number, a register's numbers, how a program ends.
 
 use crate::fault::CaseFault;
+use dc_meters::House;
 use mbdc_ending::Ending;
 use mbdc_io::{Sink, put_hex, put_number, put_number_word};
-use dc_meters::House;
 use std::alloc::Global;
 
 /// Puts a line of hex digits.

@@ -6,15 +6,15 @@ use crate::houses::decode_state;
 use crate::printing::put_line;
 use crate::words::{Word, bytes, small, split};
 use dc_address::Identity;
-use mbdc_change::{Change, Command, encode_change};
-use mbdc_decode::decode_lines;
 use dc_linkframe::control::{write_request, write_reset, write_selection};
 use dc_linkframe::{Frame, FrameBuf, Need, need, parse, write_long};
+use dc_records::Record;
+use dc_units::{Date, Seen, point_of};
+use mbdc_change::{Change, Command, encode_change};
+use mbdc_decode::decode_lines;
 use mbdc_io::{
     Bytes, FixedSink, Sink, put_byte_word, put_fault, put_hex, put_hex_word, put_number_word,
 };
-use dc_records::Record;
-use dc_units::{Date, Seen, point_of};
 use std::alloc::Global;
 use std::str;
 

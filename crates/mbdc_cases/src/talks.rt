@@ -3,9 +3,9 @@
 use crate::ends::{Input, Limits, NONE, Output};
 use crate::fault::CaseFault;
 use crate::words::bytes;
-use mbdc_bus::blocks::{Talk, exchange};
 use dc_linkframe::FrameBuf;
 use dc_linkframe::control::write_reset;
+use mbdc_bus::blocks::{Talk, exchange};
 use mbdc_io::{Bytes, Sink, put_hex_word, put_number_word};
 use std::alloc::Global;
 use std::str;

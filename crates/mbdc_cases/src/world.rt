@@ -10,18 +10,18 @@ use crate::words::{Word, bytes, number, small, split, word_of};
 use crate::{rows, sectors};
 use dc_address::Identity;
 use dc_core::Concentrator;
-use mbdc_decode::decode_lines;
+use dc_meters::House;
+use dc_poller::{Halt, fold_lines, run_script, search};
+use dc_recovery::Store;
 use dc_sectors::MemoryDisk;
-use mbdc_ending::{Ending, ProgramFault, ending_of};
+use mbdc_bus::world::ListedBus;
+use mbdc_decode::decode_lines;
 use mbdc_decode::json::json_lines;
-use mbdc_looks::{Asked, Form, Outlook, Report, answer, scan};
+use mbdc_ending::{Ending, ProgramFault, ending_of};
 use mbdc_io::{Bytes, Sink, TextFault, first_line};
 use mbdc_json::explain_lines;
 use mbdc_json::journal::Journal;
-use dc_recovery::Store;
-use dc_meters::House;
-use dc_poller::{Halt, fold_lines, run_script, search};
-use mbdc_bus::world::ListedBus;
+use mbdc_looks::{Asked, Form, Outlook, Report, answer, scan};
 use std::alloc::Global;
 
 // Name of the input where it can't be read.

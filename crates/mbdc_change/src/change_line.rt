@@ -12,8 +12,8 @@ ghost use Rattle.mbdc_change.specs.declared.change.Change.{Change};
 
 use crate::words::{parse_number, split_word};
 use crate::{Body, Change, Command, LONGEST_CHANGE_LINE, Moment};
-use mbdc_io::decode_hex;
 use dc_records::one_telegram;
+use mbdc_io::decode_hex;
 
 impl<'a> Change<'a> {
     /// Parses the change that a line spells; `None` if it spells none, or is longer than

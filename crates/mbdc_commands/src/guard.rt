@@ -3,10 +3,10 @@
 ghost use Rattle.std.specs.Prelude.{IfErr, OnOk};
 ghost use Rattle.mbdc_commands.specs.Guard.{IsKeptShut, IsReady};
 
+use dc_meters::House;
 use dc_sectors::Disk;
 use mbdc_ending::Ending;
 use mbdc_log::{OpenFault, settled_ahead};
-use dc_meters::House;
 use std::alloc::Global;
 
 /// Makes what the image reads as durable, and looks at it: what each command that writes an image begins with. Nothing

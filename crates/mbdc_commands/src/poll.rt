@@ -15,9 +15,9 @@ use crate::known::Known;
 use crate::known_sink::{KnownSink, is_written_out};
 use crate::timer::HostTimer;
 use crate::waiting::Waits;
+use dc_sectors::Disk;
 use mbdc_bus::HalfBus;
 use mbdc_change::Moment;
-use dc_sectors::Disk;
 use mbdc_ending::{Ending, ProgramFault};
 use mbdc_poll::events::{
     JsonTeller, Notes, Progress, Shown, TextTeller, Unfailing, events_are_printed_as_json,

@@ -5,11 +5,11 @@ ghost use Rattle.mbdc_io.specs.Written.{Wrote};
 ghost use Rattle.mbdc_commands.specs.Rescue.{Renews, older_line, rescued_text, sector_line, source_line};
 
 use crate::fit::commit_fault;
+use dc_meters::House;
 use dc_sectors::Disk;
 use mbdc_ending::Ending;
 use mbdc_io::{IoFault, Sink, put_number_word};
 use mbdc_log::{FormatFault, OpenFault, RenewFault, Rescued, Source, renew, rescue};
-use dc_meters::House;
 use std::alloc::Global;
 
 /// Rescues what is left of an image, and writes it to a new disk of as many sectors. The sectors that are left out are

@@ -4,8 +4,8 @@ ghost use Rattle.mbdc_commands.specs.Waiting.{AddsAwaited, AddsOne};
 ghost use Rattle.mbdc_poll.specs.Waiting.{is_awaited};
 
 use mbdc_bus::HalfBus;
-use mbdc_raw::links::{Watch, Watched};
 use mbdc_poll::{Station, is_awaited};
+use mbdc_raw::links::{Watch, Watched};
 use std::mem;
 
 /// Waits until one of several buses may have received something.

@@ -11,9 +11,9 @@ ghost use Rattle.mbdc_decode.specs.Frames.{is_bad_frame, shown, is_bad};
 use crate::line::{WORDS_ROOM, put_byte_word_before, put_number_before};
 use crate::telegram::put_telegram;
 use dc_linkframe::{Frame, FrameFault, Need, need, parse};
-use mbdc_io::{IoFault, Sink, put_byte_word, put_fault_line};
 use dc_records::Telegram;
 use dc_units::{put_byte, put_piece};
+use mbdc_io::{IoFault, Sink, put_byte_word, put_fault_line};
 
 /// The CI field of a variable data structure (EN 13757-3).
 const VARIABLE_DATA: u8 = 0x72;

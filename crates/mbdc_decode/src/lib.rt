@@ -22,18 +22,18 @@
 //! consecutive frames are printed one by one.
 #![tactic(auto)]
 
-pub mod json;
-pub mod tokens;
 mod decode;
 mod form;
 mod frames;
 mod input;
+pub mod json;
 mod laws;
 mod line;
 mod lines;
 mod seen;
 mod telegram;
 mod text;
+pub mod tokens;
 
 pub use decode::{decode_lines, put_lines};
 pub use form::LineForm;

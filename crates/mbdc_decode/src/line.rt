@@ -9,10 +9,10 @@ ghost use Rattle.mbdc_io.specs.Words.{number_word, byte_word, hex_word};
 ghost use Rattle.mbdc_decode.specs.Seen.{unit_word, point_text, seen_text, seen_word};
 ghost use Rattle.mbdc_decode.specs.Telegram.{record_line, record_words};
 
-use mbdc_io::pair_of;
 use dc_records::Record;
 use dc_units::{Point, Quantity, Seen, TEXT_ROOM, Value, point_of, put_byte, put_piece};
 use itoa::write_digits;
+use mbdc_io::pair_of;
 
 // Most VIBs and data have no more bytes than these.
 const FEW: usize = 16;

@@ -5,9 +5,9 @@ ghost use Rattle.dc_records.specs.Record.{view};
 ghost use Rattle.mbdc_io.specs.Written.{Wrote};
 ghost use Rattle.mbdc_decode.specs.Seen.{unit_word, point_text, seen_text, seen_word};
 
-use mbdc_io::{IoFault, Sink};
 use dc_records::Record;
 use dc_units::{Point, Quantity, Seen, TEXT_ROOM, Value, point_of};
+use mbdc_io::{IoFault, Sink};
 
 // Writes the unit of a number or of flags.
 #[tactic(auto, using(mbdc_io::proofs::Pieces::written))]

@@ -10,9 +10,9 @@ ghost use Rattle.mbdc_decode.specs.Telegram.{end_line, telegram_text};
 
 use crate::line::{LINE_ROOM, WORDS_ROOM, has_few, put_line_before, put_number_before};
 use crate::seen::put_seen;
-use mbdc_io::{IoFault, Sink, put_hex_word, put_number_word};
-use dc_units::{put_byte, put_piece};
 use dc_records::{End, Header, Record, Records, Telegram};
+use dc_units::{put_byte, put_piece};
+use mbdc_io::{IoFault, Sink, put_hex_word, put_number_word};
 
 // Writes the line of the meter.
 #[tactic(auto, using(mbdc_io::proofs::Pieces::written), unfolding(crate::specs::Telegram::meter_line))]

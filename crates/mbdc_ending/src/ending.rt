@@ -8,9 +8,9 @@ ghost use Rattle.mbdc_ending.specs.Outcome.{EndsAs};
 use crate::ProgramFault;
 use crate::escape::put_escaped;
 use dc_core::CommitFault;
+use mbdc_decode::tokens::{Piece, put_pieces};
 use mbdc_io::{IoFault, Sink};
 use mbdc_log::{FormatFault, OpenFault};
-use mbdc_decode::tokens::{Piece, put_pieces};
 
 /// The name of standard input or output in `mbdc: file: NAME`.
 pub const STREAM: &str = "-";

@@ -3,8 +3,8 @@
 ghost use Rattle.std.specs.Prelude.{◌≡◌, true, false};
 ghost use Rattle.mbdc_ending.specs.Outcome.{EndsAs, IsOfFile};
 
-use mbdc_ending::{Ending, ProgramFault, ending_of};
 use libc::EIO;
+use mbdc_ending::{Ending, ProgramFault, ending_of};
 use std::cell::Cell;
 use std::fs::{File, Metadata, OpenFile};
 use std::io;

@@ -13,12 +13,12 @@ ghost use Rattle.mbdc_fit.specs.Fit.{Lists, ListsAll, nothing_done};
 
 use crate::FitFault;
 use crate::list::{Plan, Wish, plan_wish};
-use mbdc_change::DecodeFault;
 use dc_core::pending::write_changes;
-use dc_sectors::Disk;
-use mbdc_io::{Bytes, IoFault, NoMemory, Sink};
-use dc_recovery::Store;
 use dc_meters::House;
+use dc_recovery::Store;
+use dc_sectors::Disk;
+use mbdc_change::DecodeFault;
+use mbdc_io::{Bytes, IoFault, NoMemory, Sink};
 use std::alloc::Allocator;
 
 // A copy of a house, to plan on.

@@ -12,12 +12,12 @@ ghost use Rattle.mbdc_installer.specs.Address.{one_at, place_of, target_word};
 
 use crate::primary::{Asked, ask_address, ask_reset, call, is_ack, put_address, sender_at};
 use dc_address::{Identity, Mask};
-use mbdc_bus::{AnswerBuf, Bus, TRIES, insist};
 use dc_linkframe::control::{SELECTED, SND_UD, write_request, write_reset, write_selection};
 use dc_linkframe::{FrameBuf, write_long};
-use mbdc_io::{IoFault, Sink};
 use dc_search::meter_of;
+use mbdc_bus::{AnswerBuf, Bus, TRIES, insist};
 use mbdc_decode::tokens::{Piece, put_pieces};
+use mbdc_io::{IoFault, Sink};
 
 // CI of data that a meter is to take, in records.
 const DATA: u8 = 0x51;

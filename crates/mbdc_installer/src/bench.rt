@@ -14,8 +14,8 @@ mod progress;
 mod reading;
 mod remark;
 
-pub use command::{Done, Work, run_over, work_over};
 pub use crate::Target;
+pub use command::{Done, Work, run_over, work_over};
 pub use printer::Printer;
 pub use progress::{Progress, Show};
 pub use remark::put_remark;

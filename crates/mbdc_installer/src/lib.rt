@@ -8,8 +8,8 @@
 //! selected.
 #![tactic(auto)]
 
-pub mod bench;
 mod address;
+pub mod bench;
 mod course;
 mod laws;
 mod number;

@@ -10,13 +10,13 @@ ghost use Rattle.dc_search.specs.Prefix.{mask_of_digits};
 
 use crate::primary::ask_telegram;
 use dc_address::{Identity, Mask};
-use mbdc_bus::{AnswerBuf, Bus};
 use dc_linkframe::FrameBuf;
 use dc_linkframe::control::{SELECTED, write_selection};
-use mbdc_io::{IoFault, Sink};
 use dc_readout::misses::{Misses, is_noise};
 use dc_search::{Branch, meter_of};
+use mbdc_bus::{AnswerBuf, Bus};
 use mbdc_decode::tokens::{Piece, put_pieces};
+use mbdc_io::{IoFault, Sink};
 
 // Number of tries.
 const TRIES: u8 = 3;

@@ -15,13 +15,13 @@ ghost use Rattle.mbdc_installer.specs.Scan.{greatest, identified, is_ack, is_sen
 ghost use Rattle.mbdc_installer.specs.Scan.{is_there, line_of, sender_at};
 
 use dc_address::Identity;
-use mbdc_bus::{AnswerBuf, Bus, TRIES, insist, read_twice};
 use dc_linkframe::control::{write_request, write_reset};
 use dc_linkframe::{Frame, FrameBuf, parse};
-use mbdc_io::{IoFault, Sink};
 use dc_readout::misses::Misses;
 use dc_search::meter_of;
+use mbdc_bus::{AnswerBuf, Bus, TRIES, insist, read_twice};
 use mbdc_decode::tokens::{Piece, put_pieces};
+use mbdc_io::{IoFault, Sink};
 
 /// The greatest primary address (EN 13757-2).
 pub const GREATEST: u8 = 250;

@@ -15,13 +15,13 @@ ghost use Rattle.mbdc_installer.specs.Read.{IsCutOff, IsReadOn, Tells, TellsFrom
 ghost use Rattle.mbdc_installer.specs.Read.{is_failure, is_miss, printed};
 
 use dc_address::{Identity, Primary};
-use mbdc_bus::Bus;
 use dc_core::{LineHeard, put_heard};
-use mbdc_decode::put_frames;
 use dc_linkframe::FrameBuf;
-use mbdc_io::{IoFault, Sink};
 use dc_readout::misses::{Misses, is_missing};
 use dc_readout::{Heard, Session};
+use mbdc_bus::Bus;
+use mbdc_decode::put_frames;
+use mbdc_io::{IoFault, Sink};
 
 /// The end of a readout.
 #[derive(Clone, Copy)]

@@ -6,9 +6,9 @@ ghost use Rattle.mbdc_io.specs.Written.{PutsInto};
 ghost use Rattle.dc_search.specs.Found.{search_text};
 ghost use Rattle.mbdc_installer.specs.Scan.{Counts, Scanned};
 
+use dc_search::{Search, put_search};
 use mbdc_bus::{Bus, search_windows};
 use mbdc_io::{IoFault, NoMemory, Sink};
-use dc_search::{Search, put_search};
 use std::alloc::Allocator;
 use thiserror::Error;
 

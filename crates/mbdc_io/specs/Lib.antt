@@ -22,6 +22,7 @@ pub mod Words
 pub mod Lines
 -- how the faults of an input and its output are numbered and named
 pub mod Fault
+
 -- of the module `kept`
 
 -- the definitions that contracts cite

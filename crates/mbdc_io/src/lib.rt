@@ -18,7 +18,6 @@
 //! Theorems: [`lines_end_at_feeds`], [`hex_is_read_back`].
 #![tactic(auto)]
 
-pub mod kept;
 mod buffered;
 mod bytes;
 mod failures;
@@ -26,6 +25,7 @@ mod fault;
 mod fixed_sink;
 mod hex;
 mod input;
+pub mod kept;
 mod laws;
 mod lines;
 mod memory;

@@ -11,13 +11,13 @@ ghost use Rattle.mbdc_decode.specs.Text.{has_fault};
 
 use crate::place::{body_place, frame_place};
 use crate::table::put_content;
-use mbdc_decode::{Input, LineForm, read_frame};
 use dc_linkframe::Frame;
 use dc_linkframe::control::VARIABLE_DATA;
-use mbdc_io::{Bytes, IoFault, Sink, Source, TextFault, put_byte, put_fault, put_number};
-use mbdc_reading::content::content_of;
 use dc_records::Telegram;
 use dc_records::names::{ci_name, control_name};
+use mbdc_decode::{Input, LineForm, read_frame};
+use mbdc_io::{Bytes, IoFault, Sink, Source, TextFault, put_byte, put_fault, put_number};
+use mbdc_reading::content::content_of;
 use std::alloc::Allocator;
 
 // Number of bytes of a long frame before its body.

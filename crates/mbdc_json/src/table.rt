@@ -2,6 +2,9 @@
 
 use crate::latest::{put_byte_words, put_names};
 use dc_address::Identity;
+use dc_records::names::{function_name, medium_name};
+use dc_records::{End, Record};
+use itoa::Buffer;
 use mbdc_io::{IoFault, Sink, put_byte, put_hex, put_number};
 use mbdc_reading::content::{
     Content, Counter, FixedData, REASON_ROOM, Security, Variable, medium_of, security_name,
@@ -10,9 +13,6 @@ use mbdc_reading::{
     How, READING_ROOM, Reading, Sent, SentRecords, code_at, digits_text, label_text, maker_of,
     number_of, reading_of, told_of, unit_text, value_text,
 };
-use dc_records::names::{function_name, medium_name};
-use dc_records::{End, Record};
-use itoa::Buffer;
 
 // The widths of the columns, in characters.
 const QUANTITY: usize = 30;

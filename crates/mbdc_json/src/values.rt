@@ -11,11 +11,11 @@ ghost use Rattle.mbdc_json.specs.Values.{stands_json, stands_line, values_lines}
 
 use crate::journal::Journal;
 use crate::latest::{last_reading, noted_text, part_in};
-use mbdc_decode::json::{Cell, put_row};
-use mbdc_io::{IoFault, Sink};
 use dc_meters::{House, Part, Place, Reading};
-use mbdc_shown::{put_received, put_told};
+use mbdc_decode::json::{Cell, put_row};
 use mbdc_decode::tokens::TokenWriter;
+use mbdc_io::{IoFault, Sink};
+use mbdc_shown::{put_received, put_told};
 use std::alloc::Allocator;
 
 // The status byte of a part's telegram.

@@ -5,8 +5,8 @@ ghost use Rattle.mbdc_decode.specs.Frames.{frames_of, read_as};
 ghost use Rattle.mbdc_library.specs.Frames.{between, frame_result, plain_read};
 
 use crate::results::{DONE, END, FAULT};
-use mbdc_decode::{first_frame, frames_are_told_in_turn, read_frame};
 use dc_linkframe::Frame;
+use mbdc_decode::{first_frame, frames_are_told_in_turn, read_frame};
 
 // Where the body of a long frame begins (EN 13757-2).
 const BODY: u64 = 7;

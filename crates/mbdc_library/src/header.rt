@@ -7,8 +7,8 @@ ghost use Rattle.mbdc_library.specs.Header.{header_of, variable_header};
 ghost use Rattle.mbdc_library.specs.Walk.{items_of, left};
 
 use crate::results::{DONE, NO_CI, OTHER};
-use mbdc_reading::content::{Content, Security, Structure, Variable, content_of};
 use dc_units::digits_after;
+use mbdc_reading::content::{Content, Security, Structure, Variable, content_of};
 
 // Where the records of each structure begin (EN 13757-3).
 const AFTER_LONG: u64 = 12;

@@ -4,9 +4,9 @@ ghost use Rattle.std.specs.Prelude.{◌≡◌, ◌≢◌, ◌-◌, ◌^◌, ◌<
 ghost use Rattle.mbdc_library.specs.Names.{byte_name, coded_name, listed_name, name_in, name_of};
 
 use crate::texts::text_into;
+use dc_records::names::{application_name, ci_name, control_name, function_name, medium_name};
 use mbdc_reading::content::{fixed_unit, medium_of, security_name};
 use mbdc_reading::{code_at, vife_at};
-use dc_records::names::{application_name, ci_name, control_name, function_name, medium_name};
 
 /// The tables of names.
 pub const CONTROLS: u64 = 0;

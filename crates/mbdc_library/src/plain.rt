@@ -7,9 +7,9 @@ ghost use Rattle.mbdc_library.specs.Header.{count};
 ghost use Rattle.mbdc_library.specs.Plain.{data_place, error_of, how_number, is_summer, places_of, plain_record};
 ghost use Rattle.mbdc_library.specs.Plain.{plain_value, type_of, unit_of};
 
-use mbdc_reading::{Datum, Found, How, Reading, label_of, maker_of, told_of, vifes_of};
 use dc_records::Record;
 use dc_units::Value;
+use mbdc_reading::{Datum, Found, How, Reading, label_of, maker_of, told_of, vifes_of};
 
 /// The numbers of a record (EN 13757-3, data record header), as C lays them out.
 #[derive(Clone, Copy)]

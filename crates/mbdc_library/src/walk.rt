@@ -10,9 +10,9 @@ ghost use Rattle.mbdc_library.specs.Walk.{sents_left};
 
 use crate::plain::{FIXED_CODES, NO_PLACES, Places, PlainRecord, places_of, plain_record};
 use crate::results::{DONE, END, FAULT, MORE, NO_CI, OTHER};
+use dc_records::{BodyFault, End};
 use mbdc_reading::content::{Content, Counter, FixedData, Variable, content_of};
 use mbdc_reading::{Sent, number_of, reading_of};
-use dc_records::{BodyFault, End};
 
 // What fills a body between records (EN 13757-3, DIF 2F).
 const FILLER: u8 = 0x2F;

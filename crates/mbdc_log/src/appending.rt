@@ -6,9 +6,9 @@ ghost use Rattle.dc_pages.specs.Draft.{FitsAt};
 ghost use Rattle.dc_pages.specs.PagesWriting.{SameOutside};
 ghost use Rattle.mbdc_log.specs.Stands.{IsReady, IsAppendable, StandsForEither};
 
+use crate::writing::write_group;
 use dc_pages::Site;
 use dc_roots::Root;
-use crate::writing::write_group;
 use dc_sectors::{Disk, Failed};
 use mbdc_io::kept::Kept;
 

@@ -9,9 +9,9 @@ ghost use Rattle.mbdc_log.specs.Stands.{IsReady, StandsForEither};
 
 use crate::reading::VERSION;
 use crate::rooting::put_root;
-use dc_roots::Root;
 use crate::sites::base_site;
 use crate::writing::write_state;
+use dc_roots::Root;
 use dc_sectors::{Disk, Failed};
 use mbdc_io::kept::Kept;
 

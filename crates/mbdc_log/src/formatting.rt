@@ -19,9 +19,9 @@ use crate::FormatFault;
 use crate::halves::{FEWEST_SECTORS, half_end, half_len_of};
 use crate::reading::VERSION;
 use crate::rooting::put_root;
-use dc_roots::{Root, RootFault, choose};
 use crate::sites::base_site;
 use crate::writing::write_group;
+use dc_roots::{Root, RootFault, choose};
 use dc_sectors::{Disk, Failed};
 use mbdc_io::kept::Kept;
 

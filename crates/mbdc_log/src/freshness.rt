@@ -13,8 +13,8 @@ ghost use Rattle.mbdc_log.specs.declared.fault.OpenFault.TheVariants.{NotImage, 
 
 use crate::OpenFault;
 use crate::halves::{FEWEST_SECTORS, FIRST_SECTOR, half_end, half_len_of};
-use dc_pages::stamp_of;
 use crate::reading::{Found, read_image};
+use dc_pages::stamp_of;
 use dc_sectors::{Disk, Failed, ReadFault};
 use mbdc_io::kept::Kept;
 

@@ -16,9 +16,9 @@ ghost use Rattle.mbdc_log.specs.Refusal.{IsUnread};
 use crate::OpenFault;
 use crate::freshness::first_ahead_of;
 use crate::halves::budget_of;
+use crate::sites::{base_site, change_site};
 use dc_pages::{GroupFault, read_group};
 use dc_roots::{Root, RootFault, choose};
-use crate::sites::{base_site, change_site};
 use dc_sectors::{Disk, Failed};
 use mbdc_io::kept::{DecodeFault, Kept};
 

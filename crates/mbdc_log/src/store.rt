@@ -28,11 +28,11 @@ use crate::compacting::compact_into_other_half;
 use crate::formatting::format_on;
 use crate::halves::{FEWEST_SECTORS, budget_of, half_end, half_len_of};
 use crate::opening::open_on;
-use dc_pages::PAYLOAD;
 use crate::reading::Found;
-use dc_roots::Root;
 use crate::sites::change_site;
 use crate::{FormatFault, OpenFault, StoreFault};
+use dc_pages::PAYLOAD;
+use dc_roots::Root;
 use dc_sectors::{Disk, Failed};
 use mbdc_io::kept::{Kept, KeptIn, Subject};
 use std::alloc::Allocator;
@@ -134,7 +134,6 @@ impl<D: Disk + Drop, S: Subject> Log<D, S> {
     ) -> Result<(Log<D, S>, <S as KeptIn<A>>::Value), (OpenFault, D)>
     where
         S: KeptIn<A>,
-
         ensures small { D.sectors disk < fewest_sectors → result ≡ Err (NotImage, disk) }
 
         // Ok gives exactly the state that the image reads as, and a refusal is a fact of the image.

@@ -17,6 +17,8 @@ use crate::asking::{Asked, Form, Report, StatusForm};
 use crate::look::{Look, Outlook, Slots, look_at, read_slots};
 use crate::report::{put_due_objects, put_register_objects};
 use crate::text::{put_image, put_number_line, put_small};
+use dc_meters::House;
+use dc_report::{due_table, register_table, rows};
 use dc_sectors::{Disk, Failed};
 use mbdc_ending::ProgramFault;
 use mbdc_io::{Bytes, IoFault, NoMemory, Sink};
@@ -25,8 +27,6 @@ use mbdc_json::latest::put_values;
 use mbdc_json::put_value_objects;
 use mbdc_json::status::{Clock, any_silent, put_metrics, put_status, put_status_objects};
 use mbdc_log::{FEWEST_SECTORS, Greatest, OpenFault, greatest_of, half_len_of};
-use dc_report::{due_table, register_table, rows};
-use dc_meters::House;
 use std::alloc::Allocator;
 
 /// What is printed of an image, and what the program's status says of it.

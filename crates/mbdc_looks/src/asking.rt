@@ -5,8 +5,8 @@ ghost use Rattle.dc_units.specs.Date.{Day, exists};
 ghost use Rattle.dc_units.specs.Text.{day_text};
 ghost use Rattle.mbdc_looks.specs.Answer.{report_word};
 
-use mbdc_json::status::Clock;
 use dc_units::Date;
+use mbdc_json::status::Clock;
 
 /// What is asked of an image.
 #[derive(Clone, Copy)]

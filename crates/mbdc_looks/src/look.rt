@@ -7,11 +7,11 @@ ghost use Rattle.mbdc_log.specs.Refusal.{TellsOfImage};
 ghost use Rattle.mbdc_looks.specs.Look.{AreHeld, EndsLook, IsPlaced, IsSeenAs, IsStop};
 ghost use Rattle.mbdc_looks.specs.Told.{IsWearOf};
 
+use dc_meters::House;
+use dc_roots::{Held, Root, read_slot};
 use dc_sectors::{Disk, Failed};
 use mbdc_ending::ProgramFault;
-use dc_roots::{Held, Root, read_slot};
 use mbdc_log::{Found, Greatest, OpenFault, is_spent, read_chain};
-use dc_meters::House;
 use std::alloc::Allocator;
 
 /// The contents of the two root slots.

@@ -9,10 +9,10 @@ ghost use Rattle.dc_core.specs.PendingImages.{IsUnread};
 ghost use Rattle.mbdc_looks.specs.Register.{IsRegisterOf};
 
 use crate::look::wear_of;
+use dc_meters::House;
 use dc_sectors::Disk;
 use mbdc_ending::ProgramFault;
 use mbdc_log::{FEWEST_SECTORS, Greatest, OpenFault, half_len_of, read_chain};
-use dc_meters::House;
 use std::alloc::Allocator;
 
 /// Reads the register of an image, as opening reads it, and a sector that is ahead of it, if a scan of the halves found

@@ -7,12 +7,12 @@ ghost use Rattle.mbdc_decode.specs.Row.{field_of};
 ghost use Rattle.mbdc_looks.specs.Report.{address_json, line_at, register_lines, row_line};
 
 use dc_address::Primary;
+use dc_meters::{House, Place};
+use dc_records::names::function_name;
+use dc_report::Row;
+use dc_units::{Date, Value};
 use mbdc_decode::json::{Cell, put_line};
 use mbdc_io::{IoFault, Sink};
-use dc_report::Row;
-use dc_records::names::function_name;
-use dc_units::{Date, Value};
-use dc_meters::{House, Place};
 use std::alloc::Allocator;
 
 // The cell of a primary address, or of none.

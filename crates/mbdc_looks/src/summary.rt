@@ -3,8 +3,8 @@
 ghost use Rattle.std.specs.Prelude.{◌≡◌, ◌-◌, length, option_copied, option_map, slice_get};
 ghost use Rattle.mbdc_looks.specs.Text.{summary_of};
 
-use dc_report::register_rows;
 use dc_meters::{House, Reading};
+use dc_report::register_rows;
 use std::alloc::Allocator;
 use std::collections::VecDeque;
 

@@ -11,11 +11,11 @@ ghost use Rattle.mbdc_looks.specs.Text.{refused_line, seen_text, serial_word, sl
 
 use crate::look::{Look, Slots};
 use crate::summary::{Summary, summary_of};
-use mbdc_io::{IoFault, Sink};
-use dc_roots::Held;
-use mbdc_log::{Found, OpenFault, half_end, half_start};
 use dc_meters::House;
+use dc_roots::Held;
 use mbdc_decode::tokens::{Piece, put_pieces};
+use mbdc_io::{IoFault, Sink};
+use mbdc_log::{Found, OpenFault, half_end, half_start};
 use std::alloc::Allocator;
 
 /// Writes a line of a name and a number.

@@ -8,8 +8,8 @@ ghost use Rattle.mbdc_paste.specs.Cleaned.{cleaned, given_up, hex_line, is_unfin
 ghost use Rattle.mbdc_paste.specs.Cleaned.{still_left, whole_lines, with_left};
 
 use crate::line::{begins_anew, line_bytes};
-use mbdc_decode::first_frame;
 use dc_linkframe::{Need, need};
+use mbdc_decode::first_frame;
 use mbdc_io::{Bytes, IoFault, NoMemory, Sink, first_line, put_hex, room};
 use std::alloc::Allocator;
 

@@ -3,9 +3,9 @@
 ghost use Rattle.std.specs.Prelude.{◌≡◌};
 ghost use Rattle.mbdc_poll.specs.Missed.{and_heard, is_miss, nothing_brought};
 
-use mbdc_bus::AnswerBuf;
 use dc_core::{HearFault, LineHeard};
 use dc_readout::misses::{Misses, is_missing};
+use mbdc_bus::AnswerBuf;
 
 /// What the tries of a readout brought.
 #[derive(Drop)]

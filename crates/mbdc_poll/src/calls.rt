@@ -8,10 +8,10 @@ ghost use Rattle.mbdc_poll.specs.Happening.{does};
 ghost use Rattle.mbdc_poll.specs.Round.{Runs};
 
 use dc_address::Identity;
-use mbdc_change::Moment;
 use dc_core::{CommitFault, Concentrator, HearFault, LineHeard, StartFault};
-use dc_sectors::Disk;
 use dc_linkframe::FrameBuf;
+use dc_sectors::Disk;
+use mbdc_change::Moment;
 use std::alloc::Allocator;
 
 /// Begins a readout.

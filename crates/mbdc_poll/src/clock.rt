@@ -5,9 +5,9 @@ ghost use Rattle.std.specs.List.{list_any};
 ghost use Rattle.mbdc_poll.specs.Clock.{ComparesClock, has_later, is_behind};
 
 use crate::timer::Timer;
+use dc_meters::{House, Part};
 use mbdc_bus::HalfBus;
 use mbdc_change::Moment;
-use dc_meters::{House, Part};
 use std::alloc::Allocator;
 
 /// Warns the timer where its moment lies before the newest time stamp of the register.

@@ -29,12 +29,12 @@ use crate::teller::Teller;
 use crate::telling::tell_one;
 use crate::timer::Timer;
 use dc_address::Identity;
-use mbdc_bus::HalfBus;
 use dc_core::{Concentrator, StartFault};
+use dc_meters::House;
 use dc_sectors::Disk;
+use mbdc_bus::HalfBus;
 use mbdc_ending::ProgramFault;
 use mbdc_io::{IoFault, NoMemory};
-use dc_meters::House;
 use std::alloc::Allocator;
 
 // There are eight lines.

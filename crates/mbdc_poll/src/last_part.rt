@@ -4,8 +4,8 @@ ghost use Rattle.std.specs.Prelude.{◌≡◌, Ok};
 ghost use Rattle.dc_records.specs.Telegram.{parsed, telegram_at};
 ghost use Rattle.mbdc_change.specs.Valid.{IsPart};
 
-use dc_records::Telegram;
 use dc_meters::Part;
+use dc_records::Telegram;
 use std::alloc::Allocator;
 use std::marker::Model;
 

@@ -11,10 +11,10 @@ ghost use Rattle.mbdc_poll.specs.Station.{IsSound, rounds_of};
 use crate::calls;
 use crate::station::Station;
 use crate::stepping::{hear, step};
-use mbdc_bus::HalfBus;
-use mbdc_change::Moment;
 use dc_core::{CommitFault, Concentrator};
 use dc_sectors::Disk;
+use mbdc_bus::HalfBus;
+use mbdc_change::Moment;
 use std::alloc::Allocator;
 
 // Maximum number of pending telegrams.

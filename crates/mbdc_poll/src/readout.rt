@@ -19,9 +19,9 @@ use crate::teller::Teller;
 use crate::telling::{tell_all, tell_one};
 use crate::timer::Timer;
 use crate::waiting::{is_done, may_sleep};
-use mbdc_bus::HalfBus;
 use dc_core::{CommitFault, Concentrator};
 use dc_sectors::Disk;
+use mbdc_bus::HalfBus;
 use mbdc_io::IoFault;
 use std::alloc::Allocator;
 

@@ -17,9 +17,9 @@ use crate::brought::Brought;
 use crate::end::{End, Refusal};
 use crate::phase::{Phase, Request};
 use dc_address::Identity;
-use mbdc_bus::{AnswerBuf, HalfBus};
 use dc_core::{CommitFault, HearFault, LineHeard, StartFault};
 use dc_linkframe::FrameBuf;
+use mbdc_bus::{AnswerBuf, HalfBus};
 use std::mem;
 
 // No readout asks more often: three tries at a reset, a selection and each of 32 parts, and once more where nothing

@@ -13,11 +13,11 @@ use crate::end::End;
 use crate::phase::{Phase, Request};
 use crate::station::{MOST_ASKS, Station, taken_of};
 use dc_address::Identity;
+use dc_core::{Concentrator, HearFault, LineHeard};
+use dc_readout::Why;
+use dc_sectors::Disk;
 use mbdc_bus::HalfBus;
 use mbdc_change::Moment;
-use dc_core::{Concentrator, HearFault, LineHeard};
-use dc_sectors::Disk;
-use dc_readout::Why;
 use std::alloc::Allocator;
 
 /// A line that has no request out and meters left begins the next one and asks, or asks.

@@ -17,11 +17,11 @@ use crate::outcome::Counts;
 use crate::phase::Phase;
 use crate::station::Station;
 use crate::teller::Teller;
-use mbdc_bus::HalfBus;
 use dc_core::Concentrator;
-use dc_sectors::Disk;
-use mbdc_io::IoFault;
 use dc_meters::House;
+use dc_sectors::Disk;
+use mbdc_bus::HalfBus;
+use mbdc_io::IoFault;
 use std::alloc::Allocator;
 
 // Tells one event.

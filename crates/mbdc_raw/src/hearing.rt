@@ -4,8 +4,8 @@ ghost use Rattle.std.specs.Prelude.{◌≡◌, ◌+◌, ◌<◌, ◌≤◌, ◌+
 ghost use Rattle.mbdc_bus.specs.Limits.{most_answer};
 ghost use Rattle.mbdc_raw.specs.Heard.{answer_of, heard_of, missing_of, wanted_of};
 
-use mbdc_bus::{AnswerBuf, MOST_ANSWER};
 use dc_linkframe::{FrameBuf, Need, need};
+use mbdc_bus::{AnswerBuf, MOST_ANSWER};
 use std::marker::Model;
 use std::mem;
 

@@ -13,10 +13,10 @@
 //! known to contracts. [`Tape`] is a wire in memory.
 #![tactic(auto)]
 
-pub mod links;
 mod hearing;
 mod laws;
 mod line;
+pub mod links;
 mod listening;
 mod pace;
 mod poll_wire;

@@ -19,8 +19,8 @@ use crate::state::{
     quiet_by,
 };
 use crate::wire::{Asking, Wire};
-use mbdc_bus::{AnswerBuf, HalfBus};
 use dc_linkframe::FrameBuf;
+use mbdc_bus::{AnswerBuf, HalfBus};
 use mbdc_io::IoFault;
 
 /// A request that isn't sent yet.

@@ -9,8 +9,8 @@ ghost use Rattle.mbdc_raw.specs.declared.state.State.TheVariants.{Busy, Quiet};
 use crate::hearing::Hearing;
 use crate::state::State;
 use crate::wire::{Came, Wire};
-use mbdc_bus::{AnswerBuf, MOST_ANSWER};
 use dc_linkframe::FrameBuf;
+use mbdc_bus::{AnswerBuf, MOST_ANSWER};
 use mbdc_io::IoFault;
 
 // Maximum number of pieces taken in one call.

@@ -7,9 +7,9 @@ ghost use Rattle.std.specs.Io.KnownBytes.{Consumes};
 ghost use Rattle.std.specs.Time.{instant_nanos};
 ghost use Rattle.mbdc_raw.specs.Noise.{IsNoise, IsPast, begins_frame};
 
-use mbdc_io::IoFault;
 use libc::net::{POLLIN, poll};
 use libc::types::pollfd;
+use mbdc_io::IoFault;
 use std::io::{ErrorKind, Read};
 use std::os::fd::AsRawFd;
 use std::rt::Clock;

@@ -6,9 +6,9 @@ ghost use Rattle.mbdc_raw.specs.Turn.{is_answer, is_copy, is_reset, is_wrong, ki
 ghost use Rattle.mbdc_raw.specs.Turn.{last_behind, last_waited, may_go, quiet_by, telegram_in};
 ghost use Rattle.mbdc_raw.specs.Turn.{wants_ack};
 
-use mbdc_bus::AnswerBuf;
 use dc_linkframe::control::{SELECTED, SND_NKE, SND_UD};
 use dc_linkframe::{Frame, FrameBuf, parse};
+use mbdc_bus::AnswerBuf;
 
 /// What may be under way on a line.
 #[derive(Clone, Copy)]

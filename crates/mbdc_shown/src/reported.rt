@@ -10,11 +10,11 @@ ghost use Rattle.mbdc_shown.specs.Reported.{received_fields, records_field, repo
 
 use crate::stand::{Current, Headline, Listed};
 use crate::utc::minute;
-use mbdc_decode::json::{Cell, put_record, put_row};
-use mbdc_io::Sink;
-use dc_records::Telegram;
 use dc_meters::Part;
+use dc_records::Telegram;
+use mbdc_decode::json::{Cell, put_record, put_row};
 use mbdc_decode::tokens::TokenWriter;
+use mbdc_io::Sink;
 use std::alloc::{Allocator, Global};
 
 /// Writes the fields of a reading that a telegram received at this moment has: `moment`, `utc`,

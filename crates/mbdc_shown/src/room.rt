@@ -4,9 +4,9 @@ ghost use Rattle.std.specs.Prelude.{◌≡◌};
 ghost use Rattle.mbdc_io.specs.Written.{Wrote};
 ghost use Rattle.mbdc_shown.specs.Room.{bytes_a_reading, number_line, readings_left, room_words};
 
-use mbdc_io::{IoFault, Sink};
 use dc_meters::House;
 use mbdc_decode::tokens::{Piece, put_pieces};
+use mbdc_io::{IoFault, Sink};
 use std::alloc::Allocator;
 
 /// The size of a register without meters and readings.

@@ -6,9 +6,9 @@ ghost use Rattle.mbdc_reading.specs.Sent.{sent_view};
 ghost use Rattle.mbdc_reading.specs.Headline.{headline, next_in};
 ghost use Rattle.mbdc_shown.specs.Stand.{all_sent, is_in, left_after, listed};
 
+use dc_meters::Part;
 use mbdc_reading::content::{Key, MOST_TARIFFS, Main, key_of, next_in};
 use mbdc_reading::{How, Sent, SentRecords, reading_of};
-use dc_meters::Part;
 use std::alloc::Allocator;
 use std::marker::Model;
 

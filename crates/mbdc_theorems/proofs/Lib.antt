@@ -114,6 +114,7 @@ pub mod LateLife
 mod Answers
 -- a search of one meter
 mod OneMeter
+
 -- of the module `counter`
 
 -- lemmas by topic

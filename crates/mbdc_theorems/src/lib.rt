@@ -15,11 +15,11 @@
 #![tactic(auto)]
 
 pub mod counter;
-pub mod searching;
 pub mod in_time;
 mod laws;
 pub mod poll;
 pub mod script;
+pub mod searching;
 
 pub use laws::{
     a_concentrator_keeps_its_lines, a_meter_may_be_read, a_readout_beside_others_ends_in_a_reading,

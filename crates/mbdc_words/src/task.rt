@@ -3,9 +3,9 @@
 use crate::link::LinkName;
 use crate::links::Links;
 use dc_address::{Identity, Primary};
+use dc_meters::named::Named;
 use mbdc_change::Flat;
 use mbdc_consumption::table::Boundaries;
-use dc_meters::named::Named;
 use std::alloc::Global;
 
 /// How the frames of an input are printed.

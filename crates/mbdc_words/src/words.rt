@@ -11,9 +11,9 @@ use crate::task::{
 };
 use clap::ArgMatches;
 use dc_address::Primary;
+use dc_meters::named::{Named, identity_of};
 use mbdc_change::{Flat, parse_number};
 use mbdc_consumption::table::Boundaries;
-use dc_meters::named::{Named, identity_of};
 use std::alloc::Global;
 
 // The greatest primary address.

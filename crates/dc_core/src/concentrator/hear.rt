@@ -11,8 +11,8 @@ ghost use Rattle.dc_core.specs.Images.{IsAt};
 use super::Concentrator;
 use crate::pending::{is_line, take};
 use crate::{HearFault, LineHeard};
-use dc_sectors::Disk;
 use dc_readout::Heard;
+use dc_sectors::Disk;
 use std::alloc::Allocator;
 
 impl<D: Disk + Drop, A: Allocator + Copy> Concentrator<D, A> {

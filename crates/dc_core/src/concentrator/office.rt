@@ -26,13 +26,14 @@ use super::Concentrator;
 use crate::pending::Lines;
 use crate::{CommitFault, WriteFault};
 use dc_address::Identity;
-use mbdc_change::Change;
-use dc_sectors::Disk;
-use mbdc_io::{IoFault, NoMemory, Sink};
-use dc_upload::{
-    Code, OfficeLine, ReplyFault, Verdict, judge, parse_line, write_answer as write_by, write_refusal,
-};
 use dc_meters::House;
+use dc_sectors::Disk;
+use dc_upload::{
+    Code, OfficeLine, ReplyFault, Verdict, judge, parse_line, write_answer as write_by,
+    write_refusal,
+};
+use mbdc_change::Change;
+use mbdc_io::{IoFault, NoMemory, Sink};
 use std::alloc::Allocator;
 
 impl<D: Disk + Drop, A: Allocator + Copy> Concentrator<D, A> {

@@ -9,9 +9,9 @@ ghost use Rattle.dc_core.specs.Taking.{change_of, refuses, IsTaken};
 
 use crate::pending::TakeFault;
 use crate::pending::waiting::Waiting;
-use mbdc_change::{Body, Change};
-use dc_records::Telegram;
 use dc_meters::House;
+use dc_records::Telegram;
+use mbdc_change::{Body, Change};
 use std::alloc::Allocator;
 
 /// Takes a telegram: applies it to the register, and adds its change to the pending changes. The body is copied once,
@@ -49,11 +49,7 @@ pub fn take<A: Allocator + Copy>(
         return Err(TakeFault::Full);
     };
     let _is_body = body.as_slice();
-    let change = Change::Telegram {
-        part,
-        moment,
-        body,
-    };
+    let change = Change::Telegram { part, moment, body };
     if house.check(&change).is_err() {
         return Err(TakeFault::Full);
     }

@@ -13,10 +13,10 @@ ghost use Rattle.mbdc_log.specs.declared.fault.StoreFault.TheVariants.{Device, W
 ghost use Rattle.dc_core.specs.Writing.{IsWornFor};
 
 use crate::pending::waiting::Waiting;
+use dc_meters::House;
+use dc_recovery::Store;
 use dc_sectors::Disk;
 use mbdc_log::StoreFault;
-use dc_recovery::Store;
-use dc_meters::House;
 use std::alloc::Allocator;
 
 /// Writes the pending changes after the existing groups, or, if they don't fit in the half, the

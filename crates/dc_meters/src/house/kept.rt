@@ -4,8 +4,8 @@ ghost use Rattle.std.specs.Prelude.{◌≡◌};
 
 use super::House;
 use mbdc_change::DecodeFault;
-use mbdc_io::{IoFault, Sink};
 use mbdc_io::kept::{Kept, Language};
+use mbdc_io::{IoFault, Sink};
 use std::alloc::Allocator;
 
 /// The bytes of the empty register: the next serial is 1, and all else is zero or empty.

@@ -5,10 +5,10 @@ ghost use Rattle.dc_readout.specs.Answer.{max_parts};
 ghost use Rattle.dc_readout.specs.Summary.{asked_by};
 ghost use Rattle.dc_readout.specs.Request.{frame_asked};
 
+use crate::Session;
 use dc_address::Identity;
 use dc_linkframe::control::{SND_NKE, req_ud2};
 use dc_linkframe::{Frame, parse};
-use crate::Session;
 
 /// A request, as the meters read it.
 #[derive(Clone, Copy)]

@@ -6,8 +6,8 @@ ghost use Rattle.dc_readout.specs.World.{running_after};
 
 use crate::world::body::Body;
 use crate::world::script::MeterScript;
-use mbdc_io::NoMemory;
 use crate::{Heard, Session};
+use mbdc_io::NoMemory;
 use std::alloc::Allocator;
 use std::marker::Model;
 

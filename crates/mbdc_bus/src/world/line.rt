@@ -7,9 +7,9 @@ ghost use Rattle.dc_readout.specs.Reply.{bytes_heard};
 ghost use Rattle.dc_readout.specs.Standing.{SelectsByMask};
 ghost use Rattle.mbdc_bus.specs.WorldLine.{AreAble, Hears, heard_both, heard_of, seen_by};
 
-use dc_readout::{Reply, SimulatedMeter};
 use crate::{AnswerBuf, Bus};
 use dc_linkframe::{ACK, FrameBuf};
+use dc_readout::{Reply, SimulatedMeter};
 use mbdc_io::NoMemory;
 use std::alloc::Allocator;
 use std::marker::Model;

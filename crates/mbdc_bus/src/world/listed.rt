@@ -6,8 +6,8 @@ ghost use Rattle.mbdc_bus.specs.Listed.{chosen};
 ghost use Rattle.dc_search.specs.Bus.{IsMatching};
 
 use crate::world::order::{Order, order_of};
-use dc_address::{Identity, Mask};
 use crate::{AnswerBuf, Bus};
+use dc_address::{Identity, Mask};
 use dc_linkframe::{ACK, FrameBuf};
 use dc_search::bus::{Matching, matches_on, telegram_of};
 use std::marker::Model;

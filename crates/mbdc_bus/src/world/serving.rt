@@ -5,9 +5,9 @@ ghost use Rattle.mbdc_bus.specs.Blocks.{blocks_bytes, most_block};
 ghost use Rattle.mbdc_bus.specs.Serving.{PutsAnswer, Serves, blocks_with};
 ghost use Rattle.mbdc_io.specs.Written.{PutsInto};
 
-use crate::world::line::SimulatedBus;
 use crate::AnswerBuf;
 use crate::blocks::{MOST_BLOCK, put_block, take_content, take_length};
+use crate::world::line::SimulatedBus;
 use mbdc_io::{IoFault, Sink, Source};
 use std::alloc::Allocator;
 

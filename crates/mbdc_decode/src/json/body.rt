@@ -7,8 +7,8 @@ ghost use Rattle.mbdc_decode.specs.Frame.{body_json};
 ghost use Rattle.mbdc_decode.specs.JsonText.{value_line};
 
 use crate::json::frame::put_body_json;
-use mbdc_io::{IoFault, Sink};
 use crate::tokens::TokenWriter;
+use mbdc_io::{IoFault, Sink};
 
 /// Writes the JSON line of a body without a frame (EN 13757-3, variable data structure): the fields
 /// of its telegram, or its bytes and its fault. Returns whether it has a fault.

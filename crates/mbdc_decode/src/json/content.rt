@@ -23,15 +23,15 @@ use crate::json::frame::put_fault;
 use crate::json::record::put_counter;
 use crate::json::row::{Cell, put_object, put_row};
 use crate::json::telegram::{put_end, put_records_field};
+use crate::tokens::TokenWriter;
 use dc_address::Identity;
+use dc_records::{BodyFault, End};
 use mbdc_io::Sink;
 use mbdc_reading::content::{
     Content, FixedData, Head, REASON_ROOM, Reason, Security, Variable, content_of, medium_of,
     security_name,
 };
 use mbdc_reading::digits_text;
-use dc_records::{BodyFault, End};
-use crate::tokens::TokenWriter;
 
 // A number's cell, or null.
 fn count_cell(name: &str, number: Option<u8>) -> Cell<'_>

@@ -19,12 +19,12 @@ use crate::json::content::put_content_field;
 use crate::json::row::{Cell, put_object};
 use crate::json::telegram::put_telegram;
 use crate::read_frame;
+use crate::tokens::TokenWriter;
 use dc_linkframe::control::VARIABLE_DATA;
 use dc_linkframe::{Frame, FrameFault};
-use mbdc_io::Sink;
 use dc_records::names::{ci_name, control_name};
 use dc_records::{BodyFault, Telegram};
-use crate::tokens::TokenWriter;
+use mbdc_io::Sink;
 
 // The control, address and CI bytes of a long frame.
 #[derive(Clone, Copy)]

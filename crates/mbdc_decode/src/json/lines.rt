@@ -13,9 +13,9 @@ ghost use Rattle.mbdc_decode.specs.Frame.{text_json, hex_fault_json};
 ghost use Rattle.mbdc_decode.specs.JsonText.{value_line, json_text};
 
 use crate::json::frame::{put_hex_fault_json, put_text_json};
+use crate::tokens::TokenWriter;
 use crate::{Input, LineForm, put_lines_as};
 use mbdc_io::{IoFault, Sink, Source, TextFault};
-use crate::tokens::TokenWriter;
 use std::alloc::Allocator;
 
 /// The form of `decode --json`: an object on each line.

@@ -6,10 +6,10 @@ ghost use Rattle.mbdc_decode.specs.Object.{object_of};
 ghost use Rattle.mbdc_decode.specs.Writing.{Added};
 ghost use Rattle.mbdc_decode.specs.Meter.{identity_fields, status_fields, has_bit};
 
-use dc_address::Identity;
-use mbdc_io::Sink;
-use dc_records::names::{application_name, medium_name};
 use crate::tokens::TokenWriter;
+use dc_address::Identity;
+use dc_records::names::{application_name, medium_name};
+use mbdc_io::Sink;
 
 // The places of the digits and of the letters in an identity's text.
 const DIGITS_END: usize = 8;

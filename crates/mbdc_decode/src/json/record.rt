@@ -15,16 +15,16 @@ ghost use Rattle.mbdc_decode.specs.Record.{told_fields};
 ghost use Rattle.mbdc_decode.specs.Record.{flag_or_null, hex_or_null, qualifier_fields, text_or_null};
 ghost use Rattle.mbdc_decode.specs.Record.{unit_json, value_fields, value_json, vife_fields};
 
+use crate::tokens::TokenWriter;
+use dc_records::Record;
+use dc_records::names::function_name;
+use dc_units::{TEXT_ROOM, Value};
 use mbdc_io::Sink;
 use mbdc_reading::content::Counter;
 use mbdc_reading::{
     READING_ROOM, Reading, Sent, code_at, is_extension, label_text, maker_of, number_after,
     number_of, reading_of, told_of, unit_text, value_text, vife_at, vife_text,
 };
-use dc_records::Record;
-use dc_records::names::function_name;
-use dc_units::{TEXT_ROOM, Value};
-use crate::tokens::TokenWriter;
 
 /// A record's unit and its other texts have room in this many bytes.
 pub(crate) const RECORD_ROOM: usize = 2 * READING_ROOM;

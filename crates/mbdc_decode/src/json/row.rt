@@ -10,10 +10,10 @@ ghost use Rattle.mbdc_decode.specs.JsonText.{value_line};
 
 use crate::json::meter::{put_meter, put_status_object};
 use crate::json::record::{put_unit, put_value};
-use dc_address::Identity;
-use mbdc_io::{IoFault, Sink};
-use dc_units::Value;
 use crate::tokens::TokenWriter;
+use dc_address::Identity;
+use dc_units::Value;
+use mbdc_io::{IoFault, Sink};
 
 /// A cell of a row: its name, and what it has.
 #[derive(Clone, Copy)]

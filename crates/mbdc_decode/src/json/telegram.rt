@@ -11,10 +11,10 @@ ghost use Rattle.mbdc_decode.specs.JsonTelegram.{telegram_fields};
 
 use crate::json::record::{RECORD_ROOM, put_record_in};
 use crate::json::row::{Cell, put_row};
+use crate::tokens::TokenWriter;
+use dc_records::{End, Header, Telegram};
 use mbdc_io::Sink;
 use mbdc_reading::SentRecords;
-use dc_records::{End, Header, Telegram};
-use crate::tokens::TokenWriter;
 
 // Writes records, one after the other.
 fn put_records<W: Sink>(out: &mut TokenWriter<'_, W>, records: SentRecords<'_>)

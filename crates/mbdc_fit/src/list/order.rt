@@ -12,9 +12,9 @@ ghost use Rattle.mbdc_fit.specs.Plan.{IsOneGroup, numbered};
 use crate::list::plan::{Plan, kept};
 use crate::list::verdict::{Verdict, put_is_at, put_taken};
 use dc_address::{Identity, Primary};
+use dc_meters::House;
 use mbdc_change::{Change, ChangeFault, Command, END_OF_NUMBERS, Flat};
 use mbdc_io::{IoFault, NoMemory, Sink};
-use dc_meters::House;
 use std::alloc::Allocator;
 
 /// A command that is given at the box: one line of the billing office.

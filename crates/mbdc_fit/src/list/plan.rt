@@ -15,9 +15,9 @@ ghost use Rattle.mbdc_fit.specs.declared.list.row.Entry.TheVariants.{Row as Spel
 
 use crate::list::row::{Entry, Row, RowFault, read_line, row_text};
 use crate::list::verdict::{Verdict, command_of, fault_words, put_row, put_said, verdict_on};
+use dc_meters::House;
 use mbdc_change::{Change, Command, CommandLine, encode_change};
 use mbdc_io::{Bytes, IoFault, NoMemory, first_line};
-use dc_meters::House;
 use std::alloc::Allocator;
 use std::marker::Model;
 

@@ -15,9 +15,9 @@ ghost use Rattle.mbdc_fit.specs.Rows.{Fields, HasFields, IsEntryOf, IsReadAs, La
 ghost use Rattle.mbdc_fit.specs.Rows.{SpellsRow, is_blank, is_kept, is_dropped, row_text, spaced, is_separator};
 
 use dc_address::{Identity, Primary};
+use dc_meters::named::identity_of;
 use mbdc_change::{Flat, parse_number, split_word};
 use mbdc_io::NoMemory;
-use dc_meters::named::identity_of;
 use std::alloc::Allocator;
 
 /// A meter and its place.

@@ -13,9 +13,9 @@ ghost use Rattle.mbdc_fit.specs.Plan.{is_at_words, taken_words, verdict_words};
 
 use crate::list::row::{Row, RowFault};
 use dc_address::{Identity, Primary};
+use dc_meters::{House, Meter};
 use mbdc_change::{Change, ChangeFault, Command, END_OF_NUMBERS};
 use mbdc_io::{IoFault, Sink, put_number, put_number_word};
-use dc_meters::{House, Meter};
 use std::alloc::Allocator;
 
 /// What a row asks of a register.

@@ -6,8 +6,8 @@ ghost use Rattle.mbdc_fit.specs.Wish.{IsMetBy};
 
 use crate::list::order::{Order, plan_for};
 use crate::list::plan::{Plan, plan_on};
-use mbdc_io::NoMemory;
 use dc_meters::House;
+use mbdc_io::NoMemory;
 use std::alloc::Allocator;
 
 /// What is asked of a register.

@@ -11,11 +11,11 @@ use crate::bench::listing::list_over;
 use crate::bench::printer::Printer;
 use crate::bench::progress::{Cleared, Progress};
 use crate::bench::reading::read_named;
-use mbdc_bus::Bus;
-use mbdc_ending::Ending;
 use crate::{
     Addressing, Count, Readout, ScanFault, Target, put_addressing, scan, scan_primary, set_address,
 };
+use mbdc_bus::Bus;
+use mbdc_ending::Ending;
 use mbdc_io::{IoFault, Sink, WriteSink};
 use mbdc_words::{Listing, MeterName, Scan};
 use std::alloc::Global;

@@ -5,11 +5,11 @@ ghost use Rattle.mbdc_io.specs.Failures.{HasRisen};
 ghost use Rattle.mbdc_io.specs.Written.{PutsInto, Wrote};
 ghost use Rattle.mbdc_installer.specs.Ending.{EndsOver, late_text};
 
-use crate::bench::printer::Printer;
-use mbdc_ending::{Ending, STREAM};
 use crate::ScanFault;
-use mbdc_io::{IoFault, Sink};
+use crate::bench::printer::Printer;
 use mbdc_decode::tokens::{Piece, put_pieces};
+use mbdc_ending::{Ending, STREAM};
+use mbdc_io::{IoFault, Sink};
 
 /// Prints last how often bytes came that nothing on the bus could have sent, and writes out what is held back.
 pub(crate) fn finish<W: Printer>(late: u64, out: &mut W) -> Result<(), IoFault>

@@ -3,8 +3,8 @@
 ghost use Rattle.std.specs.Prelude.{◌≡◌};
 ghost use Rattle.mbdc_installer.specs.Listening.{heard_as, is_given_up, left_after};
 
-use mbdc_bus::{AnswerBuf, Bus};
 use dc_linkframe::{FrameBuf, parse};
+use mbdc_bus::{AnswerBuf, Bus};
 use std::cell::Cell;
 
 /// Number of answers, none of which is a frame, after which a search is given up.

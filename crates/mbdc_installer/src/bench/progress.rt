@@ -2,17 +2,17 @@
 
 use crate::bench::command::{Done, Work};
 use crate::bench::remark::put_remark;
-use dc_address::Identity;
-use mbdc_bus::TRIES;
-use mbdc_bus::trace::Observer;
-use mbdc_decode::put_point;
-use dc_linkframe::{Frame, parse};
 use crate::{Course, GREATEST};
-use mbdc_io::{FixedSink, IoFault, Sink};
+use dc_address::Identity;
+use dc_linkframe::{Frame, parse};
 use dc_records::Telegram;
 use dc_records::names::medium_name;
 use dc_units::{Point, Seen, point_of};
+use mbdc_bus::TRIES;
+use mbdc_bus::trace::Observer;
+use mbdc_decode::put_point;
 use mbdc_decode::tokens::{Piece, put_pieces};
+use mbdc_io::{FixedSink, IoFault, Sink};
 use mbdc_words::Scan;
 use std::alloc::Global;
 use std::cell::{Cell, RefCell};

@@ -15,9 +15,9 @@ ghost use Rattle.json.specs.Value.{value_view};
 
 use crate::journal::kept::{Keeps, kept_of};
 use dc_address::Identity;
+use json::{Error, Scratch, Value};
 use mbdc_change::parse_number;
 use mbdc_io::{Bytes, NoMemory};
-use json::{Error, Scratch, Value};
 use std::alloc::Allocator;
 
 /// What a line says of a meter.

@@ -6,9 +6,9 @@ ghost use Rattle.json.specs.Value.{value_view};
 
 use crate::journal::entry::Said;
 use crate::latest::put_said;
+use json::Value;
 use mbdc_change::LAST_MOMENT;
 use mbdc_io::{Bytes, IoFault, NoMemory};
-use json::Value;
 use std::alloc::Allocator;
 
 /// What a journal keeps of a meter's last reading.

@@ -17,17 +17,17 @@ use crate::journal::Journal;
 use crate::latest::noted::noted_text;
 use crate::latest::reading::last_reading;
 use crate::latest::status::put_status;
+use dc_meters::{House, Part, Place, Points, Reading};
+use dc_records::names::medium_name;
+use dc_units::{Point, TEXT_ROOM};
 use mbdc_decode::put_point;
+use mbdc_decode::tokens::{Piece, put_pieces};
 use mbdc_io::{IoFault, Sink, put_number_word};
 use mbdc_reading::{
     READING_ROOM, Sent, code_at, is_extension, number_after, number_of, reading_of, told_of,
     unit_text, value_text, vife_at,
 };
-use dc_records::names::medium_name;
-use dc_units::{Point, TEXT_ROOM};
-use dc_meters::{House, Part, Place, Points, Reading};
 use mbdc_shown::{Current, Headline, Listed, minute};
-use mbdc_decode::tokens::{Piece, put_pieces};
 use std::alloc::Allocator;
 
 /// Writes what each registered meter stands at, by flat and then by identity, beside a journal that keeps

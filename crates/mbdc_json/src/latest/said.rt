@@ -11,11 +11,11 @@ ghost use Rattle.json.specs.Value.{items_view, value_view};
 
 use crate::latest::lines::{put_value_word, shown};
 use crate::latest::status::put_status;
-use mbdc_io::{IoFault, Sink};
 use dc_units::TEXT_ROOM;
-use mbdc_shown::minute;
-use mbdc_decode::tokens::{Piece, put_pieces};
 use json::Value;
+use mbdc_decode::tokens::{Piece, put_pieces};
+use mbdc_io::{IoFault, Sink};
+use mbdc_shown::minute;
 use std::alloc::Allocator;
 
 /// Writes the lines of an event, after the meter's place.

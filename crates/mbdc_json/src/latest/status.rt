@@ -3,8 +3,8 @@
 ghost use Rattle.mbdc_io.specs.Written.{Wrote};
 ghost use Rattle.mbdc_json.specs.LatestValues.{bit_words, bits_words, byte_words, status_line};
 
-use mbdc_io::{IoFault, Sink, put_byte_word};
 use dc_records::names::application_name;
+use mbdc_io::{IoFault, Sink, put_byte_word};
 
 // Writes the words of a bit that is set.
 #[tactic(auto, using(mbdc_io::proofs::Pieces::written), unfolding(crate::specs::LatestValues::bit_words))]

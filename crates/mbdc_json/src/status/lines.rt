@@ -13,13 +13,13 @@ use crate::latest::put_byte_words;
 use crate::status::full::days_left;
 use crate::status::row::{Row, Told, row_at};
 use crate::status::silence::Clock;
-use mbdc_io::{IoFault, Sink};
+use dc_meters::House;
 use dc_readout::Why;
 use dc_records::BodyFault;
 use dc_units::TEXT_ROOM;
-use dc_meters::House;
-use mbdc_shown::{minute, put_number, readings_left};
 use mbdc_decode::tokens::{Piece, put_pieces};
+use mbdc_io::{IoFault, Sink};
+use mbdc_shown::{minute, put_number, readings_left};
 use std::alloc::Allocator;
 
 /// Writes when the registered meters were last heard, by flat and then by identity, and how full the image is.

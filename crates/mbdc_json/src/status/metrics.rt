@@ -8,10 +8,10 @@ ghost use Rattle.mbdc_json.specs.Metrics.{metrics_text, name_of, sample_of, valu
 use crate::journal::Journal;
 use crate::status::row::{Row, row_at};
 use crate::status::silence::Clock;
-use mbdc_io::{IoFault, Sink, put_number_word};
 use dc_meters::House;
-use mbdc_shown::readings_left;
 use mbdc_decode::tokens::{Piece, put_pieces};
+use mbdc_io::{IoFault, Sink, put_number_word};
+use mbdc_shown::readings_left;
 use std::alloc::Allocator;
 
 // What a meter is measured by.

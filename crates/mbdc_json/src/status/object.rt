@@ -14,10 +14,10 @@ use crate::status::full::days_left;
 use crate::status::lines::failure_name;
 use crate::status::row::{Row, Told, row_at};
 use crate::status::silence::Clock;
+use dc_meters::House;
+use dc_units::Value;
 use mbdc_decode::json::{Cell, put_line};
 use mbdc_io::{IoFault, Sink};
-use dc_units::Value;
-use dc_meters::House;
 use mbdc_shown::{minute, readings_left};
 use std::alloc::Allocator;
 

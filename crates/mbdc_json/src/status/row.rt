@@ -10,8 +10,8 @@ use crate::journal::{Failing, Journal, Taken};
 use crate::latest::{last_reading, part_in};
 use crate::status::silence::{Clock, heard, is_silent};
 use dc_address::Identity;
-use mbdc_change::{Flat, LAST_MOMENT};
 use dc_meters::{House, Part, Place};
+use mbdc_change::{Flat, LAST_MOMENT};
 use std::alloc::Allocator;
 
 /// What is shown of a registered meter, in any form.

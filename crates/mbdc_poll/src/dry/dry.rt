@@ -7,10 +7,10 @@ ghost use Rattle.mbdc_poll.specs.Dry.{dry_text, is_linked, line_text, lines_text
 use crate::dry::queue::{count_on, put_queue};
 use crate::dry::refusal::put_refused;
 use dc_address::Identity;
-use mbdc_io::{IoFault, Sink};
 use dc_meters::House;
-use mbdc_shown::put_room_left;
 use mbdc_decode::tokens::{Piece, put_pieces};
+use mbdc_io::{IoFault, Sink};
+use mbdc_shown::put_room_left;
 use std::alloc::Allocator;
 
 /// Number of bus lines.

@@ -6,9 +6,9 @@ ghost use Rattle.mbdc_poll.specs.Dry.{count_on, queue_text, row_text, rows_text}
 
 use crate::image::is_wanted;
 use dc_address::Identity;
-use mbdc_io::{IoFault, Sink};
 use dc_meters::{House, Meter};
 use mbdc_decode::tokens::{Piece, put_pieces};
+use mbdc_io::{IoFault, Sink};
 use std::alloc::Allocator;
 
 /// Prints the meters of a line that are wanted, in order of identity.

@@ -12,8 +12,8 @@ use crate::events::put_line;
 use crate::{Event, Refusal};
 use dc_address::Identity;
 use dc_core::StartFault;
-use mbdc_io::{IoFault, Sink};
 use dc_meters::{House, Meter};
+use mbdc_io::{IoFault, Sink};
 use std::alloc::Allocator;
 
 /// Prints each meter that is to be read and would be refused, in order, and why.

@@ -6,8 +6,8 @@ ghost use Rattle.mbdc_reading.specs.Content.{content_view};
 
 use dc_linkframe::control::VARIABLE_DATA;
 use dc_linkframe::{Frame, parse};
-use mbdc_reading::content::{Content, content_of};
 use dc_records::Telegram;
+use mbdc_reading::content::{Content, content_of};
 
 /// What an answer says where its frame is no telegram that the register takes: an encrypted one, one with another header
 /// or none, fixed data, or records with a fault.

@@ -6,8 +6,8 @@ ghost use Rattle.mbdc_poll.specs.Note.{command_note, note_of};
 
 use crate::Event;
 use mbdc_decode::json::{Cell, put_line};
-use mbdc_io::{IoFault, Sink};
 use mbdc_decode::tokens::{Piece, put_pieces};
+use mbdc_io::{IoFault, Sink};
 
 /// Takes the events of a poll beside its output. What becomes of them changes nothing of the poll.
 pub trait Notes {

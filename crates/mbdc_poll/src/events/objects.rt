@@ -14,13 +14,13 @@ ghost use Rattle.mbdc_poll.specs.Read.{last_fields};
 use crate::events::content::untaken;
 use crate::{Brought, Event, LastPart, Refusal, Teller};
 use dc_address::Identity;
-use mbdc_decode::json::Cell::{Number, Text};
-use mbdc_decode::json::{put_content, put_row};
-use mbdc_io::{IoFault, Sink};
 use dc_readout::Why;
 use dc_readout::misses::Misses;
-use mbdc_shown::put_reported;
+use mbdc_decode::json::Cell::{Number, Text};
+use mbdc_decode::json::{put_content, put_row};
 use mbdc_decode::tokens::TokenWriter;
+use mbdc_io::{IoFault, Sink};
+use mbdc_shown::put_reported;
 
 /// Prints a JSON object for each event, in a line of its own.
 #[derive(Drop)]

@@ -8,10 +8,10 @@ ghost use Rattle.mbdc_poll.specs.Reason.{content_lines, reason_of};
 use crate::Event;
 use crate::events::content::untaken;
 use dc_address::Identity;
-use mbdc_io::{IoFault, Sink};
-use mbdc_reading::content::REASON_ROOM;
 use dc_readout::misses::Owner;
 use mbdc_decode::tokens::{Piece, put_pieces};
+use mbdc_io::{IoFault, Sink};
+use mbdc_reading::content::REASON_ROOM;
 
 /// Writes what the tries of a failed readout brought: where some failed, how many brought what, as a line
 /// `mbdc: line 2: 12345678.PAD.01.07: 3 tries failed: 2 silent, 1 unreadable`; and where the last answer is a telegram of

@@ -5,10 +5,10 @@ ghost use Rattle.mbdc_poll.specs.Text.{failed_line, line_of, refused_line, why_e
 
 use crate::{Event, Refusal, Teller};
 use dc_address::Identity;
-use mbdc_io::{IoFault, Sink};
 use dc_readout::Why;
 use mbdc_decode::tokens::Piece::{Text, Word};
 use mbdc_decode::tokens::put_pieces;
+use mbdc_io::{IoFault, Sink};
 
 /// Prints a line of text for each event.
 #[derive(Drop)]

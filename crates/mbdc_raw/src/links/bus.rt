@@ -2,8 +2,8 @@
 
 ghost use Rattle.std.specs.Prelude.{◌≡◌, true};
 
-use mbdc_bus::{AnswerBuf, HalfBus};
 use dc_linkframe::FrameBuf;
+use mbdc_bus::{AnswerBuf, HalfBus};
 
 /// A bus of one of two kinds, or none.
 #[derive(Drop)]

@@ -1,8 +1,8 @@
 //! Connections that pass the bytes of a bus on.
 
+use crate::Link;
 use crate::links::connection::connect;
 use crate::links::terminal::Held;
-use crate::Link;
 use libc::net::{POLLERR, POLLHUP, POLLOUT, POLLRDHUP, poll};
 use libc::types::pollfd;
 use std::cell::Cell;

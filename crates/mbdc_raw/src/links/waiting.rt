@@ -2,10 +2,10 @@
 
 use crate::links::bus::LinkBus;
 use crate::links::peer::SystemBus;
-use mbdc_bus::trace::{Observed, Observer};
-use mbdc_bus::{HalfBus, Pause};
 use libc::net::{POLLIN, poll};
 use libc::types::pollfd;
+use mbdc_bus::trace::{Observed, Observer};
+use mbdc_bus::{HalfBus, Pause};
 use std::net::{Net, TcpStream};
 use std::rt::Clock;
 use std::time::Duration;

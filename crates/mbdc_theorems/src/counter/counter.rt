@@ -6,8 +6,8 @@ ghost use Rattle.mbdc_io.specs.Written.{IsWritten, IsStopped};
 ghost use Rattle.mbdc_theorems.specs.Counting.{SpellsNumber, SpellsStep, IsWithin, counted, zeros};
 
 use byteorder::{ByteOrder, LittleEndian};
-use mbdc_io::{IoFault, Sink};
 use mbdc_io::kept::{DecodeFault, Kept, KeptIn, Language, Subject};
+use mbdc_io::{IoFault, Sink};
 use std::alloc::Global;
 
 /// The bytes of zero.

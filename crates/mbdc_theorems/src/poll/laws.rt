@@ -5,8 +5,8 @@ ghost use Rattle.mbdc_theorems.specs.Met.{IsMet};
 ghost use Rattle.mbdc_theorems.specs.RoomRow.{RoomRowSuffices};
 ghost use Rattle.mbdc_theorems.specs.Talked.{ReadoutsOfAPollEnd};
 
-use mbdc_bus::HalfBus;
 use dc_sectors::Disk;
+use mbdc_bus::HalfBus;
 use mbdc_poll::{Teller, Timer};
 
 /// Each readout of a poll ends in one whole reading, while the talk on its bus is served.
