@@ -1,3 +1,5 @@
+-- lemmas by topic
+
 pub mod Sizes  -- what a change does to the size
 pub mod Identities  -- meters distinguished by their rows
 mod Readings  -- lists of readings

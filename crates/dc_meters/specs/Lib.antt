@@ -1,4 +1,5 @@
 -- the definitions that contracts cite
+
 -- a house in memory: its running size is the size of its state
 pub mod Kept
 -- the data points of a reading

@@ -32,6 +32,7 @@ mod points;
 mod reading;
 mod reading_list;
 mod serials;
+mod subject;
 
 pub use due::{DueDays, DuePoints, StorageDates};
 pub use filed::Filed;
@@ -47,7 +48,4 @@ pub use points::Points;
 pub use reading::Reading;
 use reading_list::ReadingList;
 pub use serials::Serials;
-
-mod subject;
-
 pub use subject::Register;

@@ -1,3 +1,5 @@
+-- lemmas by topic
+
 -- images that agree have the same groups, and a place has one group of a kind
 pub mod Agree
 -- what a chain of puts does to a group, from what each put does

@@ -1,3 +1,5 @@
+-- the definitions that contracts cite
+
 -- the page in a group writer's buffer
 pub mod Buffer
 -- the state of a group writer

@@ -1,3 +1,5 @@
+-- lemmas by topic
+
 -- the bus lines of a script, by their slots
 pub mod Lines
 -- lines of a script, done one after the other

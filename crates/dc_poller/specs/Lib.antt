@@ -1,4 +1,5 @@
 -- the definitions that contracts cite
+
 -- what ends a script early
 pub mod Halt
 -- how a script ended

@@ -17,6 +17,7 @@ pub mod Protocol
 -- failed tries, counted one after the other
 pub mod Counting
 -- of the module `world`
+
 -- meters and their positions, place by place, and what a frame makes of each
 pub mod Moves
 -- the mask of an identity, sent, is read back as itself

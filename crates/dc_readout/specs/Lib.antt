@@ -27,6 +27,7 @@ pub mod Text
 -- the line of a failed readout
 pub mod Reason
 -- of the module `world`
+
 -- a meter that follows the standard: EN 13757-2, the frame count bit at the secondary station; EN 13757-3 (2004,
 -- 2013) and EN 13757-7, selection
 pub mod Meter

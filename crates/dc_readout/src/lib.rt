@@ -7,7 +7,10 @@
 //! is judged and the bit are functions of the session's past: of the answers that were heard and the telegrams
 //! that were settled, and of nothing else.
 //!
-//! Nothing here takes memory.
+//! [`play`] plays the sessions of a concentrator that may crash, with simulated meters on one line that loses and
+//! garbles: each reading that is held is one whole readout.
+//!
+//! Nothing here takes memory but for `play`.
 #![tactic(auto)]
 
 mod answers;

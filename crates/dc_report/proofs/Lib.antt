@@ -1,3 +1,5 @@
+-- lemmas by topic
+
 -- fields that need no quotes
 mod PlainFields
 -- what a map has at a key, seen through a view

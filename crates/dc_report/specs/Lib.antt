@@ -1,4 +1,5 @@
 -- the definitions that contracts cite
+
 -- a line of a table
 pub mod TableLine
 -- the names of device types

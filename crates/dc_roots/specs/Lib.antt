@@ -1,3 +1,5 @@
+-- the definitions that contracts cite
+
 -- the choice of the root in force
 pub mod Choice
 -- the numbers and names of the faults of roots (this product)

@@ -1,3 +1,5 @@
+-- lemmas by topic
+
 -- for callers: what runs of calls leave, and the text of a sector
 
 -- lemmas for callers

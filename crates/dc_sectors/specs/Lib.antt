@@ -1,3 +1,5 @@
+-- the definitions that contracts cite
+
 -- the disk model, and lemmas about possible contents
 
 -- the disk model of this product

@@ -24,8 +24,8 @@ use std::rt::Files;
 /// A disk over a file: sector n is the 512 bytes from byte 512 n on.
 ///
 /// A read, a write or a sync is one call of the file. Each fault of the file is a counted failure,
-/// including a short read or a short write, except that a sector which the drive can't read (EIO of
-/// POSIX) is `Unreadable`. After a sync that failed every call fails.
+/// including a short read or a short write. After a sync that failed every call fails. What only
+/// looks at an image opens its file with [`DiskOver::lenient`].
 ///
 /// That the file keeps the disk model is a hypothesis on its calls so far: `KeepsRule` of
 /// specs/File.
@@ -78,13 +78,32 @@ impl<F: FileExt + OpenFile + AsRawFd + Drop> DiskOver<Logged<F>> {
         ensures opened { IfOk result (λ disk. IsOpened [] disk) }
         ensures no_stream { IfSome (F.raw_fd file) (λ fd. fd ≤ℤ pos 2 → IsErr result) }
     {
+        Self::unless_stream(file, false)
+    }
+
+    /// Returns a disk over an open file, as [`DiskOver::new`] does, for what only looks at it: a sector that the
+    /// drive can't read (EIO of POSIX) is `Unreadable`, and no failure.
+    ///
+    /// # Errors
+    /// As of [`DiskOver::new`].
+    pub fn lenient(file: F) -> io::Result<DiskOver<Logged<F>>>
+        ensures opened { IfOk result (λ disk. IsOpened [] disk) }
+        ensures no_stream { IfSome (F.raw_fd file) (λ fd. fd ≤ℤ pos 2 → IsErr result) }
+    {
+        Self::unless_stream(file, true)
+    }
+
+    fn unless_stream(file: F, is_lenient: bool) -> io::Result<DiskOver<Logged<F>>>
+        ensures opened { IfOk result (λ disk. IsOpened [] disk) }
+        ensures no_stream { IfSome (F.raw_fd file) (λ fd. fd ≤ℤ pos 2 → IsErr result) }
+    {
         if file.as_raw_fd() <= LAST_STREAM {
             return Err(io::Error::new(
                 io::ErrorKind::InvalidInput,
                 "its descriptor is that of a standard stream",
             ));
         }
-        Self::over(Logged::new(file))
+        Self::over(Logged::new(file, is_lenient))
     }
 }
 

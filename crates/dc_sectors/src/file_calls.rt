@@ -24,8 +24,8 @@ pub trait FileCalls {
     /// bytes read.
     ///
     /// # Errors
-    /// [`ReadFault::Unreadable`] where the drive can't read them (EIO of POSIX),
-    /// [`ReadFault::Failed`] at any other error.
+    /// [`ReadFault::Failed`]; of a file that is only looked at [`ReadFault::Unreadable`] where the drive can't read
+    /// them (EIO of POSIX).
     fn read_some(&mut self, at: u64, bytes: &mut [u8]) -> Result<usize, ReadFault>
         ensures count { IfOk result (λ n. n ≤ length bytes.old) }
         ensures noted { history self.new ≡ Got at (length bytes.old) (came result bytes.new)

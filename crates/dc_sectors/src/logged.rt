@@ -30,15 +30,18 @@ const EIO: i32 = 5;
 pub struct Logged<F: FileExt + OpenFile + Drop> {
     file: F,
     log: CallLog,
+    is_lenient: bool,
 }
 
 impl<F: FileExt + OpenFile + Drop> Logged<F> {
-    pub(crate) fn new(file: F) -> Logged<F>
+    // Where it is lenient, a sector that the drive can't read is `Unreadable`. It is a failure otherwise.
+    pub(crate) fn new(file: F, is_lenient: bool) -> Logged<F>
         ensures { result.log.notes ≡ [] }
     {
         Logged {
             file,
             log: CallLog::new(),
+            is_lenient,
         }
     }
 }
@@ -69,7 +72,7 @@ impl<F: FileExt + OpenFile + Drop> FileCalls for Logged<F> {
                 self.log.note(&[GOT, at, asked, 1], &bytes[..n]);
                 Ok(n)
             }
-            Err(error) if error.raw_os_error() == Some(EIO) => {
+            Err(error) if self.is_lenient && error.raw_os_error() == Some(EIO) => {
                 self.log.note(&[GOT, at, asked, 2], &[]);
                 Err(ReadFault::Unreadable)
             }

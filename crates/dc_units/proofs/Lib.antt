@@ -1,3 +1,5 @@
+-- lemmas by topic
+
 -- the texts are ASCII.
 pub mod Ascii
 -- what byteorder reads is the number of the bytes

@@ -1,3 +1,5 @@
+-- the definitions that contracts cite
+
 -- a day of the calendar, and data type G (EN 13757-3)
 pub mod Date
 -- the numbers of data fields (EN 13757-3)

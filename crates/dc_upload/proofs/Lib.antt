@@ -1,3 +1,5 @@
+-- lemmas by topic
+
 -- each line of the office has a text of its own
 pub mod Texts
 -- the codes against a command are its faults

@@ -1,4 +1,5 @@
 -- the definitions that contracts cite
+
 -- what a billing office's line spells
 pub mod Line
 -- why a line is refused

@@ -1,3 +1,5 @@
+-- lemmas by topic
+
 -- powers of ten
 pub mod Powers
 -- the sums of holders

@@ -23,6 +23,7 @@ pub mod Reading
 -- where no answer begins
 pub mod Missing
 -- of the module `trace`
+
 -- of the module `world`
 
 -- the blocks that an answer is cut into

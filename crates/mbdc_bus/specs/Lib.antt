@@ -24,7 +24,6 @@ pub mod Link
 pub mod Silence
 -- of the module `trace`
 
--- the definitions that contracts cite
 -- a bus with an observer
 pub mod Observed
 -- the text of a trace

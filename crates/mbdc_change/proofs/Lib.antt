@@ -1,3 +1,5 @@
+-- lemmas by topic
+
 -- what a crate above may cite
 
 -- a number contains no space

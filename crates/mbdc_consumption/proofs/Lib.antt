@@ -1,3 +1,5 @@
+-- lemmas by topic
+
 -- the curve by recursion from the first entry
 pub mod Grown
 -- what holds of any curve that rises

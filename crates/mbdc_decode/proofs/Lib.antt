@@ -1,3 +1,5 @@
+-- lemmas by topic
+
 -- where a line is cut into frames
 pub mod Cuts
 -- whether lines and frames have a fault, one by one

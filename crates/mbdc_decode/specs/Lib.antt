@@ -1,4 +1,5 @@
 -- the definitions that contracts cite
+
 -- the frames of a line, and their text
 pub mod Frames
 -- what is written for an input in any form
@@ -11,8 +12,6 @@ pub mod Telegram
 pub mod Text
 -- of the module `tokens`
 
--- the definitions that contracts cite
-
 -- objects as lists of fields, and their tokens
 pub mod Object
 -- a row of text
@@ -20,8 +19,6 @@ pub mod Pieces
 -- what the tokens that are written make of a sink
 pub mod Writing
 -- of the module `json`
-
--- the definitions that contracts cite
 
 -- a meter's identity and its status byte
 pub mod Meter

@@ -75,7 +75,7 @@ pub fn copy_disk<'a, R: Files<File = File> + AllocGlobal>(
     ensures { IfErr result (λ ending. IsOfCopy ending name.now) }
 {
     let copy = copy_image(host, name)?;
-    match FileDisk::new(copy) {
+    match FileDisk::lenient(copy) {
         Ok(disk) => Ok(disk),
         Err(error) => Err(host.why.file(name, error)),
     }

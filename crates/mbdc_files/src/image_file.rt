@@ -46,12 +46,12 @@ pub fn open_disk<'h, 'n, R: Files<File = File>>(
         Err(error) => return Err(host.why.file(name, error)),
     };
     let file = ImageFile {
-        file: Noted::look(file, host.why),
+        file: Noted::new(file, host.why),
         rt: host.rt,
         name,
         syncs: Cell::new(0),
     };
-    match FileDisk::new(file) {
+    match FileDisk::lenient(file) {
         Ok(disk) => Ok(disk),
         Err(error) => Err(host.why.file(name, error)),
     }

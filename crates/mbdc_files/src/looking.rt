@@ -75,7 +75,7 @@ impl<'h> LookedAt<'h> {
             Ok(file) => file,
             Err(error) => return Err(self.why.file(name, error)),
         };
-        match FileDisk::new(Noted::look(file, self.why)) {
+        match FileDisk::lenient(Noted::new(file, self.why)) {
             Ok(disk) => Ok(disk),
             Err(error) => Err(self.why.file(name, error)),
         }

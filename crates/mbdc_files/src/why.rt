@@ -115,34 +115,14 @@ impl Why {
 pub struct Noted<'w, T: Drop> {
     inner: T,
     why: &'w Why,
-    is_look: bool,
 }
 
 impl<'w, T: Drop> Noted<'w, T> {
     /// Wraps the file or stream; its failed calls are noted in `why`.
     pub fn new(inner: T, why: &'w Why) -> Self
-        ensures inner { result.inner ≡ inner }
-        ensures writes { result.is_look ≡ false }
+        ensures { result.inner ≡ inner }
     {
-        Noted {
-            inner,
-            why,
-            is_look: false,
-        }
-    }
-
-    /// Wraps the file of an image that is only looked at: what the drive can't read is an unreadable
-    /// sector then. A command that writes would take it for a write that a power cut stopped, and
-    /// write over what the drive had synced.
-    pub fn look(inner: T, why: &'w Why) -> Self
-        ensures inner { result.inner ≡ inner }
-        ensures looks { result.is_look ≡ true }
-    {
-        Noted {
-            inner,
-            why,
-            is_look: true,
-        }
+        Noted { inner, why }
     }
 }
 
@@ -214,8 +194,6 @@ impl FileExt for Noted<'_, File> {
             && error.raw_os_error() == Some(EIO)
         {
             self.why.has_unreadable.set(true);
-            let noted = self.whole(answer, room.len(), at);
-            return if self.is_look { noted } else { Err(unread()) };
         }
         self.whole(answer, room.len(), at)
     }

@@ -1,4 +1,5 @@
 -- lemmas by topic
+
 -- addresses that are asked in turn
 mod Addresses
 -- after a failure nothing is asked
@@ -13,7 +14,6 @@ mod Courses
 mod Numbers
 -- of the module `bench`
 
--- lemmas by topic
 -- a text, and what is printed after it
 mod Texts
 -- the ways to a readout

@@ -1,4 +1,5 @@
 -- the definitions that contracts cite
+
 -- the readout of one meter
 pub mod Read
 -- the search for meters
@@ -13,7 +14,6 @@ pub mod Unread
 pub mod Number
 -- of the module `bench`
 
--- the definitions that contracts cite
 -- how a command over a bus ends
 pub mod Ending
 -- what a command does and prints

@@ -24,5 +24,3 @@ pub mod Lines
 pub mod Fault
 
 -- of the module `kept`
-
--- the definitions that contracts cite

@@ -1,3 +1,5 @@
+-- lemmas by topic
+
 -- what is told of a reading
 mod Told
 -- how many records aren't read

@@ -1,3 +1,5 @@
+-- lemmas by topic
+
 -- what a failed sink over a slice says of the text
 mod Filled
 -- what is left of bytes after their first frame

@@ -1,3 +1,5 @@
+-- lemmas by topic
+
 -- what happens in a poll, one thing after the other
 pub mod Happenings
 -- turns that were run, one after the other, and what is said of them

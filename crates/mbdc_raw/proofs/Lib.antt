@@ -14,7 +14,6 @@ pub mod Steps
 pub mod Life
 -- of the module `links`
 
--- lemmas by topic
 -- of the module `reach`
 
 -- one line, and the lines after it

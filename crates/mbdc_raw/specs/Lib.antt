@@ -22,7 +22,6 @@ pub mod PollWire
 pub mod Life
 -- of the module `links`
 
--- the definitions that contracts cite
 -- the effect of a call on a bus of one of two kinds
 pub mod Bus
 -- of the module `reach`

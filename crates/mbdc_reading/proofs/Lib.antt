@@ -1,3 +1,5 @@
+-- lemmas by topic
+
 -- the lemmas that proofs cite
 
 -- there is room for digits behind nothing
@@ -11,6 +13,7 @@ pub mod Telegrams
 -- what is read agrees with the due-date table, tells each VIFE, and nothing that isn't certain
 mod Readings
 -- of the module `real`
+
 -- of the module `content`
 
 -- a body after CI 72 says what the register reads

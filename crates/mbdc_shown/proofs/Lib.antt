@@ -1,3 +1,5 @@
+-- lemmas by topic
+
 -- the records of several telegrams
 pub mod Sents
 -- what is told of a reading

@@ -88,8 +88,6 @@ pub mod Every
 pub mod OnePoll
 -- of the module `in_time`
 
--- lemmas by topic
-
 -- what is under way on a line
 pub mod Under
 -- a request goes out only where nothing but a copy of the last answer is under way
@@ -108,13 +106,9 @@ pub mod Fresh
 pub mod LateLife
 -- of the module `searching`
 
--- lemmas by topic
-
 -- what a search makes of the answers of its meters
 mod Answers
 -- a search of one meter
 mod OneMeter
 
 -- of the module `counter`
-
--- lemmas by topic

@@ -28,8 +28,6 @@ pub mod RoomRow
 pub mod Met
 -- of the module `in_time`
 
--- the definitions that contracts cite
-
 -- what is under way on a wire
 pub mod Way
 -- one request on a line, and its answer
@@ -42,13 +40,9 @@ pub mod Fresh
 pub mod InTimeMet
 -- of the module `searching`
 
--- the definitions that contracts cite
-
 -- a search whose windows these meters answer
 pub mod Answered
 -- of the module `counter`
-
--- the definitions that contracts cite
 
 -- how numbers are spelled and added
 pub mod Counting

@@ -1,4 +1,5 @@
 -- lemmas by topic
+
 -- the one colon before a port
 mod Places
 -- the words of lines that are refused

@@ -1,4 +1,5 @@
 -- the definitions that contracts cite
+
 -- what is wrong with the words
 pub mod Fault
 -- how a link is spelled
