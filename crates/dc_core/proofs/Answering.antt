@@ -1,6 +1,6 @@
 -- A line of the office, answered.
 use Rattle.std.proofs.Common.{◌≡◌, ◌⊎◌, ⊎_elim, inl, inr, ◌≤◌, ◌+◌, ◌-◌, ◌^◌, ℕ, false, Some, Result, Ok, Err, List, [], ◌∷◌, ◌++◌, refl, ap, sym, subst, ◌∙◌}
-use Rattle.std.specs.Prelude.{IsErrOf}
+use Rattle.std.specs.Prelude.{IsErrOf, length}
 use Rattle.mbdc_io.specs.Failures.{HasRisen, has_risen-after}
 use Rattle.dc_sectors.specs.Disk.{Image, IsImage}
 use Rattle.dc_sectors.specs.declared.device.Disk.{Ghosts}
@@ -31,7 +31,8 @@ use Rattle.dc_core.specs.Step.{settled, settled_core, held, ordered, after_commi
 use Rattle.dc_core.specs.Transcript.{taken_with}
 use Rattle.dc_core.specs.Text.{answer_text}
 use Rattle.dc_core.specs.Images.{Machine, IsAt}
-use Rattle.dc_core.specs.Run.{fault_in, IsWornOut, IsShown, Answered, Turned}
+use Rattle.dc_core.specs.Run.{fault_in, IsShown, Answered, Turned}
+use Rattle.dc_core.specs.Writing.{IsWornFor}
 use Rattle.dc_core.proofs.At.{nothing_waits}
 
 -- the reply by its verdict
@@ -46,17 +47,14 @@ none_done v is = ⊎_elim
     (λ rest. ⊎_elim (λ show. rw show tt) (λ refuse. rw (refuse.1) tt) rest)
     is
 
--- what can't be written shows that a counter of the store is exhausted
-worn_out : {D : Type 0} {P : Type 0} (store : Opened D) → (2 ^ 64 - 1 ≤ store.last + 1) ⊎ (P × (store.root.generation ≡ 2 ^ 64 - 1)) → IsWornOut store
-worn_out store worn = ⊎_elim (λ last. inl last) (λ more. inr more.1) worn
-
 -- a commit's fault shows
-pub commit_shown : {D : Type 0} (g : Ghosts D) {P : Type 0} (old new : Machine D) (result : Result ℕ CommitFault) → (IsErrOf result Device → HasRisen (g.failures old.store.disk) (g.failures new.store.disk))
-    → (IsErrOf result Worn → (2 ^ 64 - 1 ≤ old.store.last + 1) ⊎ (P × (old.store.root.generation ≡ 2 ^ 64 - 1))) → (IsErrOf result Worn → new ≡ old)
+pub commit_shown : {D : Type 0} (g : Ghosts D) (old new : Machine D) (result : Result ℕ CommitFault) → (IsErrOf result Device → HasRisen (g.failures old.store.disk) (g.failures new.store.disk))
+    → (IsErrOf result Worn → IsWornFor (g.sectors old.store.disk) old.store (length old.waiting.bytes)) → (IsErrOf result Worn → new ≡ old)
     → IsShown g old new (fault_in (committed result))
 commit_shown g old new (Ok count) device worn unchanged = tt
 commit_shown g old new (Err Device) device worn unchanged = device refl
-commit_shown {D} g old new (Err Worn) device worn unchanged = subst (λ (m : Machine D). IsWornOut m.store) (sym (unchanged refl)) (worn_out old.store (worn refl))
+commit_shown {D} g old new (Err Worn) device worn unchanged =
+    subst (λ (m : Machine D). IsWornFor (g.sectors m.store.disk) m.store (length m.waiting.bytes)) (sym (unchanged refl)) (worn refl)
 commit_shown g old new (Err Stopped) device worn unchanged = tt
 
 -- a commit that is done stops nothing

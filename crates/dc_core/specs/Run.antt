@@ -1,6 +1,6 @@
 -- Events in code, and the result of a run of them (this product).
-use Rattle.std.specs.Prelude.{◌≡◌, ◌⊎◌, ℕ, ◌≤◌, ◌+◌, ◌-◌, ◌^◌, Option, None, Some, Err, List, []}
-use Rattle.std.specs.Prelude.{◌∷◌, ◌++◌, map}
+use Rattle.std.specs.Prelude.{◌≡◌, ℕ, ◌≤◌, ◌+◌, Option, None, Some, Err, List, []}
+use Rattle.std.specs.Prelude.{◌∷◌, ◌++◌, map, length}
 use Rattle.mbdc_io.specs.Failures.{HasRisen}
 use Rattle.mbdc_io.specs.Written.{PutsInto, Wrote}
 use Rattle.mbdc_io.specs.declared.stream.Sink.{Ghosts as SinkGhosts}
@@ -11,7 +11,6 @@ use Rattle.mbdc_change.specs.Fields.{last_moment}
 use Rattle.mbdc_change.specs.State.{State}
 use Rattle.mbdc_log.specs.Halves.{half_of}
 use Rattle.dc_core.specs.PendingImages.{StandsForFront}
-use Rattle.mbdc_log.specs.Store.{Opened}
 use Rattle.dc_upload.specs.declared.line.OfficeLine.{OfficeLine}
 use Rattle.dc_core.specs.declared.fault.CommitFault.{CommitFault}
 use Rattle.dc_core.specs.declared.fault.CommitFault.TheVariants.{Device, Worn, Stopped}
@@ -26,6 +25,7 @@ use Rattle.dc_core.specs.Promised.{promised_in, HoldsFront}
 use Rattle.dc_core.specs.Known.{KnowsItsMeters}
 use Rattle.dc_core.specs.Text.{replied_text, answer_text, run_text}
 use Rattle.dc_core.specs.Images.{Machine, IsAt, StandsForPromised}
+use Rattle.dc_core.specs.Writing.{IsWornFor}
 
 abbrev pub event_of : declared.Event → Event
 event_of (Start line meter) = starts line meter
@@ -49,15 +49,11 @@ fault_in (replied (unstored fault)) = Some fault
 fault_in (replied (uncommitted change fault)) = Some fault
 fault_in answer = None
 
--- the sequence or the generation has no next value
-abbrev pub IsWornOut : {D : Type 0} → Opened D → Type 0
-IsWornOut store = (2 ^ 64 - 1 ≤ store.last + 1) ⊎ (store.root.generation ≡ 2 ^ 64 - 1)
-
--- It shows: the disk has counted a failure, or the store is worn out.
+-- It shows: the disk has counted a failure, or the store has no counter left with which to write what is pending.
 abbrev pub IsShown : {D : Type 0} → Ghosts D → Machine D → Machine D → Option CommitFault → Type 0
 IsShown g old new None = Unit {0}
 IsShown g old new (Some Device) = HasRisen (g.failures old.store.disk) (g.failures new.store.disk)
-IsShown g old new (Some Worn) = IsWornOut new.store
+IsShown g old new (Some Worn) = IsWornFor (g.sectors new.store.disk) new.store (length new.waiting.bytes)
 IsShown g old new (Some Stopped) = Unit {0}
 
 -- ONE LINE OF THE OFFICE ANSWERED in a state in which nothing waits.
