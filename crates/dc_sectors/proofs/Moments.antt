@@ -68,13 +68,13 @@ module _ {D : Type 0} (g : Ghosts D) where
   pub counts_pass : {T U E : Type 0} (old mid new : D) (r : Result U E) (fault device : E) → Counts g old mid ⊥
       → Counts g mid new (IsErrOf {T = T} (Err fault) device) → r ≡ Err fault → Counts g old new (IsErrOf r device)
   counts_pass old mid new r fault device first second same =
-      counted_on g old mid new ⊥ _ _ first (λ is. is) second
+      counted_on old mid new ⊥ _ _ first (λ is. is) second
       (λ is. let e : fault ≡ device = cc is in same ∙ ap Err e) (λ is. let e : fault ≡ device = cc (is, same) in ap Err e)
 
   -- calls in which nothing failed, and then one more, where what is returned says so
   pub counts_none : (old mid new : D) (F H : Type 0) → Counts g old mid ⊥ → Counts g mid new F → (F → ⊥) → (H → ⊥) → Counts g old new H
   counts_none old mid new F H first second none other =
-      counted_on g old mid new ⊥ ⊥ H first (λ is. is) (all_passed g mid new F second none) (λ is. absurd is) other
+      counted_on old mid new ⊥ ⊥ H first (λ is. is) (all_passed mid new F second none) (λ is. absurd is) other
 
   -- calls that only looked, and then one more, whatever it answered
   pub looked_next : (old mid new : D) → OnlyLooked g old mid → g.reads new ≡ g.reads mid → g.choices new ≡ g.choices mid
@@ -82,7 +82,7 @@ module _ {D : Type 0} (g : Ghosts D) where
   looked_next old mid new first reads choices time before = record {
     reads_same = reads ∙ first.reads_same;
     choices_same = choices ∙ first.choices_same;
-    any_moment = goes_on g old mid new (IsImage (g.choices old)) (IsImage (g.choices mid)) first.any_moment time
+    any_moment = goes_on old mid new (IsImage (g.choices old)) (IsImage (g.choices mid)) first.any_moment time
         (λ image is. subst (λ (c : Choices). IsImage c image) first.choices_same is);
     before = λ kept. first.before (before kept);
   }

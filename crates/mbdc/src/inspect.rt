@@ -31,11 +31,16 @@ where
         Ok(shown) => shown,
         Err(ending) => return ending,
     };
+    let ending = look_ending(shown.outlook.refusal, shown.outlook.ahead, shown.is_silent);
+    // A table is printed only of an image that would be opened.
+    if matches!(asked, Asked::Table(..)) && shown.outlook.refusal.is_some() {
+        return ending;
+    }
     let mut out = Noted::new(io::writer(host.rt), host.why);
     if out.write_all(shown.text.as_slice()).is_err() || out.flush().is_err() {
         return ending_of(Err(ProgramFault::Write), STREAM);
     }
-    look_ending(shown.outlook.refusal, shown.outlook.ahead, shown.is_silent)
+    ending
 }
 
 // What the journal beside the image says, where it is asked for.
