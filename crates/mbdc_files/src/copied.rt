@@ -1,17 +1,21 @@
 //! A copy of an image as it is at one instant: in memory, and by the command `copy` in a new file.
 
-ghost use Rattle.std.specs.Prelude.{◌⊎◌, IfErr};
+ghost use Rattle.std.specs.Prelude.{◌≡◌, ◌⊎◌, IfErr};
+ghost use Rattle.mbdc_ending.specs.Outcome.{IsOfFile};
+ghost use Rattle.mbdc_ending.specs.declared.ending.Ending.TheVariants.{Open};
+ghost use Rattle.mbdc_log.specs.declared.fault.OpenFault.TheVariants.{NotImage};
 ghost use Rattle.mbdc_files.specs.Copied.{IsOfCopy};
 ghost use Rattle.mbdc_files.specs.Formatted.{IsOfFormat};
 
 use crate::half_made::{begin_image, end_image};
 use crate::host::Host;
 use crate::looking::{LookedAt, ROUNDS, ending_of_sample};
+use dc_roots::{RootFault, choose};
 use dc_sectors::snapshot::SampleFault;
 use dc_sectors::{Disk, FileDisk, ReadFault, Sector};
 use libc::EIO;
 use mbdc_ending::Ending;
-use mbdc_log::OpenFault;
+use mbdc_log::{FEWEST_SECTORS, OpenFault};
 use std::alloc::Global;
 use std::cell::Cell;
 use std::fs::{File, Metadata, OpenFile};
@@ -100,15 +104,38 @@ fn read_all<D: Disk>(
     Ok(cells)
 }
 
+// Whether the file holds no image: it is too small, or both root slots can be read and neither has a root.
+fn holds_no_image<'a>(looked: &LookedAt<'_>, name: &'a str) -> Result<bool, Ending<'a>>
+    ensures { IfErr result (λ ending. IsOfFile ending name.now) }
+{
+    let mut disk = looked.disk(name)?;
+    if disk.count() < FEWEST_SECTORS {
+        return Ok(true);
+    }
+    Ok(matches!(choose(&mut disk), Err(RootFault::NoRoot(None))))
+}
+
 /// Copies the image in that file, as [`copy_image`] does, to a new file, which gets its name once it is whole and
 /// durable.
+///
+/// # Errors
+/// `Open(NotImage)` of a file that holds no image, or as of [`copy_image`]; or the new file can't be made.
 pub fn back_up<'a, R: Files<File = File> + AllocGlobal>(
     host: &Host<'_, R>,
     image: &'a str,
     name: &'a str,
 ) -> Ending<'a>
-    ensures { IsOfCopy result image.now ⊎ IsOfFormat result name.now }
+    ensures { (result ≡ Open NotImage) ⊎ (IsOfCopy result image.now ⊎ IsOfFormat result name.now) }
 {
+    let looked = match LookedAt::open(host, image) {
+        Ok(looked) => looked,
+        Err(ending) => return ending,
+    };
+    match holds_no_image(&looked, image) {
+        Ok(false) => {}
+        Ok(true) => return Ending::Open(OpenFault::NotImage),
+        Err(ending) => return ending,
+    }
     let copy = match copy_image(host, image) {
         Ok(copy) => copy,
         Err(ending) => return ending,

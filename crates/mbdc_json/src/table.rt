@@ -4,7 +4,6 @@ use crate::latest::{put_byte_words, put_names};
 use dc_address::Identity;
 use dc_records::names::{function_name, medium_name};
 use dc_records::{End, Record};
-use itoa::Buffer;
 use mbdc_io::{IoFault, Sink, put_byte, put_hex, put_number};
 use mbdc_reading::content::{
     Content, Counter, FixedData, REASON_ROOM, Security, Variable, medium_of, security_name,
@@ -14,14 +13,12 @@ use mbdc_reading::{
     number_of, reading_of, told_of, unit_text, value_text,
 };
 
-// The widths of the columns, in characters.
-const QUANTITY: usize = 30;
+// The widths of the columns, in characters: a row of three short words in its last column has 80.
+const QUANTITY: usize = 24;
 
-const VALUE: usize = 20;
+const VALUE: usize = 18;
 
-const UNIT: usize = 11;
-
-const NUMBER: usize = 8;
+const UNIT: usize = 8;
 
 // Writes this many spaces, and one more.
 fn put_spaces<W: Sink>(out: &mut W, count: usize) -> Result<(), IoFault> {
@@ -102,6 +99,39 @@ fn put_value<W: Sink>(out: &mut W, found: &Record<'_>, reading: &Reading) -> Res
     )
 }
 
+// Writes which value of its quantity a record has: its function and its numbers, but for those of the current value.
+fn put_place<W: Sink>(out: &mut W, found: &Record<'_>) -> Result<(), IoFault> {
+    let mut is_current = found.function == 0;
+    if !is_current {
+        out.put(function_name(found.function).as_bytes())?;
+    }
+    put_place_number(out, &mut is_current, b"storage ", found.storage)?;
+    put_place_number(out, &mut is_current, b"tariff ", u64::from(found.tariff))?;
+    put_place_number(out, &mut is_current, b"subunit ", u64::from(found.subunit))?;
+    if is_current {
+        out.put(b"current")?;
+    }
+    Ok(())
+}
+
+// Writes a number that isn't 0 with its name.
+fn put_place_number<W: Sink>(
+    out: &mut W,
+    is_first: &mut bool,
+    name: &[u8],
+    number: u64,
+) -> Result<(), IoFault> {
+    if number == 0 {
+        return Ok(());
+    }
+    if !*is_first {
+        out.put(b", ")?;
+    }
+    *is_first = false;
+    out.put(name)?;
+    put_number(out, number)
+}
+
 // Writes the row of a record: what it is of, its value information block where it has one, its unit, and what is read.
 fn put_told<W: Sink>(
     out: &mut W,
@@ -120,11 +150,7 @@ fn put_told<W: Sink>(
         put_shown(out, unit)?;
         put_spaces(out, UNIT.saturating_sub(unit.len()))?;
     }
-    let mut number = Buffer::new();
-    put_cell(out, number.format(found.storage).as_bytes(), NUMBER)?;
-    put_cell(out, number.format(found.tariff).as_bytes(), NUMBER)?;
-    put_cell(out, number.format(found.subunit).as_bytes(), NUMBER)?;
-    out.put(function_name(found.function).as_bytes())?;
+    put_place(out, found)?;
     put_qualifiers(out, vib)?;
     out.put(b"\n")
 }
@@ -178,10 +204,7 @@ fn put_columns<W: Sink>(out: &mut W) -> Result<(), IoFault> {
     put_cell(out, b"quantity", QUANTITY)?;
     put_cell(out, b"value", VALUE)?;
     put_cell(out, b"unit", UNIT)?;
-    put_cell(out, b"storage", NUMBER)?;
-    put_cell(out, b"tariff", NUMBER)?;
-    put_cell(out, b"subunit", NUMBER)?;
-    out.put(b"function\n")
+    out.put(b"which\n")
 }
 
 // Writes the names of the columns and a row for each record.
@@ -250,7 +273,7 @@ fn put_fixed<W: Sink>(out: &mut W, data: &FixedData<'_>) -> Result<(), IoFault> 
     Ok(())
 }
 
-/// Writes what a body says: its header, a row for each record, and why the register refuses it.
+/// Writes what a body says: its header, a row for each record, and of what is no telegram why the register refuses it.
 pub(crate) fn put_content<W: Sink>(
     out: &mut W,
     content: &Content<'_>,
@@ -260,6 +283,9 @@ pub(crate) fn put_content<W: Sink>(
         Content::Variable(variable) => put_variable(out, variable, is_telegram)?,
         Content::Fixed(Some(data)) => put_fixed(out, data)?,
         Content::Fixed(None) => {}
+    }
+    if is_telegram {
+        return Ok(());
     }
     if let Some(reason) = content.reason() {
         let mut room = [0u8; REASON_ROOM];
