@@ -14,7 +14,7 @@ use dc_poller::fold_lines;
 use mbdc_audit::{audit, fill};
 use mbdc_consumption::table::{Boundaries, consumption_lines};
 use mbdc_decode::decode_lines;
-use mbdc_decode::json::json_lines;
+use mbdc_decode::objects::json_lines;
 use mbdc_ending::{Ending, ProgramFault, STREAM};
 use mbdc_files::{Host, Noted, back_up, format_image};
 use mbdc_io::{Buffered, Bytes, ReadSource, Sink, Source, WriteSink};

@@ -16,7 +16,7 @@ use dc_recovery::Store;
 use dc_sectors::MemoryDisk;
 use mbdc_bus::world::ListedBus;
 use mbdc_decode::decode_lines;
-use mbdc_decode::json::json_lines;
+use mbdc_decode::objects::json_lines;
 use mbdc_ending::{Ending, ProgramFault, ending_of};
 use mbdc_io::{Bytes, Sink, TextFault, first_line};
 use mbdc_json::explain_lines;

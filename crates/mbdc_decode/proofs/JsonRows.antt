@@ -4,7 +4,7 @@ use Rattle.json.specs.Token.{Token}
 use Rattle.mbdc_decode.specs.Object.{fields_tokens}
 use Rattle.mbdc_decode.proofs.Objects.{fields-cons}
 use Rattle.mbdc_decode.specs.Row.{field_of, row_fields}
-use Rattle.mbdc_decode.specs.declared.json.row.Cell.{Cell}
+use Rattle.mbdc_decode.specs.declared.objects.row.Cell.{Cell}
 
 pub no_cell : (row : List Cell) → length row < 1 → [] ≡ fields_tokens (row_fields row)
 unfolding fields_tokens

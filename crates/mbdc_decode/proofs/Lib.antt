@@ -32,7 +32,7 @@ pub mod Objects
 mod Rows
 -- tokens that a loop writes
 pub mod Rests
--- of the module `json`
+-- of the module `objects`
 
 -- the objects of an input
 mod InputObjects

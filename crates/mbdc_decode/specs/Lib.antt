@@ -18,7 +18,7 @@ pub mod Object
 pub mod Pieces
 -- what the tokens that are written make of a sink
 pub mod Writing
--- of the module `json`
+-- of the module `objects`
 
 -- a meter's identity and its status byte
 pub mod Meter

@@ -5,9 +5,9 @@ use Rattle.mbdc_io.specs.Hex.{upper_hex}
 use Rattle.mbdc_decode.specs.Object.{Field, object_of, count}
 use Rattle.mbdc_decode.specs.Meter.{identity_fields, status_fields}
 use Rattle.mbdc_decode.specs.Record.{value_json, unit_json}
-use Rattle.mbdc_decode.specs.declared.json.row.Cell.{Cell}
-use Rattle.mbdc_decode.specs.declared.json.row.Cell.TheVariants.{Null, Number, Flag, Text, Hex, Meter}
-use Rattle.mbdc_decode.specs.declared.json.row.Cell.TheVariants.{Status, Value, Unit}
+use Rattle.mbdc_decode.specs.declared.objects.row.Cell.{Cell}
+use Rattle.mbdc_decode.specs.declared.objects.row.Cell.TheVariants.{Null, Number, Flag, Text, Hex, Meter}
+use Rattle.mbdc_decode.specs.declared.objects.row.Cell.TheVariants.{Status, Value, Unit}
 
 abbrev pub field_of : Cell → Field
 field_of (Null name) = (name.now, null)

@@ -12,7 +12,7 @@ ghost use Rattle.mbdc_json.specs.Values.{stands_json, stands_line, values_lines}
 use crate::journal::Journal;
 use crate::latest::{last_reading, noted_text, part_in};
 use dc_meters::{House, Part, Place, Reading};
-use mbdc_decode::json::{Cell, put_row};
+use mbdc_decode::objects::{Cell, put_row};
 use mbdc_decode::tokens::TokenWriter;
 use mbdc_io::{IoFault, Sink};
 use mbdc_shown::{put_received, put_told};

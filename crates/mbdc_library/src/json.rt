@@ -3,13 +3,13 @@
 ghost use Rattle.std.specs.Prelude.{◌≡◌, ◌≢◌, ◌-◌, ◌^◌, ◌<◌, ◌≤◌, length, take};
 ghost use Rattle.mbdc_decode.specs.JsonText.{json_text};
 
-use mbdc_decode::json::put_json_lines;
+use mbdc_decode::objects::put_json_lines;
 use mbdc_io::{LONGEST, SliceSink};
 
 /// Writes the JSON lines of an input of hex digits, as `decode --json` prints them, to the front of
 /// `out`, and returns their number of bytes; `usize::MAX` if they have more than `out`.
 ///
-/// The text is defined by `specs/Text.antt` of dc_frame_json: an object for each link frame (EN
+/// The text is defined by `specs/Text.antt` of mbdc_decode: an object for each link frame (EN
 /// 13757-2) and each fault, with the telegram (EN 13757-3) of a frame with CI 72h.
 #[unsafe(no_mangle)]
 pub extern "C" fn mbdc_decode_json(input: &[u8], out: &mut [u8]) -> usize

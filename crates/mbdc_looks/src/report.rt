@@ -11,7 +11,7 @@ use dc_meters::{House, Place};
 use dc_records::names::function_name;
 use dc_report::Row;
 use dc_units::{Date, Value};
-use mbdc_decode::json::{Cell, put_line};
+use mbdc_decode::objects::{Cell, put_line};
 use mbdc_io::{IoFault, Sink};
 use std::alloc::Allocator;
 

@@ -12,7 +12,7 @@ use crate::stand::{Current, Headline, Listed};
 use crate::utc::minute;
 use dc_meters::Part;
 use dc_records::Telegram;
-use mbdc_decode::json::{Cell, put_record, put_row};
+use mbdc_decode::objects::{Cell, put_record, put_row};
 use mbdc_decode::tokens::TokenWriter;
 use mbdc_io::Sink;
 use std::alloc::{Allocator, Global};

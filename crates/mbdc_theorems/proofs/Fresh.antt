@@ -1,5 +1,5 @@
 -- Each reading is a whole readout of one meter, also where its telegrams have other values at each repeat: by what each
--- event keeps of a world of dc_world.
+-- event keeps of a world of dc_readout.
 use Rattle.std.proofs.Common.{◌≡◌, ℕ, ◌+◌, ◌≤◌, ◌⊎◌, inl, inr, Bool, true, false, List, [], ◌∷◌, ◌++◌, length, take, Option, Some, None, cond, refl, sym, ◌∙◌, ap, subst}
 use Rattle.std.specs.Prelude.{slice_get, slice_set, unwrap_or}
 use Rattle.std.specs.List.{AllByRecursion}

@@ -1,4 +1,4 @@
--- Where the telegrams of each meter stay the same: by the theorems of dc_world.
+-- Where the telegrams of each meter stay the same: by the theorems of dc_readout.
 use Rattle.std.proofs.Common.{◌≡◌, List, [], ◌∷◌, ◌++◌, sym, ◌∙◌, ap, subst}
 use Rattle.std.specs.List.{AllByRecursion}
 use Rattle.dc_readout.specs.declared.world.event.WorldEvent.{WorldEvent}

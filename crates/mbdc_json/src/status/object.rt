@@ -16,7 +16,7 @@ use crate::status::row::{Row, Told, row_at};
 use crate::status::silence::Clock;
 use dc_meters::House;
 use dc_units::Value;
-use mbdc_decode::json::{Cell, put_line};
+use mbdc_decode::objects::{Cell, put_line};
 use mbdc_io::{IoFault, Sink};
 use mbdc_shown::{minute, readings_left};
 use std::alloc::Allocator;

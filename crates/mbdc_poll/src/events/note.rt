@@ -5,7 +5,7 @@ ghost use Rattle.mbdc_io.specs.Written.{Wrote};
 ghost use Rattle.mbdc_poll.specs.Note.{command_note, note_of};
 
 use crate::Event;
-use mbdc_decode::json::{Cell, put_line};
+use mbdc_decode::objects::{Cell, put_line};
 use mbdc_decode::tokens::{Piece, put_pieces};
 use mbdc_io::{IoFault, Sink};
 

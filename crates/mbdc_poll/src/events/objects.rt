@@ -16,8 +16,8 @@ use crate::{Brought, Event, LastPart, Refusal, Teller};
 use dc_address::Identity;
 use dc_readout::Why;
 use dc_readout::misses::Misses;
-use mbdc_decode::json::Cell::{Number, Text};
-use mbdc_decode::json::{put_content, put_row};
+use mbdc_decode::objects::Cell::{Number, Text};
+use mbdc_decode::objects::{put_content, put_row};
 use mbdc_decode::tokens::TokenWriter;
 use mbdc_io::{IoFault, Sink};
 use mbdc_shown::put_reported;
@@ -199,7 +199,7 @@ fn put_heard<W: Sink>(out: &mut TokenWriter<'_, W>, line: u8, misses: &Misses)
 {
     out.put_count("line", u64::from(line));
     out.put_name("heard");
-    mbdc_decode::json::put_object(
+    mbdc_decode::objects::put_object(
         out,
         &[
             Number("silent", u64::from(misses.silent)),

@@ -1,0 +1,12 @@
+use Rattle.std.proofs.Common.{append_assoc, append-nil}
+use Rattle.json.specs.Tree.{json_tokens}
+use Rattle.mbdc_decode.proofs.Objects.{members_are}
+use Rattle.mbdc_decode.proofs.Adding.{◌>>◌, unchanged, said}
+use Rattle.mbdc_decode.specs.Frame.{body_json}
+use Rattle.mbdc_decode.proofs.objects.frame.put_body_json.Goals as goal
+
+pub returns-clause-tokens : goal.returns-clause-tokens
+unfolding body_json
+returns-clause-tokens g c =
+    said (json_tokens (body_json c.args.body.now))
+    (c.begin_object.ensures >> c.put_body-bad.ensures.tokens >> c.end_object.ensures >> unchanged) (simp (members_are, append_assoc, append-nil))
