@@ -2,9 +2,9 @@
 # It lies beside the crates, and not in one's out/, which `rt ci` empties.
 built=$root/out/run
 
-# One sum of all that the program is made of, and the gate proves of it: no edits, and no crates of tests.
+# One sum of all that the program is made of, and the gate proves of it: no edits.
 sources() {
-    local others=(-name out -o -name must-fail -o -name mutants -o -name '*_tests')
+    local others=(-name out -o -name must-fail -o -name mutants)
     (cd -- "$root" && find crates.txt crates -type d \( "${others[@]}" \) -prune -o -type f -print0 \
         | LC_ALL=C sort -z | xargs -0 sha256sum -- | sha256sum)
 }
@@ -14,9 +14,9 @@ toolchain() {
     stat -L -c '%n %s %Y' "$(command -v rt)"
 }
 
-# Whether a program is kept, built from the present sources: mbdc, or dc_first, which decodes alone.
-is_kept() {
-    local kept=$built/$1
+# Whether the program is built from the present sources.
+is_built() {
+    local kept=$built/mbdc
     [ -x "$kept" ] && [ "$(sources)" = "$(cat -- "$kept.sources" 2>/dev/null)" ] || return 1
     ! command -v rt >/dev/null || [ "$(toolchain)" = "$(cat -- "$kept.toolchain" 2>/dev/null)" ]
 }
@@ -31,10 +31,6 @@ sources_of_arm64() {
     (sources && sha256sum <"$root/packaging/arm64/host.c") | sha256sum
 }
 
-is_built() {
-    is_kept mbdc
-}
-
 # The commit of the present sources, with a + where they differ from it; nothing outside of a checkout.
 commit() {
     local of
@@ -43,11 +39,11 @@ commit() {
     printf '%s\n' "$of"
 }
 
-# Takes a program that was just proved and linked, from these sources by this toolchain. No proof depends on the commit.
+# Takes the program that was just proved and linked, from these sources by this toolchain. No proof depends on the commit.
 keep_program() {
-    local kept=$built/$1
-    mkdir -p -- "$built" && cp -- "$root/crates/$1/out/$1" "$kept.new" && mv -f -- "$kept.new" "$kept" \
-        && commit >"$kept.commit" && printf '%s\n' "$3" >"$kept.toolchain" && printf '%s\n' "$2" >"$kept.sources"
+    local kept=$built/mbdc
+    mkdir -p -- "$built" && cp -- "$root/crates/mbdc/out/mbdc" "$kept.new" && mv -f -- "$kept.new" "$kept" \
+        && commit >"$kept.commit" && printf '%s\n' "$2" >"$kept.toolchain" && printf '%s\n' "$1" >"$kept.sources"
 }
 
 # What a built program is: version and logic, as it says itself, and the commit that it was built of.
