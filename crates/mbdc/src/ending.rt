@@ -1,4 +1,4 @@
-//! Reports how a run ended: the line on standard error and the exit status, which `dc_poller`
+//! Reports how a run ended: the line on standard error and the exit status, which `mbdc_ending`
 //! decides.
 
 ghost use Rattle.std.specs.Prelude.{◌≡◌, ◌≢◌, ◌⊎◌};

@@ -25,10 +25,14 @@ use ending::{is_cut_off, told, told_disk, told_why, told_words};
 use mbdc_ending::Ending;
 use mbdc_files::{Host, NOWHERE, Why, hold};
 use mbdc_words::{Call, call_of};
-use std::io::{ErrorKind, IsTerminal};
+use std::io::{ErrorKind, IsTerminal, Write};
 use std::process::ExitCode;
 use std::rt::Env;
 use std::{env, io};
+
+// What a person sees who calls the program without words: it waits for lines to decode.
+const AT_TERMINAL: &[u8] =
+    b"mbdc: decoding the lines that you type, up to Ctrl-D; mbdc --help names the commands\n";
 
 fn words_of(rt: &(impl Env + AllocGlobal)) -> io::Result<Vec<String>> {
     let mut words = Vec::new(rt.alloc());
@@ -52,6 +56,9 @@ fn main(rt: HostRuntime) -> ExitCode {
             &Ending::Words("the words aren't UTF-8 text; try mbdc --help"),
         ),
     };
+    if words.len() <= 1 && rt.stdin().is_terminal() {
+        let _ = rt.stderr().write_all(AT_TERMINAL);
+    }
     match call_of(rt.alloc(), words.as_slice()) {
         Ok(call) => answer(&rt, &call),
         Err(fault) => told_words(&rt, &fault, words.as_slice()),
