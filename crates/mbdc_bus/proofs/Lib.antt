@@ -27,6 +27,6 @@ pub mod Missing
 -- of the module `world`
 
 -- the blocks that an answer is cut into
-pub mod Blocks
+pub mod Served
 -- masks as they are sent
 pub mod Orders

@@ -1,6 +1,6 @@
 use Rattle.std.proofs.Common.{◌≡◌, ◌≤◌, ◌++◌, length, arith, sym, ap, ◌∙◌}
 use Rattle.mbdc_bus.specs.Blocks.{most_block}
-use Rattle.mbdc_bus.proofs.Blocks.{answered, put_in_turn}
+use Rattle.mbdc_bus.proofs.Served.{answered, put_in_turn}
 use Rattle.mbdc_bus.proofs.world.serving.put_answer.Goals as goal
 
 pub returns : goal.returns

@@ -1,6 +1,6 @@
 use Rattle.std.proofs.Common.{List, ℕ, subst}
 use Rattle.mbdc_bus.specs.Talk.{IsContent}
-use Rattle.mbdc_bus.proofs.Blocks.{served}
+use Rattle.mbdc_bus.proofs.Served.{served}
 use Rattle.mbdc_bus.proofs.world.serving.serve.Goals as goal
 
 pub returns : goal.returns
