@@ -5,8 +5,8 @@ use crate::demo;
 use crate::dry::dry_run;
 use crate::fit::fit_on_image;
 use crate::inspect::{form_of, look_into, report_on_image, tell_status};
-use crate::loose::decode_pasted;
 use crate::order::order_on_image;
+use crate::pointed::Pointed;
 use crate::poll::poll_on_image;
 use crate::rescue::rescue_image;
 use crate::script::run_on_image;
@@ -20,7 +20,6 @@ use mbdc_files::{Host, Noted, back_up, format_image};
 use mbdc_io::{Buffered, Bytes, ReadSource, Sink, Source, WriteSink};
 use mbdc_json::explain_lines;
 use mbdc_looks::Asked;
-use mbdc_paste::Pointed;
 use mbdc_words::{Engine, Form, Task};
 use std::alloc::{Allocator, Global};
 use std::fs::File;
@@ -128,7 +127,6 @@ fn work<R: Print + Eprint + AllocGlobal, S: Source>(
     let mut writer = Buffered::new(alloc, ROOM, WriteSink::new(printer))?;
     let found = match lines {
         Lines::Of(Engine::Decode(form)) => decoded(alloc, form, reader, &mut writer)?,
-        Lines::Of(Engine::Loose(form)) => decode_pasted(host, form, reader, &mut writer)?,
         Lines::Of(Engine::Fold) => fold_lines(alloc, reader, &mut writer)?,
         Lines::Of(Engine::Audit) => !audit(alloc, reader, &mut writer)?,
         Lines::Of(Engine::Fill) => filled(host, reader, &mut writer)?,
@@ -163,8 +161,8 @@ fn filled<R: Eprint + AllocGlobal, S: Source, W: Sink>(
     Ok(!is_right)
 }
 
-/// Prints the frames of lines of hex digits.
-pub fn decoded<S: Source, W: Sink>(
+// Prints the frames of lines of hex digits.
+fn decoded<S: Source, W: Sink>(
     alloc: Global,
     form: Form,
     reader: &mut S,

@@ -54,9 +54,8 @@ With 2, 3 and 4 one line on standard error says what happened.";
 pub const DECODE: &str = "Example:
   echo 10 40 05 45 16 | mbdc decode --explain
 
-Each line of the input is bytes in hex digits; with --loose it is what people
-paste: words of hex digits among others, arrays, hexdump -C, xxd, log lines,
-frames that go on in the next line. Printed of each frame:
+Each line of the input is bytes in hex digits, with spaces anywhere. Printed of
+each frame:
   ACK | SHORT C A | LONG C A CI length
   METER ident access status
   RECORD storage tariff subunit function vib data = value unit

@@ -226,12 +226,6 @@ const LINES: &[CommandRow] = &[
                 ..FLAG
             },
             Row {
-                id: "LOOSE",
-                long: Some("loose"),
-                help: "Takes what people paste: logs, dumps, arrays; says what it drops",
-                ..FLAG
-            },
-            Row {
                 id: "FILE",
                 is_required: false,
                 help: "Lines of hex digits [default: standard input]",

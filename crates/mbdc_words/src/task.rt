@@ -24,8 +24,6 @@ pub enum Form {
 pub enum Engine {
     /// Print each frame.
     Decode(Form),
-    /// Print each frame of a pasted text.
-    Loose(Form),
     /// Answer each telegram and command, and print the register after them.
     Fold,
     /// Check published numbers.

@@ -88,16 +88,11 @@ fn file_of<'a>(inner: &ArgMatches<'a>, id: &str) -> Result<&'a str, WordsFault> 
 }
 
 fn decoder_of(inner: &ArgMatches<'_>) -> Engine {
-    let form = match (inner.get_flag("JSON"), inner.get_flag("EXPLAIN")) {
+    Engine::Decode(match (inner.get_flag("JSON"), inner.get_flag("EXPLAIN")) {
         (true, _) => Form::Json,
         (false, true) => Form::Table,
         (false, false) => Form::Text,
-    };
-    if inner.get_flag("LOOSE") {
-        Engine::Loose(form)
-    } else {
-        Engine::Decode(form)
-    }
+    })
 }
 
 // The tasks over one bus. Words that the command doesn't have are absent.

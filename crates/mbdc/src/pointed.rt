@@ -1,21 +1,28 @@
 //! What makes a line of hex digits a `HEX FAULT`, named for a person at a terminal.
 
-use crate::remark::{Mistake, put_mistake};
-use mbdc_io::{FixedSink, LONGEST};
+use mbdc_io::LONGEST;
+use std::io;
 use std::io::Read;
-use std::{io, str};
 
-// Room for the line of a mistake.
-const ROOM: usize = 120;
+// What makes a line of hex digits a fault.
+#[derive(Clone, Copy)]
+enum Mistake {
+    // A byte that is no hex digit, at this place from 1.
+    Byte(u8, u64),
+    // The line is too long.
+    Long,
+    // It has this odd number of hex digits.
+    Odd(u64),
+}
 
 /// Lines of hex digits that are read on; the first mistake of each line is named on standard error.
 #[derive(Drop)]
 pub struct Pointed<'r, R, F: Drop> {
     inner: F,
     rt: &'r R,
-    // The line, from 1, and the number of its characters and digits so far.
+    // The line, from 1, and the number of its bytes and digits so far.
     line: u64,
-    characters: u64,
+    bytes: u64,
     digits: u64,
     is_named: bool,
 }
@@ -27,7 +34,7 @@ impl<'r, R: Eprint, F: Drop> Pointed<'r, R, F> {
             inner,
             rt,
             line: 1,
-            characters: 0,
+            bytes: 0,
             digits: 0,
             is_named: false,
         }
@@ -35,27 +42,36 @@ impl<'r, R: Eprint, F: Drop> Pointed<'r, R, F> {
 
     // Names what can be said of a line only at its end, and begins the next one.
     fn end_line(&mut self) {
-        if self.characters > LONGEST as u64 {
+        if self.bytes > LONGEST as u64 {
             self.name(Mistake::Long);
         } else if self.digits % 2 == 1 {
             self.name(Mistake::Odd(self.digits));
         }
         self.line = self.line.saturating_add(1);
-        self.characters = 0;
+        self.bytes = 0;
         self.digits = 0;
         self.is_named = false;
     }
 
     // Prints the first mistake of a line.
     fn name(&mut self, mistake: Mistake) {
-        let mut text = FixedSink::<ROOM>::new();
-        if !self.is_named
-            && put_mistake(&mut text, self.line, mistake).is_ok()
-            && let Ok(text) = str::from_utf8(text.as_slice())
-        {
-            let _ = self.rt.eprint(text);
+        if self.is_named {
+            return;
         }
         self.is_named = true;
+        let line = self.line;
+        let _ = match mistake {
+            Mistake::Byte(b'\t', at) => eprint!(self.rt; "mbdc: line {line}: TAB at {at} is no hex digit\n"),
+            Mistake::Byte(b'\r', at) => eprint!(self.rt; "mbdc: line {line}: CR at {at}: lines end in LF alone\n"),
+            Mistake::Byte(byte @ 0x21..=0x7E, at) => {
+                eprint!(self.rt; "mbdc: line {line}: {} at {at} is no hex digit\n", char::from(byte))
+            }
+            Mistake::Byte(byte, at) => eprint!(self.rt; "mbdc: line {line}: \\x{byte:02X} at {at} is no hex digit\n"),
+            Mistake::Long => eprint!(self.rt; "mbdc: line {line}: it has more than {LONGEST} bytes\n"),
+            Mistake::Odd(digits) => {
+                eprint!(self.rt; "mbdc: line {line}: {digits} hex digits are no whole bytes\n")
+            }
+        };
     }
 }
 
@@ -66,11 +82,11 @@ impl<R: Eprint, F: Read + Drop> Read for Pointed<'_, R, F> {
             if *byte == b'\n' {
                 self.end_line();
             } else {
-                self.characters = self.characters.saturating_add(1);
+                self.bytes = self.bytes.saturating_add(1);
                 if byte.is_ascii_hexdigit() {
                     self.digits = self.digits.saturating_add(1);
                 } else if *byte != b' ' {
-                    self.name(Mistake::Character(*byte, self.characters));
+                    self.name(Mistake::Byte(*byte, self.bytes));
                 }
             }
         }
