@@ -61,13 +61,24 @@ impl<'r, R: Eprint, F: Drop> Pointed<'r, R, F> {
         self.is_named = true;
         let line = self.line;
         let _ = match mistake {
-            Mistake::Byte(b'\t', at) => eprint!(self.rt; "mbdc: line {line}: TAB at {at} is no hex digit\n"),
-            Mistake::Byte(b'\r', at) => eprint!(self.rt; "mbdc: line {line}: CR at {at}: lines end in LF alone\n"),
+            Mistake::Byte(b'\t', at) => eprint!(self.rt;
+                "mbdc: line {line}: TAB at {at} is no hex digit\n"
+            ),
+            Mistake::Byte(b'\r', at) => eprint!(self.rt;
+                "mbdc: line {line}: CR at {at}: lines end in LF alone\n"
+            ),
             Mistake::Byte(byte @ 0x21..=0x7E, at) => {
-                eprint!(self.rt; "mbdc: line {line}: {} at {at} is no hex digit\n", char::from(byte))
+                eprint!(self.rt;
+                    "mbdc: line {line}: {} at {at} is no hex digit\n",
+                    char::from(byte)
+                )
             }
-            Mistake::Byte(byte, at) => eprint!(self.rt; "mbdc: line {line}: \\x{byte:02X} at {at} is no hex digit\n"),
-            Mistake::Long => eprint!(self.rt; "mbdc: line {line}: it has more than {LONGEST} bytes\n"),
+            Mistake::Byte(byte, at) => eprint!(self.rt;
+                "mbdc: line {line}: \\x{byte:02X} at {at} is no hex digit\n"
+            ),
+            Mistake::Long => eprint!(self.rt;
+                "mbdc: line {line}: it has more than {LONGEST} bytes\n"
+            ),
             Mistake::Odd(digits) => {
                 eprint!(self.rt; "mbdc: line {line}: {digits} hex digits are no whole bytes\n")
             }

@@ -2,7 +2,7 @@
 use Rattle.std.proofs.Common.{◌≡◌, refl, ℕ, zero, suc, ◌-◌, ◌≤◌, ◌<◌, List, [], ◌∷◌, ◌++◌, length, take, drop, get_or, ap, sym, ◌∙◌, arith, append-nil}
 use Rattle.json.specs.Token.{Token}
 use Rattle.mbdc_decode.specs.Object.{fields_tokens}
-use Rattle.mbdc_decode.proofs.Objects.{fields-cons}
+use Rattle.mbdc_decode.proofs.ObjectTexts.{fields-cons}
 use Rattle.mbdc_decode.specs.Row.{field_of, row_fields}
 use Rattle.mbdc_decode.specs.declared.objects.row.Cell.{Cell}
 

@@ -27,7 +27,7 @@ mod Escapes
 -- names with what stands around them
 mod Keys
 -- the tokens of objects and arrays
-pub mod Objects
+pub mod ObjectTexts
 -- the text of a row is that of its first piece and of the others
 mod Rows
 -- tokens that a loop writes

@@ -10,7 +10,7 @@ use Rattle.dc_records.specs.Telegram.{telegram_at}
 use Rattle.mbdc_reading.specs.Sent.{Sent}
 use Rattle.mbdc_decode.specs.Meter.{identity_fields}
 use Rattle.mbdc_decode.specs.Object.{Field, fields_tokens, object_of}
-use Rattle.mbdc_decode.proofs.Objects.{fields-append, members_are}
+use Rattle.mbdc_decode.proofs.ObjectTexts.{fields-append, members_are}
 use Rattle.mbdc_shown.specs.Reported.{received_fields, told_fields}
 use Rattle.mbdc_shown.specs.Stand.{all_sent, parts_sent}
 use Rattle.mbdc_shown.proofs.Sents.{all_of_parts}

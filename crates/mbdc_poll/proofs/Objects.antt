@@ -9,7 +9,7 @@ use Rattle.dc_readout.specs.declared.why.Why.{Why}
 use Rattle.dc_readout.specs.declared.why.Why.TheVariants.{NoAnswer, WrongFrame, WrongAddress, ApplicationError, Content, Stranger, TooManyParts}
 use Rattle.dc_records.specs.declared.fault.BodyFault.{BodyFault}
 use Rattle.mbdc_decode.specs.Object.{Field, fields_tokens, object_of as object_with}
-use Rattle.mbdc_decode.proofs.Objects.{fields-append, members_are}
+use Rattle.mbdc_decode.proofs.ObjectTexts.{fields-append, members_are}
 use Rattle.mbdc_poll.specs.Object.{body_fields, event_field, fault_fields, meter_field, text_field}
 
 -- the event and its meter, and then the others

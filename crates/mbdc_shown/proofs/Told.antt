@@ -6,7 +6,7 @@ use Rattle.dc_records.specs.declared.header.Header.{Header}
 use Rattle.mbdc_reading.specs.Headline.{headline}
 use Rattle.mbdc_reading.specs.Sent.{Sent}
 use Rattle.mbdc_decode.specs.Object.{Field, fields_tokens}
-use Rattle.mbdc_decode.proofs.Objects.{fields-append, fields-cons}
+use Rattle.mbdc_decode.proofs.ObjectTexts.{fields-append, fields-cons}
 use Rattle.mbdc_shown.specs.Reported.{received_fields, records_field, reported_fields, told_fields}
 use Rattle.mbdc_shown.specs.Stand.{all_sent, body_sent, listed}
 use Rattle.mbdc_shown.specs.declared.stand.Current.TheVariants.{Values, Also}

@@ -1,7 +1,7 @@
 use Rattle.std.proofs.Common.{List, [], ◌∷◌, ◌∙◌, ap, append_assoc, append-nil, map}
 use Rattle.mbdc_reading.specs.Sent.{Sent, sent_view}
 use Rattle.mbdc_decode.specs.Object.{fields_tokens, values_tokens}
-use Rattle.mbdc_decode.proofs.Objects.{items_are, values_of_map, values_of_none}
+use Rattle.mbdc_decode.proofs.ObjectTexts.{items_are, values_of_map, values_of_none}
 use Rattle.mbdc_decode.proofs.Adding.{◌>>◌, unchanged, said}
 use Rattle.mbdc_decode.proofs.Rests.{rest_begun, rest_more, rest_all}
 use Rattle.mbdc_decode.specs.Record.{record_json}

@@ -2,7 +2,7 @@ use Rattle.std.proofs.Common.{append_assoc, append-nil}
 use Rattle.json.specs.Tree.{json_tokens}
 use Rattle.mbdc_reading.specs.Content.{content_view}
 use Rattle.mbdc_decode.specs.Content.{content_json}
-use Rattle.mbdc_decode.proofs.Objects.{members_are, fields-append}
+use Rattle.mbdc_decode.proofs.ObjectTexts.{members_are, fields-append}
 use Rattle.mbdc_decode.proofs.Adding.{◌>>◌, unchanged, said}
 use Rattle.mbdc_decode.proofs.objects.content.put_content.Goals as goal
 

@@ -1,6 +1,6 @@
 use Rattle.std.proofs.Common.{map, option_map}
 use Rattle.mbdc_decode.specs.Object.{values_tokens}
-use Rattle.mbdc_decode.proofs.Objects.{no_values}
+use Rattle.mbdc_decode.proofs.ObjectTexts.{no_values}
 use Rattle.mbdc_reading.specs.Fixed.{fixed_view}
 use Rattle.mbdc_decode.specs.Content.{counters_in}
 use Rattle.mbdc_decode.specs.Record.{counter_json}

@@ -2,7 +2,7 @@ use Rattle.std.proofs.Common.{[], ◌∷◌, append_assoc, append-nil, option_ma
 use Rattle.mbdc_decode.specs.Object.{fields_tokens}
 use Rattle.mbdc_reading.specs.Fixed.{fixed_view}
 use Rattle.mbdc_decode.specs.Content.{counters_field, counters_in}
-use Rattle.mbdc_decode.proofs.Objects.{members_are, items_are, fields-append}
+use Rattle.mbdc_decode.proofs.ObjectTexts.{members_are, items_are, fields-append}
 use Rattle.mbdc_decode.proofs.Adding.{◌>>◌, unchanged, said}
 use Rattle.mbdc_decode.proofs.objects.content.put_counters_field.Goals as goal
 

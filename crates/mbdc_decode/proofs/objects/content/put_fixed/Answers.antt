@@ -1,7 +1,7 @@
 use Rattle.std.proofs.Common.{List, ◌∷◌, append_assoc, append-nil, option_map}
 use Rattle.dc_records.specs.Body.{plain}
 use Rattle.mbdc_decode.specs.Object.{Field, fields_tokens}
-use Rattle.mbdc_decode.proofs.Objects.{fields-around}
+use Rattle.mbdc_decode.proofs.ObjectTexts.{fields-around}
 use Rattle.mbdc_reading.specs.Content.{fixed}
 use Rattle.mbdc_reading.specs.Fixed.{fixed_view}
 use Rattle.mbdc_decode.specs.Content.{counters_field, counters_in, fixed_head, known_fields}

@@ -1,6 +1,6 @@
 use Rattle.std.proofs.Common.{◌∷◌, append-nil, option_map}
 use Rattle.mbdc_decode.specs.Object.{fields_tokens}
-use Rattle.mbdc_decode.proofs.Objects.{fields-cons}
+use Rattle.mbdc_decode.proofs.ObjectTexts.{fields-cons}
 use Rattle.mbdc_reading.specs.Fixed.{fixed_view}
 use Rattle.mbdc_decode.specs.Content.{fixed_head, fixed_name, state_of, whose_field}
 use Rattle.mbdc_decode.proofs.Adding.{◌>>◌, unchanged, said}

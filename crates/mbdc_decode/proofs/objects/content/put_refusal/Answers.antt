@@ -1,6 +1,6 @@
 use Rattle.std.proofs.Common.{[], ◌∷◌, append-nil, codes}
 use Rattle.mbdc_decode.specs.Object.{Field, fields_tokens}
-use Rattle.mbdc_decode.proofs.Objects.{fields-cons}
+use Rattle.mbdc_decode.proofs.ObjectTexts.{fields-cons}
 use Rattle.mbdc_decode.specs.Content.{fault_json, reason_json, refusal_fields}
 use Rattle.mbdc_decode.proofs.Adding.{◌>>◌, unchanged, said}
 use Rattle.mbdc_decode.proofs.objects.content.put_refusal.Goals as goal

@@ -1,7 +1,7 @@
 use Rattle.std.proofs.Common.{◌≡◌, Bool, true, false, [], ◌∷◌, map, ap, sym, ◌∙◌}
 use Rattle.std.specs.Prelude.{if◌then◌else◌}
 use Rattle.mbdc_decode.specs.Object.{values_tokens}
-use Rattle.mbdc_decode.proofs.Objects.{no_values}
+use Rattle.mbdc_decode.proofs.ObjectTexts.{no_values}
 use Rattle.mbdc_reading.specs.Fixed.{Fixed, counters_of, fixed_view, shows_counters}
 use Rattle.mbdc_decode.specs.Record.{counter_json}
 use Rattle.mbdc_decode.proofs.Adding.{unchanged, said}

@@ -1,6 +1,6 @@
 use Rattle.std.proofs.Common.{List, ◌∷◌, append-nil}
 use Rattle.mbdc_decode.specs.Object.{Field, fields_tokens}
-use Rattle.mbdc_decode.proofs.Objects.{fields-cons, fields-around}
+use Rattle.mbdc_decode.proofs.ObjectTexts.{fields-cons, fields-around}
 use Rattle.mbdc_reading.specs.Content.{Variable, variable, variable_view, sents_of, end_of}
 use Rattle.mbdc_decode.specs.Content.{ending_of, head_fields, known_fields, security_field}
 use Rattle.mbdc_decode.specs.JsonTelegram.{records_field, end_fields}

@@ -5,7 +5,7 @@ use Rattle.mbdc_decode.specs.Object.{Field, fields_tokens}
 use Rattle.mbdc_decode.specs.Content.{content_field}
 use Rattle.mbdc_decode.specs.Fault.{fault_field}
 use Rattle.mbdc_decode.specs.Frame.{body_fields, bytes_field}
-use Rattle.mbdc_decode.proofs.Objects.{fields-cons}
+use Rattle.mbdc_decode.proofs.ObjectTexts.{fields-cons}
 use Rattle.mbdc_decode.proofs.Adding.{◌>>◌, unchanged, said}
 use Rattle.mbdc_decode.proofs.objects.frame.put_body_fault.Goals as goal
 

@@ -3,7 +3,7 @@ use Rattle.dc_linkframe.specs.Fault as link
 use Rattle.mbdc_decode.specs.Object.{Field, fields_tokens}
 use Rattle.mbdc_decode.specs.Fault.{fault_field}
 use Rattle.mbdc_decode.specs.Frame.{read_fields, place_fields, bytes_field}
-use Rattle.mbdc_decode.proofs.Objects.{fields-around}
+use Rattle.mbdc_decode.proofs.ObjectTexts.{fields-around}
 use Rattle.mbdc_decode.proofs.Adding.{◌>>◌, unchanged, said}
 use Rattle.mbdc_decode.proofs.objects.frame.put_frame_fault.Goals as goal
 

@@ -1,6 +1,6 @@
 use Rattle.std.proofs.Common.{append_assoc, append-nil}
 use Rattle.json.specs.Tree.{json_tokens}
-use Rattle.mbdc_decode.proofs.Objects.{members_are, fields-append}
+use Rattle.mbdc_decode.proofs.ObjectTexts.{members_are, fields-append}
 use Rattle.mbdc_decode.proofs.Adding.{◌>>◌, unchanged, said}
 use Rattle.mbdc_decode.specs.Frame.{hex_fault_json, hex_fault_fields}
 use Rattle.mbdc_decode.proofs.objects.frame.put_hex_fault_json.Goals as goal

@@ -2,7 +2,7 @@ use Rattle.std.proofs.Common.{codes}
 use Rattle.dc_linkframe.specs.Frame.{long}
 use Rattle.mbdc_decode.specs.Object.{fields_tokens}
 use Rattle.mbdc_decode.specs.Frame.{place_fields, link_fields, ci_fields, content_fields, frame_fields}
-use Rattle.mbdc_decode.proofs.Objects.{four-append}
+use Rattle.mbdc_decode.proofs.ObjectTexts.{four-append}
 use Rattle.mbdc_decode.proofs.Adding.{◌>>◌, unchanged, said}
 use Rattle.mbdc_decode.proofs.objects.frame.put_long.Goals as goal
 

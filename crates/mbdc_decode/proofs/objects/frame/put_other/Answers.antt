@@ -3,7 +3,7 @@ use Rattle.mbdc_reading.specs.Content.{content_of}
 use Rattle.mbdc_decode.specs.Object.{Field, fields_tokens}
 use Rattle.mbdc_decode.specs.Content.{content_field}
 use Rattle.mbdc_decode.specs.Frame.{bytes_field}
-use Rattle.mbdc_decode.proofs.Objects.{fields-cons}
+use Rattle.mbdc_decode.proofs.ObjectTexts.{fields-cons}
 use Rattle.mbdc_decode.proofs.Adding.{◌>>◌, unchanged, said}
 use Rattle.mbdc_decode.proofs.objects.frame.put_other.Goals as goal
 

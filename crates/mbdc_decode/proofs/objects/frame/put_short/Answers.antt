@@ -1,7 +1,7 @@
 use Rattle.std.proofs.Common.{◌++◌, codes, append-nil}
 use Rattle.mbdc_decode.specs.Object.{fields_tokens}
 use Rattle.mbdc_decode.specs.Frame.{place_fields, link_fields}
-use Rattle.mbdc_decode.proofs.Objects.{fields-append}
+use Rattle.mbdc_decode.proofs.ObjectTexts.{fields-append}
 use Rattle.mbdc_decode.proofs.Adding.{◌>>◌, unchanged, said}
 use Rattle.mbdc_decode.proofs.objects.frame.put_short.Goals as goal
 

@@ -1,6 +1,6 @@
 use Rattle.std.proofs.Common.{append_assoc, append-nil}
 use Rattle.json.specs.Tree.{json_tokens}
-use Rattle.mbdc_decode.proofs.Objects.{members_are}
+use Rattle.mbdc_decode.proofs.ObjectTexts.{members_are}
 use Rattle.mbdc_decode.proofs.Adding.{◌>>◌, unchanged, said}
 use Rattle.mbdc_decode.specs.Frame.{text_json}
 use Rattle.mbdc_decode.proofs.objects.frame.put_text_json.Goals as goal

@@ -5,7 +5,7 @@ use Rattle.mbdc_reading.specs.Names.{names_of}
 use Rattle.mbdc_reading.specs.Parts.{told_of}
 use Rattle.mbdc_decode.specs.Object.{fields_tokens, items_of}
 use Rattle.mbdc_decode.specs.Record.{qualifier_fields}
-use Rattle.mbdc_decode.proofs.Objects.{items_are}
+use Rattle.mbdc_decode.proofs.ObjectTexts.{items_are}
 use Rattle.mbdc_decode.proofs.Adding.{◌>>◌, unchanged, said}
 use Rattle.mbdc_decode.proofs.objects.record.put_qualifiers.Goals as goal
 

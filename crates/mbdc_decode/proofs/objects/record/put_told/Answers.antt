@@ -3,7 +3,7 @@ use Rattle.json.specs.Tree.{json_tokens}
 use Rattle.dc_records.specs.Record.{view}
 use Rattle.mbdc_decode.specs.Record.{told_fields, sent_fields, name_field, qualifier_fields, value_fields, vife_fields}
 use Rattle.mbdc_decode.specs.Object.{Field, object_of}
-use Rattle.mbdc_decode.proofs.Objects.{members_are, fields-append, fields-around}
+use Rattle.mbdc_decode.proofs.ObjectTexts.{members_are, fields-append, fields-around}
 use Rattle.mbdc_decode.proofs.Adding.{◌>>◌, unchanged, said}
 use Rattle.mbdc_decode.proofs.objects.record.put_told.Goals as goal
 

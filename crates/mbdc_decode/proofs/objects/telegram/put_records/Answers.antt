@@ -1,7 +1,7 @@
 use Rattle.std.proofs.Common.{List, ap, map, ◌∙◌}
 use Rattle.mbdc_reading.specs.Sent.{Sent, sent_view}
 use Rattle.mbdc_decode.specs.Object.{values_tokens}
-use Rattle.mbdc_decode.proofs.Objects.{values_of_map, values_of_none}
+use Rattle.mbdc_decode.proofs.ObjectTexts.{values_of_map, values_of_none}
 use Rattle.mbdc_decode.proofs.Rests.{rest_begun, rest_more, rest_all}
 use Rattle.mbdc_decode.specs.Record.{record_json}
 use Rattle.mbdc_decode.proofs.objects.telegram.put_records.Goals as goal

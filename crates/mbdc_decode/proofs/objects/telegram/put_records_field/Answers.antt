@@ -1,7 +1,7 @@
 use Rattle.std.proofs.Common.{[], ◌∷◌, append_assoc, append-nil}
 use Rattle.mbdc_decode.specs.Object.{fields_tokens}
 use Rattle.mbdc_decode.specs.JsonTelegram.{records_field}
-use Rattle.mbdc_decode.proofs.Objects.{members_are, items_are, fields-append}
+use Rattle.mbdc_decode.proofs.ObjectTexts.{members_are, items_are, fields-append}
 use Rattle.mbdc_decode.proofs.Adding.{◌>>◌, unchanged, said}
 use Rattle.mbdc_decode.proofs.objects.telegram.put_records_field.Goals as goal
 

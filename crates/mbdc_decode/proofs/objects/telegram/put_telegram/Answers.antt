@@ -3,7 +3,7 @@ use Rattle.mbdc_reading.specs.Sent.{sent_at}
 use Rattle.dc_records.specs.Telegram.{Parsed, parsed}
 use Rattle.mbdc_decode.specs.Object.{fields_tokens}
 use Rattle.mbdc_decode.specs.JsonTelegram.{header_fields, records_field, end_fields, telegram_fields}
-use Rattle.mbdc_decode.proofs.Objects.{fields-around}
+use Rattle.mbdc_decode.proofs.ObjectTexts.{fields-around}
 use Rattle.mbdc_decode.proofs.Adding.{◌>>◌, unchanged, said}
 use Rattle.mbdc_decode.proofs.objects.telegram.put_telegram.Goals as goal
 

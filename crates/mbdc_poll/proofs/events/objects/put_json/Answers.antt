@@ -1,6 +1,6 @@
 use Rattle.std.proofs.Common.{append-nil}
 use Rattle.json.specs.Tree.{json_tokens}
-use Rattle.mbdc_decode.proofs.Objects.{members_are}
+use Rattle.mbdc_decode.proofs.ObjectTexts.{members_are}
 use Rattle.mbdc_decode.proofs.Adding.{◌>>◌, unchanged, said}
 use Rattle.mbdc_poll.specs.Object.{json_of}
 use Rattle.mbdc_poll.proofs.events.objects.put_json.Goals as goal

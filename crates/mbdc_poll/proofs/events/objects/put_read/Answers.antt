@@ -1,7 +1,7 @@
 use Rattle.std.proofs.Common.{◌++◌, List, ℕ, [], ◌∷◌, codes, ap, sym, ◌∙◌}
 use Rattle.dc_address.specs.Text.{text_of}
 use Rattle.mbdc_decode.specs.Object.{fields_tokens}
-use Rattle.mbdc_decode.proofs.Objects.{fields-append}
+use Rattle.mbdc_decode.proofs.ObjectTexts.{fields-append}
 use Rattle.mbdc_decode.proofs.Adding.{◌>>◌, said}
 use Rattle.mbdc_poll.specs.Object.{count_field, event_field, read_fields, text_field}
 use Rattle.mbdc_poll.specs.Read.{last_fields}
