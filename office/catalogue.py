@@ -23,11 +23,6 @@ WORDS: Dict[str, Tuple[str, str]] = {  # German, English
     "basis": ("Woher die Zahlen kommen", "Where the numbers come from"),
     "meter": ("Zähler", "Meter"), "moment": ("Zeitpunkt", "Moment"), "value": ("Stand", "Meter reading"),
     "source": ("Herkunft", "Source"), "telegram": ("Telegramm", "Telegram"), "check": ("prüfen", "check"),
-    "recompute": ("nachrechnen", "compute again"),
-    "recompute_of": ("Verbrauch nachrechnen: {use}", "Compute the consumption again: {use}"),
-    "explain_recompute": (
-        "Der Link beim Verbrauch öffnet eine Seite, auf der Ihr Browser ihn aus diesen Ständen selbst nachrechnet.",
-        "The link at a consumption opens a page on which your browser computes it again from these readings by itself."),
     "check_of": ("Telegramm prüfen: Zähler {meter}, {moment}", "Check the telegram: meter {meter}, {moment}"),
     "chart": ("Verbrauch nach Monaten: {use}", "Consumption by month: {use}"),
     "none": ("kein Wert", "no value"), "not_yet": ("noch nicht eingezogen", "before you moved in"),

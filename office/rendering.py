@@ -15,7 +15,6 @@ import markupsafe
 
 from catalogue import Catalogue
 from chart import Bar, Chart, chart_of
-from checking import check_link
 from codes import Code, code_of
 from database import plain
 from periods import day_before, later_month, next_month
@@ -30,10 +29,9 @@ FACTS = {"changes": comparisons, "weather": weather, "carbon": carbon, "costs": 
 
 
 class Options(NamedTuple):
-    """How sheets are made: the pages that decode a telegram, that compute a consumption again, and that audit a sheet's file (a
-    relative or an absolute link; none: no links)."""
+    """How sheets are made: the pages that decode a telegram, and that audit a sheet's file (a relative or an absolute link; none: no
+    links)."""
     decoder: str
-    checker: str
     auditor: str
 
 
@@ -89,8 +87,7 @@ def sheet_html(sheet: Sheet, published: Published, options: Options, evidence: O
                    is_estimated=any(is_estimated(numbers, month_key(flat, use, sheet.month)) for use in sheet.uses),
                    said=said_of(sheet, words, numbers), corrected=corrected(sheet, words, numbers),
                    part=lambda month, of: part_of(month, of, words), decoder=options.decoder,
-                   check_link=lambda use, place: check_link(options.checker, words, use, place, numbers.get(place_key(flat, use, place))),
-                   checker=options.checker, is_paper=with_codes, codes=codes_of(sheet, options) if with_codes else [])
+                   is_paper=with_codes, codes=codes_of(sheet, options) if with_codes else [])
 
 
 def is_estimated(numbers: Numbers, key: str) -> bool:

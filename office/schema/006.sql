@@ -157,7 +157,7 @@ CREATE INDEX struck_values ON day_values (fitting, day) WHERE struck_at IS NOT N
 CREATE DOMAIN grade AS text
     CHECK (VALUE IN ('measured', 'estimated', 'zero', 'missing', 'backwards', 'unclear'));
 
--- What `mbdc consumption` computed of a place in a month (part 0) and, where its user changed, in each user's part of
+-- What was computed of a place in a month (part 0) and, where its user changed, in each user's part of
 -- it. basis: the values that it comes from, as they were then.
 CREATE TABLE month_use (
     month date NOT NULL CHECK (month = date_trunc('month', month)),

@@ -32,7 +32,7 @@ CREATE TRIGGER out_is_frozen BEFORE UPDATE OR DELETE ON month_use
     FOR EACH ROW WHEN (OLD.out_at IS NOT NULL) EXECUTE FUNCTION out_is_frozen();
 
 -- The values that a version was computed from, with what else decides it, so that it can be computed again once the days
--- are gone: lines of `mbdc consumption` without their place.
+-- are gone.
 CREATE TABLE frozen_values (
     month date NOT NULL,
     place bigint NOT NULL REFERENCES places,

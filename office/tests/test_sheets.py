@@ -1,17 +1,15 @@
 """office/sheets: what stands on a sheet and a house page, and what hostile names may not do there."""
 
 import datetime
-import decimal
 import hashlib
 import html.parser
 import pathlib
 import re
 import subprocess
-import urllib.parse
 from typing import Any, Dict, List, Optional, Tuple
 
 import pytest
-from audit_reference import Entry, consumed, judged
+from audit_reference import judged
 from conftest import OFFICE, Office
 from supplied import ALLOCATOR, COLD, HEAT, WATER, Supplied, at
 
@@ -222,62 +220,6 @@ def test_links_lead_to_the_very_telegrams(office: Office, elm: Supplied, tmp_pat
     frame = "680F0F6808007278563412244001070100000000001616"
     assert len(links) == 2 and all(label.startswith("Telegramm prüfen: Zähler 00000040.PAD.01.04") for _, label in links)
     assert all(re.fullmatch(r"\.\./\.\./decode\.html#68[0-9A-F]+16", href) for href, _ in links), (links, frame)
-
-
-def computed_again(href: str) -> Tuple[int, str]:
-    """The amount of the only period of a link, and what the sheet says where no factor lies between."""
-    words = dict(urllib.parse.parse_qsl(href.partition("#")[2], strict_parsing=True))
-    header, *rows = (line.split(",") for line in words["entries"].splitlines())
-    entries = [Entry(*map(int, row[1:])) for row in rows]
-    begins, ends = map(int, words["boundaries"].split(","))
-    amount, steps = consumed(entries, begins, ends)
-    assert header == ["place", *Entry._fields] and len({row[0] for row in rows}) == 1
-    assert amount is not None and not any(step.is_marked for step in steps)
-    if "said" in words:
-        quotient = decimal.Decimal(amount) / int(words["scale"])
-        assert quotient.quantize(decimal.Decimal(words["said"]), rounding=decimal.ROUND_HALF_UP) == decimal.Decimal(words["said"])
-    return amount, words.get("said", "")
-
-
-def test_links_compute_each_number_again(office: Office, elm: Supplied, tmp_path: pathlib.Path) -> None:
-    """The readings in a link give the very amount of the database; what is no number has no link."""
-    tenancies = [elm.tenancy("A1", "2023-01-01", None), elm.tenancy("A2", "2023-01-01", "2025-01-11"),
-                 elm.tenancy("A2", "2025-01-11", None), elm.tenancy("A3", "2023-01-01", None)]
-    office.sql("DELETE FROM day_values d USING fittings f, places p WHERE f.id = d.fitting AND p.id = f.place AND"
-               " p.flat = 'A2' AND p.use = 'heat' AND day BETWEEN '2025-01-07' AND '2025-01-13'")
-    office.sql("DELETE FROM day_values d USING fittings f, places p WHERE f.id = d.fitting AND p.id = f.place AND"
-               " p.flat = 'A3' AND p.use = 'heat' AND day > '2025-01-20'")
-    elm.month("2025-01")
-    written(office, tmp_path, "--pdf", "none", "--checker", "https://example.org/check.html")
-    for tenancy in tenancies:
-        page = checked(sheet_of(office, tmp_path, tenancy).read_text(encoding="utf-8"))
-        links = [href for href, _ in page.links if href.startswith("https://example.org/check.html#entries=")]
-        amounts = office.sql("SELECT amount FROM month_use WHERE tenancy = %s AND amount IS NOT NULL", tenancy)
-        assert sorted(computed_again(href)[0] for href in links) == sorted(row[0] for row in amounts)
-        assert any("entries=place%2Cmeter%2Cmoment%2Cvalue%2Cmost%2Csize%0AHeizung" in href for href in links) == (tenancy != tenancies[3])
-    written(office, tmp_path, "--pdf", "none", "--checker", "")
-    page = checked(sheet_of(office, tmp_path, tenancies[0]).read_text(encoding="utf-8"))
-    assert not any("check.html" in href for href, _ in page.links)
-
-
-def test_a_link_over_an_exchange(office: Office, elm: Supplied, tmp_path: pathlib.Path) -> None:
-    """The link has the values at the exchange, of two meters: what both counted."""
-    old = elm.meter(40, HEAT, "B1")
-    tenancy = elm.tenancy("B1", "2024-01-01", None)
-    elm.days(old, "2024-12-25", 20, 1000, 10)
-    office.sql("UPDATE meters SET identity = '00000041.PAD.01.04' WHERE identity = '00000040.PAD.01.04'")
-    new = office.sql("SELECT id FROM fittings WHERE identity = '00000041.PAD.01.04'")[0][0]
-    moment = at("2025-01-15T11:00")
-    office.sql("UPDATE fittings SET during = tstzrange(lower(during), %s), unit = 'Wh', last_value = 1205 WHERE id = %s", moment, old)
-    office.sql("UPDATE fittings SET during = tstzrange(%s, NULL), unit = 'Wh', first_value = 0 WHERE id = %s", moment, new)
-    elm.days(new, "2025-01-15", 20, 5, 10)
-    elm.month("2025-01")
-    written(office, tmp_path, "--pdf", "none")
-    page = checked(sheet_of(office, tmp_path, tenancy).read_text(encoding="utf-8"))
-    (link,) = [href for href, _ in page.links if href.startswith("../../check.html#")]
-    assert computed_again(link) == ((1205 - 1060 + 165) * 3_600_000, "0.3")
-    entries = urllib.parse.unquote_plus(link)
-    assert "Heizung 1,1," in entries and "Heizung 1,2," in entries and entries.count("Heizung 1,") == 4
 
 
 def test_allocators_and_missing_factors(office: Office, tmp_path: pathlib.Path) -> None:
