@@ -59,28 +59,6 @@ static unsigned long tried(decoder *call, const uint8_t *in, size_t size, uint8_
     return length + 2;
 }
 
-/* The periods of entries that end where memory does, into one that does. Returns whether all is well. */
-static int are_periods_well(uint8_t *in, uint8_t *out)
-{
-    static const mbdc_entry entries[] = {{100, 1, 1000}, {300, 1, 1080}, {300, 2, 7}, {500, 2, 27}, {499, 2, 28}};
-    mbdc_period *period = (mbdc_period *)(void *)(out - sizeof *period), before;
-    mbdc_entry *at = (mbdc_entry *)(void *)(in - 4 * sizeof entries[0]);
-    memcpy(at, entries, 4 * sizeof entries[0]);
-    if (mbdc_consumption(at, 4, 100, 400, period) != MBDC_DONE || period->known != 1 || period->amount != 90
-        || period->backwards != 0 || period->exchanges != 1)
-        return 0;
-    if (mbdc_consumption(at, 4, 99, 400, period) != MBDC_DONE || period->known != 0 || period->amount != 0)
-        return 0;
-    memset(period, UNTOUCHED, sizeof *period);
-    before = *period;
-    at = (mbdc_entry *)(void *)(in - sizeof entries);
-    memcpy(at, entries, sizeof entries);
-    return mbdc_consumption(at, 5, 100, 400, period) == MBDC_MOMENT && mbdc_consumption(at, 4, 400, 399, period) == MBDC_PERIOD
-        && mbdc_consumption((mbdc_entry *)(void *)(in - ROOM), 2049, 0, 1, period) == MBDC_TOO_MANY
-        && memcmp(period, &before, sizeof before) == 0
-        && mbdc_consumption(at + 5, 0, 0, 1, period) == MBDC_DONE && period->known == 0;
-}
-
 /* A text into a room of its size, and into one of a byte less. Returns whether all is well. */
 #define FITS(call, length, out) \
     ((call((out) - (length), (length)) == (length)) && ((length) == 0 || call((out) - (length) + 1, (length) - 1) == MBDC_TOO_LONG))
@@ -146,10 +124,6 @@ int main(void)
     static char line[8192];
     uint8_t *in = end_of_memory(), *out = end_of_memory();
     unsigned long calls = 0;
-    if (!are_periods_well(in, out)) {
-        printf("mbdc_consumption\n");
-        return EXIT_FAILURE;
-    }
     if (!are_names_well(out)) {
         printf("mbdc_name\n");
         return EXIT_FAILURE;

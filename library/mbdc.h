@@ -1,6 +1,6 @@
 /* libmbdc: link frames and telegrams of wired M-Bus (EN 13757-2, EN 13757-3) as text and as JSON.
  *
- * What the comments here say of a function's result is proved (crates/mbdc_library, crates/mbdc_consumption), if the caller keeps
+ * What the comments here say of a function's result is proved (crates/mbdc_library), if the caller keeps
  * to what C asks of any caller: each address is that of as many bytes as the size after it says, and
  * not null; `out` overlaps no other argument. The functions take no memory, keep no state and call
  * nothing of the host but memcpy, memmove and memset (tools/library looks): any thread may call them at
@@ -42,34 +42,6 @@ size_t mbdc_decode_json(const uint8_t *input, size_t input_size, uint8_t *out, s
  * are those of the other functions. A body may have any size.
  */
 size_t mbdc_decode_body(const uint8_t *body, size_t body_size, uint8_t *out, size_t out_size);
-
-/* An entry of a place: the value of a meter at a moment. */
-typedef struct {
-    uint64_t moment; /* in seconds */
-    uint64_t meter;  /* any number that tells it from the place's other meters */
-    uint64_t value;  /* in the place's smallest unit */
-    uint64_t most;   /* what the meter can count in an hour; 0: not declared */
-    uint64_t size;   /* the value from which the meter goes on at 0; 0: it has no turn */
-} mbdc_entry;
-
-/* What a place consumed in a period. */
-typedef struct {
-    uint64_t known;     /* 1; 0 where the period isn't between the first and the last entry; 2 from 2^64 on */
-    uint64_t amount;    /* 0 unless known is 1 */
-    uint64_t backwards; /* marked steps that touch the period: doubtful, before a doubtful one, or after one */
-    uint64_t exchanges; /* steps that touch the period from one meter to another */
-} mbdc_period;
-
-/* The results of mbdc_consumption, and MBDC_DONE. */
-#define MBDC_TOO_MANY 1 /* more than 2,048 entries */
-#define MBDC_PERIOD 2   /* the period ends before it begins */
-#define MBDC_MOMENT 3   /* an entry comes before the last one */
-
-/* Computes what a place consumed from a moment to another: writes to `out` what `mbdc consumption`
- * prints of it in a row, and returns MBDC_DONE; or returns the first of the other results that is
- * so, and leaves `out` as it was.
- */
-uint64_t mbdc_consumption(const mbdc_entry *entries, size_t count, uint64_t from, uint64_t to, mbdc_period *out);
 
 /* ---- Frames, records and values as numbers
  *

@@ -24,8 +24,8 @@ EXCLUSIVE = [{"--json", "--explain"}, {"--json", "--prometheus"}, {"--primary", 
              {"--dry-run", "--trace"}]
 WRITING = {"format", "run", "fit", "swap", "move", "out", "poll"}  # the commands that write to their image; `poll --dry-run` doesn't
 # As crates/mbdc_words/src/near.rt has them
-COMMANDS = ["address", "audit", "consumption", "copy", "decode", "demo", "fit", "fold", "format", "inspect", "move", "out", "poll",
-            "read", "report", "rescue", "run", "scan", "status", "swap", "values"]
+COMMANDS = ["address", "audit", "copy", "decode", "demo", "fit", "fold", "format", "inspect", "move", "out", "poll", "read", "report",
+            "rescue", "run", "scan", "status", "swap", "values"]
 
 
 class Said(Exception):

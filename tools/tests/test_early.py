@@ -70,7 +70,8 @@ def test_each_command_has_a_help() -> None:
 
 
 def test_the_commands_that_a_word_is_near_are_those_of_the_sources() -> None:
-    assert re.findall(r'^    "(\w+)",$', (WORDS / "near.rt").read_text(), re.M) == early.COMMANDS
+    listed = (WORDS / "near.rt").read_text().partition("const COMMANDS")[2].partition(";\n")[0]
+    assert re.findall(r'"(\w+)"', listed) == early.COMMANDS
 
 
 @pytest.mark.parametrize("words, text", MISTAKES)

@@ -30,10 +30,6 @@ const NO_METER: &str =
 const NO_OLD: &str =
     "OLD is the meter's identity, as 12345678.PAD.01.07, or the primary address that it has, 0 to 250";
 
-// A word that has to be boundaries of periods isn't.
-const NO_BOUNDARIES: &str =
-    "BOUNDARIES are two moments or more, each later than the last; try mbdc consumption --help";
-
 // A word that has to be a time of silence isn't.
 const NO_SILENCE: &str =
     "--silent takes days, as 2 or 2d, from 1 to 366, or hours, as 12h; try mbdc status --help";
@@ -215,7 +211,6 @@ pub fn told_words(rt: &HostRuntime, fault: &WordsFault, words: &[String]) -> Exi
         WordsFault::Meter => told(rt, &Ending::Words(NO_METER)),
         WordsFault::Reached => told(rt, &Ending::Words(NO_OLD)),
         WordsFault::NoLink => told(rt, &Ending::Words(NO_LINK)),
-        WordsFault::Boundaries => told(rt, &Ending::Words(NO_BOUNDARIES)),
         WordsFault::Silence => told(rt, &Ending::Words(NO_SILENCE)),
         WordsFault::Dash => told(rt, &Ending::Words(NO_DASH)),
         WordsFault::Flat => told(rt, &Ending::Words(NO_FLAT)),

@@ -12,7 +12,6 @@ use crate::rescue::rescue_image;
 use crate::script::run_on_image;
 use dc_poller::fold_lines;
 use mbdc_audit::{audit, fill};
-use mbdc_consumption::table::{Boundaries, consumption_lines};
 use mbdc_decode::decode_lines;
 use mbdc_decode::objects::json_lines;
 use mbdc_ending::{Ending, ProgramFault, STREAM};
@@ -31,15 +30,6 @@ use std::{fs, io, str};
 /// Number of bytes that go to standard output at once.
 pub const ROOM: usize = 65_536;
 
-// What is done with the lines of an input.
-#[derive(Clone, Copy)]
-enum Lines<'b> {
-    // An engine of the words.
-    Of(Engine),
-    // The table of what places consumed in these periods.
-    Consumption(&'b Boundaries<Global>),
-}
-
 /// Runs the task that the words name.
 pub fn run<'a, R>(host: &Host<'a, R>, task: &Task<'a>) -> Ending<'a>
 where
@@ -56,13 +46,8 @@ where
         Task::Lines {
             engine,
             file: Some(name),
-        } => work_on_file(host, Lines::Of(*engine), name),
-        Task::Lines { engine, file: None } => {
-            work_on(host, Lines::Of(*engine), host.rt.reader(), STREAM)
-        }
-        Task::Consumption { file, boundaries } => {
-            work_on_file(host, Lines::Consumption(boundaries), file)
-        }
+        } => work_on_file(host, *engine, name),
+        Task::Lines { engine, file: None } => { work_on(host, *engine, host.rt.reader(), STREAM) }
         Task::Format { image, sectors } => format_image(host, image, *sectors),
         Task::Run(task) => run_on_image(host, task),
         Task::Report {
@@ -92,47 +77,46 @@ where
 
 fn work_on_file<'a, R: Files + Print + Eprint + AllocGlobal>(
     host: &Host<'_, R>,
-    lines: Lines<'_>,
+    engine: Engine,
     name: &'a str,
 ) -> Ending<'a> {
     match fs::open(host.rt, name) {
-        Ok(file) => work_on(host, lines, file, name),
+        Ok(file) => work_on(host, engine, file, name),
         Err(error) => host.why.file(name, error),
     }
 }
 
 fn work_on<'a, R: Print + Eprint + AllocGlobal, F: Read + Drop>(
     host: &Host<'_, R>,
-    lines: Lines<'_>,
+    engine: Engine,
     file: F,
     name: &'a str,
 ) -> Ending<'a> {
     let noted = Noted::new(file, host.why);
-    if host.is_watched && matches!(lines, Lines::Of(Engine::Decode(_))) {
+    if host.is_watched && matches!(engine, Engine::Decode(_)) {
         let mut reader = ReadSource::new(Pointed::new(noted, host.rt));
-        return host.why.ended(work(host, lines, &mut reader), name);
+        return host.why.ended(work(host, engine, &mut reader), name);
     }
     let mut reader = ReadSource::new(noted);
-    host.why.ended(work(host, lines, &mut reader), name)
+    host.why.ended(work(host, engine, &mut reader), name)
 }
 
 // Runs the engine from what the source has left to standard output. It writes in large pieces.
 fn work<R: Print + Eprint + AllocGlobal, S: Source>(
     host: &Host<'_, R>,
-    lines: Lines<'_>,
+    engine: Engine,
     reader: &mut S,
 ) -> Result<bool, ProgramFault> {
     let alloc = host.rt.alloc();
     let printer = Noted::new(io::writer(host.rt), host.why);
     let mut writer = Buffered::new(alloc, ROOM, WriteSink::new(printer))?;
-    let found = match lines {
-        Lines::Of(Engine::Decode(form)) => decoded(alloc, form, reader, &mut writer)?,
-        Lines::Of(Engine::Fold) => fold_lines(alloc, reader, &mut writer)?,
-        Lines::Of(Engine::Audit) => !audit(alloc, reader, &mut writer)?,
-        Lines::Of(Engine::Fill) => filled(host, reader, &mut writer)?,
-        Lines::Consumption(boundaries) => {
-            consumption_lines(alloc, reader, boundaries, &mut writer)?
-        }
+    let found = match engine {
+        Engine::Decode(Form::Text) => decode_lines(alloc, reader, &mut writer)?,
+        Engine::Decode(Form::Json) => json_lines(alloc, reader, &mut writer)?,
+        Engine::Decode(Form::Table) => explain_lines(alloc, reader, &mut writer)?,
+        Engine::Fold => fold_lines(alloc, reader, &mut writer)?,
+        Engine::Audit => !audit(alloc, reader, &mut writer)?,
+        Engine::Fill => filled(host, reader, &mut writer)?,
     };
     flushed(writer)?;
     Ok(found)
@@ -159,21 +143,6 @@ fn filled<R: Eprint + AllocGlobal, S: Source, W: Sink>(
         let _ = host.rt.eprint(text);
     }
     Ok(!is_right)
-}
-
-// Prints the frames of lines of hex digits.
-fn decoded<S: Source, W: Sink>(
-    alloc: Global,
-    form: Form,
-    reader: &mut S,
-    writer: &mut W,
-) -> Result<bool, ProgramFault> {
-    let found = match form {
-        Form::Text => decode_lines(alloc, reader, writer)?,
-        Form::Json => json_lines(alloc, reader, writer)?,
-        Form::Table => explain_lines(alloc, reader, writer)?,
-    };
-    Ok(found)
 }
 
 /// Flushes the writer.

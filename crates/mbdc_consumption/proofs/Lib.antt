@@ -26,25 +26,7 @@ pub mod Marked
 pub mod Refuted
 -- another value in the place of one
 pub mod Replaced
--- a walk over many periods
-pub mod OnBoundaries
 -- where no step of a period is marked, its values count
 pub mod Clean
 -- the entries that count are in order
 pub mod Kept
--- of the module `table`
-
--- fields that end at a comma
-pub mod Fields
--- the lines of the entries
-pub mod Lines
--- the lines of a place, one line more
-pub mod Rows
--- rows that follow one another are of one place
-pub mod Grouping
--- the entries of the place whose rows are being read
-pub mod Opened
--- the lines of the entries are read one by one
-pub mod Telling
-
--- of the module `check`

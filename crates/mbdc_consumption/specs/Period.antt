@@ -38,10 +38,6 @@ period_of entries from to = record {
   exchanges = length (exchanges_in entries from to);
 }
 
--- the periods from each boundary to the next
-abbrev pub periods : List Entry → List ℕ → List Period
-periods entries boundaries = map (λ p. period_of entries p.0 p.1) (with_next boundaries)
-
 -- the sum of two amounts, if both are known
 abbrev pub added : Option ℕ → Option ℕ → Option ℕ
 added None y = None

@@ -8,23 +8,19 @@
 //! down.
 //!
 //! Of several entries of one meter at one moment the last counts: [`counted`] drops the others.
-//! [`at`] is the place's curve: all that it consumed from its first entry up to a moment.
-//! [`consumption`] is what it consumed in a period, a difference of the curve. [`periods`] makes
-//! many periods, with their marks: [`backwards`] counts the steps of a period that are doubtful (the
-//! meter ran backwards, or rose by more than it can have counted), and those before and after such a
-//! step, since it doesn't say which of its two values is false; [`exchanges`] counts the steps between different
-//! meters.
+//! The place's curve is all that it consumed from its first entry up to a moment. [`consumption`] is
+//! what it consumed in a period, a difference of the curve. A [`Period`] has its marks, too:
+//! [`backwards`] counts the steps of a period that are doubtful (the meter ran backwards, or rose by
+//! more than it can have counted), and those before and after such a step, since it doesn't say which
+//! of its two values is false; [`exchanges`] counts the steps between different meters.
 //!
 //! Proved: each result is its definition, and an amount is a fault only where it is 2^64 or more.
 //! Theorems: the functions of `laws`.
 #![tactic(auto)]
 
 mod between;
-mod boundaries;
-pub mod check;
 mod checked;
 mod counting;
-mod curve;
 mod entry;
 mod fault;
 mod laws;
@@ -32,13 +28,10 @@ mod mark;
 mod order;
 mod period;
 mod reached;
-pub mod table;
 mod walk;
 
 pub use between::consumption;
-pub use boundaries::periods;
 pub use counting::counted;
-pub use curve::at;
 pub use entry::Entry;
 pub use fault::AmountFault;
 pub use laws::{
@@ -50,5 +43,5 @@ pub use laws::{
     where_nothing_runs_backwards_the_values_count,
 };
 pub use mark::{backwards, exchanges};
-pub use order::{are_in_order, is_in_order};
+pub use order::is_in_order;
 pub use period::Period;

@@ -1,19 +1,17 @@
-//! The decoder over two slices, and the check of mbdc_consumption, under the names by which C and WebAssembly know them.
+//! The decoder over two slices, under the names by which C and WebAssembly know it.
 //!
 //! **As text.** [`mbdc_decode_text`] writes the text that `decode` prints for an input to the front of a slice,
 //! [`mbdc_decode_json`] the lines of `decode --json`, and [`mbdc_decode_body`] the JSON line of a body without a frame.
 //!
 //! **As numbers.** [`mbdc_next_frame`] goes over the link frames of bytes, [`mbdc_header`] writes what stands before
 //! the records of a body, and [`mbdc_next_record`] goes over its records with what mbdc_reading reads of each: names by
-//! the numbers that [`mbdc_name`] has a name for, parts by their places. [`mbdc_value_text`] writes a value as text,
-//! and [`mbdc_consumption`] what a place consumed.
+//! the numbers that [`mbdc_name`] has a name for, parts by their places. [`mbdc_value_text`] writes a value as text.
 //!
 //! A slice is two arguments in C, its address and its length. Nothing here takes memory or keeps a state, so it runs
 //! where there is no host: `tools/library` makes libmbdc of it, and a module for web pages.
 #![tactic(auto)]
 
 mod body;
-mod consumption;
 mod frames;
 mod header;
 mod json;
@@ -25,7 +23,6 @@ mod texts;
 mod walk;
 
 pub use body::mbdc_decode_body;
-pub use consumption::mbdc_consumption;
 pub use frames::{PlainFrame, mbdc_next_frame};
 pub use header::{PlainHeader, mbdc_header};
 pub use json::mbdc_decode_json;

@@ -1,7 +1,7 @@
 -- What is wrong with the words (this product).
 use Rattle.mbdc_words.specs.declared.fault.WordsFault.{WordsFault}
 use Rattle.mbdc_words.specs.declared.fault.WordsFault.TheVariants.{Clap, Link, Meter, Reached, NoLink}
-use Rattle.mbdc_words.specs.declared.fault.WordsFault.TheVariants.{Boundaries, Silence, Dash, Flat, Address, NoMemory}
+use Rattle.mbdc_words.specs.declared.fault.WordsFault.TheVariants.{Silence, Dash, Flat, Address, NoMemory}
 
 -- what is said where they are a mistake of which `clap` knows nothing
 abbrev pub IfMistake : WordsFault → Type 0 → Type 0
@@ -10,7 +10,6 @@ IfMistake (Link fault) said = said
 IfMistake Meter said = said
 IfMistake Reached said = said
 IfMistake NoLink said = said
-IfMistake Boundaries said = said
 IfMistake Silence said = said
 IfMistake Dash said = said
 IfMistake Flat said = said

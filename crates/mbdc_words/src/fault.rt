@@ -44,8 +44,6 @@ pub enum WordsFault {
     Reached,
     /// No bus line has a link.
     NoLink,
-    /// A word that has to be boundaries of periods isn't.
-    Boundaries,
     /// A word that has to be a time of silence isn't.
     Silence,
     /// `-` for a file that can't be standard input.

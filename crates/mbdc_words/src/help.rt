@@ -25,8 +25,7 @@ Look:
   inspect  Prints what an image holds, and changes nothing
 
 Bill:
-  consumption  Prints what places consumed between moments, from readings
-  audit        Checks published numbers against the telegrams they come from
+  audit    Checks published numbers against the telegrams they come from
 
 Maintain:
   format   Makes an image that holds an empty register
@@ -76,25 +75,6 @@ Lines of the input:
 Printed: OK, ORDER last, REFUSED fault or SYNTAX for each; then METER ident line
   addr flat open for each meter, READINGS count and SIZE bytes
 Faults: 1 Unknown, 2 Known, 3 AddressTaken, 4 Beyond, 5 Full";
-
-/// Of `consumption`.
-pub const CONSUMPTION: &str = "Example:
-  mbdc consumption entries.csv 1735686000,1738364400,1740783600
-
-Lines of the file: place,meter,moment,value, and then for each entry these four
-  fields: a name without commas and quotation marks, and three numbers of at
-  most 18 digits. Moments are Unix seconds. The places are in the order of their
-  bytes, and the entries of a place in the order of their moments. After a first
-  line place,meter,moment,value,most,size also what the meter can count in an
-  hour, and the value from which it goes on at 0; 0 where there is none.
-Printed: place,from,to,amount,backwards,exchanges, a line a place and period.
-  The amount is empty where the period isn't between the first and the last
-  entry, TooLarge from 2^64 on; backwards is the number of steps in doubt (the
-  meter fell, or rose by more than it can count), and of those before and after
-  one; exchanges that of steps between meters.
-Faults: LINE n FAULT 1 Header, 2 Row, 3 Place (before the last line's), 4 Moment
-  (before the last line's), 5 Facts (other ones than the last line's), with
-  status 1 and no table; mbdc: file: FILE; mbdc: memory";
 
 /// Of `audit`.
 pub const AUDIT: &str = "Example:

@@ -1,28 +1,9 @@
 //! The command that a mistyped word is nearly.
 
 // The commands, the shortest words first among those that begin alike.
-const COMMANDS: [&str; 21] = [
-    "address",
-    "audit",
-    "consumption",
-    "copy",
-    "decode",
-    "demo",
-    "fit",
-    "fold",
-    "format",
-    "inspect",
-    "move",
-    "out",
-    "poll",
-    "read",
-    "report",
-    "rescue",
-    "run",
-    "scan",
-    "status",
-    "swap",
-    "values",
+const COMMANDS: [&str; 20] = [
+    "address", "audit", "copy", "decode", "demo", "fit", "fold", "format", "inspect", "move",
+    "out", "poll", "read", "report", "rescue", "run", "scan", "status", "swap", "values",
 ];
 
 /// The command that differs from a word by one letter that is missing, too much or another, or by two letters that

@@ -244,23 +244,6 @@ const LINES: &[CommandRow] = &[
         }],
     },
     CommandRow {
-        name: "consumption",
-        about: "Prints what places consumed between moments, from readings",
-        after: help::CONSUMPTION,
-        args: &[
-            Row {
-                id: "FILE",
-                help: "Lines place,meter,moment,value",
-                ..WORD
-            },
-            Row {
-                id: "BOUNDARIES",
-                help: "Moments in Unix seconds, separated by commas, each later than the one before it",
-                ..WORD
-            },
-        ],
-    },
-    CommandRow {
         name: "audit",
         about: "Checks published numbers against the telegrams they come from",
         after: help::AUDIT,

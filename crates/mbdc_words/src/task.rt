@@ -5,7 +5,6 @@ use crate::links::Links;
 use dc_address::{Identity, Primary};
 use dc_meters::named::Named;
 use mbdc_change::Flat;
-use mbdc_consumption::table::Boundaries;
 use std::alloc::Global;
 
 /// How the frames of an input are printed.
@@ -192,13 +191,6 @@ pub enum Task<'a> {
         engine: Engine,
         /// The file's name.
         file: Option<&'a str>,
-    },
-    /// The table of what places consumed.
-    Consumption {
-        /// The file of the entries.
-        file: &'a str,
-        /// The boundaries of the periods.
-        boundaries: Boundaries<Global>,
     },
     /// An image of an empty register, in a file.
     Format {

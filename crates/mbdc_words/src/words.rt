@@ -12,8 +12,7 @@ use crate::task::{
 use clap::ArgMatches;
 use dc_address::Primary;
 use dc_meters::named::{Named, identity_of};
-use mbdc_change::{Flat, parse_number};
-use mbdc_consumption::table::Boundaries;
+use mbdc_change::Flat;
 use std::alloc::Global;
 
 // The greatest primary address.
@@ -60,10 +59,6 @@ fn task_of<'a>(alloc: Global, matches: &ArgMatches<'a>) -> Result<Task<'a>, Word
                 Engine::Audit
             },
             file: input_of(inner),
-        }),
-        "consumption" => Ok(Task::Consumption {
-            file: file_of(inner, "FILE")?,
-            boundaries: boundaries_of(alloc, inner.get_str("BOUNDARIES").unwrap_or_default())?,
         }),
         "demo" => Ok(Task::Demo),
         "scan" | "read" | "address" => bus_task(name, inner),
@@ -281,22 +276,4 @@ fn meter_of(word: &str) -> Option<MeterName> {
             _ => None,
         },
     }
-}
-
-// Two moments or more, each later than the one before it.
-fn boundaries_of(alloc: Global, word: &str) -> Result<Boundaries<Global>, WordsFault> {
-    let mut moments = Vec::new(alloc);
-    let mut last = None;
-    for field in word.split(',') {
-        let moment = parse_number(field.as_bytes()).ok_or(WordsFault::Boundaries)?;
-        if last >= Some(moment) {
-            return Err(WordsFault::Boundaries);
-        }
-        last = Some(moment);
-        moments.push(moment)?;
-    }
-    if moments.len() < 2 {
-        return Err(WordsFault::Boundaries);
-    }
-    Boundaries::new(moments).ok_or(WordsFault::Boundaries)
 }
