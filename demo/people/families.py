@@ -14,7 +14,7 @@ from people.pages import NUMBER, Page
 from world.box import Box
 from world.bus import Bus
 from world.families import FAMILIES, FamilyMeter, family_meters, said_of_families
-from world.gateways import TransparentGateway
+from world.gateways import BlockGateway, TransparentGateway
 
 ROOT = pathlib.Path(__file__).resolve().parent.parent.parent
 HOUSE, SECTORS, A_DAY = "house", 2051, 50  # last digits
@@ -29,9 +29,11 @@ class FamilyHouse:
     def __init__(self, office: pathlib.Path, server: Any, mbdc: pathlib.Path, folder: pathlib.Path) -> None:
         self.office, self.server, self.mbdc, self.folder = office, server, mbdc, folder
         self.meters: Dict[str, FamilyMeter] = family_meters(random.Random(1))
-        gateway = TransparentGateway(Bus(list(self.meters.values()), random.Random(1)))
-        gateway.start()
-        self.line = ["--line", f"1={gateway.link}", "--patience", "200"]
+        bus = Bus(list(self.meters.values()), random.Random(1))
+        self.gateway, transparent = BlockGateway(bus), TransparentGateway(bus)
+        self.gateway.start()
+        transparent.start()
+        self.line = ["--line", f"1={transparent.link}", "--patience", "200"]
         self.box = Box(mbdc, folder, SECTORS)
         self.told: Dict[str, List[str]] = {}
         self.problems: List[str] = []
@@ -49,7 +51,8 @@ class FamilyHouse:
         for day in self.days():
             for meter in self.meters.values():
                 meter.count = 4711 + A_DAY * (day - MONTHS[0] + 9 * DAY).days
-            self.box.run([f"AT {int(begin_of(day).timestamp())}", *(f"POLL 1 {meter.name}" for meter in self.meters.values())], *self.line)
+            self.box.run([f"AT {int(begin_of(day).timestamp())}", *(f"POLL 1 {meter.name}" for meter in self.meters.values())],
+                         "--gateway", self.gateway.address)
         polled = self.box.call("poll", self.box.image, *self.line, "--json")
         self.told = said_of_families(polled.printed, self.box.call("values", self.box.image, "--json").printed)
 

@@ -1,7 +1,5 @@
 -- lemmas by topic
 
--- the bus lines of a script, by their slots
-pub mod Lines
 -- lines of a script, done one after the other
 pub mod LineRuns
 -- a line of a script asks for one thing
@@ -10,7 +8,7 @@ pub mod Scripts
 pub mod Lives
 -- what happens in a poll, one thing after the other
 pub mod Ways
--- what goes over the buses, one line after the other
+-- what goes over the gateway, one line after the other
 pub mod Traffics
 -- what ends a script, by what a put gave
 pub mod Halts

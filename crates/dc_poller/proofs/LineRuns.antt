@@ -10,19 +10,13 @@ use Rattle.dc_core.specs.Transcript.{Turn, leads, IsChain}
 use Rattle.dc_core.specs.Images.{Machine, IsAt}
 use Rattle.dc_address.specs.declared.identity.Identity.{Identity}
 use Rattle.dc_poller.specs.Run.{run_of}
-use Rattle.dc_poller.specs.Halt.{OnNoMemory, OnWrite}
-use Rattle.dc_poller.specs.declared.halt.Halt.{Halt}
-use Rattle.dc_poller.specs.declared.halt.Halt.TheVariants.{Write, NoMemory}
-use Rattle.dc_poller.specs.Link.{Link, LineLink, HasBus, line_in, port_in, with_link}
+use Rattle.dc_poller.specs.Link.{IsLinked, Link}
 use Rattle.mbdc_bus.specs.Bus.{Exchange}
 use Rattle.dc_poller.specs.Poll.{Phase, Happening, is_over, to_start, happened_exchanges, happened_turns, happened_text}
 use Rattle.dc_poller.specs.Way.{Way}
-use Rattle.dc_poller.specs.Script.{AskFor, FailsAt, ScriptCut, LinesRan, LineRan, LineCut, Deed, Does, DoesPart, IsOneTurn, IsTurnOf, AreDone, deeds_turns, deeds_text, links_after, traffic_of, moment_behind, moment_after}
+use Rattle.dc_poller.specs.Script.{AskFor, FailsAt, ScriptCut, LinesRan, LineRan, LineCut, Deed, Does, DoesPart, IsOneTurn, IsTurnOf, AreDone, deeds_exchanges, deeds_turns, deeds_text, link_after, moment_behind, moment_after}
 use Rattle.dc_poller.specs.ScriptLine.{LineSeen, poll, IsLineOf}
-use Rattle.dc_poller.specs.Starved.{LineStarved}
-use Rattle.dc_poller.specs.Traffic.{Traffic}
 use Rattle.dc_core.specs.Went.{Went, TurnWent}
-use Rattle.dc_poller.proofs.Traffics.{traffic_push}
 use Rattle.dc_core.proofs.Wents.{went_both, went_chain, went_at}
 
 -- ---- one line more
@@ -36,14 +30,14 @@ ask_push lines [] line rest asked before is = subst (λ (ls : List (List ℕ)). 
 ask_push [] (first ∷ done) line rest asked before is = absurd before
 ask_push (other ∷ lines) (first ∷ done) line rest asked before is = (before.0, ask_push lines done line rest asked before.1 is)
 
-done_push : (moment : ℕ) (link : List LineLink) (done : List LineSeen) (deeds : List Deed) (asked : LineSeen) (deed : Deed) → AreDone moment link done deeds
-    → Does (moment_after moment done) asked (links_after link deeds) deed.left deed.turns deed.exchanges deed.text → AreDone moment link (done ++ asked ∷ []) (deeds ++ deed ∷ [])
+done_push : (moment : ℕ) (link : Link) (done : List LineSeen) (deeds : List Deed) (asked : LineSeen) (deed : Deed) → AreDone moment link done deeds
+    → Does (moment_after moment done) asked (link_after link deeds) deed.left deed.turns deed.exchanges deed.text → AreDone moment link (done ++ asked ∷ []) (deeds ++ deed ∷ [])
 done_push moment link [] [] asked deed before does = (does, tt)
 done_push moment link [] (d ∷ deeds) asked deed before does = absurd before
 done_push moment link (first ∷ done) [] asked deed before does = absurd before
 done_push moment link (first ∷ done) (d ∷ deeds) asked deed before does = (before.0, done_push (moment_behind moment first) d.left done deeds asked deed before.1 does)
 
-link_push : (link : List LineLink) (deeds : List Deed) (deed : Deed) → links_after link (deeds ++ deed ∷ []) ≡ deed.left
+link_push : (link : Link) (deeds : List Deed) (deed : Deed) → link_after link (deeds ++ deed ∷ []) ≡ deed.left
 link_push link [] deed = refl
 link_push link (d ∷ deeds) deed = link_push d.left deeds deed
 
@@ -54,6 +48,10 @@ turns_push (d ∷ deeds) deed = ap (λ (x : List Turn). d.turns ++ x) (turns_pus
 text_push : (deeds : List Deed) (deed : Deed) → deeds_text (deeds ++ deed ∷ []) ≡ deeds_text deeds ++ deed.text
 text_push [] deed = append-nil deed.text
 text_push (d ∷ deeds) deed = ap (λ (x : List ℕ). d.text ++ x) (text_push deeds deed) ∙ sym (append_assoc d.text (deeds_text deeds) deed.text)
+
+exchanges_push : (deeds : List Deed) (deed : Deed) → deeds_exchanges (deeds ++ deed ∷ []) ≡ deeds_exchanges deeds ++ deed.exchanges
+exchanges_push [] deed = append-nil deed.exchanges
+exchanges_push (d ∷ deeds) deed = ap (λ (x : List Exchange). d.exchanges ++ x) (exchanges_push deeds deed) ∙ sym (append_assoc d.exchanges (deeds_exchanges deeds) deed.exchanges)
 
 -- ---- what is said of each result
 
@@ -67,12 +65,12 @@ on_err (Err e) B b = b
 
 module _ {D : Type 0} (g : Ghosts D) (origin : D) where
   -- the lines so far, and how the bus lines are after them
-  pub record LinesSoFar (budget : ℕ) (state : State) (before : List Turn) (link now : List LineLink) (done : List LineSeen) (wrote : List ℕ → Type 0) (carries : List Traffic → Type 0) (first new : Machine D) : Type 0 where
+  pub record LinesSoFar (budget : ℕ) (state : State) (before : List Turn) (link now : Link) (done : List LineSeen) (wrote : List ℕ → Type 0) (carries : List Exchange → Type 0) (first new : Machine D) : Type 0 where
     pub lines : LinesRan g (run_of origin budget state before first new) link done wrote carries
-    pub link_is : links_after link lines.deeds ≡ now
+    pub link_is : link_after link lines.deeds ≡ now
 
   -- no line yet
-  pub lines_none : (budget : ℕ) (state : State) (before : List Turn) (link : List LineLink) (wrote : List ℕ → Type 0) (carries : List Traffic → Type 0) (machine : Machine D)
+  pub lines_none : (budget : ℕ) (state : State) (before : List Turn) (link : Link) (wrote : List ℕ → Type 0) (carries : List Exchange → Type 0) (machine : Machine D)
       → Went g origin budget state before [] machine machine → wrote [] → carries []
       → LinesSoFar budget state before link link [] wrote carries machine machine
   lines_none budget state before link wrote carries machine went text carried = record {
@@ -81,12 +79,12 @@ module _ {D : Type 0} (g : Ghosts D) (origin : D) where
   }
 
   -- some lines, and one more
-  pub lines_more : (budget : ℕ) (state : State) (before : List Turn) (link now left : List LineLink) (done : List LineSeen) (asked : LineSeen) (moment : ℕ) (wrote piece all : List ℕ → Type 0) (carries both : List Traffic → Type 0) (talked : List Exchange → Type 0) (first old new : Machine D)
+  pub lines_more : (budget : ℕ) (state : State) (before : List Turn) (link now left : Link) (done : List LineSeen) (asked : LineSeen) (moment : ℕ) (wrote piece all : List ℕ → Type 0) (carries both : List Exchange → Type 0) (talked : List Exchange → Type 0) (first old new : Machine D)
       → moment ≡ moment_after 0 done
       → (so_far : LinesSoFar budget state before link now done wrote carries first old)
       → LineRan g (run_of origin budget state (before ++ deeds_turns so_far.lines.deeds) old new) moment asked now left piece talked
       → ((text more : List ℕ) → wrote text → piece more → all (text ++ more))
-      → ((traffic : List Traffic) (exchanges : List Exchange) → carries traffic → talked exchanges → both (traffic ++ record { asked = asked; exchanges = exchanges } ∷ []))
+      → ((before more : List Exchange) → carries before → talked more → both (before ++ more))
       → LinesSoFar budget state before link left (done ++ asked ∷ []) all both first new
   lines_more budget state before link now left done asked moment wrote piece all carries both talked first old new is so_far one joins adds =
       let deeds = so_far.lines.deeds in
@@ -95,17 +93,17 @@ module _ {D : Type 0} (g : Ghosts D) (origin : D) where
         lines = record {
           deeds = deeds ++ deed ∷ [];
           done = done_push 0 link done deeds asked deed so_far.lines.done
-              (subst (λ (l : List LineLink). Does (moment_after 0 done) asked l left one.turns one.exchanges one.line) (sym so_far.link_is) (subst (λ (m : ℕ). Does m asked now left one.turns one.exchanges one.line) is one.does));
+              (subst (λ (l : Link). Does (moment_after 0 done) asked l left one.turns one.exchanges one.line) (sym so_far.link_is) (subst (λ (m : ℕ). Does m asked now left one.turns one.exchanges one.line) is one.does));
           went = subst (λ (ts : List Turn). Went g origin budget state before ts first new) (sym (turns_push deeds deed))
               (went_both g origin budget state before (deeds_turns deeds) one.turns first old new so_far.lines.went one.went);
           text = subst all (sym (text_push deeds deed)) (joins (deeds_text deeds) one.line so_far.lines.text one.text);
-          carried = subst both (sym (traffic_push 0 link done deeds asked deed so_far.lines.done)) (adds (traffic_of done deeds) one.exchanges so_far.lines.carried one.over);
+          carried = subst both (sym (exchanges_push deeds deed)) (adds (deeds_exchanges deeds) one.exchanges so_far.lines.carried one.over);
         };
         link_is = link_push link deeds deed;
       }
 
   -- so far: the first lines are done, and the rest of the input is before them
-  pub record SoFar (budget : ℕ) (link now : List LineLink) (input rest : List (List ℕ)) (moment count : ℕ) (wrote : List ℕ → Type 0) (carries : List Traffic → Type 0) (first new : Machine D) : Type 0 where
+  pub record SoFar (budget : ℕ) (link now : Link) (input rest : List (List ℕ)) (moment count : ℕ) (wrote : List ℕ → Type 0) (carries : List Exchange → Type 0) (first new : Machine D) : Type 0 where
     pub done : List LineSeen
     pub are_read : AskFor input done rest
     pub moment_is : moment ≡ moment_after 0 done
@@ -113,12 +111,12 @@ module _ {D : Type 0} (g : Ghosts D) (origin : D) where
     pub ran : (state : State) (before : List Turn) → IsChain budget (opened state) before → IsAt g origin first (leads (opened state) before)
         → LinesSoFar budget state before link now done wrote carries first new
 
-  pub one_more : (budget : ℕ) (link now left : List LineLink) (input : List (List ℕ)) (line : List ℕ) (rest : List (List ℕ)) (asked : LineSeen) (moment count : ℕ) (wrote piece all : List ℕ → Type 0) (carries both : List Traffic → Type 0) (talked : List Exchange → Type 0) (first old new : Machine D)
+  pub one_more : (budget : ℕ) (link now left : Link) (input : List (List ℕ)) (line : List ℕ) (rest : List (List ℕ)) (asked : LineSeen) (moment count : ℕ) (wrote piece all : List ℕ → Type 0) (carries both : List Exchange → Type 0) (talked : List Exchange → Type 0) (first old new : Machine D)
       → SoFar budget link now input (line ∷ rest) moment count wrote carries first old → IsLineOf line asked
       → ((state : State) (before : List Turn) → IsChain budget (opened state) before → IsAt g origin old (leads (opened state) before)
       → LineRan g (run_of origin budget state before old new) moment asked now left piece talked)
       → ((text more : List ℕ) → wrote text → piece more → all (text ++ more))
-      → ((traffic : List Traffic) (exchanges : List Exchange) → carries traffic → talked exchanges → both (traffic ++ record { asked = asked; exchanges = exchanges } ∷ []))
+      → ((before more : List Exchange) → carries before → talked more → both (before ++ more))
       → SoFar budget link left input rest (moment_behind moment asked) (count + 1) all both first new
   one_more budget link now left input line rest asked moment count wrote piece all carries both talked first old new so_far is one joins adds =
       let counted = so_far.count_is in
@@ -135,14 +133,14 @@ module _ {D : Type 0} (g : Ghosts D) (origin : D) where
       }
 
   -- a write failed at the next line
-  pub cut_here : (budget : ℕ) (link now : List LineLink) (input : List (List ℕ)) (line : List ℕ) (rest : List (List ℕ)) (moment count : ℕ) (wrote : List ℕ → Type 0) (carries both : List Traffic → Type 0) (part : List Turn) (part_traffic : List Traffic) (first old new : Machine D)
+  pub cut_here : (budget : ℕ) (link now : Link) (input : List (List ℕ)) (line : List ℕ) (rest : List (List ℕ)) (moment count : ℕ) (wrote : List ℕ → Type 0) (carries both : List Exchange → Type 0) (part : List Turn) (part_exchanges : List Exchange) (first old new : Machine D)
       → (so_far : SoFar budget link now input (line ∷ rest) moment count wrote carries first old)
       → (state : State) (before : List Turn) (chain : IsChain budget (opened state) before) (is_at : IsAt g origin first (leads (opened state) before))
-      → FailsAt moment now (line ∷ rest) part part_traffic
-      → ((traffic : List Traffic) → carries traffic → both (traffic ++ part_traffic))
+      → FailsAt moment now (line ∷ rest) part part_exchanges
+      → ((exchanges : List Exchange) → carries exchanges → both (exchanges ++ part_exchanges))
       → Went g origin budget state (before ++ deeds_turns (so_far.ran state before chain is_at).lines.deeds) part old new
       → ScriptCut g (run_of origin budget state before first new) link input both
-  cut_here budget link now input line rest moment count wrote carries both part part_traffic first old new so_far state before chain is_at fails adds went =
+  cut_here budget link now input line rest moment count wrote carries both part part_exchanges first old new so_far state before chain is_at fails adds went =
       let ran = so_far.ran state before chain is_at in
       record {
         asked = so_far.done;
@@ -151,16 +149,16 @@ module _ {D : Type 0} (g : Ghosts D) (origin : D) where
         deeds = ran.lines.deeds;
         done = ran.lines.done;
         part = part;
-        part_traffic = part_traffic;
-        fails = subst (λ (l : List LineLink). FailsAt (moment_after 0 so_far.done) l (line ∷ rest) part part_traffic) (sym ran.link_is) (subst (λ (m : ℕ). FailsAt m now (line ∷ rest) part part_traffic) so_far.moment_is fails);
+        part_exchanges = part_exchanges;
+        fails = subst (λ (l : Link). FailsAt (moment_after 0 so_far.done) l (line ∷ rest) part part_exchanges) (sym ran.link_is) (subst (λ (m : ℕ). FailsAt m now (line ∷ rest) part part_exchanges) so_far.moment_is fails);
         went = went_both g origin budget state before (deeds_turns ran.lines.deeds) part first old new ran.lines.went went;
-        carried = adds (traffic_of so_far.done ran.lines.deeds) ran.lines.carried;
+        carried = adds (deeds_exchanges ran.lines.deeds) ran.lines.carried;
       }
 
   -- ---- one line
 
   -- a line that is one event
-  pub event_ran : {X E : Type 0} (budget : ℕ) (state : State) (before : List Turn) (event : Event) (moment : ℕ) (asked : LineSeen) (link : List LineLink) (wrote : List ℕ → Type 0) (talked : List Exchange → Type 0) (first new : Machine D) (result : Result X E)
+  pub event_ran : {X E : Type 0} (budget : ℕ) (state : State) (before : List Turn) (event : Event) (moment : ℕ) (asked : LineSeen) (link : Link) (wrote : List ℕ → Type 0) (talked : List Exchange → Type 0) (first new : Machine D) (result : Result X E)
       → TurnWent g origin budget state before event (λ answer. OnOk result (wrote (answer_text answer))) first new
       → ((turns : List Turn) (text : List ℕ) → IsOneTurn event turns text → Does moment asked link link turns [] text)
       → talked []
@@ -177,7 +175,7 @@ module _ {D : Type 0} (g : Ghosts D) (origin : D) where
         over = still;
       }) one.is_such
 
-  pub event_cut : {X E : Type 0} (budget : ℕ) (state : State) (before : List Turn) (event : Event) (moment : ℕ) (asked : LineSeen) (link : List LineLink) (such : Answer → Type 0) (talked : List Exchange → Type 0) (first new : Machine D) (result : Result X E)
+  pub event_cut : {X E : Type 0} (budget : ℕ) (state : State) (before : List Turn) (event : Event) (moment : ℕ) (asked : LineSeen) (link : Link) (such : Answer → Type 0) (talked : List Exchange → Type 0) (first new : Machine D) (result : Result X E)
       → TurnWent g origin budget state before event such first new
       → ((turns : List Turn) → IsTurnOf event turns → DoesPart moment asked link turns [])
       → talked []
@@ -187,127 +185,47 @@ module _ {D : Type 0} (g : Ghosts D) (origin : D) where
       (record { turns = (event, one.answer) ∷ []; exchanges = []; does = does ((event, one.answer) ∷ []) (one.answer, refl); went = one.went; over = still })
 
   -- a line that is no event, and what it writes
-  pub said_ran : {X E : Type 0} (budget : ℕ) (state : State) (before : List Turn) (moment : ℕ) (asked : LineSeen) (link left : List LineLink) (said : List ℕ) (wrote : List ℕ → Type 0) (talked : List Exchange → Type 0) (machine : Machine D) (result : Result X E)
+  pub said_ran : {X E : Type 0} (budget : ℕ) (state : State) (before : List Turn) (moment : ℕ) (asked : LineSeen) (link left : Link) (said : List ℕ) (wrote : List ℕ → Type 0) (talked : List Exchange → Type 0) (machine : Machine D) (result : Result X E)
       → Does moment asked link left [] [] said → talked [] → Went g origin budget state before [] machine machine → OnOk result (wrote said)
       → OnOk result (LineRan g (run_of origin budget state before machine machine) moment asked link left wrote talked)
   said_ran budget state before moment asked link left said wrote talked machine result does still went text =
       on_ok result (wrote said) (LineRan g (run_of origin budget state before machine machine) moment asked link left wrote talked)
       (λ text. record { turns = []; exchanges = []; line = said; does = does; went = went; text = text; over = still }) text
 
-  pub said_cut : {X E : Type 0} (budget : ℕ) (state : State) (before : List Turn) (moment : ℕ) (asked : LineSeen) (link : List LineLink) (talked : List Exchange → Type 0) (machine : Machine D) (result : Result X E)
+  pub said_cut : {X E : Type 0} (budget : ℕ) (state : State) (before : List Turn) (moment : ℕ) (asked : LineSeen) (link : Link) (talked : List Exchange → Type 0) (machine : Machine D) (result : Result X E)
       → DoesPart moment asked link [] [] → talked [] → Went g origin budget state before [] machine machine
       → OnErr result (LineCut g (run_of origin budget state before machine machine) moment asked link talked)
   said_cut budget state before moment asked link talked machine result does still went =
       on_err result (LineCut g (run_of origin budget state before machine machine) moment asked link talked)
       (record { turns = []; exchanges = []; does = does; went = went; over = still })
 
-  -- a poll over a line that is found so, and has a bus
-  pub polled_ran : {X E : Type 0} (budget : ℕ) (state : State) (before : List Turn) (moment line : ℕ) (meter : Identity) (links : List LineLink) (found : LineLink) (after : Link) (ends : List Happening → Phase → Type 0) (wrote : List ℕ → Type 0) (talked : List Exchange → Type 0) (first new : Machine D) (result : Result X E) → line_in links line ≡ found → HasBus found.link
-      → Way g (run_of origin budget state before first new) (record { line = line; is_gateway = found.is_gateway }) moment meter (record { due = to_start; link = found.link }) ends (λ text. OnOk result (wrote text))
+  -- a poll over a gateway that is found so
+  pub polled_ran : {X E : Type 0} (budget : ℕ) (state : State) (before : List Turn) (moment line : ℕ) (meter : Identity) (link after : Link) (ends : List Happening → Phase → Type 0) (wrote : List ℕ → Type 0) (talked : List Exchange → Type 0) (first new : Machine D) (result : Result X E) → IsLinked link line
+      → Way g (run_of origin budget state before first new) line moment meter (record { due = to_start; link = link }) ends (λ text. OnOk result (wrote text))
       → ((happened : List Happening) (last : Phase) → ends happened last → OnOk result (last ≡ record { due = is_over; link = after }))
       → ((happened : List Happening) (last : Phase) → ends happened last → talked (happened_exchanges happened))
-      → OnOk result (LineRan g (run_of origin budget state before first new) moment (poll line meter) links (with_link links line after) wrote talked)
-  polled_ran budget state before moment line meter links found after ends wrote talked first new (Ok x) is has_bus found_way ends_so talks_so =
-      let way = subst (λ (f : LineLink). Way g (run_of origin budget state before first new) (record { line = line; is_gateway = f.is_gateway }) moment meter (record { due = to_start; link = f.link }) ends wrote) (sym is) found_way in
-      record {
-        turns = happened_turns way.happened;
-        exchanges = happened_exchanges way.happened;
-        line = happened_text (port_in links line) way.happened;
-        does = inl (record {
-          has_bus = subst (λ (f : LineLink). HasBus f.link) (sym is) has_bus;
-          after = after;
-          does_so = record { happened = way.happened; last = way.last; way = way.way; ends = ap (λ (p : Phase). p.due) (ends_so way.happened way.last way.ends_so); left_is = sym (ap (λ (p : Phase). p.link) (ends_so way.happened way.last way.ends_so)); turns_are = refl; exchanges_are = refl; text_is = refl };
-          left_is = refl;
-        });
-        went = way.went;
-        text = way.text;
-        over = talks_so way.happened way.last way.ends_so;
-      }
-  polled_ran budget state before moment line meter links found after ends wrote talked first new (Err e) is has_bus found_way ends_so talks_so = tt
+      → OnOk result (LineRan g (run_of origin budget state before first new) moment (poll line meter) link after wrote talked)
+  polled_ran budget state before moment line meter link after ends wrote talked first new (Ok x) linked way ends_so talks_so = record {
+    turns = happened_turns way.happened;
+    exchanges = happened_exchanges way.happened;
+    line = happened_text way.happened;
+    does = inl (linked, record { happened = way.happened; last = way.last; way = way.way; ends = ap (λ (p : Phase). p.due) (ends_so way.happened way.last way.ends_so); left_is = sym (ap (λ (p : Phase). p.link) (ends_so way.happened way.last way.ends_so)); turns_are = refl; exchanges_are = refl; text_is = refl });
+    went = way.went;
+    text = way.text;
+    over = talks_so way.happened way.last way.ends_so;
+  }
+  polled_ran budget state before moment line meter link after ends wrote talked first new (Err e) linked way ends_so talks_so = tt
 
-  pub polled_cut : {X E : Type 0} (budget : ℕ) (state : State) (before : List Turn) (moment line : ℕ) (meter : Identity) (links : List LineLink) (found : LineLink) (ends : List Happening → Phase → Type 0) (wrote : List ℕ → Type 0) (talked : List Exchange → Type 0) (first new : Machine D) (result : Result X E) → line_in links line ≡ found → HasBus found.link
-      → Way g (run_of origin budget state before first new) (record { line = line; is_gateway = found.is_gateway }) moment meter (record { due = to_start; link = found.link }) ends wrote
+  pub polled_cut : {X E : Type 0} (budget : ℕ) (state : State) (before : List Turn) (moment line : ℕ) (meter : Identity) (link : Link) (ends : List Happening → Phase → Type 0) (wrote : List ℕ → Type 0) (talked : List Exchange → Type 0) (first new : Machine D) (result : Result X E) → IsLinked link line
+      → Way g (run_of origin budget state before first new) line moment meter (record { due = to_start; link = link }) ends wrote
       → ((happened : List Happening) (last : Phase) → ends happened last → talked (happened_exchanges happened))
-      → OnErr result (LineCut g (run_of origin budget state before first new) moment (poll line meter) links talked)
-  polled_cut budget state before moment line meter links found ends wrote talked first new result is has_bus found_way talks_so =
-      let way = subst (λ (f : LineLink). Way g (run_of origin budget state before first new) (record { line = line; is_gateway = f.is_gateway }) moment meter (record { due = to_start; link = f.link }) ends wrote) (sym is) found_way in
-      on_err result (LineCut g (run_of origin budget state before first new) moment (poll line meter) links talked)
+      → OnErr result (LineCut g (run_of origin budget state before first new) moment (poll line meter) link talked)
+  polled_cut budget state before moment line meter link ends wrote talked first new result linked way talks_so =
+      on_err result (LineCut g (run_of origin budget state before first new) moment (poll line meter) link talked)
       (record {
         turns = happened_turns way.happened;
         exchanges = happened_exchanges way.happened;
-        does = inl (subst (λ (f : LineLink). HasBus f.link) (sym is) has_bus, record { happened = way.happened; last = way.last; way = way.way; turns_are = refl; exchanges_are = refl });
+        does = inl (linked, record { happened = way.happened; last = way.last; way = way.way; turns_are = refl; exchanges_are = refl });
         went = way.went;
         over = talks_so way.happened way.last way.ends_so;
       })
-
-  -- ---- what is said of the exchanges of a line
-
-  ran_so : (budget : ℕ) (state : State) (before : List Turn) (moment : ℕ) (asked : LineSeen) (links left : List LineLink) (wrote : List ℕ → Type 0) (talked also : List Exchange → Type 0) (first new : Machine D)
-      → ((exchanges : List Exchange) → talked exchanges → also exchanges)
-      → LineRan g (run_of origin budget state before first new) moment asked links left wrote talked
-      → LineRan g (run_of origin budget state before first new) moment asked links left wrote also
-  ran_so budget state before moment asked links left wrote talked also first new so line = record {
-    turns = line.turns;
-    exchanges = line.exchanges;
-    line = line.line;
-    does = line.does;
-    went = line.went;
-    text = line.text;
-    over = so line.exchanges line.over;
-  }
-
-  cut_so : (budget : ℕ) (state : State) (before : List Turn) (moment : ℕ) (asked : LineSeen) (links : List LineLink) (talked also : List Exchange → Type 0) (first new : Machine D)
-      → ((exchanges : List Exchange) → talked exchanges → also exchanges)
-      → LineCut g (run_of origin budget state before first new) moment asked links talked
-      → LineCut g (run_of origin budget state before first new) moment asked links also
-  cut_so budget state before moment asked links talked also first new so line = record {
-    turns = line.turns;
-    exchanges = line.exchanges;
-    does = line.does;
-    went = line.went;
-    over = so line.exchanges line.over;
-  }
-
-  starved_so : (budget : ℕ) (state : State) (before : List Turn) (asked : LineSeen) (links : List LineLink) (wrote : List ℕ → Type 0) (talked also : List Exchange → Type 0) (first new : Machine D)
-      → ((exchanges : List Exchange) → talked exchanges → also exchanges)
-      → LineStarved g (run_of origin budget state before first new) asked links wrote talked
-      → LineStarved g (run_of origin budget state before first new) asked links wrote also
-  starved_so budget state before asked links wrote talked also first new so line = record {
-    last = line.last;
-    starves = line.starves;
-    went = line.went;
-    text = line.text;
-    over = so line.last.exchanges line.over;
-  }
-
-  pub ran_as : {X E : Type 0} (result : Result X E) (budget : ℕ) (state : State) (before : List Turn) (moment : ℕ) (asked : LineSeen) (links left : List LineLink) (wrote : List ℕ → Type 0) (talked also : List Exchange → Type 0) (first new : Machine D)
-      → ((exchanges : List Exchange) → talked exchanges → also exchanges)
-      → OnOk result (LineRan g (run_of origin budget state before first new) moment asked links left wrote talked)
-      → OnOk result (LineRan g (run_of origin budget state before first new) moment asked links left wrote also)
-  ran_as (Ok x) budget state before moment asked links left wrote talked also first new so line = ran_so budget state before moment asked links left wrote talked also first new so line
-  ran_as (Err e) budget state before moment asked links left wrote talked also first new so line = tt
-
-  -- where a write failed
-  pub cut_as : {X E : Type 0} (result : Result X E) (budget : ℕ) (state : State) (before : List Turn) (moment : ℕ) (asked : LineSeen) (links : List LineLink) (talked also : List Exchange → Type 0) (first new : Machine D)
-      → ((exchanges : List Exchange) → talked exchanges → also exchanges)
-      → OnErr result (LineCut g (run_of origin budget state before first new) moment asked links talked)
-      → OnErr result (LineCut g (run_of origin budget state before first new) moment asked links also)
-  cut_as (Ok x) budget state before moment asked links talked also first new so line = tt
-  cut_as (Err e) budget state before moment asked links talked also first new so line = cut_so budget state before moment asked links talked also first new so line
-
-  pub halted_as : {X : Type 0} (result : Result X Halt) (budget : ℕ) (state : State) (before : List Turn) (moment : ℕ) (asked : LineSeen) (links : List LineLink) (talked also : List Exchange → Type 0) (first new : Machine D)
-      → ((exchanges : List Exchange) → talked exchanges → also exchanges)
-      → OnWrite result (LineCut g (run_of origin budget state before first new) moment asked links talked)
-      → OnWrite result (LineCut g (run_of origin budget state before first new) moment asked links also)
-  halted_as (Ok x) budget state before moment asked links talked also first new so line = tt
-  halted_as (Err Write) budget state before moment asked links talked also first new so line = cut_so budget state before moment asked links talked also first new so line
-  halted_as (Err NoMemory) budget state before moment asked links talked also first new so line = tt
-
-  -- if memory runs out
-  pub starved_as : {X : Type 0} (result : Result X Halt) (budget : ℕ) (state : State) (before : List Turn) (asked : LineSeen) (links : List LineLink) (wrote : List ℕ → Type 0) (talked also : List Exchange → Type 0) (first new : Machine D)
-      → ((exchanges : List Exchange) → talked exchanges → also exchanges)
-      → OnNoMemory result (LineStarved g (run_of origin budget state before first new) asked links wrote talked)
-      → OnNoMemory result (LineStarved g (run_of origin budget state before first new) asked links wrote also)
-  starved_as (Ok x) budget state before asked links wrote talked also first new so line = tt
-  starved_as (Err Write) budget state before asked links wrote talked also first new so line = tt
-  starved_as (Err NoMemory) budget state before asked links wrote talked also first new so line = starved_so budget state before asked links wrote talked also first new so line

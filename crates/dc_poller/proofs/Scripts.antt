@@ -1,5 +1,5 @@
 -- A line of a script asks for one thing.
-use Rattle.std.proofs.Common.{◌≡◌, ℕ, ◌+◌, ◌*◌, ◌<◌, ◌≤◌, ◌^◌, List, [], ◌∷◌, ◌++◌, Some, codes, length, get_or, drop, inl, inr, refl, sym, ap, subst, ◌∙◌, arith}
+use Rattle.std.proofs.Common.{◌≡◌, ℕ, ◌+◌, ◌*◌, ◌<◌, ◌≤◌, ◌^◌, List, [], ◌∷◌, ◌++◌, Some, codes, length, get_or, drop, refl, sym, ap, subst, ◌∙◌, arith}
 use Rattle.std.specs.List.{list_all}
 use Rattle.std.specs.Fmt.{decimal}
 use Rattle.std.proofs.lemmas.Bool.{and_parts}
@@ -13,7 +13,7 @@ use Rattle.mbdc_change.specs.Words.{IsWord, is_inside}
 use Rattle.mbdc_change.proofs.Decimals.{decimal_is_word}
 use Rattle.mbdc_change.proofs.LineSpellings.{one_word}
 use Rattle.mbdc_io.specs.Hex.{bytes_of}
-use Rattle.dc_poller.specs.ScriptLine.{LineSeen, nothing, at, start, ask, hear, commit, office, poll, search, IsLineOf, Spells, SpellsSearch, greatest_line}
+use Rattle.dc_poller.specs.ScriptLine.{LineSeen, nothing, at, start, ask, hear, commit, office, poll, search, IsLineOf, Spells, greatest_line}
 use Rattle.dc_search.specs.Found.{greatest_budget}
 
 pub line_is_word : (line : ℕ) → line ≤ greatest_line → IsWord (decimal line)
@@ -33,7 +33,7 @@ letters (hear line answer) = 18501
 letters commit = 17231
 letters (office line) = 20294
 letters (poll line meter) = 20559
-letters (search budget line) = 21317
+letters (search budget) = 21317
 
 letters_are : (text : List ℕ) (asked : LineSeen) → Spells text asked → letters_of text ≡ letters asked
 letters_are text nothing is = ap letters_of is
@@ -44,8 +44,7 @@ letters_are text (hear line answer) is = ap letters_of is.text_is
 letters_are text commit is = ap letters_of is
 letters_are text (office line) is = ap letters_of is
 letters_are text (poll line meter) is = ap letters_of is
-letters_are text (search budget line) (inl is) = ap letters_of is.1
-letters_are text (search budget line) (inr is) = ap letters_of is
+letters_are text (search budget) is = ap letters_of is
 
 same_letters : (text : List ℕ) (asked other : LineSeen) → Spells text asked → Spells text other → letters asked ≡ letters other
 same_letters text asked other is is_other = sym (letters_are text asked is) ∙ letters_are text other is_other
@@ -121,51 +120,6 @@ one_heard text line (byte ∷ bytes) line_2 answer_2 is is_2 =
     let answers : Some (byte ∷ bytes) ≡ Some answer_2 = sym is.spells.answer_is.1 ∙ other.bytes_are in
     cc (lines, answers)
 
--- ---- a search
-
-budget_is_word : (budget : ℕ) → budget ≤ greatest_budget → IsWord (decimal budget)
-budget_is_word budget fits = decimal_is_word budget (omega arith)
-
--- a search that names a line isn't one that names none
-names_none : (budget other line : ℕ) → budget ≤ greatest_budget → decimal budget ≡ decimal other ++ 32 ∷ decimal line → ⊥
-names_none budget other line fits same = no_space_in (decimal other) (decimal line) (subst IsWord same (budget_is_word budget fits))
-
-one_search : (text : List ℕ) (budget line budget_2 line_2 : ℕ) → budget ≤ greatest_budget → line ≤ greatest_line → budget_2 ≤ greatest_budget → line_2 ≤ greatest_line
-    → SpellsSearch text budget line → SpellsSearch text budget_2 line_2 → search budget line ≡ search budget_2 line_2
-one_search text budget line budget_2 line_2 fits line_fits fits_2 line_fits_2 (inl is) (inl is_2) =
-    let budgets = one_number budget budget_2 (omega (arith, fits)) (omega (arith, fits_2)) (ap (drop 7) (sym is.1 ∙ is_2.1)) in
-    let lines = is.0 ∙ sym is_2.0 in
-    cc (budgets, lines)
-one_search text budget line budget_2 line_2 fits line_fits fits_2 line_fits_2 (inl is) (inr is_2) = absurd (names_none budget budget_2 line_2 fits (ap (drop 7) (sym is.1 ∙ is_2)))
-one_search text budget line budget_2 line_2 fits line_fits fits_2 line_fits_2 (inr is) (inl is_2) = absurd (names_none budget_2 budget line fits_2 (ap (drop 7) (sym is_2.1 ∙ is)))
-one_search text budget line budget_2 line_2 fits line_fits fits_2 line_fits_2 (inr is) (inr is_2) =
-    let words = one_word (decimal budget) (decimal budget_2) (decimal line) (decimal line_2) (budget_is_word budget fits) (budget_is_word budget_2 fits_2) (ap (drop 7) (sym is ∙ is_2)) in
-    let budgets = one_number budget budget_2 (omega (arith, fits)) (omega (arith, fits_2)) words.0 in
-    let lines = one_number line line_2 (omega (arith, line_fits)) (omega (arith, line_fits_2)) words.1 in
-    cc (budgets, lines)
-
-unnamed_by : (text words : List ℕ) → text ≡ codes "SEARCH" ++ 32 ∷ words → ((word rest : List ℕ) → IsWord word → words ≡ word ++ 32 ∷ rest → ⊥)
-    → (budget line : ℕ) → budget ≤ greatest_budget → SpellsSearch text budget line → words ≡ decimal budget
-unnamed_by text words is none budget line fits (inl told) = ap (drop 7) (sym is ∙ told.1)
-unnamed_by text words is none budget line fits (inr told) = absurd (none (decimal budget) (decimal line) (budget_is_word budget fits) (ap (drop 7) (sym is ∙ told)))
-
-named_by : (text words word rest : List ℕ) → text ≡ codes "SEARCH" ++ 32 ∷ words → IsWord word → words ≡ word ++ 32 ∷ rest
-    → (budget line : ℕ) → budget ≤ greatest_budget → SpellsSearch text budget line → (word ≡ decimal budget) × (rest ≡ decimal line)
-named_by text words word rest is is_word parts budget line fits (inl told) =
-    absurd (no_space_in word rest (subst IsWord (sym (ap (drop 7) (sym is ∙ told.1)) ∙ parts) (budget_is_word budget fits)))
-named_by text words word rest is is_word parts budget line fits (inr told) =
-    one_word word (decimal budget) rest (decimal line) is_word (budget_is_word budget fits) (sym parts ∙ ap (drop 7) (sym is ∙ told))
-
--- if the first word is followed by no space, no line is named
-pub only_unnamed : (text words : List ℕ) → text ≡ codes "SEARCH" ++ 32 ∷ words → ((word rest : List ℕ) → IsWord word → words ≡ word ++ 32 ∷ rest → ⊥)
-    → (budget line : ℕ) → IsLineOf text (search budget line) → words ≡ decimal budget
-only_unnamed text words is none budget line told = unnamed_by text words is none budget line told.has_bounds.0 told.spells
-
--- where one is there, a line is named after it
-pub only_named : (text words word rest : List ℕ) → text ≡ codes "SEARCH" ++ 32 ∷ words → IsWord word → words ≡ word ++ 32 ∷ rest
-    → (budget line : ℕ) → IsLineOf text (search budget line) → (word ≡ decimal budget) × (rest ≡ decimal line)
-only_named text words word rest is is_word parts budget line told = named_by text words word rest is is_word parts budget line told.has_bounds.0 told.spells
-
 -- ---- one line
 
 pub one_line : (text : List ℕ) (asked other : LineSeen) → IsLineOf text asked → IsLineOf text other → asked ≡ other
@@ -177,7 +131,7 @@ one_line text nothing (hear line_2 answer_2) is is_2 = absurd (omega (arith, sam
 one_line text nothing commit is is_2 = absurd (omega (arith, same_letters text nothing commit is.spells is_2.spells))
 one_line text nothing (office line_2) is is_2 = absurd (omega (arith, same_letters text nothing (office line_2) is.spells is_2.spells))
 one_line text nothing (poll line_2 meter_2) is is_2 = absurd (omega (arith, same_letters text nothing (poll line_2 meter_2) is.spells is_2.spells))
-one_line text nothing (search budget_2 line_2) is is_2 = absurd (omega (arith, same_letters text nothing (search budget_2 line_2) is.spells is_2.spells))
+one_line text nothing (search budget_2) is is_2 = absurd (omega (arith, same_letters text nothing (search budget_2) is.spells is_2.spells))
 one_line text (at moment) nothing is is_2 = absurd (omega (arith, same_letters text (at moment) nothing is.spells is_2.spells))
 one_line text (at moment) (at moment_2) is is_2 =
     ap at (one_number moment moment_2 (omega (arith, is.has_bounds)) (omega (arith, is_2.has_bounds)) (ap (drop 3) (sym is.spells ∙ is_2.spells)))
@@ -187,7 +141,7 @@ one_line text (at moment) (hear line_2 answer_2) is is_2 = absurd (omega (arith,
 one_line text (at moment) commit is is_2 = absurd (omega (arith, same_letters text (at moment) commit is.spells is_2.spells))
 one_line text (at moment) (office line_2) is is_2 = absurd (omega (arith, same_letters text (at moment) (office line_2) is.spells is_2.spells))
 one_line text (at moment) (poll line_2 meter_2) is is_2 = absurd (omega (arith, same_letters text (at moment) (poll line_2 meter_2) is.spells is_2.spells))
-one_line text (at moment) (search budget_2 line_2) is is_2 = absurd (omega (arith, same_letters text (at moment) (search budget_2 line_2) is.spells is_2.spells))
+one_line text (at moment) (search budget_2) is is_2 = absurd (omega (arith, same_letters text (at moment) (search budget_2) is.spells is_2.spells))
 one_line text (start line meter) nothing is is_2 = absurd (omega (arith, same_letters text (start line meter) nothing is.spells is_2.spells))
 one_line text (start line meter) (at moment_2) is is_2 = absurd (omega (arith, same_letters text (start line meter) (at moment_2) is.spells is_2.spells))
 one_line text (start line meter) (start line_2 meter_2) is is_2 =
@@ -197,7 +151,7 @@ one_line text (start line meter) (hear line_2 answer_2) is is_2 = absurd (omega 
 one_line text (start line meter) commit is is_2 = absurd (omega (arith, same_letters text (start line meter) commit is.spells is_2.spells))
 one_line text (start line meter) (office line_2) is is_2 = absurd (omega (arith, same_letters text (start line meter) (office line_2) is.spells is_2.spells))
 one_line text (start line meter) (poll line_2 meter_2) is is_2 = absurd (omega (arith, same_letters text (start line meter) (poll line_2 meter_2) is.spells is_2.spells))
-one_line text (start line meter) (search budget_2 line_2) is is_2 = absurd (omega (arith, same_letters text (start line meter) (search budget_2 line_2) is.spells is_2.spells))
+one_line text (start line meter) (search budget_2) is is_2 = absurd (omega (arith, same_letters text (start line meter) (search budget_2) is.spells is_2.spells))
 one_line text (ask line) nothing is is_2 = absurd (omega (arith, same_letters text (ask line) nothing is.spells is_2.spells))
 one_line text (ask line) (at moment_2) is is_2 = absurd (omega (arith, same_letters text (ask line) (at moment_2) is.spells is_2.spells))
 one_line text (ask line) (start line_2 meter_2) is is_2 = absurd (omega (arith, same_letters text (ask line) (start line_2 meter_2) is.spells is_2.spells))
@@ -207,7 +161,7 @@ one_line text (ask line) (hear line_2 answer_2) is is_2 = absurd (omega (arith, 
 one_line text (ask line) commit is is_2 = absurd (omega (arith, same_letters text (ask line) commit is.spells is_2.spells))
 one_line text (ask line) (office line_2) is is_2 = absurd (omega (arith, same_letters text (ask line) (office line_2) is.spells is_2.spells))
 one_line text (ask line) (poll line_2 meter_2) is is_2 = absurd (omega (arith, same_letters text (ask line) (poll line_2 meter_2) is.spells is_2.spells))
-one_line text (ask line) (search budget_2 line_2) is is_2 = absurd (omega (arith, same_letters text (ask line) (search budget_2 line_2) is.spells is_2.spells))
+one_line text (ask line) (search budget_2) is is_2 = absurd (omega (arith, same_letters text (ask line) (search budget_2) is.spells is_2.spells))
 one_line text (hear line answer) nothing is is_2 = absurd (omega (arith, same_letters text (hear line answer) nothing is.spells is_2.spells))
 one_line text (hear line answer) (at moment_2) is is_2 = absurd (omega (arith, same_letters text (hear line answer) (at moment_2) is.spells is_2.spells))
 one_line text (hear line answer) (start line_2 meter_2) is is_2 = absurd (omega (arith, same_letters text (hear line answer) (start line_2 meter_2) is.spells is_2.spells))
@@ -216,7 +170,7 @@ one_line text (hear line answer) (hear line_2 answer_2) is is_2 = one_heard text
 one_line text (hear line answer) commit is is_2 = absurd (omega (arith, same_letters text (hear line answer) commit is.spells is_2.spells))
 one_line text (hear line answer) (office line_2) is is_2 = absurd (omega (arith, same_letters text (hear line answer) (office line_2) is.spells is_2.spells))
 one_line text (hear line answer) (poll line_2 meter_2) is is_2 = absurd (omega (arith, same_letters text (hear line answer) (poll line_2 meter_2) is.spells is_2.spells))
-one_line text (hear line answer) (search budget_2 line_2) is is_2 = absurd (omega (arith, same_letters text (hear line answer) (search budget_2 line_2) is.spells is_2.spells))
+one_line text (hear line answer) (search budget_2) is is_2 = absurd (omega (arith, same_letters text (hear line answer) (search budget_2) is.spells is_2.spells))
 one_line text commit nothing is is_2 = absurd (omega (arith, same_letters text commit nothing is.spells is_2.spells))
 one_line text commit (at moment_2) is is_2 = absurd (omega (arith, same_letters text commit (at moment_2) is.spells is_2.spells))
 one_line text commit (start line_2 meter_2) is is_2 = absurd (omega (arith, same_letters text commit (start line_2 meter_2) is.spells is_2.spells))
@@ -225,7 +179,7 @@ one_line text commit (hear line_2 answer_2) is is_2 = absurd (omega (arith, same
 one_line text commit commit is is_2 = refl
 one_line text commit (office line_2) is is_2 = absurd (omega (arith, same_letters text commit (office line_2) is.spells is_2.spells))
 one_line text commit (poll line_2 meter_2) is is_2 = absurd (omega (arith, same_letters text commit (poll line_2 meter_2) is.spells is_2.spells))
-one_line text commit (search budget_2 line_2) is is_2 = absurd (omega (arith, same_letters text commit (search budget_2 line_2) is.spells is_2.spells))
+one_line text commit (search budget_2) is is_2 = absurd (omega (arith, same_letters text commit (search budget_2) is.spells is_2.spells))
 one_line text (office line) nothing is is_2 = absurd (omega (arith, same_letters text (office line) nothing is.spells is_2.spells))
 one_line text (office line) (at moment_2) is is_2 = absurd (omega (arith, same_letters text (office line) (at moment_2) is.spells is_2.spells))
 one_line text (office line) (start line_2 meter_2) is is_2 = absurd (omega (arith, same_letters text (office line) (start line_2 meter_2) is.spells is_2.spells))
@@ -234,7 +188,7 @@ one_line text (office line) (hear line_2 answer_2) is is_2 = absurd (omega (arit
 one_line text (office line) commit is is_2 = absurd (omega (arith, same_letters text (office line) commit is.spells is_2.spells))
 one_line text (office line) (office line_2) is is_2 = ap office (ap (drop 7) (sym is.spells ∙ is_2.spells))
 one_line text (office line) (poll line_2 meter_2) is is_2 = absurd (omega (arith, same_letters text (office line) (poll line_2 meter_2) is.spells is_2.spells))
-one_line text (office line) (search budget_2 line_2) is is_2 = absurd (omega (arith, same_letters text (office line) (search budget_2 line_2) is.spells is_2.spells))
+one_line text (office line) (search budget_2) is is_2 = absurd (omega (arith, same_letters text (office line) (search budget_2) is.spells is_2.spells))
 one_line text (poll line meter) nothing is is_2 = absurd (omega (arith, same_letters text (poll line meter) nothing is.spells is_2.spells))
 one_line text (poll line meter) (at moment_2) is is_2 = absurd (omega (arith, same_letters text (poll line meter) (at moment_2) is.spells is_2.spells))
 one_line text (poll line meter) (start line_2 meter_2) is is_2 = absurd (omega (arith, same_letters text (poll line meter) (start line_2 meter_2) is.spells is_2.spells))
@@ -244,13 +198,14 @@ one_line text (poll line meter) commit is is_2 = absurd (omega (arith, same_lett
 one_line text (poll line meter) (office line_2) is is_2 = absurd (omega (arith, same_letters text (poll line meter) (office line_2) is.spells is_2.spells))
 one_line text (poll line meter) (poll line_2 meter_2) is is_2 =
     let same = one_on_line line meter line_2 meter_2 is.has_bounds.0 is.has_bounds.1 is_2.has_bounds.0 is_2.has_bounds.1 (ap (drop 5) (sym is.spells ∙ is_2.spells)) in cc (same.lines, same.meters)
-one_line text (poll line meter) (search budget_2 line_2) is is_2 = absurd (omega (arith, same_letters text (poll line meter) (search budget_2 line_2) is.spells is_2.spells))
-one_line text (search budget line) nothing is is_2 = absurd (omega (arith, same_letters text (search budget line) nothing is.spells is_2.spells))
-one_line text (search budget line) (at moment_2) is is_2 = absurd (omega (arith, same_letters text (search budget line) (at moment_2) is.spells is_2.spells))
-one_line text (search budget line) (start line_2 meter_2) is is_2 = absurd (omega (arith, same_letters text (search budget line) (start line_2 meter_2) is.spells is_2.spells))
-one_line text (search budget line) (ask line_2) is is_2 = absurd (omega (arith, same_letters text (search budget line) (ask line_2) is.spells is_2.spells))
-one_line text (search budget line) (hear line_2 answer_2) is is_2 = absurd (omega (arith, same_letters text (search budget line) (hear line_2 answer_2) is.spells is_2.spells))
-one_line text (search budget line) commit is is_2 = absurd (omega (arith, same_letters text (search budget line) commit is.spells is_2.spells))
-one_line text (search budget line) (office line_2) is is_2 = absurd (omega (arith, same_letters text (search budget line) (office line_2) is.spells is_2.spells))
-one_line text (search budget line) (poll line_2 meter_2) is is_2 = absurd (omega (arith, same_letters text (search budget line) (poll line_2 meter_2) is.spells is_2.spells))
-one_line text (search budget line) (search budget_2 line_2) is is_2 = one_search text budget line budget_2 line_2 is.has_bounds.0 is.has_bounds.1 is_2.has_bounds.0 is_2.has_bounds.1 is.spells is_2.spells
+one_line text (poll line meter) (search budget_2) is is_2 = absurd (omega (arith, same_letters text (poll line meter) (search budget_2) is.spells is_2.spells))
+one_line text (search budget) nothing is is_2 = absurd (omega (arith, same_letters text (search budget) nothing is.spells is_2.spells))
+one_line text (search budget) (at moment_2) is is_2 = absurd (omega (arith, same_letters text (search budget) (at moment_2) is.spells is_2.spells))
+one_line text (search budget) (start line_2 meter_2) is is_2 = absurd (omega (arith, same_letters text (search budget) (start line_2 meter_2) is.spells is_2.spells))
+one_line text (search budget) (ask line_2) is is_2 = absurd (omega (arith, same_letters text (search budget) (ask line_2) is.spells is_2.spells))
+one_line text (search budget) (hear line_2 answer_2) is is_2 = absurd (omega (arith, same_letters text (search budget) (hear line_2 answer_2) is.spells is_2.spells))
+one_line text (search budget) commit is is_2 = absurd (omega (arith, same_letters text (search budget) commit is.spells is_2.spells))
+one_line text (search budget) (office line_2) is is_2 = absurd (omega (arith, same_letters text (search budget) (office line_2) is.spells is_2.spells))
+one_line text (search budget) (poll line_2 meter_2) is is_2 = absurd (omega (arith, same_letters text (search budget) (poll line_2 meter_2) is.spells is_2.spells))
+one_line text (search budget) (search budget_2) is is_2 =
+    ap search (one_number budget budget_2 (omega (arith, is.has_bounds)) (omega (arith, is_2.has_bounds)) (ap (drop 7) (sym is.spells ∙ is_2.spells)))

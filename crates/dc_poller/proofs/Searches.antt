@@ -16,28 +16,27 @@ use Rattle.mbdc_io.specs.declared.stream.IoFault.{IoFault}
 use Rattle.dc_sectors.specs.declared.device.Disk.{Ghosts}
 use Rattle.dc_poller.specs.Run.{run_of}
 use Rattle.dc_poller.specs.Halt.{OnNoMemory, OnWrite, halted_by}
-use Rattle.dc_poller.specs.Link.{HasBus, LineLink, Link, line_in, link_by, link_in, loss_text, lost, port_in, with_link}
+use Rattle.dc_poller.specs.Link.{HasBus, Link, gateway_line, link_by, loss_text, lost}
 use Rattle.dc_poller.specs.Script.{LineRan, LineCut}
 use Rattle.dc_poller.specs.ScriptLine.{search}
-use Rattle.dc_poller.specs.Search.{Comes, IsLeft, IsOver, Searches, Talked, late_by, late_text, looked_turns, refused_turns}
+use Rattle.dc_poller.specs.Search.{Comes, IsLeft, IsOver, Searches, Talked, looked_turns, refused_turns}
 use Rattle.dc_search.specs.Found.{search_text}
 use Rattle.dc_poller.specs.Starved.{LineStarved}
 use Rattle.dc_core.specs.Went.{TurnWent, TurnsWent, Went}
 use Rattle.dc_poller.specs.declared.halt.Halt.{Halt}
-use Rattle.dc_poller.specs.declared.port.Port.{Port}
 use Rattle.dc_poller.specs.declared.halt.Halt.TheVariants.{Write, NoMemory}
 use Rattle.dc_core.proofs.Wents.{went_both, went_chain, went_at}
 
 -- ---- what a call comes to, with its turns
 
-module _ (meters : Option (List Identity)) (port : Port) (budget late : ℕ) (talked : List Exchange → Type 0) (wrote : List ℕ → Type 0) where
+module _ (meters : Option (List Identity)) (budget : ℕ) (talked : List Exchange → Type 0) (wrote : List ℕ → Type 0) where
   busy_comes : (link : Link) (put : Result (Unit {0}) IoFault) (count : ℕ) (request : List ℕ) → talked []
-      → OnOk put (wrote (answer_text (started (Err Busy)))) → Comes meters port budget late link link talked wrote (halted_by put) (looked_turns port.line count (Some request))
+      → OnOk put (wrote (answer_text (started (Err Busy)))) → Comes meters budget link link talked wrote (halted_by put) (looked_turns count (Some request))
   busy_comes link (Ok done) count request still text =
       (answer_text (started (Err Busy)), [], inr (inl (record { count = count; request = request; turns_are = refl; text_is = refl; unasked = refl; left_is = refl })), still, text)
   busy_comes link (Err broken) count request still text = ([], inr (inl (count, request, refl, refl)), still)
 
-  pub talked_comes : (link left : Link) (result : Result (Unit {0}) Halt) (count : ℕ) → Talked meters port budget late link left talked wrote result → Comes meters port budget late link left talked wrote result (looked_turns port.line count None)
+  pub talked_comes : (link left : Link) (result : Result (Unit {0}) Halt) (count : ℕ) → Talked meters budget link left talked wrote result → Comes meters budget link left talked wrote result (looked_turns count None)
   talked_comes link left (Ok done) count (exchanges, s, over, left_is, so, text) =
       (_, exchanges, inr (inr (record { count = count; search = s; turns_are = refl; over = over; text_is = refl; left_is = left_is })), so, text)
   talked_comes link left (Err Write) count (exchanges, some, so) = (exchanges, inr (inr (count, refl, some)), so)
@@ -45,30 +44,30 @@ module _ (meters : Option (List Identity)) (port : Port) (budget late : ℕ) (ta
       (_, exchanges, record { count = count; turns_are = refl; asked = some; text_is = refl; left_is = left_is }, so, text)
 
   refused_comes : (link : Link) (put : Result (Unit {0}) IoFault) (fault : CommitFault) → talked []
-      → OnOk put (wrote (answer_text (committed (Err fault)))) → Comes meters port budget late link link talked wrote (halted_by put) (refused_turns fault)
+      → OnOk put (wrote (answer_text (committed (Err fault)))) → Comes meters budget link link talked wrote (halted_by put) (refused_turns fault)
   refused_comes link (Ok done) fault still text = (answer_text (committed (Err fault)), [], inl (record { fault = fault; turns_are = refl; text_is = refl; unasked = refl; left_is = refl }), still, text)
   refused_comes link (Err broken) fault still text = ([], inl (fault, refl, refl), still)
 
   pub refused_halts : (link : Link) (put : Result (Unit {0}) IoFault) (r : Result (Unit {0}) Halt) (fault : CommitFault) → talked []
-      → r ≡ halted_by put → OnOk put (wrote (answer_text (committed (Err fault)))) → Comes meters port budget late link link talked wrote r (refused_turns fault)
+      → r ≡ halted_by put → OnOk put (wrote (answer_text (committed (Err fault)))) → Comes meters budget link link talked wrote r (refused_turns fault)
   refused_halts link put r fault still is text =
-      subst (λ (x : Result (Unit {0}) Halt). Comes meters port budget late link link talked wrote x (refused_turns fault)) (sym is) (refused_comes link put fault still text)
+      subst (λ (x : Result (Unit {0}) Halt). Comes meters budget link link talked wrote x (refused_turns fault)) (sym is) (refused_comes link put fault still text)
 
   pub busy_halts : (link : Link) (put : Result (Unit {0}) IoFault) (r : Result (Unit {0}) Halt) (count : ℕ) (request : List ℕ) → talked []
-      → r ≡ halted_by put → OnOk put (wrote (answer_text (started (Err Busy)))) → Comes meters port budget late link link talked wrote r (looked_turns port.line count (Some request))
+      → r ≡ halted_by put → OnOk put (wrote (answer_text (started (Err Busy)))) → Comes meters budget link link talked wrote r (looked_turns count (Some request))
   busy_halts link put r count request still is text =
-      subst (λ (x : Result (Unit {0}) Halt). Comes meters port budget late link link talked wrote x (looked_turns port.line count (Some request))) (sym is) (busy_comes link put count request still text)
+      subst (λ (x : Result (Unit {0}) Halt). Comes meters budget link link talked wrote x (looked_turns count (Some request))) (sym is) (busy_comes link put count request still text)
 
   told_by : (link left : Link) (put : Result (Unit {0}) IoFault) (exchanges : List Exchange) (s : SearchState) → IsOver meters budget link exchanges s → IsLeft link left → AreAskedBy (new_search budget) exchanges s → talked exchanges
-      → OnOk put (wrote (loss_text port link left ++ (search_text s ++ late_text port late))) → Talked meters port budget late link left talked wrote (halted_by put)
+      → OnOk put (wrote (loss_text link left ++ search_text s)) → Talked meters budget link left talked wrote (halted_by put)
   told_by link left (Ok done) exchanges s over left_is own so text = (exchanges, s, over, left_is, so, text)
   told_by link left (Err broken) exchanges s over left_is own so text = (exchanges, (s, own), so)
 
   -- what was found is printed
   pub told_talked : (link left : Link) (put : Result (Unit {0}) IoFault) (r : Result (Unit {0}) Halt) (exchanges : List Exchange) (s : SearchState) → r ≡ halted_by put → IsOver meters budget link exchanges s → IsLeft link left → AreAskedBy (new_search budget) exchanges s → talked exchanges
-      → OnOk put (wrote (loss_text port link left ++ (search_text s ++ late_text port late))) → Talked meters port budget late link left talked wrote r
+      → OnOk put (wrote (loss_text link left ++ search_text s)) → Talked meters budget link left talked wrote r
   told_talked link left put r exchanges s is over left_is own so text =
-      subst (λ (x : Result (Unit {0}) Halt). Talked meters port budget late link left talked wrote x) (sym is) (told_by link left put exchanges s over left_is own so text)
+      subst (λ (x : Result (Unit {0}) Halt). Talked meters budget link left talked wrote x) (sym is) (told_by link left put exchanges s over left_is own so text)
 
 is_false : Bool → Type 0
 is_false true = ⊥
@@ -78,17 +77,12 @@ absurd_bool : {A : Type 0} → false ≡ true → A
 unfolding is_false
 absurd_bool e = absurd (subst is_false e tt)
 
--- over a gateway no answer comes late
-pub prompt_by : (gateway : Bool) (before after : ℕ) → gateway ≡ true → late_by gateway before after ≡ 0
-prompt_by true before after is = refl
-prompt_by false before after is = absurd_bool is
-
 -- a search over a bus that states its meters, where nobody asks for them
-pub told_nowhere : (meters : Option (List Identity)) (port : Port) (budget late : ℕ) (link left : Link) (turns : List Turn) (exchanges : List Exchange) (text : List ℕ)
-    → Searches meters port budget late link left turns exchanges text → Searches None port budget late link left turns exchanges text
-told_nowhere meters port budget late link left turns exchanges text (inl refused) = inl refused
-told_nowhere meters port budget late link left turns exchanges text (inr (inl busy)) = inr (inl busy)
-told_nowhere meters port budget late link left turns exchanges text (inr (inr finds)) =
+pub told_nowhere : (meters : Option (List Identity)) (budget : ℕ) (link left : Link) (turns : List Turn) (exchanges : List Exchange) (text : List ℕ)
+    → Searches meters budget link left turns exchanges text → Searches None budget link left turns exchanges text
+told_nowhere meters budget link left turns exchanges text (inl refused) = inl refused
+told_nowhere meters budget link left turns exchanges text (inr (inl busy)) = inr (inl busy)
+told_nowhere meters budget link left turns exchanges text (inr (inr finds)) =
     let over = finds.over in
     inr (inr (record {
       count = finds.count;
@@ -113,66 +107,58 @@ left_by false false stays = inl refl
 
 module _ {D : Type 0} (g : Ghosts D) (origin : D) where
   -- a commit, and then a look at a line
-  pub commit_and_look : (budget : ℕ) (state : State) (before : List Turn) (line : ℕ) (answer : Result ℕ CommitFault) (count : ℕ) (request : Option (List ℕ)) (such : List Turn → Type 0) (first new : Machine D)
+  pub commit_and_look : (budget : ℕ) (state : State) (before : List Turn) (answer : Result ℕ CommitFault) (count : ℕ) (request : Option (List ℕ)) (such : List Turn → Type 0) (first new : Machine D)
       → TurnWent g origin budget state before commits (λ told. told ≡ committed answer) first new → answer ≡ Ok count → new.house.budget ≡ budget
       → ((behind : List Turn) → IsChain new.house.budget (opened state) behind → IsAt g origin new (leads (opened state) behind)
-      → TurnWent g origin new.house.budget state behind (asks line) (λ told. told ≡ asked request) new new)
-      → such (looked_turns line count request)
+      → TurnWent g origin new.house.budget state behind (asks gateway_line) (λ told. told ≡ asked request) new new)
+      → such (looked_turns count request)
       → TurnsWent g origin budget state before such first new
-  commit_and_look budget state before line answer count request such first new one is same look so =
+  commit_and_look budget state before answer count request such first new one is same look so =
       let done : List Turn = (commits, committed (Ok count)) ∷ [] in
       let went = subst (λ (a : Answer). Went g origin budget state before ((commits, a) ∷ []) first new) (one.is_such ∙ ap committed is) one.went in
       let two = look (before ++ done) (subst (λ (b : ℕ). IsChain b (opened state) (before ++ done)) (sym same) (went_chain g origin budget state before done first new went))
       (went_at g origin budget state before done first new went) in
-      let asked_so = subst (λ (a : Answer). Went g origin new.house.budget state (before ++ done) ((asks line, a) ∷ []) new new) two.is_such two.went in
+      let asked_so = subst (λ (a : Answer). Went g origin new.house.budget state (before ++ done) ((asks gateway_line, a) ∷ []) new new) two.is_such two.went in
       record {
-        turns = looked_turns line count request;
+        turns = looked_turns count request;
         are_such = so;
-        went = went_both g origin budget state before done ((asks line, asked request) ∷ []) first new new went
-            (subst (λ (b : ℕ). Went g origin b state (before ++ done) ((asks line, asked request) ∷ []) new new) same asked_so);
+        went = went_both g origin budget state before done ((asks gateway_line, asked request) ∷ []) first new new went
+            (subst (λ (b : ℕ). Went g origin b state (before ++ done) ((asks gateway_line, asked request) ∷ []) new new) same asked_so);
       }
 
-  -- ---- as a line of a script
+  -- ---- as a line of a script, over a gateway that is found so
 
-  pub searched_ran : (budget : ℕ) (state : State) (before : List Turn) (moment most line late : ℕ) (meters : Option (List Identity)) (links : List LineLink) (found : LineLink) (after : Link) (talked : List Exchange → Type 0) (wrote : List ℕ → Type 0) (first new : Machine D) (result : Result (Unit {0}) Halt) → line_in links line ≡ found → HasBus found.link
-      → (found.is_gateway ≡ true → late ≡ 0)
-      → TurnsWent g origin budget state before (Comes meters (record { line = line; is_gateway = found.is_gateway }) most late found.link after talked wrote result) first new
-      → OnOk result (LineRan g (run_of origin budget state before first new) moment (search most line) links (with_link links line after) wrote talked)
-  searched_ran budget state before moment most line late meters links found after talked wrote first new (Ok done) is has_found prompt_found some_found =
-      let has_bus = subst (λ (f : LineLink). HasBus f.link) (sym is) has_found in
-      let prompt = subst (λ (f : LineLink). f.is_gateway ≡ true → late ≡ 0) (sym is) prompt_found in
-      let some = subst (λ (f : LineLink). TurnsWent g origin budget state before (Comes meters (record { line = line; is_gateway = f.is_gateway }) most late f.link after talked wrote (Ok done)) first new) (sym is) some_found in record {
-        turns = some.turns;
-        exchanges = some.are_such.1;
-        line = some.are_such.0;
-        does = inl (record { has_bus = has_bus; after = after; does_so = record { late = late; prompt = prompt; searches = told_nowhere meters (port_in links line) most late (link_in links line) after some.turns some.are_such.1 some.are_such.0 some.are_such.2 }; left_is = refl });
-        went = some.went;
-        text = some.are_such.4;
-        over = some.are_such.3;
-      }
-  searched_ran budget state before moment most line late meters links found after talked wrote first new (Err halt) is has_found prompt some = tt
+  pub searched_ran : (budget : ℕ) (state : State) (before : List Turn) (moment most : ℕ) (meters : Option (List Identity)) (link after : Link) (talked also : List Exchange → Type 0) (wrote : List ℕ → Type 0) (first new : Machine D) (result : Result (Unit {0}) Halt) → HasBus link → ((exchanges : List Exchange) → talked exchanges → also exchanges)
+      → TurnsWent g origin budget state before (Comes meters most link after talked wrote result) first new
+      → OnOk result (LineRan g (run_of origin budget state before first new) moment (search most) link after wrote also)
+  searched_ran budget state before moment most meters link after talked also wrote first new (Ok done) has_bus so some = record {
+    turns = some.turns;
+    exchanges = some.are_such.1;
+    line = some.are_such.0;
+    does = inl (has_bus, told_nowhere meters most link after some.turns some.are_such.1 some.are_such.0 some.are_such.2);
+    went = some.went;
+    text = some.are_such.4;
+    over = so some.are_such.1 some.are_such.3;
+  }
+  searched_ran budget state before moment most meters link after talked also wrote first new (Err halt) has_bus so some = tt
 
-  pub searched_cut : (budget : ℕ) (state : State) (before : List Turn) (moment most line late : ℕ) (meters : Option (List Identity)) (links : List LineLink) (found : LineLink) (after : Link) (talked : List Exchange → Type 0) (wrote : List ℕ → Type 0) (first new : Machine D) (result : Result (Unit {0}) Halt) → line_in links line ≡ found → HasBus found.link
-      → TurnsWent g origin budget state before (Comes meters (record { line = line; is_gateway = found.is_gateway }) most late found.link after talked wrote result) first new
-      → OnWrite result (LineCut g (run_of origin budget state before first new) moment (search most line) links talked)
-  searched_cut budget state before moment most line late meters links found after talked wrote first new (Ok done) is has_found some = tt
-  searched_cut budget state before moment most line late meters links found after talked wrote first new (Err Write) is has_found some_found =
-      let has_bus = subst (λ (f : LineLink). HasBus f.link) (sym is) has_found in
-      let some = subst (λ (f : LineLink). TurnsWent g origin budget state before (Comes meters (record { line = line; is_gateway = f.is_gateway }) most late f.link after talked wrote (Err Write)) first new) (sym is) some_found in
-      record { turns = some.turns; exchanges = some.are_such.0; does = inl (has_bus, some.are_such.1); went = some.went; over = some.are_such.2 }
-  searched_cut budget state before moment most line late meters links found after talked wrote first new (Err NoMemory) is has_found some = tt
+  pub searched_cut : (budget : ℕ) (state : State) (before : List Turn) (moment most : ℕ) (meters : Option (List Identity)) (link after : Link) (talked also : List Exchange → Type 0) (wrote : List ℕ → Type 0) (first new : Machine D) (result : Result (Unit {0}) Halt) → HasBus link → ((exchanges : List Exchange) → talked exchanges → also exchanges)
+      → TurnsWent g origin budget state before (Comes meters most link after talked wrote result) first new
+      → OnWrite result (LineCut g (run_of origin budget state before first new) moment (search most) link also)
+  searched_cut budget state before moment most meters link after talked also wrote first new (Ok done) has_bus so some = tt
+  searched_cut budget state before moment most meters link after talked also wrote first new (Err Write) has_bus so some =
+      record { turns = some.turns; exchanges = some.are_such.0; does = inl (has_bus, some.are_such.1); went = some.went; over = so some.are_such.0 some.are_such.2 }
+  searched_cut budget state before moment most meters link after talked also wrote first new (Err NoMemory) has_bus so some = tt
 
-  pub searched_starved : (budget : ℕ) (state : State) (before : List Turn) (most line late : ℕ) (meters : Option (List Identity)) (links : List LineLink) (found : LineLink) (after : Link) (talked : List Exchange → Type 0) (wrote : List ℕ → Type 0) (first new : Machine D) (result : Result (Unit {0}) Halt) → line_in links line ≡ found → HasBus found.link
-      → TurnsWent g origin budget state before (Comes meters (record { line = line; is_gateway = found.is_gateway }) most late found.link after talked wrote result) first new
-      → OnNoMemory result (LineStarved g (run_of origin budget state before first new) (search most line) links wrote talked)
-  searched_starved budget state before most line late meters links found after talked wrote first new (Ok done) is has_found some = tt
-  searched_starved budget state before most line late meters links found after talked wrote first new (Err Write) is has_found some = tt
-  searched_starved budget state before most line late meters links found after talked wrote first new (Err NoMemory) is has_found some_found =
-      let has_bus = subst (λ (f : LineLink). HasBus f.link) (sym is) has_found in
-      let some = subst (λ (f : LineLink). TurnsWent g origin budget state before (Comes meters (record { line = line; is_gateway = f.is_gateway }) most late f.link after talked wrote (Err NoMemory)) first new) (sym is) some_found in record {
-        last = record { turns = some.turns; exchanges = some.are_such.1; text = some.are_such.0; left = with_link links line after };
-        starves = record { budget = most; line = line; asked_is = refl; starves = record { has_bus = has_bus; after = after; does_so = some.are_such.2; left_is = refl } };
-        went = some.went;
-        text = some.are_such.4;
-        over = some.are_such.3;
-      }
+  pub searched_starved : (budget : ℕ) (state : State) (before : List Turn) (most : ℕ) (meters : Option (List Identity)) (link after : Link) (talked also : List Exchange → Type 0) (wrote : List ℕ → Type 0) (first new : Machine D) (result : Result (Unit {0}) Halt) → HasBus link → ((exchanges : List Exchange) → talked exchanges → also exchanges)
+      → TurnsWent g origin budget state before (Comes meters most link after talked wrote result) first new
+      → OnNoMemory result (LineStarved g (run_of origin budget state before first new) (search most) link wrote also)
+  searched_starved budget state before most meters link after talked also wrote first new (Ok done) has_bus so some = tt
+  searched_starved budget state before most meters link after talked also wrote first new (Err Write) has_bus so some = tt
+  searched_starved budget state before most meters link after talked also wrote first new (Err NoMemory) has_bus so some = record {
+    last = record { turns = some.turns; exchanges = some.are_such.1; text = some.are_such.0; left = after };
+    starves = record { budget = most; asked_is = refl; has_bus = has_bus; starves = some.are_such.2 };
+    went = some.went;
+    text = some.are_such.4;
+    over = so some.are_such.1 some.are_such.3;
+  }

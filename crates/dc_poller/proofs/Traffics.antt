@@ -1,24 +1,14 @@
--- What goes over the buses of a script's lines, one line after the other.
-use Rattle.std.proofs.Common.{◌≡◌, ◌⊎◌, ◌<◌, ℕ, zero, suc, Bool, true, Result, Ok, Err, Option, None, Some, List, [], ◌∷◌, ◌++◌, length, get_or, set, refl, ap, sym, subst, ◌∙◌, arith, ⊎_elim}
+-- What goes over the gateway of a script, one line after the other.
+use Rattle.std.proofs.Common.{◌≡◌, ℕ, Bool, true, false, Result, Ok, Err, Option, None, Some, List, [], ◌++◌, refl, ap, sym, subst, ◌∙◌}
 use Rattle.std.specs.Prelude.{IfOk}
-use Rattle.std.proofs.lemmas.List.{get_or-set_same, get_or-set_other}
 use Rattle.mbdc_bus.specs.Bus.{AreExchanged, Exchange}
-use Rattle.dc_poller.specs.Link.{LineLink}
-use Rattle.dc_poller.specs.Script.{Deed, AreDone, traffic_of, moment_behind}
-use Rattle.dc_poller.specs.ScriptLine.{LineSeen}
-use Rattle.dc_poller.specs.Traffic.{AreCarried, Carries, CarriesAll, GoesOver, IsCarried, IsSearchedFor, OnNamed, PollsOver, SearchesOver, Traffic}
-use Rattle.dc_poller.specs.declared.slot.Slot.{Slot}
-use Rattle.dc_poller.proofs.Lines.{get_any}
+use Rattle.mbdc_bus.proofs.Exchanges.{exchanged-both}
+use Rattle.dc_poller.specs.Link.{HasBus, link_by, link_of}
+use Rattle.dc_poller.specs.Traffic.{AreCarried}
 
--- ---- one line more
-
-pub traffic_push : (moment : ℕ) (links : List LineLink) (asked : List LineSeen) (deeds : List Deed) (last : LineSeen) (deed : Deed) → AreDone moment links asked deeds
-    → traffic_of (asked ++ last ∷ []) (deeds ++ deed ∷ []) ≡ traffic_of asked deeds ++ record { asked = last; exchanges = deed.exchanges } ∷ []
-traffic_push moment links [] [] last deed done = refl
-traffic_push moment links [] (d ∷ deeds) last deed done = absurd done
-traffic_push moment links (first ∷ asked) [] last deed done = absurd done
-traffic_push moment links (first ∷ asked) (d ∷ deeds) last deed done =
-    ap (λ (ts : List Traffic). record { asked = first; exchanges = d.exchanges } ∷ ts) (traffic_push (moment_behind moment first) d.left asked deeds last deed done.1)
+pub has_bus_by : (was_lost : Bool) → HasBus (link_by was_lost)
+has_bus_by true = tt
+has_bus_by false = tt
 
 -- what leaves a lost bus as it is, twice
 pub untouched_both : {B : Type 0} (lost : B → Bool) (first old new : B) → (lost first ≡ true → old ≡ first) → (lost old ≡ true → new ≡ old) → lost first ≡ true → new ≡ first
@@ -26,73 +16,35 @@ untouched_both lost first old new one two is =
     let same = one is in
     two (ap lost same ∙ is) ∙ same
 
--- ---- the slot of a line
+module _ {B : Type 0} (lost : B → Bool) where
+  -- a gateway has a bus
+  pub has_one : (old : Option B) (bus : B) → old ≡ Some bus → HasBus (link_of lost old)
+  has_one old bus is = subst (λ (o : Option B). HasBus (link_of lost o)) (sym is) (has_bus_by (lost bus))
 
--- the slot at this index is that of the line that is named
-pub named_set : {B : Type 0} (does : Option (Slot B) → Option (Slot B) → Type 0) (slots : List (Option (Slot B))) (at : ℕ) (d new : Option (Slot B)) (named : ℕ) → at < length slots → named ≡ suc at → does (get_or slots at d) new
-    → (n : ℕ) → OnNamed does named (suc n) (get_or slots n None) (get_or (set slots at new) n None)
-named_set {B} does slots at d new named within is goes n = (
-  λ here.
-      let same : n ≡ at = omega (arith, is, here) in
-      let found : does (get_or slots at None) new = subst (λ (s : Option (Slot B)). does s new) (sym (get_any slots at None d within)) goes in
-      subst (λ (m : ℕ). does (get_or slots m None) (get_or (set slots at new) m None)) (sym same)
-      (subst (λ (s : Option (Slot B)). does (get_or slots at None) s) (sym (get_or-set_same slots at new None within)) found),
-  λ elsewhere. get_or-set_other slots at n new None (λ same. elsewhere (is ∙ ap suc (sym same))),
-)
+  pub has_none : (old : Option B) → old ≡ None → ¬ (HasBus (link_of lost old))
+  has_none old is = λ has_bus. subst (λ (o : Option B). HasBus (link_of lost o)) is has_bus
 
-none_at : {B : Type 0} (slots : List (Option (Slot B))) (n : ℕ) → length slots < suc n → get_or slots n None ≡ None
-none_at [] n past = refl
-none_at (slot ∷ slots) zero past = absurd (omega (arith, past))
-none_at (slot ∷ slots) (suc n) past = none_at slots n (omega (arith, past))
+module _ {B : Type 0} (lost : B → Bool) (asks : B → List ℕ → List ℕ → B → Type 0) where
+  pub carries_none : (old : Option B) → AreCarried lost asks old old []
+  carries_none None = refl
+  carries_none (Some bus) = record { bus = bus; bus_is = refl; exchanged = refl; untouched = λ is. refl }
 
--- no slot is that of the line that is named
-pub named_none : {B : Type 0} (lost : B → Bool) (does : Bool → B → B → Type 0) (slots : List (Option (Slot B))) (named : ℕ) → (named ≡ 0) ⊎ (length slots < named)
-    → (n : ℕ) → OnNamed (GoesOver lost does) named (suc n) (get_or slots n None) (get_or slots n None)
-named_none {B} lost does slots named none n = (
-  λ here.
-      let no_slot = none_at slots n (⊎_elim (λ (is : named ≡ 0). absurd (omega (arith, is, here))) (λ (past : length slots < named). omega (arith, past, here)) none) in
-      subst (λ (s : Option (Slot B)). GoesOver lost does s s) (sym no_slot) refl,
-  λ elsewhere. refl,
-)
+  pub carries_some : (exchanges : List Exchange) (old : Option B) (bus after : B) → old ≡ Some bus → AreExchanged asks bus exchanges after → (lost bus ≡ true → after ≡ bus) → AreCarried lost asks old (Some after) exchanges
+  carries_some exchanges old bus after is exchanged untouched =
+      subst (λ (o : Option B). AreCarried lost asks o (Some after) exchanges) (sym is) (record { bus = after; bus_is = refl; exchanged = exchanged; untouched = untouched })
 
--- ---- one slot
+  pub carried_both : (old between new : Option B) (first more : List Exchange) → AreCarried lost asks old between first → AreCarried lost asks between new more → AreCarried lost asks old new (first ++ more)
+  carried_both None between new first more one two = subst (λ (o : Option B). AreCarried lost asks o new more) one two
+  carried_both (Some bus) between new first more one two =
+      let then = subst (λ (o : Option B). AreCarried lost asks o new more) one.bus_is two in
+      record {
+        bus = then.bus;
+        bus_is = then.bus_is;
+        exchanged = exchanged-both asks bus one.bus then.bus first more one.exchanged then.exchanged;
+        untouched = untouched_both lost bus one.bus then.bus one.untouched then.untouched;
+      }
 
-goes_over : {B : Type 0} (lost : B → Bool) (does : Bool → B → B → Type 0) (old : Option (Slot B)) (slot : Slot B) (bus : B) → old ≡ Some slot → does slot.is_gateway slot.bus bus → (lost slot.bus ≡ true → bus ≡ slot.bus)
-    → GoesOver lost does old (Some (record { bus = bus; is_gateway = slot.is_gateway }))
-goes_over {B} lost does old slot bus is so untouched =
-    subst (λ (s : Option (Slot B)). GoesOver lost does s (Some (record { bus = bus; is_gateway = slot.is_gateway }))) (sym is)
-    (record { bus = bus; slot_is = refl; does_so = so; untouched = untouched })
-
-pub goes_nowhere : {B : Type 0} (lost : B → Bool) (does : Bool → B → B → Type 0) (old : Option (Slot B)) → old ≡ None → GoesOver lost does old old
-goes_nowhere {B} lost does old is = subst (λ (s : Option (Slot B)). GoesOver lost does s s) (sym is) refl
-
-module _ {B : Type 0} (lost : B → Bool) (asks : B → List ℕ → List ℕ → B → Type 0) (asks_all : B → List ℕ → List ℕ → B → Type 0) where
-  pub polls_over : (exchanges : List Exchange) (old : Option (Slot B)) (slot : Slot B) (bus : B) → old ≡ Some slot → AreExchanged asks slot.bus exchanges bus → (lost slot.bus ≡ true → bus ≡ slot.bus)
-      → PollsOver lost asks old (Some (record { bus = bus; is_gateway = slot.is_gateway })) exchanges
-  polls_over exchanges old slot bus is so untouched =
-      goes_over lost (λ is_gateway before after. AreExchanged asks before exchanges after) old slot bus is so untouched
-
-  pub searches_over : (exchanges : List Exchange) (old : Option (Slot B)) (slot : Slot B) (bus : B) → old ≡ Some slot → IsSearchedFor slot.is_gateway asks asks_all slot.bus exchanges bus → (lost slot.bus ≡ true → bus ≡ slot.bus)
-      → SearchesOver lost asks asks_all old (Some (record { bus = bus; is_gateway = slot.is_gateway })) exchanges
-  searches_over exchanges old slot bus is so untouched = goes_over lost (λ is_gateway before after. IsSearchedFor is_gateway asks asks_all before exchanges after) old slot bus is so untouched
-
-  -- ---- the lines of a script
-
-  carries_both : (line : ℕ) (first more : List Traffic) (old between new : Option (Slot B)) → CarriesAll lost asks asks_all line first old between → CarriesAll lost asks asks_all line more between new
-      → CarriesAll lost asks asks_all line (first ++ more) old new
-  carries_both line [] more old between new is rest = subst (λ (s : Option (Slot B)). CarriesAll lost asks asks_all line more s new) is rest
-  carries_both line (t ∷ first) more old between new is rest = (is.0, is.1, carries_both line first more is.0 between new is.2 rest)
-
-  pub carried_both : (old between new : List (Option (Slot B))) (first more : List Traffic) → AreCarried lost asks asks_all old between first → AreCarried lost asks asks_all between new more
-      → AreCarried lost asks asks_all old new (first ++ more)
-  carried_both old between new first more one two = λ n. carries_both (suc n) first more (get_or old n None) (get_or between n None) (get_or new n None) (one n) (two n)
-
-  pub is_one : (asked : LineSeen) (old new : List (Option (Slot B))) (exchanges : List Exchange) → ((n : ℕ) → Carries lost asks asks_all (suc n) asked exchanges (get_or old n None) (get_or new n None))
-      → IsCarried lost asks asks_all asked old new exchanges
-  is_one asked old new exchanges each = λ n. (get_or new n None, each n, refl)
-
--- ---- a bus that doesn't come back
-
+-- a bus that doesn't come back
 pub found_so : {X E L : Type 0} (result : Result X E) (P : L → X → Type 0) (left : L) → IfOk result (P left) → IfOk result (λ x. (l : L) × P l x)
 found_so (Ok x) P left p = (left, p)
 found_so (Err e) P left p = tt

@@ -6,7 +6,7 @@ pub mod Halt
 pub mod Ended
 -- what `run` does to an image
 pub mod ImageRun
--- how a script finds the bus lines
+-- how a script finds its gateway
 pub mod Link
 -- the readout of a meter over a bus line
 pub mod Poll
@@ -14,15 +14,13 @@ pub mod Poll
 pub mod Script
 -- what a line of a script asks for
 pub mod ScriptLine
--- a search for meters over a bus line
+-- a search for meters over the gateway
 pub mod Search
 -- a stretch of the concentrator's run
 pub mod Run
--- the effect of a line on the slots
-pub mod Slots
 -- a script that ended because a search ran out of memory
 pub mod Starved
--- the exchanges over the buses of a script's lines
+-- the exchanges over the gateway of a script
 pub mod Traffic
 -- what is known of a poll between two of its calls
 pub mod Way

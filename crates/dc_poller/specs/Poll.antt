@@ -14,7 +14,6 @@ use Rattle.dc_core.specs.declared.line_heard.LineHeard.TheVariants.{Again, Ready
 use Rattle.mbdc_bus.specs.Limits.{most_answer}
 use Rattle.mbdc_bus.specs.Bus.{Exchange}
 use Rattle.dc_poller.specs.Link.{Link, linked, lost, IsHeardOver, loss_line}
-use Rattle.dc_poller.specs.declared.port.Port.{Port}
 
 -- a turn of the concentrator, an exchange over the bus, or the bus's loss
 pub data Happening : Type 0 where
@@ -44,15 +43,15 @@ pub record Phase : Type 0 where
 
 -- ---- which event is next
 
-abbrev pub IsDueEvent : Port → ℕ → Identity → Due → Event → Type 0
-IsDueEvent port moment meter to_start event = event ≡ starts port.line meter
-IsDueEvent port moment meter to_ask event = event ≡ asks port.line
-IsDueEvent port moment meter (to_send request) event = ⊥
-IsDueEvent port moment meter (to_hear bytes) event = event ≡ hears port.line moment bytes
-IsDueEvent port moment meter to_commit event = event ≡ commits
-IsDueEvent port moment meter (to_make_room bytes) event = event ≡ commits
-IsDueEvent port moment meter (to_hear_again bytes) event = event ≡ hears port.line moment bytes
-IsDueEvent port moment meter is_over event = ⊥
+abbrev pub IsDueEvent : ℕ → ℕ → Identity → Due → Event → Type 0
+IsDueEvent line moment meter to_start event = event ≡ starts line meter
+IsDueEvent line moment meter to_ask event = event ≡ asks line
+IsDueEvent line moment meter (to_send request) event = ⊥
+IsDueEvent line moment meter (to_hear bytes) event = event ≡ hears line moment bytes
+IsDueEvent line moment meter to_commit event = event ≡ commits
+IsDueEvent line moment meter (to_make_room bytes) event = event ≡ commits
+IsDueEvent line moment meter (to_hear_again bytes) event = event ≡ hears line moment bytes
+IsDueEvent line moment meter is_over event = ⊥
 
 -- A bus is lost over a request, whose answer is silence.
 abbrev pub MayBeLost : Due → Type 0
@@ -66,12 +65,12 @@ MayBeLost (to_hear_again bytes) = ⊥
 MayBeLost is_over = ⊥
 
 -- The request is sent. A lost bus answers with silence, and a bus is lost at most once.
-abbrev pub IsDue : Port → ℕ → Identity → Phase → Happening → Type 0
-IsDue port moment meter phase (does turn) = IsDueEvent port moment meter phase.due turn.0
-IsDue port moment meter phase (talks exchange) =
+abbrev pub IsDue : ℕ → ℕ → Identity → Phase → Happening → Type 0
+IsDue line moment meter phase (does turn) = IsDueEvent line moment meter phase.due turn.0
+IsDue line moment meter phase (talks exchange) =
     (phase.due ≡ to_send exchange.request) × (length exchange.answer ≤ most_answer)
     × IsHeardOver phase.link exchange.answer
-IsDue port moment meter phase loses = (phase.link ≡ linked) × MayBeLost phase.due
+IsDue line moment meter phase loses = (phase.link ≡ linked) × MayBeLost phase.due
 
 -- ---- what is next after it
 
@@ -106,11 +105,11 @@ behind phase loses = record { due = phase.due; link = lost }
 -- ---- all that happens
 
 -- each happening follows those before it, and this is the phase after all
-abbrev pub IsWay : Port → ℕ → Identity → Phase → List Happening → Phase → Type 0
-IsWay port moment meter phase [] last = last ≡ phase
-IsWay port moment meter phase (happening ∷ more) last =
-    IsDue port moment meter phase happening
-    × IsWay port moment meter (behind phase happening) more last
+abbrev pub IsWay : ℕ → ℕ → Identity → Phase → List Happening → Phase → Type 0
+IsWay line moment meter phase [] last = last ≡ phase
+IsWay line moment meter phase (happening ∷ more) last =
+    IsDue line moment meter phase happening
+    × IsWay line moment meter (behind phase happening) more last
 
 abbrev pub turns_of : Happening → List Turn
 turns_of (does turn) = turn ∷ []
@@ -137,31 +136,31 @@ told_text (heard answer) = answer_text (heard answer)
 told_text (committed answer) = answer_text (committed answer)
 told_text (replied reply) = answer_text (replied reply)
 
-abbrev pub happening_text : Port → Happening → List ℕ
-happening_text port (does turn) = told_text turn.1
-happening_text port (talks exchange) = []
-happening_text port loses = loss_line port
+abbrev pub happening_text : Happening → List ℕ
+happening_text (does turn) = told_text turn.1
+happening_text (talks exchange) = []
+happening_text loses = loss_line
 
-abbrev pub happened_text : Port → List Happening → List ℕ
-happened_text port happened = flat_map (happening_text port) happened
+abbrev pub happened_text : List Happening → List ℕ
+happened_text happened = flat_map happening_text happened
 
 -- A POLL, from its start to its end: these turns, these exchanges over the bus, and this text.
-pub record Polls (port : Port) (moment : ℕ) (meter : Identity) (link left : Link)
+pub record Polls (line : ℕ) (moment : ℕ) (meter : Identity) (link left : Link)
     (turns : List Turn) (exchanges : List Exchange) (text : List ℕ) : Type 0 where
   pub happened : List Happening
   pub last : Phase
-  pub way : IsWay port moment meter (record { due = to_start; link = link }) happened last
+  pub way : IsWay line moment meter (record { due = to_start; link = link }) happened last
   pub ends : last.due ≡ is_over
   pub left_is : left ≡ last.link
   pub turns_are : turns ≡ happened_turns happened
   pub exchanges_are : exchanges ≡ happened_exchanges happened
-  pub text_is : text ≡ happened_text port happened
+  pub text_is : text ≡ happened_text happened
 
 -- the first turns of a poll, and its exchanges until then
-pub record PollsPart (port : Port) (moment : ℕ) (meter : Identity) (link : Link) (turns : List Turn)
+pub record PollsPart (line : ℕ) (moment : ℕ) (meter : Identity) (link : Link) (turns : List Turn)
     (exchanges : List Exchange) : Type 0 where
   pub happened : List Happening
   pub last : Phase
-  pub way : IsWay port moment meter (record { due = to_start; link = link }) happened last
+  pub way : IsWay line moment meter (record { due = to_start; link = link }) happened last
   pub turns_are : turns ≡ happened_turns happened
   pub exchanges_are : exchanges ≡ happened_exchanges happened

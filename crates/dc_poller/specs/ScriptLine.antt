@@ -1,5 +1,5 @@
 -- The lines of a script (this product): words with single spaces, or nothing.
-use Rattle.std.specs.Prelude.{◌≡◌, ◌⊎◌, ℕ, ◌≤◌, List, [], ◌∷◌, ◌++◌, codes, length, Some}
+use Rattle.std.specs.Prelude.{◌≡◌, ℕ, ◌≤◌, List, [], ◌∷◌, ◌++◌, codes, length, Some}
 use Rattle.std.specs.List.{join_with_byte}
 use Rattle.std.specs.Fmt.{decimal}
 use Rattle.dc_address.specs.Text.{text_of}
@@ -24,7 +24,7 @@ pub data LineSeen : Type 0 where
   commit : LineSeen
   office : List ℕ → LineSeen
   poll : ℕ → Identity → LineSeen
-  search : ℕ → ℕ → LineSeen
+  search : ℕ → LineSeen
 
 abbrev pub seen : ScriptLine → LineSeen
 seen Nothing = nothing
@@ -35,7 +35,7 @@ seen (Hear line answer) = hear line answer.now
 seen Commit = commit
 seen (Office line) = office line.now
 seen (Poll line meter) = poll line meter
-seen (Search budget line) = search budget line
+seen (Search budget) = search budget
 
 -- it is no search
 abbrev pub IsPlain : LineSeen → Type 0
@@ -47,7 +47,7 @@ IsPlain (hear line answer) = Unit {0}
 IsPlain commit = Unit {0}
 IsPlain (office line) = Unit {0}
 IsPlain (poll line meter) = Unit {0}
-IsPlain (search budget line) = ⊥
+IsPlain (search budget) = ⊥
 
 -- the greatest number of a bus line
 abbrev pub greatest_line : ℕ
@@ -63,7 +63,7 @@ HasBounds (hear line answer) = line ≤ greatest_line
 HasBounds commit = Unit {0}
 HasBounds (office line) = Unit {0}
 HasBounds (poll line meter) = (line ≤ greatest_line) × IsOfBytes meter
-HasBounds (search budget line) = (budget ≤ greatest_budget) × (line ≤ greatest_line)
+HasBounds (search budget) = budget ≤ greatest_budget
 
 -- what follows the number of a line: nothing for silence, else a space and the answer's bytes in hex digits of
 -- either case
@@ -77,12 +77,6 @@ pub record SpellsHear (text : List ℕ) (line : ℕ) (answer : List ℕ) : Type 
   pub answer_is : SpellsAnswer answer behind
   pub text_is : text ≡ join_with_byte 32 (codes "HEAR" ∷ decimal line ∷ []) ++ behind
 
--- a search that names no line is one of the first
-abbrev pub SpellsSearch : List ℕ → ℕ → ℕ → Type 0
-SpellsSearch text budget line =
-    ((line ≡ 1) × (text ≡ join_with_byte 32 (codes "SEARCH" ∷ decimal budget ∷ [])))
-    ⊎ (text ≡ join_with_byte 32 (codes "SEARCH" ∷ decimal budget ∷ decimal line ∷ []))
-
 abbrev pub Spells : List ℕ → LineSeen → Type 0
 Spells text nothing = text ≡ []
 Spells text (at moment) = text ≡ join_with_byte 32 (codes "AT" ∷ decimal moment ∷ [])
@@ -94,7 +88,7 @@ Spells text commit = text ≡ codes "COMMIT"
 Spells text (office line) = text ≡ join_with_byte 32 (codes "OFFICE" ∷ line ∷ [])
 Spells text (poll line meter) = text
     ≡ join_with_byte 32 (codes "POLL" ∷ decimal line ∷ text_of meter ∷ [])
-Spells text (search budget line) = SpellsSearch text budget line
+Spells text (search budget) = text ≡ join_with_byte 32 (codes "SEARCH" ∷ decimal budget ∷ [])
 
 -- a line that isn't too long and spells this
 pub record IsLineOf (text : List ℕ) (asked : LineSeen) : Type 0 where

@@ -16,18 +16,17 @@ use Rattle.dc_poller.specs.Poll.{Phase, Due, Happening, IsWay, happened_exchange
 use Rattle.dc_poller.specs.Poll.{happened_turns, to_ask, is_over}
 use Rattle.dc_poller.specs.Link.{Link, link_by}
 use Rattle.dc_poller.specs.Run.{AnyRun, Run, IsRunOf}
-use Rattle.dc_poller.specs.declared.port.Port.{Port}
 
 -- From this phase of a poll on that happened, and it ended so: its turns are run, and its text was written.
-pub record Way {D : Type 0} (g : Ghosts D) (run : Run D) (port : Port) (moment : ℕ)
+pub record Way {D : Type 0} (g : Ghosts D) (run : Run D) (line : ℕ) (moment : ℕ)
     (meter : Identity) (phase : Phase) (ends : List Happening → Phase → Type 0)
     (wrote : List ℕ → Type 0) : Type 0 where
   pub happened : List Happening
   pub last : Phase
-  pub way : IsWay port moment meter phase happened last
+  pub way : IsWay line moment meter phase happened last
   pub ends_so : ends happened last
   pub went : IsRunOf g run (happened_turns happened)
-  pub text : wrote (happened_text port happened)
+  pub text : wrote (happened_text happened)
 
 -- whether a request is due next
 abbrev pub goes_on : Bool → Due
@@ -35,13 +34,13 @@ goes_on true = to_ask
 goes_on false = is_over
 
 -- A write failed over the last of these: until then the text of those before it was written, and no write failed.
-pub record FailsInLast {W : Type 0} (sink : SinkGhosts W) (port : Port) (old new : W)
+pub record FailsInLast {W : Type 0} (sink : SinkGhosts W) (old new : W)
     (happened : List Happening) : Type 0 where
   pub front : List Happening
   pub last : Happening
   pub parts : happened ≡ front ++ last ∷ []
   pub between : W
-  pub text : Puts (sink.written old) (sink.written between) (happened_text port front)
+  pub text : Puts (sink.written old) (sink.written between) (happened_text front)
   pub well : sink.put_failures between ≡ sink.put_failures old
   pub failed : HasRisen (sink.put_failures between) (sink.put_failures new)
 
@@ -73,20 +72,20 @@ WentOver asks old new exchanges = AreExchanged asks old exchanges new
 
 -- WHAT A CALL OF A POLL DID, from this phase of it on: if it succeeded, it ended so, and its text was
 -- written; if not, a write failed over the last that happened. These exchanges went over the bus.
-abbrev pub Polled : {D W X : Type 0} → Ghosts D → Run D → Port → ℕ → Identity → Phase
+abbrev pub Polled : {D W X : Type 0} → Ghosts D → Run D → ℕ → ℕ → Identity → Phase
     → SinkGhosts W → W → W → Result X IoFault → (List Happening → Phase → Type 0)
     → (List Exchange → Type 0) → Type 0
-Polled g run port moment meter phase sink old new result ends talked =
-    Way g run port moment meter phase
-    (λ happened last. ends happened last × OnErr result (FailsInLast sink port old new happened)
+Polled g run line moment meter phase sink old new result ends talked =
+    Way g run line moment meter phase
+    (λ happened last. ends happened last × OnErr result (FailsInLast sink old new happened)
     × talked (happened_exchanges happened))
     (λ text. OnOk result (PutsInto sink old new text))
 
 -- What a call of a round did once the bus had answered, from where this is due on: nothing more goes over the bus,
 -- whichever meter is read and however the bus is found.
-abbrev pub Judged : {D W : Type 0} → Ghosts D → Port → ℕ → Due → Machine D → Machine D
+abbrev pub Judged : {D W : Type 0} → Ghosts D → ℕ → ℕ → Due → Machine D → Machine D
     → SinkGhosts W → W → W → Result Bool IoFault → Type 0
-Judged g port moment due first last sink old new result =
+Judged g line moment due first last sink old new result =
     (meter : Identity) (link : Link) → AnyRun g first last (λ run.
-    Polled g run port moment meter (record { due = due; link = link }) sink old new result
+    Polled g run line moment meter (record { due = due; link = link }) sink old new result
     (RoundEnds result link) (λ exchanges. exchanges ≡ []))

@@ -1,12 +1,12 @@
 //! The engines of the program `mbdc` that work on an image, over any source and any sink of bytes.
 //!
 //! [`run_script_over`] reads the lines of a script ([`ScriptLine`]), opens an image and executes
-//! them: a line is one event of a concentrator, the poll of a meter over a bus line, or a search
-//! for meters over it. The buses of the lines are any [`Bus`](mbdc_bus::Bus); [`run_script`] has only a
-//! gateway, on line 1. What it writes, and what it leaves of the image at every moment, is what the
+//! them: a line is one event of a concentrator, the poll of a meter over the gateway, which is bus line 1, or a search
+//! for meters over it. The gateway is any [`Bus`](mbdc_bus::Bus); [`run_script`] makes one of a reader and a writer of
+//! blocks. What it writes, and what it leaves of the image at every moment, is what the
 //! run of these events writes and leaves (`specs/Script.antt`, `specs/Poll.antt`,
-//! `specs/Search.antt`, `specs/ImageRun.antt`). Over the bus of a bus line go the exchanges of the
-//! lines that name it, and nothing else (`specs/Traffic.antt`).
+//! `specs/Search.antt`, `specs/ImageRun.antt`). Over the gateway go the exchanges of the
+//! lines in their order, and nothing else (`specs/Traffic.antt`).
 //!
 //! Read and write faults are returned only if that end counted a failure, and a script over 1 MiB
 //! is rejected. The script is read before the image is opened.
@@ -22,18 +22,16 @@
 mod decode;
 mod fold;
 mod halt;
-mod late;
 mod laws;
+mod loss;
 mod notes;
 mod poll;
-mod port;
 mod quiet;
 mod register;
 mod run;
 mod script;
 mod script_line;
 mod searching;
-mod slot;
 mod told;
 
 pub use decode::decode_lines;
@@ -47,4 +45,3 @@ pub use notes::CommandNotes;
 pub use run::{run_script, run_script_over};
 pub use script_line::ScriptLine;
 pub use searching::search;
-pub use slot::Slot;

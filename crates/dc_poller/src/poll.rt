@@ -13,10 +13,9 @@ ghost use Rattle.dc_poller.specs.Link.{link_by, loss_text, IsHeardOver};
 ghost use Rattle.dc_poller.specs.Poll.{to_start, to_ask, to_send, to_hear};
 ghost use Rattle.dc_poller.specs.Poll.{to_commit, to_make_room, to_hear_again, behind_heard};
 ghost use Rattle.dc_poller.specs.Way.{phase_at, Judged, Polled, PollEnds, RoundEnds, Spends, WentOver};
-ghost use Rattle.dc_poller.specs.declared.port.Port.{Port};
 ghost use Rattle.dc_poller.specs.Run.{AnyRun};
 
-use crate::port::{Port, put_lost};
+use crate::loss::put_lost;
 use crate::told::{told_ask, told_commit, told_hear, told_start};
 use dc_address::Identity;
 use dc_core::{Concentrator, HearFault, LineHeard};
@@ -30,7 +29,7 @@ use std::alloc::Allocator;
 /// Reads a meter over a bus line, with this time stamp. Each request waits by itself until no other answer is under
 /// way.
 pub fn poll<D: Disk + Drop, A: Allocator + Copy, B: Bus, W: Sink>(
-    port: Port,
+    line: u8,
     concentrator: &mut Concentrator<D, A>,
     bus: &mut B,
     meter: &Identity,
@@ -38,16 +37,16 @@ pub fn poll<D: Disk + Drop, A: Allocator + Copy, B: Bus, W: Sink>(
     out: &mut W,
 ) -> Result<(), IoFault>
     ensures went { AnyRun D.Disk concentrator.old concentrator.new (λ run.
-        Polled D.Disk run port moment.seconds meter.now (phase_at to_start (B.lost bus.old))
+        Polled D.Disk run line moment.seconds meter.now (phase_at to_start (B.lost bus.old))
         W.Sink out.old out.new result (PollEnds result (link_by (B.lost bus.new)))
         (WentOver B.asks bus.old bus.new)) }
     ensures counted { CountsPuts W.Sink result out.old out.new }
     ensures budget { concentrator.new.house.budget ≡ concentrator.old.house.budget }
     ensures untouched { B.lost bus.old ≡ true → bus.new ≡ bus.old }
 {
-    let started = told_start(concentrator, port.line, meter, out)?;
+    let started = told_start(concentrator, line, meter, out)?;
     match started {
-        Ok(()) => read_parts(port, concentrator, bus, moment, out),
+        Ok(()) => read_parts(line, concentrator, bus, moment, out),
         Err(_) => Ok(()),
     }
 }
@@ -55,14 +54,14 @@ pub fn poll<D: Disk + Drop, A: Allocator + Copy, B: Bus, W: Sink>(
 // Goes from round to round, until the session has no request left: each takes one away of those that it may make
 // (`a_readout_makes_few_requests` of dc_readout), so no readout is cut off.
 fn read_parts<D: Disk + Drop, A: Allocator + Copy, B: Bus, W: Sink>(
-    port: Port,
+    line: u8,
     concentrator: &mut Concentrator<D, A>,
     bus: &mut B,
     moment: Moment,
     out: &mut W,
 ) -> Result<(), IoFault>
     ensures went { (meter : Meter) → AnyRun D.Disk concentrator.old concentrator.new (λ run.
-        Polled D.Disk run port moment.seconds meter (phase_at to_ask (B.lost bus.old)) W.Sink
+        Polled D.Disk run line moment.seconds meter (phase_at to_ask (B.lost bus.old)) W.Sink
         out.old out.new result (PollEnds result (link_by (B.lost bus.new)))
         (WentOver B.asks bus.old bus.new)) }
     ensures counted { CountsPuts W.Sink result out.old out.new }
@@ -70,7 +69,7 @@ fn read_parts<D: Disk + Drop, A: Allocator + Copy, B: Bus, W: Sink>(
     ensures untouched { B.lost bus.old ≡ true → bus.new ≡ bus.old }
 {
     'rounds: loop {
-        let more = ask_and_hear(port, concentrator, bus, moment, out)?;
+        let more = ask_and_hear(line, concentrator, bus, moment, out)?;
         if !more {
             return Ok(());
         }
@@ -80,31 +79,31 @@ fn read_parts<D: Disk + Drop, A: Allocator + Copy, B: Bus, W: Sink>(
 // One round: a request and its answer, which is committed if it is a part. Returns whether the poll
 // goes on.
 fn ask_and_hear<D: Disk + Drop, A: Allocator + Copy, B: Bus, W: Sink>(
-    port: Port,
+    line: u8,
     concentrator: &mut Concentrator<D, A>,
     bus: &mut B,
     moment: Moment,
     out: &mut W,
 ) -> Result<bool, IoFault>
     ensures went { (meter : Meter) → AnyRun D.Disk concentrator.old concentrator.new (λ run.
-        Polled D.Disk run port moment.seconds meter (phase_at to_ask (B.lost bus.old)) W.Sink
+        Polled D.Disk run line moment.seconds meter (phase_at to_ask (B.lost bus.old)) W.Sink
         out.old out.new result (RoundEnds result (link_by (B.lost bus.new)))
         (WentOver B.asks bus.old bus.new)) }
     ensures counted { CountsPuts W.Sink result out.old out.new }
-    ensures fewer { Spends result port.line concentrator.old.lines concentrator.new.lines }
+    ensures fewer { Spends result line concentrator.old.lines concentrator.new.lines }
     ensures budget { concentrator.new.house.budget ≡ concentrator.old.house.budget }
     ensures untouched { B.lost bus.old ≡ true → bus.new ≡ bus.old }
 {
-    let asked = told_ask(concentrator, port.line, out)?;
+    let asked = told_ask(concentrator, line, out)?;
     match asked {
-        Some(request) => exchange(port, concentrator, bus, &request, moment, out),
+        Some(request) => exchange(line, concentrator, bus, &request, moment, out),
         None => Ok(false),
     }
 }
 
 // Sends a request over the bus, and takes the answer.
 fn exchange<D: Disk + Drop, A: Allocator + Copy, B: Bus, W: Sink>(
-    port: Port,
+    line: u8,
     concentrator: &mut Concentrator<D, A>,
     bus: &mut B,
     request: &FrameBuf,
@@ -113,21 +112,20 @@ fn exchange<D: Disk + Drop, A: Allocator + Copy, B: Bus, W: Sink>(
 ) -> Result<bool, IoFault>
     requires { length request.now ≤ longest_request }
     ensures went { (meter : Meter) → AnyRun D.Disk concentrator.old concentrator.new (λ run.
-        Polled D.Disk run port moment.seconds meter
+        Polled D.Disk run line moment.seconds meter
         (phase_at (to_send request.now) (B.lost bus.old)) W.Sink out.old out.new result
         (RoundEnds result (link_by (B.lost bus.new))) (WentOver B.asks bus.old bus.new)) }
     ensures counted { CountsPuts W.Sink result out.old out.new }
-    ensures fewer { Spends result port.line concentrator.old.lines concentrator.new.lines }
+    ensures fewer { Spends result line concentrator.old.lines concentrator.new.lines }
     ensures budget { concentrator.new.house.budget ≡ concentrator.old.house.budget }
     ensures untouched { B.lost bus.old ≡ true → bus.new ≡ bus.old }
 {
-    let answer = ask_bus(port, bus, request, out)?;
-    hear(port, concentrator, moment, answer.as_slice(), out)
+    let answer = ask_bus(bus, request, out)?;
+    hear(line, concentrator, moment, answer.as_slice(), out)
 }
 
 // Sends the request, and returns the bus's answer. If the bus is lost, that is printed.
 fn ask_bus<B: Bus, W: Sink>(
-    port: Port,
     bus: &mut B,
     request: &FrameBuf,
     out: &mut W,
@@ -142,37 +140,37 @@ fn ask_bus<B: Bus, W: Sink>(
     ensures unwritten { OnErr result ((B.lost bus.old ≡ false) × (B.lost bus.new ≡ true)
         × B.asks bus.old request.now [] bus.new) }
     ensures told { Wrote W.Sink result out.old out.new
-        (loss_text port (link_by (B.lost bus.old)) (link_by (B.lost bus.new))) }
+        (loss_text (link_by (B.lost bus.old)) (link_by (B.lost bus.new))) }
 {
     let was = bus.is_lost();
     let answer = bus.ask(request);
     if was || !bus.is_lost() {
         return Ok(answer);
     }
-    put_lost(port, out)?;
+    put_lost(out)?;
     Ok(answer)
 }
 
 // Takes an answer. If the maximum number of changes is pending, they are committed, and the answer
 // is taken again.
 fn hear<D: Disk + Drop, A: Allocator + Copy, W: Sink>(
-    port: Port,
+    line: u8,
     concentrator: &mut Concentrator<D, A>,
     moment: Moment,
     bytes: &[u8],
     out: &mut W,
 ) -> Result<bool, IoFault>
-    ensures went { Judged D.Disk port moment.seconds (to_hear bytes.now) concentrator.old
+    ensures went { Judged D.Disk line moment.seconds (to_hear bytes.now) concentrator.old
         concentrator.new W.Sink out.old out.new result }
     ensures counted { CountsPuts W.Sink result out.old out.new }
-    ensures fewer { Spends result port.line concentrator.old.lines concentrator.new.lines }
+    ensures fewer { Spends result line concentrator.old.lines concentrator.new.lines }
     ensures budget { concentrator.new.house.budget ≡ concentrator.old.house.budget }
 {
-    let answer = told_hear(concentrator, port.line, moment, bytes, out)?;
+    let answer = told_hear(concentrator, line, moment, bytes, out)?;
     match answer {
         Ok(heard) => after_heard(concentrator, Ok(heard), out),
         Err(fault) => match fault {
-            HearFault::PendingFull => hear_again(port, concentrator, moment, bytes, out),
+            HearFault::PendingFull => hear_again(line, concentrator, moment, bytes, out),
             _ => Ok(false),
         },
     }
@@ -180,40 +178,40 @@ fn hear<D: Disk + Drop, A: Allocator + Copy, W: Sink>(
 
 // Makes room, and takes the answer again.
 fn hear_again<D: Disk + Drop, A: Allocator + Copy, W: Sink>(
-    port: Port,
+    line: u8,
     concentrator: &mut Concentrator<D, A>,
     moment: Moment,
     bytes: &[u8],
     out: &mut W,
 ) -> Result<bool, IoFault>
-    ensures went { Judged D.Disk port moment.seconds (to_make_room bytes.now) concentrator.old
+    ensures went { Judged D.Disk line moment.seconds (to_make_room bytes.now) concentrator.old
         concentrator.new W.Sink out.old out.new result }
     ensures counted { CountsPuts W.Sink result out.old out.new }
-    ensures fewer { Spends result port.line concentrator.old.lines concentrator.new.lines }
+    ensures fewer { Spends result line concentrator.old.lines concentrator.new.lines }
     ensures budget { concentrator.new.house.budget ≡ concentrator.old.house.budget }
 {
     let committed = told_commit(concentrator, out)?;
     match committed {
-        Ok(_) => hear_once_more(port, concentrator, moment, bytes, out),
+        Ok(_) => hear_once_more(line, concentrator, moment, bytes, out),
         Err(_) => Ok(false),
     }
 }
 
 // Takes the answer for which room was made.
 fn hear_once_more<D: Disk + Drop, A: Allocator + Copy, W: Sink>(
-    port: Port,
+    line: u8,
     concentrator: &mut Concentrator<D, A>,
     moment: Moment,
     bytes: &[u8],
     out: &mut W,
 ) -> Result<bool, IoFault>
-    ensures went { Judged D.Disk port moment.seconds (to_hear_again bytes.now) concentrator.old
+    ensures went { Judged D.Disk line moment.seconds (to_hear_again bytes.now) concentrator.old
         concentrator.new W.Sink out.old out.new result }
     ensures counted { CountsPuts W.Sink result out.old out.new }
-    ensures fewer { Spends result port.line concentrator.old.lines concentrator.new.lines }
+    ensures fewer { Spends result line concentrator.old.lines concentrator.new.lines }
     ensures budget { concentrator.new.house.budget ≡ concentrator.old.house.budget }
 {
-    let answer = told_hear(concentrator, port.line, moment, bytes, out)?;
+    let answer = told_hear(concentrator, line, moment, bytes, out)?;
     after_heard(concentrator, answer, out)
 }
 
@@ -223,7 +221,7 @@ fn after_heard<D: Disk + Drop, A: Allocator + Copy, W: Sink>(
     answer: Result<LineHeard, HearFault>,
     out: &mut W,
 ) -> Result<bool, IoFault>
-    ensures went { (port : Port) (moment : ℕ) → Judged D.Disk port moment (behind_heard answer)
+    ensures went { (line : ℕ) (moment : ℕ) → Judged D.Disk line moment (behind_heard answer)
         concentrator.old concentrator.new W.Sink out.old out.new result }
     ensures counted { CountsPuts W.Sink result out.old out.new }
     // If an answer that was taken is one request less, so is the round.
@@ -247,7 +245,7 @@ fn commit_part<D: Disk + Drop, A: Allocator + Copy, W: Sink>(
     concentrator: &mut Concentrator<D, A>,
     out: &mut W,
 ) -> Result<bool, IoFault>
-    ensures went { (port : Port) (moment : ℕ) → Judged D.Disk port moment to_commit
+    ensures went { (line : ℕ) (moment : ℕ) → Judged D.Disk line moment to_commit
         concentrator.old concentrator.new W.Sink out.old out.new result }
     ensures counted { CountsPuts W.Sink result out.old out.new }
     ensures no_more { NoMoreRequests concentrator.old.lines concentrator.new.lines }

@@ -1,6 +1,6 @@
 //! The engine of `run`: a script over an image, from a source's lines to a sink's text.
 
-ghost use Rattle.std.specs.Prelude.{◌≡◌, ◌≢◌, ◌∷◌, [], ◌⊎◌, ◌≤◌, ◌<◌, ◌*◌, length, vec_len, IfSome};
+ghost use Rattle.std.specs.Prelude.{◌≡◌, ◌≢◌, ◌⊎◌, ◌≤◌, ◌<◌, ◌*◌, length, vec_len, IfSome};
 ghost use Rattle.std.specs.Prelude.{IfOk, IfErr, OnOk, IsErrOf};
 ghost use Rattle.mbdc_io.specs.Failures.{HasRisen};
 ghost use Rattle.mbdc_io.specs.Stream.{IsAtEnd};
@@ -10,20 +10,19 @@ ghost use Rattle.mbdc_ending.specs.Fault.{IfOpen, IsOfReading};
 ghost use Rattle.mbdc_ending.specs.Unopened.{IsUnopened, Stands};
 ghost use Rattle.dc_poller.specs.Ended.{HasEnded};
 ghost use Rattle.dc_poller.specs.ImageRun.{ImageCut, ImageRan};
-ghost use Rattle.dc_poller.specs.Link.{gateway_links, link_at_first, links_of, only_gateway};
+ghost use Rattle.dc_poller.specs.Link.{link_at_first, link_of};
 ghost use Rattle.dc_poller.specs.Starved.{ImageStarved, IsOfSearch};
-ghost use Rattle.dc_poller.specs.Traffic.{AreCarried, OverGateway, gateway_slot};
+ghost use Rattle.dc_poller.specs.Traffic.{AreCarried, OverGateway, gateway_over};
 
 use crate::halt::Halt;
 use crate::notes::CommandNotes;
 use crate::script::run_lines;
-use crate::slot::Slot;
 use dc_core::Concentrator;
 use dc_sectors::Disk;
 use mbdc_bus::Bus;
 use mbdc_bus::blocks::Gateway;
 use mbdc_ending::ProgramFault;
-use mbdc_io::{CHUNK, LONGEST, MOST, NoMemory, Sink, Source, read_input, room};
+use mbdc_io::{CHUNK, LONGEST, MOST, Sink, Source, read_input, room};
 use std::alloc::Allocator;
 
 /// Opens the image, executes the lines of the script left in the reader, and closes it. Changes
@@ -32,18 +31,17 @@ use std::alloc::Allocator;
 /// SYNTAX`; the result is whether there was one. The forms of the lines are those of
 /// [`ScriptLine`](crate::ScriptLine).
 ///
-/// A bus line may have a bus: line n that of slot n - 1. `POLL n` reads a meter over it: the bus
+/// Bus line 1 may have a bus, the gateway. `POLL 1` reads a meter over it: the bus
 /// settles, each request goes out, its answer is received at the script's time, and each part that
-/// is accepted is committed; these events' answers are written like any other's. If a bus is lost,
-/// `LINE n LOST` is written once, `GATEWAY LOST` for a gateway, and the line is silent from then
-/// on. For a line without a bus `POLL` writes `NO GATEWAY`.
+/// is accepted is committed; these events' answers are written like any other's. If the gateway is lost,
+/// `GATEWAY LOST` is written once, and it is silent from then on. On any other line, and without a gateway, `POLL`
+/// writes `NO GATEWAY`.
 ///
-/// `SEARCH` searches for meters over the bus of a line, with at most this many selections. The
+/// `SEARCH` searches for meters over the gateway, with at most this many selections. The
 /// pending changes are committed first; if that is refused, the refusal is written. If a request of
-/// the line is pending, `REFUSED 3 Busy` is written, since a selection would restart that readout.
+/// line 1 is pending, `REFUSED 3 Busy` is written, since a selection would restart that readout.
 /// Otherwise it writes each meter found, each number of several meters, whether the budget was
-/// spent, the number of selections, and as `LATE line n` the number of late answers, if any. A
-/// meter whose answer is lost or late isn't found. For a line without a bus `SEARCH` writes `NO
+/// spent, and the number of selections. A meter whose answer is lost isn't found. Without a gateway `SEARCH` writes `NO
 /// GATEWAY`.
 ///
 /// The whole script is read before the image is opened. The disk is returned in every case. Each command that is done
@@ -68,24 +66,23 @@ pub fn run_script_over<
     disk: D,
     reader: &mut R,
     writer: &mut W,
-    lines: &mut [Option<Slot<B>>],
+    gateway: &mut Option<B>,
     notes: &mut N,
 ) -> (D, Result<bool, ProgramFault>)
     // Where each image of the disk stands for some state: the run is that of the script's lines, of which exactly the
-    // text is written, and the image is left as that run leaves it. Over the bus of each bus line go the exchanges of
-    // the script's lines that name it, in their order, and nothing else; a lost bus is untouched.
+    // text is written, and the image is left as that run leaves it. Over the gateway go the exchanges of the script's
+    // lines, in their order, and nothing else; a lost one is untouched.
     ensures ran { Stands D.Disk disk → IfOk result.1 (λ faulty.
-        ImageRan D.Disk (links_of B.lost lines.old) (R.left reader.old) faulty
-        (PutsInto W.Sink writer.old writer.new) (AreCarried B.lost B.asks B.asks_all
-        lines.old lines.new) disk result.0) }
+        ImageRan D.Disk (link_of B.lost gateway.old) (R.left reader.old) faulty
+        (PutsInto W.Sink writer.old writer.new) (AreCarried B.lost B.asks gateway.old gateway.new) disk result.0) }
     ensures cut { Stands D.Disk disk → IsErrOf result.1 ProgramFault.Write → ImageCut D.Disk
-        (links_of B.lost lines.old) (R.left reader.old) (AreCarried B.lost B.asks B.asks_all lines.old lines.new) disk result.0 }
+        (link_of B.lost gateway.old) (R.left reader.old) (AreCarried B.lost B.asks gateway.old gateway.new) disk result.0 }
     // If memory runs out before the image is opened, or in a search, the image and the text are
     // those of the run up to it.
     ensures starved { Stands D.Disk disk → IsErrOf result.1 ProgramFault.NoMemory
         → ((result.0 ≡ disk) × (writer.new ≡ writer.old)) ⊎ ImageStarved D.Disk
-        (links_of B.lost lines.old) (R.left reader.old) (PutsInto W.Sink writer.old writer.new)
-        (AreCarried B.lost B.asks B.asks_all lines.old lines.new) disk result.0 }
+        (link_of B.lost gateway.old) (R.left reader.old) (PutsInto W.Sink writer.old writer.new)
+        (AreCarried B.lost B.asks gateway.old gateway.new) disk result.0 }
 
     // The disk, the reader and the writer are left so by the result.
     ensures ended { HasEnded D.Disk R.Source W.Sink disk result.0 reader.old reader.new
@@ -94,11 +91,11 @@ pub fn run_script_over<
     ensures unopened { IfErr result.1 (λ fault.
         IfOpen fault (IsUnopened D.Disk disk result.0)) }
     // What isn't read touches nothing, and after any fault but a failed write the writer is unchanged, unless a search
-    // over a bus line ran out of memory.
+    // ran out of memory.
     ensures unread { IfErr result.1 (λ fault.
-        IsOfReading fault → (result.0 ≡ disk) ⊎ IsOfSearch (links_of B.lost lines.old) fault) }
+        IsOfReading fault → (result.0 ≡ disk) ⊎ IsOfSearch (link_of B.lost gateway.old) fault) }
     ensures untouched { IfErr result.1 (λ fault. fault ≢ ProgramFault.Write
-        → (writer.new ≡ writer.old) ⊎ IsOfSearch (links_of B.lost lines.old) fault) }
+        → (writer.new ≡ writer.old) ⊎ IsOfSearch (link_of B.lost gateway.old) fault) }
 {
     let (input, mut bytes) = match read_script(alloc, reader) {
         Ok(read) => read,
@@ -111,7 +108,7 @@ pub fn run_script_over<
     match run_lines(
         alloc,
         &mut concentrator,
-        lines,
+        gateway,
         input.as_slice(),
         bytes.as_mut_slice(),
         writer,
@@ -125,8 +122,8 @@ pub fn run_script_over<
     }
 }
 
-/// Runs a script as [`run_script_over`] does, where only line 1 may have a bus: a gateway over this
-/// reader and writer of blocks (their form is that of mbdc_bus's `blocks`). They aren't returned.
+/// Runs a script as [`run_script_over`] does, over the gateway of this reader and writer of blocks (their form is that
+/// of mbdc_bus's `blocks`). They aren't returned.
 ///
 /// # Errors
 /// Those of [`run_script_over`].
@@ -149,17 +146,17 @@ pub fn run_script<
     // in their order, and nothing else until it is left.
     ensures ran { Stands D.Disk disk → IfOk result.1 (λ faulty.
         OverGateway GR.Source GW.Sink gateway (λ carries.
-        ImageRan D.Disk (gateway_links gateway) (R.left reader.old) faulty
+        ImageRan D.Disk (link_at_first gateway) (R.left reader.old) faulty
         (PutsInto W.Sink writer.old writer.new) carries disk result.0)) }
     ensures cut { Stands D.Disk disk → IsErrOf result.1 ProgramFault.Write → OverGateway GR.Source
         GW.Sink gateway (λ carries.
-        ImageCut D.Disk (gateway_links gateway) (R.left reader.old) carries disk result.0) }
+        ImageCut D.Disk (link_at_first gateway) (R.left reader.old) carries disk result.0) }
     // Memory is refused before the image is opened, or to a search: then what is left of the image and the text are
     // those of the run up to it.
     ensures starved { Stands D.Disk disk → IsErrOf result.1 ProgramFault.NoMemory
         → ((result.0 ≡ disk) × (writer.new ≡ writer.old)) ⊎ OverGateway GR.Source GW.Sink gateway
         (λ carries.
-        ImageStarved D.Disk (gateway_links gateway) (R.left reader.old)
+        ImageStarved D.Disk (link_at_first gateway) (R.left reader.old)
         (PutsInto W.Sink writer.old writer.new) carries disk result.0) }
 
     // The disk, the reader and the writer are left so by the result.
@@ -169,17 +166,14 @@ pub fn run_script<
     ensures unopened { IfErr result.1 (λ fault.
         IfOpen fault (IsUnopened D.Disk disk result.0)) }
     // What isn't read touches nothing, and after any fault but a failed write the writer is unchanged, unless a search
-    // over a bus line ran out of memory.
+    // ran out of memory.
     ensures unread { IfErr result.1 (λ fault.
-        IsOfReading fault → (result.0 ≡ disk) ⊎ IsOfSearch (gateway_links gateway) fault) }
+        IsOfReading fault → (result.0 ≡ disk) ⊎ IsOfSearch (link_at_first gateway) fault) }
     ensures untouched { IfErr result.1 (λ fault. fault ≢ ProgramFault.Write
-        → (writer.new ≡ writer.old) ⊎ IsOfSearch (gateway_links gateway) fault) }
+        → (writer.new ≡ writer.old) ⊎ IsOfSearch (link_at_first gateway) fault) }
 {
-    let mut lines = match only_line(alloc, gateway) {
-        Ok(lines) => lines,
-        Err(NoMemory) => return (disk, Err(ProgramFault::NoMemory)),
-    };
-    run_script_over(alloc, disk, reader, writer, lines.as_mut_slice(), &mut ())
+    let mut bus = joined(gateway);
+    run_script_over(alloc, disk, reader, writer, &mut bus, &mut ())
 }
 
 // The whole script, and room for an answer's bytes.
@@ -208,33 +202,13 @@ fn read_script<A: Allocator + Copy, R: Source>(
     Ok((input, bytes))
 }
 
-// The lines of a script of which line 1 alone may have a bus: a gateway of these ends.
-fn only_line<A: Allocator + Copy, GR: Source + Drop, GW: Sink + Drop>(
-    alloc: A,
-    gateway: Option<(GR, GW)>,
-) -> Result<Vec<Option<Slot<Gateway<GR, GW>>>, A>, NoMemory>
-    ensures links { IfOk result (λ lines. links_of ⟦<Gateway<GR, GW> as Bus>⟧.lost lines.items
-        ≡ only_gateway (link_at_first gateway)) }
-    ensures slots { IfOk result (λ lines. lines.items ≡ gateway_slot gateway ∷ []) }
-{
-    let mut lines = Vec::new(alloc);
-    lines.push(joined(gateway))?;
-    Ok(lines)
-}
-
-// The slot of a gateway of these ends.
-fn joined<GR: Source + Drop, GW: Sink + Drop>(
-    gateway: Option<(GR, GW)>,
-) -> Option<Slot<Gateway<GR, GW>>>
-    ensures links { links_of ⟦<Gateway<GR, GW> as Bus>⟧.lost (result ∷ [])
-        ≡ only_gateway (link_at_first gateway) }
-    ensures slot { result ≡ gateway_slot gateway }
+// The gateway over these ends.
+fn joined<GR: Source + Drop, GW: Sink + Drop>(gateway: Option<(GR, GW)>) -> Option<Gateway<GR, GW>>
+    ensures link { link_of ⟦<Gateway<GR, GW> as Bus>⟧.lost result ≡ link_at_first gateway }
+    ensures over { result ≡ gateway_over gateway }
 {
     match gateway {
-        Some((reader, writer)) => Some(Slot {
-            bus: Gateway::new(reader, writer),
-            is_gateway: true,
-        }),
+        Some((reader, writer)) => Some(Gateway::new(reader, writer)),
         None => None,
     }
 }

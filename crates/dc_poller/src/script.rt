@@ -1,29 +1,26 @@
 //! Executes the lines of a script on a concentrator.
 
-ghost use Rattle.std.specs.Prelude.{◌≡◌, ◌⊎◌, ◌≤◌, ◌<◌, ◌*◌, ◌++◌, ℕ, suc, codes, length};
-ghost use Rattle.std.specs.Prelude.{IfOk, IfSome, IfNone, OnOk, OnErr};
+ghost use Rattle.std.specs.Prelude.{◌≡◌, ◌≤◌, ◌*◌, ◌++◌, ℕ, codes, length};
+ghost use Rattle.std.specs.Prelude.{IfOk, OnOk, OnErr};
 ghost use Rattle.dc_core.specs.Run.{event_of, IsInTime};
 ghost use Rattle.dc_core.specs.Text.{answer_text};
 ghost use Rattle.mbdc_io.specs.Written.{PutsInto, Wrote};
 ghost use Rattle.mbdc_io.specs.Words.{number_word};
 ghost use Rattle.mbdc_io.specs.Lines.{lines_of, longest_input_line};
 ghost use Rattle.dc_poller.specs.Halt.{CountsPuts, IsCounted, OnNoMemory, OnWrite};
-ghost use Rattle.dc_poller.specs.Link.{AreAbsent, absent, line_of, links_of};
-ghost use Rattle.dc_poller.specs.Slots.{CutOver, IsKept, OnLine, RanOver, StarvedOver};
-ghost use Rattle.dc_poller.specs.Script.{ScriptCut, ScriptRan, LineCut, LineRan, moment_behind};
-ghost use Rattle.dc_poller.specs.Script.{no_gateway};
+ghost use Rattle.dc_poller.specs.Link.{HasBus, link_of};
+ghost use Rattle.dc_poller.specs.Script.{ScriptCut, ScriptRan, moment_behind, no_gateway};
 ghost use Rattle.dc_poller.specs.ScriptLine.{IsPlain, poll as polls, search as searches, seen};
-ghost use Rattle.dc_poller.specs.Starved.{LineStarved, ScriptStarved};
-ghost use Rattle.dc_poller.specs.Traffic.{AreCarried, PollsOver, SearchesOver};
+ghost use Rattle.dc_poller.specs.Starved.{ScriptStarved};
+ghost use Rattle.dc_poller.specs.Traffic.{AreCarried, CutOver, RanOver, StarvedOver};
 ghost use Rattle.dc_poller.specs.Run.{AnyRun, OneTurn};
 
 use crate::halt::{Halt, written};
+use crate::loss::GATEWAY_LINE;
 use crate::notes::CommandNotes;
 use crate::poll::poll;
-use crate::port::Port;
 use crate::script_line::ScriptLine;
-use crate::searching::search_on;
-use crate::slot::Slot;
+use crate::searching::search;
 use dc_address::Identity;
 use dc_core::{Concentrator, Event, WriteFault};
 use dc_meters::House;
@@ -38,7 +35,7 @@ use std::alloc::Allocator;
 pub fn run_lines<D: Disk + Drop, A: Allocator + Copy, B: Bus + Drop, W: Sink, N: CommandNotes>(
     alloc: A,
     concentrator: &mut Concentrator<D, A>,
-    slots: &mut [Option<Slot<B>>],
+    gateway: &mut Option<B>,
     input: &[u8],
     bytes: &mut [u8],
     out: &mut W,
@@ -47,19 +44,16 @@ pub fn run_lines<D: Disk + Drop, A: Allocator + Copy, B: Bus + Drop, W: Sink, N:
     requires { longest_input_line ≤ 2 * length bytes.old }
     ensures ran { AnyRun D.Disk concentrator.old concentrator.new (λ run.
         IfOk result (λ faulty.
-        ScriptRan D.Disk run (links_of B.lost slots.old) (lines_of input.now) faulty
-        (PutsInto W.Sink out.old out.new) (AreCarried B.lost B.asks B.asks_all slots.old
-        slots.new))) }
+        ScriptRan D.Disk run (link_of B.lost gateway.old) (lines_of input.now) faulty
+        (PutsInto W.Sink out.old out.new) (AreCarried B.lost B.asks gateway.old gateway.new))) }
     ensures cut { AnyRun D.Disk concentrator.old concentrator.new (λ run.
-        OnWrite result (ScriptCut D.Disk run (links_of B.lost slots.old) (lines_of input.now)
-        (AreCarried B.lost B.asks
-        B.asks_all slots.old slots.new))) }
+        OnWrite result (ScriptCut D.Disk run (link_of B.lost gateway.old) (lines_of input.now)
+        (AreCarried B.lost B.asks gateway.old gateway.new))) }
     ensures starved { AnyRun D.Disk concentrator.old concentrator.new (λ run.
-        OnNoMemory result (ScriptStarved D.Disk run (links_of B.lost slots.old)
-        (lines_of input.now) (PutsInto W.Sink out.old out.new) (AreCarried B.lost B.asks
-        B.asks_all slots.old slots.new))) }
-    // Memory is refused to a search alone, which needs a line that has a bus.
-    ensures through { OnNoMemory result (¬ (AreAbsent (links_of B.lost slots.old))) }
+        OnNoMemory result (ScriptStarved D.Disk run (link_of B.lost gateway.old)
+        (lines_of input.now) (PutsInto W.Sink out.old out.new) (AreCarried B.lost B.asks gateway.old gateway.new))) }
+    // Memory is refused to a search alone, which needs a gateway.
+    ensures through { OnNoMemory result (HasBus (link_of B.lost gateway.old)) }
     ensures counted { IsCounted result (W.put_failures out.old) (W.put_failures out.new) }
 {
     let mut rest = input;
@@ -74,7 +68,7 @@ pub fn run_lines<D: Disk + Drop, A: Allocator + Copy, B: Bus + Drop, W: Sink, N:
             };
         };
         let last = concentrator.house().last_number();
-        if let Err(halt) = run_line(alloc, concentrator, slots, &asked, moment, out) {
+        if let Err(halt) = run_line(alloc, concentrator, gateway, &asked, moment, out) {
             note_done(&asked, last, concentrator.house(), notes);
             return Err(halt);
         }
@@ -105,56 +99,50 @@ fn note_done<A: Allocator + Copy, N: CommandNotes>(
 fn run_line<D: Disk + Drop, A: Allocator + Copy, B: Bus + Drop, W: Sink>(
     alloc: A,
     concentrator: &mut Concentrator<D, A>,
-    slots: &mut [Option<Slot<B>>],
+    gateway: &mut Option<B>,
     asked: &ScriptLine<'_>,
     moment: Moment,
     out: &mut W,
 ) -> Result<(), Halt>
     ensures ran { AnyRun D.Disk concentrator.old concentrator.new (λ run.
-        OnOk result (RanOver D.Disk run moment.seconds (seen asked.now) B.lost B.asks
-        B.asks_all slots.old slots.new (PutsInto W.Sink out.old out.new))) }
+        OnOk result (RanOver D.Disk run moment.seconds (seen asked.now) B.lost B.asks gateway.old gateway.new (PutsInto W.Sink out.old out.new))) }
     ensures cut { AnyRun D.Disk concentrator.old concentrator.new (λ run.
-        OnWrite result (CutOver D.Disk run moment.seconds (seen asked.now) B.lost B.asks
-        B.asks_all slots.old slots.new)) }
+        OnWrite result (CutOver D.Disk run moment.seconds (seen asked.now) B.lost B.asks gateway.old gateway.new)) }
     ensures starved { AnyRun D.Disk concentrator.old concentrator.new (λ run.
-        OnNoMemory result (StarvedOver D.Disk run (seen asked.now) B.lost B.asks B.asks_all
-        slots.old slots.new (PutsInto W.Sink out.old out.new))) }
-    ensures through { OnNoMemory result (¬ (AreAbsent (links_of B.lost slots.old))) }
-    ensures absent { AreAbsent (links_of B.lost slots.old) → AreAbsent (links_of B.lost slots.new) }
+        OnNoMemory result (StarvedOver D.Disk run (seen asked.now) B.lost B.asks
+        gateway.old gateway.new (PutsInto W.Sink out.old out.new))) }
+    ensures through { OnNoMemory result (HasBus (link_of B.lost gateway.old)) }
+    ensures had { HasBus (link_of B.lost gateway.new) → HasBus (link_of B.lost gateway.old) }
     ensures counted { IsCounted result (W.put_failures out.old) (W.put_failures out.new) }
     ensures budget { concentrator.new.house.budget ≡ concentrator.old.house.budget }
 {
     match *asked {
-        ScriptLine::Search { budget, line } => {
-            search_line(alloc, concentrator, slots, budget, line, out)
-        }
-        _ => written(run_plain(concentrator, slots, asked, moment, out)),
+        ScriptLine::Search { budget } => search_line(alloc, concentrator, gateway, budget, out),
+        _ => written(run_plain(concentrator, gateway, asked, moment, out)),
     }
 }
 
 // Executes a line that is no search, at the script's time.
 fn run_plain<D: Disk + Drop, A: Allocator + Copy, B: Bus + Drop, W: Sink>(
     concentrator: &mut Concentrator<D, A>,
-    slots: &mut [Option<Slot<B>>],
+    gateway: &mut Option<B>,
     asked: &ScriptLine<'_>,
     moment: Moment,
     out: &mut W,
 ) -> Result<(), IoFault>
     requires { IsPlain (seen asked.now) }
     ensures ran { AnyRun D.Disk concentrator.old concentrator.new (λ run.
-        OnOk result (RanOver D.Disk run moment.seconds (seen asked.now) B.lost B.asks
-        B.asks_all slots.old slots.new (PutsInto W.Sink out.old out.new))) }
+        OnOk result (RanOver D.Disk run moment.seconds (seen asked.now) B.lost B.asks gateway.old gateway.new (PutsInto W.Sink out.old out.new))) }
     ensures cut { AnyRun D.Disk concentrator.old concentrator.new (λ run.
-        OnErr result (CutOver D.Disk run moment.seconds (seen asked.now) B.lost B.asks
-        B.asks_all slots.old slots.new)) }
+        OnErr result (CutOver D.Disk run moment.seconds (seen asked.now) B.lost B.asks gateway.old gateway.new)) }
     ensures counted { CountsPuts W.Sink result out.old out.new }
-    ensures absent { AreAbsent (links_of B.lost slots.old) → AreAbsent (links_of B.lost slots.new) }
+    ensures had { HasBus (link_of B.lost gateway.new) → HasBus (link_of B.lost gateway.old) }
     ensures budget { concentrator.new.house.budget ≡ concentrator.old.house.budget }
 {
     match *asked {
         ScriptLine::Nothing | ScriptLine::At { .. } | ScriptLine::Search { .. } => Ok(()),
         ScriptLine::Poll { line, meter } => {
-            poll_line(concentrator, slots, line, &meter, moment, out)
+            poll_line(concentrator, gateway, line, &meter, moment, out)
         }
         ScriptLine::Start { line, meter } => {
             run_event(concentrator, &Event::Start { line, meter }, out)
@@ -173,12 +161,12 @@ fn run_plain<D: Disk + Drop, A: Allocator + Copy, B: Bus + Drop, W: Sink>(
     }
 }
 
-// ---- over the bus of a line
+// ---- over the gateway
 
 // Executes a `POLL`.
 fn poll_line<D: Disk + Drop, A: Allocator + Copy, B: Bus + Drop, W: Sink>(
     concentrator: &mut Concentrator<D, A>,
-    slots: &mut [Option<Slot<B>>],
+    gateway: &mut Option<B>,
     line: u8,
     meter: &Identity,
     moment: Moment,
@@ -186,51 +174,20 @@ fn poll_line<D: Disk + Drop, A: Allocator + Copy, B: Bus + Drop, W: Sink>(
 ) -> Result<(), IoFault>
     ensures ran { AnyRun D.Disk concentrator.old concentrator.new (λ run.
         OnOk result (RanOver D.Disk run moment.seconds (polls line meter.now) B.lost B.asks
-        B.asks_all slots.old slots.new (PutsInto W.Sink out.old out.new))) }
+        gateway.old gateway.new (PutsInto W.Sink out.old out.new))) }
     ensures cut { AnyRun D.Disk concentrator.old concentrator.new (λ run.
         OnErr result (CutOver D.Disk run moment.seconds (polls line meter.now) B.lost B.asks
-        B.asks_all slots.old slots.new)) }
+        gateway.old gateway.new)) }
     ensures counted { CountsPuts W.Sink result out.old out.new }
-    ensures absent { AreAbsent (links_of B.lost slots.old) → AreAbsent (links_of B.lost slots.new) }
+    ensures had { HasBus (link_of B.lost gateway.new) → HasBus (link_of B.lost gateway.old) }
     ensures budget { concentrator.new.house.budget ≡ concentrator.old.house.budget }
 {
-    match index_of(line, slots.len()) {
-        Some(at) => poll_slot(concentrator, &mut slots[at], line, meter, moment, out),
-        None => put_no_bus(out),
+    if line != GATEWAY_LINE {
+        return put_no_gateway(out);
     }
-}
-
-// Executes a `POLL` over a line that may have a bus.
-fn poll_slot<D: Disk + Drop, A: Allocator + Copy, B: Bus + Drop, W: Sink>(
-    concentrator: &mut Concentrator<D, A>,
-    slot: &mut Option<Slot<B>>,
-    line: u8,
-    meter: &Identity,
-    moment: Moment,
-    out: &mut W,
-) -> Result<(), IoFault>
-    ensures ran { OnLine B.lost line slot.old slot.new (λ links left.
-        AnyRun D.Disk concentrator.old concentrator.new (λ run.
-        OnOk result (LineRan D.Disk run moment.seconds (polls line meter.now) links left
-        (PutsInto W.Sink out.old out.new) (PollsOver B.lost B.asks slot.old
-        slot.new)))) }
-    ensures cut { OnLine B.lost line slot.old slot.new (λ links left.
-        AnyRun D.Disk concentrator.old concentrator.new (λ run.
-        OnErr result (LineCut D.Disk run moment.seconds (polls line meter.now) links (PollsOver
-        B.lost B.asks slot.old slot.new)))) }
-    ensures counted { CountsPuts W.Sink result out.old out.new }
-    ensures kept { IsKept B.lost slot.old slot.new }
-    ensures budget { concentrator.new.house.budget ≡ concentrator.old.house.budget }
-{
-    match slot {
-        Some(slot) => {
-            let port = Port {
-                line,
-                is_gateway: slot.is_gateway,
-            };
-            poll(port, concentrator, &mut slot.bus, meter, moment, out)
-        }
-        None => put_no_bus(out),
+    match gateway {
+        Some(bus) => poll(line, concentrator, bus, meter, moment, out),
+        None => put_no_gateway(out),
     }
 }
 
@@ -238,87 +195,35 @@ fn poll_slot<D: Disk + Drop, A: Allocator + Copy, B: Bus + Drop, W: Sink>(
 fn search_line<D: Disk + Drop, A: Allocator + Copy, B: Bus + Drop, W: Sink>(
     alloc: A,
     concentrator: &mut Concentrator<D, A>,
-    slots: &mut [Option<Slot<B>>],
+    gateway: &mut Option<B>,
     budget: u32,
-    line: u8,
     out: &mut W,
 ) -> Result<(), Halt>
     ensures ran { (moment : ℕ) → AnyRun D.Disk concentrator.old concentrator.new (λ run.
-        OnOk result (RanOver D.Disk run moment (searches budget line) B.lost B.asks
-        B.asks_all slots.old slots.new (PutsInto W.Sink out.old out.new))) }
+        OnOk result (RanOver D.Disk run moment (searches budget) B.lost B.asks
+        gateway.old gateway.new (PutsInto W.Sink out.old out.new))) }
     ensures cut { (moment : ℕ) → AnyRun D.Disk concentrator.old concentrator.new (λ run.
-        OnWrite result (CutOver D.Disk run moment (searches budget line) B.lost B.asks
-        B.asks_all slots.old slots.new)) }
+        OnWrite result (CutOver D.Disk run moment (searches budget) B.lost B.asks
+        gateway.old gateway.new)) }
     ensures starved { AnyRun D.Disk concentrator.old concentrator.new (λ run.
-        OnNoMemory result (StarvedOver D.Disk run (searches budget line) B.lost B.asks
-        B.asks_all slots.old slots.new (PutsInto W.Sink out.old out.new))) }
-    ensures through { OnNoMemory result (¬ (AreAbsent (links_of B.lost slots.old))) }
-    ensures absent { AreAbsent (links_of B.lost slots.old) → AreAbsent (links_of B.lost slots.new) }
+        OnNoMemory result (StarvedOver D.Disk run (searches budget) B.lost B.asks
+        gateway.old gateway.new (PutsInto W.Sink out.old out.new))) }
+    ensures through { OnNoMemory result (HasBus (link_of B.lost gateway.old)) }
+    ensures had { HasBus (link_of B.lost gateway.new) → HasBus (link_of B.lost gateway.old) }
     ensures counted { IsCounted result (W.put_failures out.old) (W.put_failures out.new) }
     ensures budget { concentrator.new.house.budget ≡ concentrator.old.house.budget }
 {
-    match index_of(line, slots.len()) {
-        Some(at) => search_slot(alloc, concentrator, &mut slots[at], budget, line, out),
-        None => written(put_no_bus(out)),
-    }
-}
-
-// Executes a `SEARCH` over a line that may have a bus.
-fn search_slot<D: Disk + Drop, A: Allocator + Copy, B: Bus + Drop, W: Sink>(
-    alloc: A,
-    concentrator: &mut Concentrator<D, A>,
-    slot: &mut Option<Slot<B>>,
-    budget: u32,
-    line: u8,
-    out: &mut W,
-) -> Result<(), Halt>
-    ensures ran { (moment : ℕ) → OnLine B.lost line slot.old slot.new (λ links left.
-        AnyRun D.Disk concentrator.old concentrator.new (λ run.
-        OnOk result (LineRan D.Disk run moment (searches budget line) links left
-        (PutsInto W.Sink out.old out.new) (SearchesOver B.lost B.asks B.asks_all slot.old
-        slot.new)))) }
-    ensures cut { (moment : ℕ) → OnLine B.lost line slot.old slot.new (λ links left.
-        AnyRun D.Disk concentrator.old concentrator.new (λ run.
-        OnWrite result (LineCut D.Disk run moment (searches budget line) links (SearchesOver
-        B.lost B.asks B.asks_all slot.old slot.new)))) }
-    ensures starved { OnLine B.lost line slot.old slot.new (λ links left.
-        AnyRun D.Disk concentrator.old concentrator.new (λ run.
-        OnNoMemory result (LineStarved D.Disk run (searches budget line) links
-        (PutsInto W.Sink out.old out.new) (SearchesOver B.lost B.asks B.asks_all slot.old
-        slot.new)))) }
-    ensures through { OnNoMemory result (¬ ((line_of B.lost slot.old).link ≡ absent)) }
-    ensures kept { IsKept B.lost slot.old slot.new }
-    ensures counted { IsCounted result (W.put_failures out.old) (W.put_failures out.new) }
-    ensures budget { concentrator.new.house.budget ≡ concentrator.old.house.budget }
-{
-    match slot {
-        Some(slot) => {
-            let port = Port {
-                line,
-                is_gateway: slot.is_gateway,
-            };
-            search_on(alloc, port, concentrator, &mut slot.bus, budget, out)
-        }
-        None => written(put_no_bus(out)),
+    match gateway {
+        Some(bus) => search(alloc, concentrator, bus, budget, out),
+        None => written(put_no_gateway(out)),
     }
 }
 
 // Writes that a line has no bus.
-fn put_no_bus<W: Sink>(out: &mut W) -> Result<(), IoFault>
+fn put_no_gateway<W: Sink>(out: &mut W) -> Result<(), IoFault>
     ensures { Wrote W.Sink result out.old out.new no_gateway }
 {
     out.put(b"NO GATEWAY\n")
-}
-
-// The index of a line's slot among this many. Lines are numbered from 1.
-fn index_of(line: u8, count: usize) -> Option<usize>
-    ensures found { IfSome result (λ at. (at < count) × (line ≡ suc at)) }
-    ensures none { IfNone result ((line ≡ 0) ⊎ (count < line)) }
-{
-    if line == 0 || usize::from(line) > count {
-        return None;
-    }
-    Some(usize::from(line) - 1)
 }
 
 // ---- events

@@ -17,9 +17,6 @@ use dc_address::Identity;
 use mbdc_change::{Moment, parse_number, split_word};
 use mbdc_io::{LONGEST, decode_hex};
 
-// The line of a search that names no line.
-const FIRST_LINE: u8 = 1;
-
 /// A line of a script.
 #[derive(Clone, Copy)]
 pub enum ScriptLine<'a> {
@@ -39,9 +36,8 @@ pub enum ScriptLine<'a> {
     Office { text: &'a [u8] },
     /// `POLL line ident`: reads a meter over the bus of its line.
     Poll { line: u8, meter: Identity },
-    /// `SEARCH budget line`: searches for meters over the bus of a line; `SEARCH budget` searches
-    /// line 1.
-    Search { budget: u32, line: u8 },
+    /// `SEARCH budget`: searches for meters over the gateway.
+    Search { budget: u32 },
 }
 
 impl<'a> ScriptLine<'a> {
@@ -77,8 +73,8 @@ impl<'a> ScriptLine<'a> {
         if let Some((line, meter)) = parse_poll(text) {
             return Some(ScriptLine::Poll { line, meter });
         }
-        if let Some((budget, line)) = parse_search(text) {
-            return Some(ScriptLine::Search { budget, line });
+        if let Some(budget) = parse_search(text) {
+            return Some(ScriptLine::Search { budget });
         }
         let (line, answer) = parse_hear(text, room)?;
         Some(ScriptLine::Hear { line, answer })
@@ -125,17 +121,13 @@ fn parse_poll(text: &[u8]) -> Option<(u8, Identity)>
     parse_meter_on_line(words)
 }
 
-fn parse_search(text: &[u8]) -> Option<(u32, u8)>
+fn parse_search(text: &[u8]) -> Option<u32>
     requires { length text.now ≤ longest_input_line }
-    ensures found { IfSome result (λ told. IsLineOf text.now (search told.0 told.1)) }
-    ensures only { (budget line : ℕ) → IsLineOf text.now (search budget line) → IsSome result }
+    ensures found { IfSome result (λ budget. IsLineOf text.now (search budget)) }
+    ensures only { (budget : ℕ) → IsLineOf text.now (search budget) → IsSome result }
 {
-    let words = behind_search(text)?;
-    let Some((budget, line)) = split_word(words) else {
-        return Some((parse_budget(words)?, FIRST_LINE));
-    };
-    let budget = parse_budget(budget)?;
-    Some((budget, parse_line_number(line)?))
+    let word = text.strip_prefix(b"SEARCH ".as_slice())?;
+    parse_budget(word)
 }
 
 fn parse_hear<'a>(text: &[u8], room: &'a mut [u8]) -> Option<(u8, &'a [u8])>
@@ -158,13 +150,6 @@ fn behind_hear(text: &[u8]) -> Option<&[u8]>
     ensures only { (words : List ℕ) → text.now ≡ codes "HEAR" ++ 32 ∷ words → IsSome result }
 {
     text.strip_prefix(b"HEAR ".as_slice())
-}
-
-fn behind_search(text: &[u8]) -> Option<&[u8]>
-    ensures found { IfSome result (λ words. text.now ≡ codes "SEARCH" ++ 32 ∷ words.now) }
-    ensures only { (words : List ℕ) → text.now ≡ codes "SEARCH" ++ 32 ∷ words → IsSome result }
-{
-    text.strip_prefix(b"SEARCH ".as_slice())
 }
 
 fn behind_office(text: &[u8]) -> Option<&[u8]>

@@ -2,7 +2,6 @@
 
 use crate::connecting::{connected, released};
 use crate::journal::Noting;
-use dc_poller::Slot;
 use dc_sectors::FileDisk;
 use mbdc_bus::Both;
 use mbdc_commands::run_over;
@@ -17,10 +16,10 @@ use std::os::unix::fs::FileExt;
 use std::rt::{Clock, Files};
 use std::{fs, io};
 
-// A bus line that has a link.
-type LineSlot<'a, C> = Slot<Both<SystemBus<'a, C>, Waiter>>;
+// The bus of a gateway.
+type GatewayBus<'a, C> = Both<SystemBus<'a, C>, Waiter>;
 
-/// Runs the script over the image, from file to file, over the links of the bus lines.
+/// Runs the script over the image, from file to file, over the gateway.
 pub fn run_on_image<'a, R>(host: &Host<'_, R>, task: &RunTask<'a>) -> Ending<'a>
 where
     R: Files<File = File> + Net<Stream = TcpStream> + Clock + Copy + Print + Eprint + AllocGlobal,
@@ -33,7 +32,7 @@ where
         Ok(lines) => Noted::new(lines, host.why),
         Err(error) => return host.why.file(task.script, error),
     };
-    let peers = match connected(host, &task.links.links) {
+    let peers = match connected(host, &[task.gateway]) {
         Ok(peers) => peers,
         Err(ending) => return ending,
     };
@@ -42,7 +41,7 @@ where
     ending
 }
 
-// Runs the lines of a file over a disk, with connected links.
+// Runs the lines of a file over a disk, with a connected gateway.
 fn run_over_peers<'a, F, D, R>(
     host: &Host<'_, R>,
     disk: FileDisk<D>,
@@ -55,50 +54,39 @@ where
     D: FileExt + OpenFile + Drop,
     R: Files<File = File> + Net<Stream = TcpStream> + Clock + Copy + Print + Eprint + AllocGlobal,
 {
-    let mut slots = match slots_of(host, peers, task) {
-        Ok(slots) => slots,
+    let mut gateway = match bus_of(host, peers, task) {
+        Ok(gateway) => gateway,
         Err(ending) => return ending,
     };
     let out = Noted::new(io::writer(host.rt), host.why);
     let mut notes = Noting::new(host, task.image, None);
-    let (alloc, slots) = (host.rt.alloc(), slots.as_mut_slice());
     let (_, ending) = run_over(
-        alloc,
+        host.rt.alloc(),
         host.why,
         disk,
         lines,
         out,
-        slots,
+        &mut gateway,
         &mut notes,
         task.script,
     );
     ending
 }
 
-// The bus of each line that has a link.
-fn slots_of<'p, 'e, R>(
+// The bus of the one link, if there is one.
+fn bus_of<'p, 'e, R>(
     host: &Host<'_, R>,
     peers: &'p [Option<Peer<R>>],
     task: &RunTask<'_>,
-) -> Result<Vec<Option<LineSlot<'p, R>>>, Ending<'e>>
+) -> Result<Option<GatewayBus<'p, R>>, Ending<'e>>
 where
     R: Net<Stream = TcpStream> + Clock + Copy + AllocGlobal,
 {
-    let mut slots = Vec::new(host.rt.alloc());
-    for peer in peers {
-        let slot = match peer {
-            Some(peer) => match peer.bus(*host.rt, task.patience.unwrap_or(peer.patience())) {
-                Ok(bus) => Some(Slot {
-                    bus: Both { bus, pause: Waiter },
-                    is_gateway: task.is_gateway,
-                }),
-                Err(error) => return Err(host.why.link(None, error)),
-            },
-            None => None,
-        };
-        if slots.push(slot).is_err() {
-            return Err(Ending::Memory);
-        }
+    let [Some(peer)] = peers else {
+        return Ok(None);
+    };
+    match peer.bus(*host.rt, task.patience.unwrap_or(peer.patience())) {
+        Ok(bus) => Ok(Some(Both { bus, pause: Waiter })),
+        Err(error) => Err(host.why.link(None, error)),
     }
-    Ok(slots)
 }

@@ -14,13 +14,13 @@ use Rattle.mbdc_io.specs.Lines.{most_input}
 use Rattle.mbdc_log.specs.Halves.{fewest_sectors}
 use Rattle.mbdc_log.specs.declared.fault.OpenFault.TheVariants.{NotImage}
 use Rattle.dc_poller.specs.ImageRun.{ImageCut, ImageRan}
-use Rattle.dc_poller.specs.Link.{LineLink}
+use Rattle.dc_poller.specs.Link.{Link}
 use Rattle.dc_poller.specs.Starved.{ImageStarved, IsOfSearch}
-use Rattle.dc_poller.specs.Traffic.{Traffic}
+use Rattle.mbdc_bus.specs.Bus.{Exchange}
 
-module _ {D : Type 0} (g : Ghosts D) (links : List LineLink) (script : Option (List ℕ)) (wrote written : List ℕ → Type 0) (carries : List Traffic → Type 0) (disk new : D)
+module _ {D : Type 0} (g : Ghosts D) (link : Link) (script : Option (List ℕ)) (wrote written : List ℕ → Type 0) (carries : List Exchange → Type 0) (disk new : D)
     (shows : (text : List ℕ) → wrote text → written text) where
-  pub ran_as : (faulty : Bool) → ImageRan g links script faulty wrote carries disk new → ImageRan g links script faulty written carries disk new
+  pub ran_as : (faulty : Bool) → ImageRan g link script faulty wrote carries disk new → ImageRan g link script faulty written carries disk new
   ran_as faulty r =
       let done = r.went.done in
       record {
@@ -40,7 +40,7 @@ module _ {D : Type 0} (g : Ghosts D) (links : List LineLink) (script : Option (L
         disk_is = r.disk_is;
       }
 
-  pub starved_as : ImageStarved g links script wrote carries disk new → ImageStarved g links script written carries disk new
+  pub starved_as : ImageStarved g link script wrote carries disk new → ImageStarved g link script written carries disk new
   starved_as r =
       let s = r.went in
       record {
@@ -76,11 +76,11 @@ if_err_with : {X E : Type 0} (result : Result X E) (P Q : E → Type 0) → IfEr
 if_err_with (Ok x) P Q known shows = tt
 if_err_with (Err e) P Q known shows = shows e refl known
 
-module _ {D O : Type 0} (g : Ghosts D) (links : List LineLink) (over : Over)
-    (maps : (P Q : (List Traffic → Type 0) → Type 0) → ((carries : List Traffic → Type 0) → P carries → Q carries) → over P → over Q)
+module _ {D O : Type 0} (g : Ghosts D) (link : Link) (over : Over)
+    (maps : (P Q : (List Exchange → Type 0) → Type 0) → ((carries : List Exchange → Type 0) → P carries → Q carries) → over P → over Q)
     (contents : O → Option (List ℕ)) (out : O) (disk left : D) where
   -- memory ran out before anything was done
-  pub none_done : (script : Option (List ℕ)) → RunsOver g links script over contents out disk disk (Err NoMemory)
+  pub none_done : (script : Option (List ℕ)) → RunsOver g link script over contents out disk disk (Err NoMemory)
   none_done script = record {
     outcome = Err NoMemory;
     is_written = true;
@@ -101,15 +101,15 @@ module _ {D O : Type 0} (g : Ghosts D) (links : List LineLink) (over : Over)
       → given ≡ script → result ≡ run_result outcome is_written
       → (¬ (IsErrOf outcome Write) → (text : List ℕ) → wrote text → IsPrinted contents out is_written text)
       → (same → wrote [])
-      → (IfOk outcome (λ faulty. over (λ carries. ImageRan g links given faulty wrote carries disk left)))
-      → (IsErrOf outcome Write → over (λ carries. ImageCut g links given carries disk left))
-      → (IsErrOf outcome NoMemory → ((left ≡ disk) × same) ⊎ over (λ carries. ImageStarved g links given wrote carries disk left))
-      → IfErr outcome (λ fault. IsOfReading fault → (left ≡ disk) ⊎ IsOfSearch links fault)
+      → (IfOk outcome (λ faulty. over (λ carries. ImageRan g link given faulty wrote carries disk left)))
+      → (IsErrOf outcome Write → over (λ carries. ImageCut g link given carries disk left))
+      → (IsErrOf outcome NoMemory → ((left ≡ disk) × same) ⊎ over (λ carries. ImageStarved g link given wrote carries disk left))
+      → IfErr outcome (λ fault. IsOfReading fault → (left ≡ disk) ⊎ IsOfSearch link fault)
       → IfErr outcome (λ fault. IfOpen fault (IsUnopened g disk left))
-      → IfErr outcome (λ fault. fault ≢ Write → same ⊎ IsOfSearch links fault)
+      → IfErr outcome (λ fault. fault ≢ Write → same ⊎ IsOfSearch link fault)
       → OnOk outcome (IfSome given (λ input. length input ≤ most_input))
       → (IsErrOf outcome TooLong → IfSome given (λ input. most_input < length input))
-      → RunsOver g links script over contents out disk left result
+      → RunsOver g link script over contents out disk left result
   runs_so outcome result is_written given script wrote same is result_is shows none ran cut starved unread unopened untouched fits too_long =
       let other_ok : (faulty : Bool) → outcome ≡ Ok faulty → ¬ (IsErrOf outcome Write) = λ faulty ok write. cc in
       let no_memory : outcome ≡ Err NoMemory → ¬ (IsErrOf outcome Write) = λ full write. cc in
@@ -117,11 +117,11 @@ module _ {D O : Type 0} (g : Ghosts D) (links : List LineLink) (over : Over)
         outcome = outcome;
         is_written = is_written;
         result_is = result_is;
-        ran = if_ok_with outcome _ _ ran (λ faulty ok. maps _ _ (λ carries r. subst (λ (s : Option (List ℕ)). ImageRan g links s faulty (IsPrinted contents out is_written) carries disk left) is
-            (ran_as g links given wrote (IsPrinted contents out is_written) carries disk left (shows (other_ok faulty ok)) faulty r)));
-        cut = λ write. maps _ _ (λ carries r. subst (λ (s : Option (List ℕ)). ImageCut g links s carries disk left) is r) (cut write);
-        starved = λ full. ⊎_elim (λ unchanged. inl unchanged.0) (λ r. inr (maps _ _ (λ carries s. subst (λ (t : Option (List ℕ)). ImageStarved g links t (IsPrinted contents out is_written) carries disk left) is
-            (starved_as g links given wrote (IsPrinted contents out is_written) carries disk left (shows (no_memory full)) s)) r)) (starved full);
+        ran = if_ok_with outcome _ _ ran (λ faulty ok. maps _ _ (λ carries r. subst (λ (s : Option (List ℕ)). ImageRan g link s faulty (IsPrinted contents out is_written) carries disk left) is
+            (ran_as g link given wrote (IsPrinted contents out is_written) carries disk left (shows (other_ok faulty ok)) faulty r)));
+        cut = λ write. maps _ _ (λ carries r. subst (λ (s : Option (List ℕ)). ImageCut g link s carries disk left) is r) (cut write);
+        starved = λ full. ⊎_elim (λ unchanged. inl unchanged.0) (λ r. inr (maps _ _ (λ carries s. subst (λ (t : Option (List ℕ)). ImageStarved g link t (IsPrinted contents out is_written) carries disk left) is
+            (starved_as g link given wrote (IsPrinted contents out is_written) carries disk left (shows (no_memory full)) s)) r)) (starved full);
         unread = unread;
         unopened = unopened;
         silent = if_err_with outcome _ _ untouched (λ fault err so other. ⊎_elim (λ unchanged. inl (shows (λ write. other (let both : Err fault ≡ Err Write = sym err ∙ write in cc)) [] (none unchanged))) (λ search. inr search) (so other));

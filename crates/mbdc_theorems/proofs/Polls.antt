@@ -23,19 +23,18 @@ use Rattle.mbdc_theorems.proofs.Rounds.{Told, GoesOn, asks_nothing, right_answer
 use Rattle.mbdc_theorems.proofs.Along.{Runs, Behind, asks_here, asked_for, asks_some, thrice_less, step, step_told, at_first}
 use Rattle.dc_poller.specs.Link.{Link, linked}
 use Rattle.dc_poller.specs.Poll.{Happening, does, talks, loses, Due, to_start, to_ask, to_send, to_hear, to_commit, to_make_room, to_hear_again, is_over, Phase, IsDueEvent, IsWay, behind, behind_turn, behind_first_heard, happened_turns}
-use Rattle.dc_poller.specs.declared.port.Port.{Port}
 use Rattle.mbdc_theorems.specs.Polled.{Bus, asks_by, bus_after, rounds_in, GivesTo, Works, IsServed, bus_at_first, EndsRead, PollsEnd}
 use Rattle.mbdc_theorems.proofs.Quiet.{IsCommand, quiet_heard, nothing_left}
 
-module _ (port : Port) (budget moment place : ℕ) (meters : List Meter) (start : Scene) (meter : Meter) (row : MeterRow) (parts : List (List ℕ)) (may : MayBeRead budget port.line meters start place meter row parts) (quiet_start : start.core.pending ≡ []) where
+module _ (line : ℕ) (budget moment place : ℕ) (meters : List Meter) (start : Scene) (meter : Meter) (row : MeterRow) (parts : List (List ℕ)) (may : MayBeRead budget line meters start place meter row parts) (quiet_start : start.core.pending ≡ []) where
   abbrev pub total : ℕ
   total = requests_of meter.address parts
 
   abbrev pub Running : ℕ → ℕ → ℕ → Scene → Type 0
-  Running done lost tries scene = Runs budget port.line meters start place meter row parts may done lost tries scene
+  Running done lost tries scene = Runs budget line meters start place meter row parts may done lost tries scene
 
   abbrev pub Stands : ℕ → ℕ → ℕ → Scene → Type 0
-  Stands done lost tries scene = Behind budget port.line meters start place meter row parts may done lost tries scene
+  Stands done lost tries scene = Behind budget line meters start place meter row parts may done lost tries scene
 
   abbrev pub scene_of : Bus → Core → Scene
   scene_of bus core = record { core = core; positions = bus.positions }
@@ -55,7 +54,7 @@ module _ (port : Port) (budget moment place : ℕ) (meters : List Meter) (start 
     pub count : k ≡ done + 1
     pub runs : Running done lost bus.row (scene_of bus core)
     pub quiet : core.pending ≡ []
-    pub is_asked : Some request ≡ ask_answer core port.line
+    pub is_asked : Some request ≡ ask_answer core line
     pub frame : FrameSeen
     pub is_frame : frame_of request ≡ Some frame
 
@@ -78,7 +77,7 @@ module _ (port : Port) (budget moment place : ℕ) (meters : List Meter) (start 
 
   pub record Ended (core : Core) (k : ℕ) : Type 0 where
     pub few : k ≤ 3 * total + 1
-    pub read : IsRead port.line meter.identity row parts start.core core
+    pub read : IsRead line meter.identity row parts start.core core
 
   abbrev pub At : Due → Bus → Core → ℕ → Type 0
   At to_start bus core k = ⊥
@@ -92,26 +91,26 @@ module _ (port : Port) (budget moment place : ℕ) (meters : List Meter) (start 
 
   pub bound : (done lost tries : ℕ) (scene : Scene) → Stands done lost tries scene → done ≤ 3 * total
   bound done lost tries scene (inl x) =
-      let less = thrice_less budget port.line meters start place meter row parts may done lost tries scene x in
+      let less = thrice_less budget line meters start place meter row parts may done lost tries scene x in
       omega (arith, less)
   bound done lost tries scene (inr over) = let most = over.all.thrice in omega (arith, most)
 
   -- ---- a request is asked for
 
-  none_step : (bus : Bus) (core : Core) (k done lost : ℕ) → k ≡ done → Stands done lost bus.row (scene_of bus core) → None ≡ ask_answer core port.line → Ended core (k + 1)
+  none_step : (bus : Bus) (core : Core) (k done lost : ℕ) → k ≡ done → Stands done lost bus.row (scene_of bus core) → None ≡ ask_answer core line → Ended core (k + 1)
   none_step bus core k done lost count (inl x) none =
-      absurd (asks_some budget port.line meters start place meter row parts may done lost bus.row (scene_of bus core) x (sym none))
+      absurd (asks_some budget line meters start place meter row parts may done lost bus.row (scene_of bus core) x (sym none))
   none_step bus core k done lost count (inr over) none =
       let most = over.all.thrice in
       record { few = omega (arith, count, most); read = over.read }
 
   some_step : (bus : Bus) (core : Core) (k : ℕ) (request : List ℕ) (done lost : ℕ) → k ≡ done → core.pending ≡ [] → Stands done lost bus.row (scene_of bus core)
-      → Some request ≡ ask_answer core port.line → Sending request bus core (k + 1)
-  some_step bus core k request done lost count quiet (inr over) some = absurd (let bad = some ∙ asks_nothing core port.line over.read.free in cc)
+      → Some request ≡ ask_answer core line → Sending request bus core (k + 1)
+  some_step bus core k request done lost count quiet (inr over) some = absurd (let bad = some ∙ asks_nothing core line over.read.free in cc)
   some_step bus core k request done lost count quiet (inl x) some =
       let scene = scene_of bus core in
-      let asks = asked_for budget port.line meters start place meter row parts may done lost bus.row scene x x.stage refl in
-      let here = asks_here budget port.line meters start place meter row parts may done lost bus.row scene x in
+      let asks = asked_for budget line meters start place meter row parts may done lost bus.row scene x x.stage refl in
+      let here = asks_here budget line meters start place meter row parts may done lost bus.row scene x in
       record {
         done = done;
         lost = lost;
@@ -123,8 +122,8 @@ module _ (port : Port) (budget moment place : ℕ) (meters : List Meter) (start 
         is_frame = sent_frame (asked_by x.running.session) request (some ∙ here) ∙ asks.1;
       }
 
-  ask_step : (bus : Bus) (core : Core) (k : ℕ) (answer : Answer) → Asking bus core k → May budget core (asks port.line) answer
-      → At (behind_turn to_ask (asks port.line) answer) bus (next core (asks port.line) answer) (k + 1)
+  ask_step : (bus : Bus) (core : Core) (k : ℕ) (answer : Answer) → Asking bus core k → May budget core (asks line) answer
+      → At (behind_turn to_ask (asks line) answer) bus (next core (asks line) answer) (k + 1)
   ask_step bus core k (asked None) a is = none_step bus core k a.done a.lost a.count a.stands is
   ask_step bus core k (asked (Some request)) a is = some_step bus core k request a.done a.lost a.count a.quiet a.stands is
   ask_step bus core k (started answer) a is = absurd is
@@ -150,8 +149,8 @@ module _ (port : Port) (budget moment place : ℕ) (meters : List Meter) (start 
 
   -- ---- its answer is received
 
-  pub heard_at : (bytes : List ℕ) (bus : Bus) (core : Core) (k : ℕ) (answer : Result LineHeard HearFault) → Hearing bytes bus core k → MayHear (hear_answer budget core port.line moment bytes) answer
-      → answer ≢ Err NoMemory → At (behind_first_heard bytes answer) bus (after_hear core port.line moment bytes answer) (k + 0)
+  pub heard_at : (bytes : List ℕ) (bus : Bus) (core : Core) (k : ℕ) (answer : Result LineHeard HearFault) → Hearing bytes bus core k → MayHear (hear_answer budget core line moment bytes) answer
+      → answer ≢ Err NoMemory → At (behind_first_heard bytes answer) bus (after_hear core line moment bytes answer) (k + 0)
   heard_at bytes bus core k answer x is memory = at_answer
     where
       h : Sending x.request x.before core k
@@ -163,11 +162,11 @@ module _ (port : Port) (budget moment place : ℕ) (meters : List Meter) (start 
       given : List ℕ
       given = heard_in x.outcome h.frame meters x.before.positions
 
-      heard_given : MayHear (hear_answer budget core port.line moment given) answer
-      heard_given = subst (λ (b : List ℕ). MayHear (hear_answer budget core port.line moment b) answer) x.bytes_are is
+      heard_given : MayHear (hear_answer budget core line moment given) answer
+      heard_given = subst (λ (b : List ℕ). MayHear (hear_answer budget core line moment b) answer) x.bytes_are is
 
       now : Core
-      now = after_hear core port.line moment given answer
+      now = after_hear core line moment given answer
 
       after_it : Bus
       after_it = bus_after meters x.outcome h.frame x.before
@@ -175,18 +174,18 @@ module _ (port : Port) (budget moment place : ℕ) (meters : List Meter) (start 
       round : Round
       round = record { outcome = x.outcome; request = x.request; frame = h.frame; moment = moment; answer = answer; count = length now.pending }
 
-      is_round : IsRound budget port.line meters scene round
+      is_round : IsRound budget line meters scene round
       is_round = record {
-        chain = (h.is_asked, (heard_given, ((refl, inr (still_running core port.line moment given answer ∙ h.runs.goes)), tt)));
+        chain = (h.is_asked, (heard_given, ((refl, inr (still_running core line moment given answer ∙ h.runs.goes)), tt)));
         is_frame = h.is_frame;
         memory = memory;
       }
 
       stands : Stands (h.done + 1) (h.lost + losses_by x.outcome) (row_after x.before.row x.outcome) (scene_of after_it (settled_core now now.pending))
-      stands = step budget port.line meters start place meter row parts may h.done h.lost x.before.row scene h.runs round is_round x.few
+      stands = step budget line meters start place meter row parts may h.done h.lost x.before.row scene h.runs round is_round x.few
 
       told : Told answer
-      told = step_told budget port.line meters start place meter row parts may h.done h.lost x.before.row scene h.runs round is_round x.few
+      told = step_told budget line meters start place meter row parts may h.done h.lost x.before.row scene h.runs round is_round x.few
 
       one_more : k + 0 ≡ h.done + 1
       one_more = let count = h.count in omega (arith, count)
@@ -194,9 +193,9 @@ module _ (port : Port) (budget moment place : ℕ) (meters : List Meter) (start 
       -- no telegram came
       goes_back : (good : LineHeard) → answer ≡ Ok good → IsCommand good → Asking after_it now (k + 0)
       goes_back good e command =
-          let right : hear_answer budget core port.line moment given ≡ Ok good = sym (right_answer (hear_answer budget core port.line moment given) answer heard_given memory) ∙ e in
+          let right : hear_answer budget core line moment given ≡ Ok good = sym (right_answer (hear_answer budget core line moment given) answer heard_given memory) ∙ e in
           let quiet : now.pending ≡ [] =
-          ap (λ (a : Result LineHeard HearFault). (after_hear core port.line moment given a).pending) e ∙ quiet_heard budget core moment given good command port.line right ∙ h.quiet in
+          ap (λ (a : Result LineHeard HearFault). (after_hear core line moment given a).pending) e ∙ quiet_heard budget core moment given good command line right ∙ h.quiet in
           record {
             done = h.done + 1;
             lost = h.lost + losses_by x.outcome;
@@ -208,17 +207,17 @@ module _ (port : Port) (budget moment place : ℕ) (meters : List Meter) (start 
       at_good : (good : LineHeard) → answer ≡ Ok good → GoesOn good → At (behind_first_heard bytes (Ok good)) after_it now (k + 0)
       at_good Again e goes = goes_back Again e tt
       at_good Ready e goes = goes_back Ready e tt
-      at_good (Accepted part more) e goes = record { done = h.done + 1; lost = h.lost + losses_by x.outcome; count = one_more; stands = stands; goes = still_running core port.line moment given answer ∙ h.runs.goes }
+      at_good (Accepted part more) e goes = record { done = h.done + 1; lost = h.lost + losses_by x.outcome; count = one_more; stands = stands; goes = still_running core line moment given answer ∙ h.runs.goes }
       at_good (Failed why) e goes = absurd goes
 
-      at_answer : At (behind_first_heard bytes answer) bus (after_hear core port.line moment bytes answer) (k + 0)
+      at_answer : At (behind_first_heard bytes answer) bus (after_hear core line moment bytes answer) (k + 0)
       at_answer =
-          subst (λ (b : Bus). At (behind_first_heard bytes answer) b (after_hear core port.line moment bytes answer) (k + 0)) (sym x.bus_is)
-          (subst (λ (b : List ℕ). At (behind_first_heard bytes answer) after_it (after_hear core port.line moment b answer) (k + 0)) (sym x.bytes_are)
+          subst (λ (b : Bus). At (behind_first_heard bytes answer) b (after_hear core line moment bytes answer) (k + 0)) (sym x.bus_is)
+          (subst (λ (b : List ℕ). At (behind_first_heard bytes answer) after_it (after_hear core line moment b answer) (k + 0)) (sym x.bytes_are)
           (subst (λ (a : Result LineHeard HearFault). At (behind_first_heard bytes a) after_it now (k + 0)) (sym told.is) (at_good told.good told.is told.goes_on)))
 
-  hear_step : (bytes : List ℕ) (bus : Bus) (core : Core) (k : ℕ) (answer : Answer) → Hearing bytes bus core k → May budget core (hears port.line moment bytes) answer
-      → Works (hears port.line moment bytes) answer → At (behind_turn (to_hear bytes) (hears port.line moment bytes) answer) bus (next core (hears port.line moment bytes) answer) (k + 0)
+  hear_step : (bytes : List ℕ) (bus : Bus) (core : Core) (k : ℕ) (answer : Answer) → Hearing bytes bus core k → May budget core (hears line moment bytes) answer
+      → Works (hears line moment bytes) answer → At (behind_turn (to_hear bytes) (hears line moment bytes) answer) bus (next core (hears line moment bytes) answer) (k + 0)
   hear_step bytes bus core k (heard answer) h is works = heard_at bytes bus core k answer h is works
   hear_step bytes bus core k (started answer) h is works = absurd is
   hear_step bytes bus core k (asked answer) h is works = absurd is
@@ -242,7 +241,7 @@ module _ (port : Port) (budget moment place : ℕ) (meters : List Meter) (start 
   abbrev Steps : Due → Bus → Core → ℕ → Event → Answer → Type 0
   Steps due bus core k event answer = May budget core event answer → Works event answer → At (behind_turn due event answer) bus (next core event answer) (k + asks_by event)
 
-  turn_step : (due : Due) (bus : Bus) (core : Core) (k : ℕ) (event : Event) (answer : Answer) → At due bus core k → IsDueEvent port moment meter.identity due event → Steps due bus core k event answer
+  turn_step : (due : Due) (bus : Bus) (core : Core) (k : ℕ) (event : Event) (answer : Answer) → At due bus core k → IsDueEvent line moment meter.identity due event → Steps due bus core k event answer
   turn_step to_start bus core k event answer at is = absurd at
   turn_step to_ask bus core k event answer at is = subst (λ (e : Event). Steps to_ask bus core k e answer) (sym is) (λ allowed works. ask_step bus core k answer at allowed)
   turn_step (to_send request) bus core k event answer at is = absurd is
@@ -255,7 +254,7 @@ module _ (port : Port) (budget moment place : ℕ) (meters : List Meter) (start 
   abbrev Final : Due → Core → ℕ → Type 0
   Final due core k = (bus : Bus) × At due bus core k
 
-  along : (happened : List Happening) (phase last : Phase) (bus : Bus) (core : Core) (k : ℕ) → At phase.due bus core k → IsWay port moment meter.identity phase happened last
+  along : (happened : List Happening) (phase last : Phase) (bus : Bus) (core : Core) (k : ℕ) → At phase.due bus core k → IsWay line moment meter.identity phase happened last
       → IsChain budget core (happened_turns happened) → IsServed meters bus happened → Final last.due (leads core (happened_turns happened)) (k + rounds_in happened)
   along [] phase last bus core k at way chain served =
       let same : k ≡ k + 0 = omega arith in
@@ -288,7 +287,7 @@ module _ (port : Port) (budget moment place : ℕ) (meters : List Meter) (start 
   -- ---- the start
 
   abbrev pub begun : Core
-  begun = (begun_on port.line meter.identity start).core
+  begun = (begun_on line meter.identity start).core
 
   abbrev pub first_bus : Bus
   first_bus = bus_at_first start.positions
@@ -298,12 +297,12 @@ module _ (port : Port) (budget moment place : ℕ) (meters : List Meter) (start 
     done = 0;
     lost = 0;
     count = refl;
-    stands = inl (at_first budget port.line meters start place meter row parts may);
+    stands = inl (at_first budget line meters start place meter row parts may);
     quiet = quiet_start;
   }
 
-  start_step : (answer : Answer) → May budget start.core (starts port.line meter.identity) answer
-      → At (behind_turn to_start (starts port.line meter.identity) answer) first_bus (next start.core (starts port.line meter.identity) answer) 0
+  start_step : (answer : Answer) → May budget start.core (starts line meter.identity) answer
+      → At (behind_turn to_start (starts line meter.identity) answer) first_bus (next start.core (starts line meter.identity) answer) 0
   start_step (started (Ok done)) is = asking_first
   start_step (started (Err fault)) is = absurd (let bad = is ∙ may.begins.may_start in cc)
   start_step (asked answer) is = absurd is
@@ -311,11 +310,11 @@ module _ (port : Port) (budget moment place : ℕ) (meters : List Meter) (start 
   start_step (committed answer) is = absurd is
   start_step (replied reply) is = absurd is
 
-  first_step : (event : Event) (answer : Answer) → event ≡ starts port.line meter.identity → May budget start.core event answer → At (behind_turn to_start event answer) first_bus (next start.core event answer) (asks_by event)
+  first_step : (event : Event) (answer : Answer) → event ≡ starts line meter.identity → May budget start.core event answer → At (behind_turn to_start event answer) first_bus (next start.core event answer) (asks_by event)
   first_step event answer is =
       subst (λ (e : Event). May budget start.core e answer → At (behind_turn to_start e answer) first_bus (next start.core e answer) (asks_by e)) (sym is) (start_step answer)
 
-  from_first : (happened : List Happening) (link : Link) (last : Phase) → IsWay port moment meter.identity (record { due = to_start; link = link }) happened last → last.due ≡ is_over
+  from_first : (happened : List Happening) (link : Link) (last : Phase) → IsWay line moment meter.identity (record { due = to_start; link = link }) happened last → last.due ≡ is_over
       → IsChain budget start.core (happened_turns happened) → IsServed meters first_bus happened → Ended (leads start.core (happened_turns happened)) (rounds_in happened)
   from_first [] link last way over chain served = absurd (let bad = sym (ap (λ (p : Phase). p.due) way) ∙ over in cc)
   from_first (loses ∷ more) link last way end chain served = absurd served
@@ -327,14 +326,14 @@ module _ (port : Port) (budget moment place : ℕ) (meters : List Meter) (start 
       final last.due (leads start.core (happened_turns (does turn ∷ more))) (rounds_in (does turn ∷ more)) rest end
 
   ends_read : (happened : List Happening) (turns : List Turn) → turns ≡ happened_turns happened → Ended (leads start.core (happened_turns happened)) (rounds_in happened)
-      → EndsRead port.line meter row parts happened start.core (leads start.core turns)
+      → EndsRead line meter row parts happened start.core (leads start.core turns)
   ends_read happened turns same ended = record {
     within = ended.few;
-    read = subst (λ (ts : List Turn). IsRead port.line meter.identity row parts start.core (leads start.core ts)) (sym same) ended.read;
+    read = subst (λ (ts : List Turn). IsRead line meter.identity row parts start.core (leads start.core ts)) (sym same) ended.read;
   }
 
 pub polls_end : PollsEnd
-polls_end port budget moment place meters scene meter row parts left turns exchanges text polls may quiet chain served =
-    ends_read port budget moment place meters scene meter row parts may quiet polls.happened turns polls.turns_are
-    (from_first port budget moment place meters scene meter row parts may quiet polls.happened linked polls.last polls.way polls.ends
+polls_end line budget moment place meters scene meter row parts left turns exchanges text polls may quiet chain served =
+    ends_read line budget moment place meters scene meter row parts may quiet polls.happened turns polls.turns_are
+    (from_first line budget moment place meters scene meter row parts may quiet polls.happened linked polls.last polls.way polls.ends
     (subst (IsChain budget scene.core) polls.turns_are chain) served)

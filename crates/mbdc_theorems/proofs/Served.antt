@@ -28,13 +28,12 @@ use Rattle.mbdc_theorems.proofs.Rounds.{asks_nothing, never_memory}
 use Rattle.mbdc_theorems.proofs.Along.{asks_here, asked_for, thrice_less}
 use Rattle.dc_poller.specs.Link.{linked}
 use Rattle.dc_poller.specs.Poll.{happened_exchanges, Happening, does, talks, Due, to_start, to_ask, to_send, to_hear, to_commit, to_make_room, to_hear_again, is_over, Phase, IsDueEvent, IsWay, behind_turn, behind_first_heard, happened_turns, happened_text}
-use Rattle.dc_poller.specs.declared.port.Port.{Port}
 use Rattle.mbdc_theorems.specs.Polled.{Bus, bus_after, GivesTo, Works, IsServed, bus_at_first, ServedPoll, PollsAreServed}
 use Rattle.mbdc_theorems.proofs.Lengths.{answer_short}
 use Rattle.mbdc_theorems.proofs.Polls.{Asking, Sending, Hearing, Committing, At, Stands, scene_of, bound, sent_at, heard_at, asking_first, begun}
 use Rattle.mbdc_theorems.proofs.Quiet.{nothing_left}
 
-module _ (port : Port) (budget moment place : ℕ) (meters : List Meter) (start : Scene) (meter : Meter) (row : MeterRow) (parts : List (List ℕ)) (may : MayBeRead budget port.line meters start place meter row parts) (quiet_start : start.core.pending ≡ []) where
+module _ (line : ℕ) (budget moment place : ℕ) (meters : List Meter) (start : Scene) (meter : Meter) (row : MeterRow) (parts : List (List ℕ)) (may : MayBeRead budget line meters start place meter row parts) (quiet_start : start.core.pending ≡ []) where
   abbrev total : ℕ
   total = requests_of meter.address parts
 
@@ -45,13 +44,13 @@ module _ (port : Port) (budget moment place : ℕ) (meters : List Meter) (start 
   record Rest (due : Due) (bus : Bus) (core : Core) : Type 0 where
     happened : List Happening
     last : Phase
-    way : IsWay port moment meter.identity (phase_of due) happened last
+    way : IsWay line moment meter.identity (phase_of due) happened last
     over : last.due ≡ is_over
     chain : IsChain budget core (happened_turns happened)
     served : IsServed meters bus happened
 
   abbrev Known : Due → Bus → Core → ℕ → Type 0
-  Known due bus core k = At port budget moment place meters start meter row parts may quiet_start due bus core k
+  Known due bus core k = At line budget moment place meters start meter row parts may quiet_start due bus core k
 
   -- each request takes four steps at most
   abbrev IsEnough : Due → ℕ → ℕ → Type 0
@@ -84,7 +83,7 @@ module _ (port : Port) (budget moment place : ℕ) (meters : List Meter) (start 
   over_rest : (bus : Bus) (core : Core) → Rest is_over bus core
   over_rest bus core = record { happened = []; last = phase_of is_over; way = refl; over = refl; chain = tt; served = tt }
 
-  one_more : (due : Due) (event : Event) (answer : Answer) (bus : Bus) (core : Core) → IsDueEvent port moment meter.identity due event → May budget core event answer → Works event answer
+  one_more : (due : Due) (event : Event) (answer : Answer) (bus : Bus) (core : Core) → IsDueEvent line moment meter.identity due event → May budget core event answer → Works event answer
       → Rest (behind_turn due event answer) bus (next core event answer) → Rest due bus core
   one_more due event answer bus core is allowed works rest = record {
     happened = does (event, answer) ∷ rest.happened;
@@ -97,19 +96,19 @@ module _ (port : Port) (budget moment place : ℕ) (meters : List Meter) (start 
 
   -- ---- a request is asked for
 
-  asks_rest : (fuel : ℕ) → Onward fuel → (bus : Bus) (core : Core) (k : ℕ) (a : Asking port budget moment place meters start meter row parts may quiet_start bus core k)
-      → Stands port budget moment place meters start meter row parts may quiet_start a.done a.lost bus.row (scene_of port budget moment place meters start meter row parts may quiet_start bus core)
+  asks_rest : (fuel : ℕ) → Onward fuel → (bus : Bus) (core : Core) (k : ℕ) (a : Asking line budget moment place meters start meter row parts may quiet_start bus core k)
+      → Stands line budget moment place meters start meter row parts may quiet_start a.done a.lost bus.row (scene_of line budget moment place meters start meter row parts may quiet_start bus core)
       → 12 * total + 1 ≤ 4 * k + suc fuel → Rest to_ask bus core
   asks_rest fuel more bus core k a (inr over) enough =
-      one_more to_ask (asks port.line) (asked None) bus core refl (sym (asks_nothing core port.line over.read.free)) tt (over_rest bus core)
+      one_more to_ask (asks line) (asked None) bus core refl (sym (asks_nothing core line over.read.free)) tt (over_rest bus core)
   asks_rest fuel more bus core k a (inl x) enough =
       let scene : Scene = record { core = core; positions = bus.positions } in
-      let asks_it = asked_for budget port.line meters start place meter row parts may a.done a.lost bus.row scene x x.stage refl in
-      let here = asks_here budget port.line meters start place meter row parts may a.done a.lost bus.row scene x in
+      let asks_it = asked_for budget line meters start place meter row parts may a.done a.lost bus.row scene x x.stage refl in
+      let here = asks_here budget line meters start place meter row parts may a.done a.lost bus.row scene x in
       let request : List ℕ = spelling asks_it.0 in
-      let is_asked : Some request ≡ ask_answer core port.line = sym (here ∙ ap (option_map spelling) asks_it.1) in
+      let is_asked : Some request ≡ ask_answer core line = sym (here ∙ ap (option_map spelling) asks_it.1) in
       let count = a.count in
-      let known : Sending port budget moment place meters start meter row parts may quiet_start request bus core (k + 1) = record {
+      let known : Sending line budget moment place meters start meter row parts may quiet_start request bus core (k + 1) = record {
         done = a.done;
         lost = a.lost;
         count = omega (arith, count);
@@ -119,18 +118,18 @@ module _ (port : Port) (budget moment place : ℕ) (meters : List Meter) (start 
         frame = asks_it.0;
         is_frame = frame_of-spelling asks_it.0;
       } in
-      one_more to_ask (asks port.line) (asked (Some request)) bus core refl is_asked tt (more (to_send request) bus core (k + 1) known (omega (arith, enough)))
+      one_more to_ask (asks line) (asked (Some request)) bus core refl is_asked tt (more (to_send request) bus core (k + 1) known (omega (arith, enough)))
 
   -- ---- it goes over the bus
 
-  given_short : (request : List ℕ) (bus : Bus) (core : Core) (k : ℕ) (h : Sending port budget moment place meters start meter row parts may quiet_start request bus core k)
+  given_short : (request : List ℕ) (bus : Bus) (core : Core) (k : ℕ) (h : Sending line budget moment place meters start meter row parts may quiet_start request bus core k)
       → length (heard_in AsSent h.frame meters bus.positions) ≤ most_answer
   given_short request bus core k h =
       let x = h.runs in
       let scene : Scene = record { core = core; positions = bus.positions } in
       let agrees = x.regular.agrees x.running x.runs in
       let at : slice_get meters x.running.meter ≡ Some meter = ap (slice_get meters) x.place_is ∙ may.begins.there.stands in
-      let here = asks_here budget port.line meters start place meter row parts may h.done h.lost bus.row scene x in
+      let here = asks_here budget line meters start place meter row parts may h.done h.lost bus.row scene x in
       let asks_it : asked_by x.running.session ≡ Some h.frame = sym (sent_frame (asked_by x.running.session) request (h.is_asked ∙ here)) ∙ h.is_frame in
       let moved = moved_by h.frame meter agrees.position in
       let sent = heard_as_sent meters may.begins.there.regular x.world x.running h.frame meter agrees.position agrees asks_it at agrees.stands.1 in
@@ -138,7 +137,7 @@ module _ (port : Port) (budget moment place : ℕ) (meters : List Meter) (start 
       let few = answer_short h.frame meter moved (λ j body there. may.begins.there.regular.fit place j meter body may.begins.there.stands there) in
       subst (λ (bytes : List ℕ). length bytes ≤ most_answer) (sym same) few
 
-  sends_rest : (fuel : ℕ) → Onward fuel → (request : List ℕ) (bus : Bus) (core : Core) (k : ℕ) → Sending port budget moment place meters start meter row parts may quiet_start request bus core k
+  sends_rest : (fuel : ℕ) → Onward fuel → (request : List ℕ) (bus : Bus) (core : Core) (k : ℕ) → Sending line budget moment place meters start meter row parts may quiet_start request bus core k
       → 12 * total + 4 ≤ 4 * k + suc fuel → Rest (to_send request) bus core
   sends_rest fuel more request bus core k h enough =
       let bytes : List ℕ = heard_in AsSent h.frame meters bus.positions in
@@ -152,7 +151,7 @@ module _ (port : Port) (budget moment place : ℕ) (meters : List Meter) (start 
         few = omega arith;
         then_on = tt;
       } in
-      let known = sent_at port budget moment place meters start meter row parts may quiet_start request bus core k bytes (λ (b : Bus). Unit {0}) h given in
+      let known = sent_at line budget moment place meters start meter row parts may quiet_start request bus core k bytes (λ (b : Bus). Unit {0}) h given in
       let rest = more (to_hear bytes) now core k known (omega (arith, enough)) in
       record {
         happened = talks exchange ∷ rest.happened;
@@ -165,21 +164,21 @@ module _ (port : Port) (budget moment place : ℕ) (meters : List Meter) (start 
 
   -- ---- its answer is received
 
-  hears_rest : (fuel : ℕ) → Onward fuel → (bytes : List ℕ) (bus : Bus) (core : Core) (k : ℕ) → Hearing port budget moment place meters start meter row parts may quiet_start bytes bus core k
+  hears_rest : (fuel : ℕ) → Onward fuel → (bytes : List ℕ) (bus : Bus) (core : Core) (k : ℕ) → Hearing line budget moment place meters start meter row parts may quiet_start bytes bus core k
       → 12 * total + 3 ≤ 4 * k + suc fuel → Rest (to_hear bytes) bus core
   hears_rest fuel more bytes bus core k h enough =
-      let answer : Result LineHeard HearFault = hear_answer budget core port.line moment bytes in
-      let memory = never_memory budget core port.line moment bytes in
-      let known : Known (behind_first_heard bytes answer) bus (after_hear core port.line moment bytes answer) (k + 0) =
-      heard_at port budget moment place meters start meter row parts may quiet_start bytes bus core k answer h (inl refl) memory in
-      let rest = more (behind_first_heard bytes answer) bus (after_hear core port.line moment bytes answer) (k + 0) known (enough_heard bytes answer k fuel enough) in
-      one_more (to_hear bytes) (hears port.line moment bytes) (heard answer) bus core refl (inl refl) memory rest
+      let answer : Result LineHeard HearFault = hear_answer budget core line moment bytes in
+      let memory = never_memory budget core line moment bytes in
+      let known : Known (behind_first_heard bytes answer) bus (after_hear core line moment bytes answer) (k + 0) =
+      heard_at line budget moment place meters start meter row parts may quiet_start bytes bus core k answer h (inl refl) memory in
+      let rest = more (behind_first_heard bytes answer) bus (after_hear core line moment bytes answer) (k + 0) known (enough_heard bytes answer k fuel enough) in
+      one_more (to_hear bytes) (hears line moment bytes) (heard answer) bus core refl (inl refl) memory rest
 
   -- ---- a part is committed
 
-  commits_rest : (fuel : ℕ) → Onward fuel → (bus : Bus) (core : Core) (k : ℕ) → Committing port budget moment place meters start meter row parts may quiet_start bus core k → 12 * total + 2 ≤ 4 * k + suc fuel → Rest to_commit bus core
+  commits_rest : (fuel : ℕ) → Onward fuel → (bus : Bus) (core : Core) (k : ℕ) → Committing line budget moment place meters start meter row parts may quiet_start bus core k → 12 * total + 2 ≤ 4 * k + suc fuel → Rest to_commit bus core
   commits_rest fuel more bus core k c enough =
-      let known : Asking port budget moment place meters start meter row parts may quiet_start bus (settled_core core core.pending) k =
+      let known : Asking line budget moment place meters start meter row parts may quiet_start bus (settled_core core core.pending) k =
       record { done = c.done; lost = c.lost; count = c.count; stands = c.stands; quiet = nothing_left core core.pending refl } in
       let rest = more to_ask bus (settled_core core core.pending) k known (omega (arith, enough)) in
       one_more to_commit commits (committed (Ok (length core.pending))) bus core refl (refl, inr c.goes) tt rest
@@ -190,23 +189,23 @@ module _ (port : Port) (budget moment place : ℕ) (meters : List Meter) (start 
   rest_of zero to_start bus core k known enough = absurd known
   rest_of (suc fuel) to_start bus core k known enough = absurd known
   rest_of zero to_ask bus core k known enough =
-      let most = bound port budget moment place meters start meter row parts may quiet_start known.done known.lost bus.row (record { core = core; positions = bus.positions }) known.stands in
+      let most = bound line budget moment place meters start meter row parts may quiet_start known.done known.lost bus.row (record { core = core; positions = bus.positions }) known.stands in
       let count = known.count in
       absurd (omega (arith, enough, most, count))
   rest_of (suc fuel) to_ask bus core k known enough = asks_rest fuel (rest_of fuel) bus core k known known.stands enough
   rest_of zero (to_send request) bus core k known enough =
-      let less = thrice_less budget port.line meters start place meter row parts may known.done known.lost bus.row (record { core = core; positions = bus.positions }) known.runs in
+      let less = thrice_less budget line meters start place meter row parts may known.done known.lost bus.row (record { core = core; positions = bus.positions }) known.runs in
       let count = known.count in
       absurd (omega (arith, enough, less, count))
   rest_of (suc fuel) (to_send request) bus core k known enough = sends_rest fuel (rest_of fuel) request bus core k known enough
   rest_of zero (to_hear bytes) bus core k known enough =
       let h = known.sent in
-      let less = thrice_less budget port.line meters start place meter row parts may h.done h.lost known.before.row (record { core = core; positions = known.before.positions }) h.runs in
+      let less = thrice_less budget line meters start place meter row parts may h.done h.lost known.before.row (record { core = core; positions = known.before.positions }) h.runs in
       let count = h.count in
       absurd (omega (arith, enough, less, count))
   rest_of (suc fuel) (to_hear bytes) bus core k known enough = hears_rest fuel (rest_of fuel) bytes bus core k known enough
   rest_of zero to_commit bus core k known enough =
-      let most = bound port budget moment place meters start meter row parts may quiet_start known.done known.lost bus.row (record { core = settled_core core core.pending; positions = bus.positions }) known.stands in
+      let most = bound line budget moment place meters start meter row parts may quiet_start known.done known.lost bus.row (record { core = settled_core core core.pending; positions = bus.positions }) known.stands in
       let count = known.count in
       absurd (omega (arith, enough, most, count))
   rest_of (suc fuel) to_commit bus core k known enough = commits_rest fuel (rest_of fuel) bus core k known enough
@@ -220,22 +219,22 @@ module _ (port : Port) (budget moment place : ℕ) (meters : List Meter) (start 
   from_start : Rest to_start (bus_at_first start.positions) start.core
   from_start =
       let first = bus_at_first start.positions in
-      let core = begun port budget moment place meters start meter row parts may quiet_start in
-      let rest = rest_of (12 * total + 1) to_ask first core 0 (asking_first port budget moment place meters start meter row parts may quiet_start) (omega arith) in
-      one_more to_start (starts port.line meter.identity) (started (Ok tt)) first start.core refl (sym may.begins.may_start) tt rest
+      let core = begun line budget moment place meters start meter row parts may quiet_start in
+      let rest = rest_of (12 * total + 1) to_ask first core 0 (asking_first line budget moment place meters start meter row parts may quiet_start) (omega arith) in
+      one_more to_start (starts line meter.identity) (started (Ok tt)) first start.core refl (sym may.begins.may_start) tt rest
 
-  served_poll : ServedPoll port budget moment meters start meter
+  served_poll : ServedPoll line budget moment meters start meter
   served_poll =
       let rest = from_start in
       record {
         left = rest.last.link;
         turns = happened_turns rest.happened;
         exchanges = happened_exchanges rest.happened;
-        text = happened_text port rest.happened;
+        text = happened_text rest.happened;
         polls = record { happened = rest.happened; last = rest.last; way = rest.way; ends = rest.over; left_is = refl; turns_are = refl; exchanges_are = refl; text_is = refl };
         chain = rest.chain;
         served = rest.served;
       }
 
 pub polls_are_served : PollsAreServed
-polls_are_served port budget moment place meters scene meter row parts may quiet = served_poll port budget moment place meters scene meter row parts may quiet
+polls_are_served line budget moment place meters scene meter row parts may quiet = served_poll line budget moment place meters scene meter row parts may quiet

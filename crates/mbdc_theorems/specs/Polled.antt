@@ -16,7 +16,6 @@ use Rattle.dc_core.specs.Transcript.{Turn, leads, IsChain}
 use Rattle.mbdc_theorems.specs.Needs.{MayBeRead}
 use Rattle.mbdc_theorems.specs.Progress.{IsRead, requests_of}
 use Rattle.mbdc_theorems.specs.Rounds.{Scene, row_after}
-use Rattle.dc_poller.specs.declared.port.Port.{Port}
 use Rattle.dc_poller.specs.Link.{Link, linked}
 use Rattle.dc_poller.specs.Poll.{Happening, does, talks, loses, Polls}
 
@@ -87,31 +86,31 @@ pub record EndsRead (line : ℕ) (meter : Meter) (row : MeterRow) (parts : List 
 
 -- A POLL ENDS IN A READING, where nothing is pending when it begins.
 abbrev pub PollsEnd : Type 0
-PollsEnd = (port : Port) (budget moment place : ℕ) (meters : List Meter) (scene : Scene)
+PollsEnd = (line : ℕ) (budget moment place : ℕ) (meters : List Meter) (scene : Scene)
     (meter : Meter) (row : MeterRow) (parts : List (List ℕ)) (left : Link) (turns : List Turn)
     (exchanges : List Exchange) (text : List ℕ)
-    (polls : Polls port moment meter.identity linked left turns exchanges text)
-    → MayBeRead budget port.line meters scene place meter row parts
+    (polls : Polls line moment meter.identity linked left turns exchanges text)
+    → MayBeRead budget line meters scene place meter row parts
     → scene.core.pending ≡ []
     → IsChain budget scene.core turns
     → IsServed meters (bus_at_first scene.positions) polls.happened
-    → EndsRead port.line meter row parts polls.happened scene.core (leads scene.core turns)
+    → EndsRead line meter row parts polls.happened scene.core (leads scene.core turns)
 
 -- a poll of this meter, all of which is served
-pub record ServedPoll (port : Port) (budget moment : ℕ) (meters : List Meter) (scene : Scene)
+pub record ServedPoll (line : ℕ) (budget moment : ℕ) (meters : List Meter) (scene : Scene)
     (meter : Meter) : Type 0 where
   pub left : Link
   pub turns : List Turn
   pub exchanges : List Exchange
   pub text : List ℕ
-  pub polls : Polls port moment meter.identity linked left turns exchanges text
+  pub polls : Polls line moment meter.identity linked left turns exchanges text
   pub chain : IsChain budget scene.core turns
   pub served : IsServed meters (bus_at_first scene.positions) polls.happened
 
 -- SUCH A POLL EXISTS, at each moment.
 abbrev pub PollsAreServed : Type 0
-PollsAreServed = (port : Port) (budget moment place : ℕ) (meters : List Meter) (scene : Scene)
+PollsAreServed = (line : ℕ) (budget moment place : ℕ) (meters : List Meter) (scene : Scene)
     (meter : Meter) (row : MeterRow) (parts : List (List ℕ))
-    → MayBeRead budget port.line meters scene place meter row parts
+    → MayBeRead budget line meters scene place meter row parts
     → scene.core.pending ≡ []
-    → ServedPoll port budget moment meters scene meter
+    → ServedPoll line budget moment meters scene meter

@@ -1,7 +1,7 @@
 -- Which bus line has which link (this product): the links by line, the first of line 1.
 use Rattle.std.specs.Prelude.{◌≡◌, ◌≤◌, ◌+◌, ℕ, List, [], ◌∷◌, ◌++◌, codes, Option, Some, None, IsSome}
 use Rattle.std.specs.List.{slice_index_or, slice_set}
-use Rattle.mbdc_words.specs.Link.{word_of, IsLink, IsMistake, IsPlace}
+use Rattle.mbdc_words.specs.Link.{word_of, IsLink, IsMistake}
 use Rattle.mbdc_words.specs.declared.link.LinkName.{LinkName}
 use Rattle.mbdc_words.specs.declared.fault.LinkFault.{LinkFault}
 use Rattle.mbdc_words.specs.declared.fault.LinkFault.TheVariants.{NoLine, Twice, Scheme, Port, Path}
@@ -37,11 +37,3 @@ IsLineMistake Twice word links = (place : ℕ) × (link : LinkName) × SpellsLin
 IsLineMistake Scheme word links = HasBadLink Scheme word
 IsLineMistake Port word links = HasBadLink Port word
 IsLineMistake Path word links = HasBadLink Path word
-
--- the places of a gateway that are refused for a mistake; line 1 is the gateway's
-abbrev pub IsGatewayMistake : LinkFault → List ℕ → List (Option LinkName) → Type 0
-IsGatewayMistake Port place links = ¬ (IsPlace place)
-IsGatewayMistake Twice place links = IsPlace place × IsTaken 0 links
-IsGatewayMistake NoLine place links = ⊥
-IsGatewayMistake Scheme place links = ⊥
-IsGatewayMistake Path place links = ⊥

@@ -23,7 +23,7 @@ impl LinkFault {
     pub fn text(self) -> &'static str {
         match self {
             LinkFault::NoLine => "--line takes N=LINK, where N is a bus line from 1 to 8",
-            LinkFault::Twice => "two links for one bus line; --gateway is a link of line 1",
+            LinkFault::Twice => "two links for one bus line",
             LinkFault::Scheme => { "a link is tcp://HOST:PORT, serial:PATH or blocks://HOST:PORT" }
             LinkFault::Port => "a link tcp:// or blocks:// has a port from 1 to 65535",
             LinkFault::Path => "a link serial: has the path of a terminal",

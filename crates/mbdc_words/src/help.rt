@@ -106,7 +106,7 @@ Faults: mbdc: format: 2 AlreadyFormatted, 3 Device; mbdc: file: IMAGE where the
 
 /// Of `run`.
 pub const RUN: &str = "Example:
-  mbdc run house.image lines.txt --line 1=tcp://192.0.2.10:10001
+  mbdc run house.image lines.txt --gateway 192.0.2.10:10001
 
 Lines of the script, and what each prints:
   AT seconds          sets the time stamp (Unix seconds) of the answers that
@@ -117,17 +117,15 @@ Lines of the script, and what each prints:
                       PART p LAST, FAILED n Name
   COMMIT              writes the pending changes to the image: COMMITTED n
   OFFICE text         a line of the billing office, see below: its reply
-  POLL line ident     reads a meter on a connected bus line: each step as above
-  SEARCH budget       searches for meters on bus line 1, with at most that many
-                      selections: FOUND ident, SHARED number, BUDGET where it
-                      was spent, SELECTIONS n
-  SEARCH budget line  searches on that bus line
-  LINE n LOST         once, where the link of bus line n failed, or nobody
-                      answers for 120 s: it is silent from then on; of --gateway
-                      GATEWAY LOST
-  LATE line n         after a search: n times bytes came that nothing could
-                      have sent; make --patience longer
-  NO GATEWAY          for a POLL or a SEARCH on a bus line that isn't connected
+  POLL line ident     reads a meter over the gateway, which is bus line 1: each
+                      step as above
+  SEARCH budget       searches for meters over the gateway, with at most that
+                      many selections: FOUND ident, SHARED number, BUDGET where
+                      it was spent, SELECTIONS n
+  GATEWAY LOST        once, where the gateway failed, or nobody answers for
+                      120 s: it is silent from then on
+  NO GATEWAY          for a POLL or a SEARCH without a gateway, and a POLL on
+                      another bus line
   What is refused prints REFUSED n Name. Another line prints LINE i SYNTAX and
   ends the script.
 Lines of the office, and their replies:

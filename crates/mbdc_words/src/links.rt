@@ -1,10 +1,10 @@
 //! Which bus line has which link.
 
-ghost use Rattle.std.specs.Prelude.{◌≡◌, ◌≢◌, ◌≤◌, ◌+◌, ◌++◌, ◌∷◌, ◌↔◌, ℕ, [], None, codes, IsTrue};
+ghost use Rattle.std.specs.Prelude.{◌≡◌, ◌≢◌, ◌≤◌, ◌+◌, ◌∷◌, ◌↔◌, ℕ, [], None, IsTrue};
 ghost use Rattle.std.specs.Prelude.{IfErr, IfNone, IfSome, OnOk, OnErr};
 ghost use Rattle.std.specs.List.{All};
-ghost use Rattle.mbdc_words.specs.Link.{word_of, IsLink, IsPlace};
-ghost use Rattle.mbdc_words.specs.Links.{Adds, IsGatewayMistake, IsLineMistake, IsTaken, line_word};
+ghost use Rattle.mbdc_words.specs.Link.{IsLink};
+ghost use Rattle.mbdc_words.specs.Links.{Adds, IsLineMistake, IsTaken, line_word};
 ghost use Rattle.mbdc_words.specs.declared.link.LinkName.{LinkName as Link};
 
 use crate::fault::LinkFault;
@@ -51,19 +51,6 @@ impl<'a> Links<'a> {
         let place = place_of(line).ok_or(LinkFault::NoLine)?;
         let link = LinkName::parse(link)?;
         self.put(place, link)
-    }
-
-    /// Gives line 1 the link of a gateway at `HOST:PORT`.
-    ///
-    /// # Errors
-    /// [`LinkFault::Port`], and [`LinkFault::Twice`] where line 1 has a link already.
-    pub fn add_gateway(&mut self, place: &'a str) -> Result<(), LinkFault>
-        ensures added { OnOk result ((link : Link) × (word_of link ≡ codes "blocks://" ++ place.now)
-            × IsPlace place.now × Adds 0 link self.old.links self.new.links) }
-        ensures refused { IfErr result (λ fault. IsGatewayMistake fault place.now self.old.links) }
-        ensures kept { OnErr result (self.new ≡ self.old) }
-    {
-        self.put(0, LinkName::gateway(place)?)
     }
 
     fn put(&mut self, place: usize, link: LinkName<'a>) -> Result<(), LinkFault>

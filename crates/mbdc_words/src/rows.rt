@@ -340,7 +340,6 @@ const READING: &[CommandRow] = &[
                 help: "Lines: AT, START, ASK, HEAR, COMMIT, OFFICE, POLL, SEARCH",
                 ..WORD
             },
-            LINE,
             STORED_PATIENCE,
             Row {
                 id: "GATEWAY",

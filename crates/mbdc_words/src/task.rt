@@ -115,10 +115,8 @@ pub struct RunTask<'a> {
     pub image: &'a str,
     /// The script's file.
     pub script: &'a str,
-    /// The links of the bus lines.
-    pub links: Links<'a>,
-    /// Whether the only one is a gateway that was named as such.
-    pub is_gateway: bool,
+    /// The link of the gateway, if there is one.
+    pub gateway: Option<LinkName<'a>>,
     /// The time-out of an answer in milliseconds; that of the link where none is given.
     pub patience: Option<u16>,
 }

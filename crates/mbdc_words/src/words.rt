@@ -218,17 +218,14 @@ fn status_task<'a>(image: &'a str, inner: &ArgMatches<'a>) -> Result<Task<'a>, W
 }
 
 fn run_task<'a>(image: &'a str, inner: &ArgMatches<'a>) -> Result<Task<'a>, WordsFault> {
-    let mut links = links_of(inner)?;
-    let gateway = inner.get_str("GATEWAY");
-    let is_gateway = links.is_empty() && gateway.is_some();
-    if let Some(place) = gateway {
-        links.add_gateway(place)?;
-    }
+    let gateway = match inner.get_str("GATEWAY") {
+        Some(place) => Some(LinkName::gateway(place)?),
+        None => None,
+    };
     Ok(Task::Run(RunTask {
         image,
         script: file_of(inner, "SCRIPT")?,
-        links,
-        is_gateway,
+        gateway,
         patience: inner.get_one("PATIENCE"),
     }))
 }

@@ -14,8 +14,8 @@ due_of (Ok count) = refl
 due_of (Err fault) = refl
 
 pub returns-clause-went : goal.returns-clause-went
-returns-clause-went g c port moment meter link origin state before chain at =
-    way_turn g.D.Disk origin c.args.concentrator.now.house.budget state before port moment meter to_commit link commits _ _ _ c.args.concentrator.now c.told_commit.new.concentrator
+returns-clause-went g c line moment meter link origin state before chain at =
+    way_turn g.D.Disk origin c.args.concentrator.now.house.budget state before line moment meter to_commit link commits _ _ _ c.args.concentrator.now c.told_commit.new.concentrator
     refl (c.in_ok-answer.ensures.went origin state before chain at)
     (λ answer is. (
       ap (λ (d : Due). record { due = d; link = link }) (ap (behind_turn to_commit commits) is.0 ∙ due_of c.in_ok-answer.answer ∙ ap goes_on (sym c.is_ok.ensures.value)),
@@ -25,7 +25,7 @@ returns-clause-went g c port moment meter link origin state before chain at =
     (λ answer is. subst (λ (a : Answer). Puts (g.W.Sink.written c.args.out.now) (g.W.Sink.written c.told_commit.new.out) (told_text a)) (sym is.0) is.1)
 
 pub returns-in_err-answer-clause-went : goal.returns-in_err-answer-clause-went
-returns-in_err-answer-clause-went g c port moment meter link origin state before chain at =
+returns-in_err-answer-clause-went g c line moment meter link origin state before chain at =
     let p = err_from_is_err_and c.from_residual.result c.from_residual.ensures.1 in
-    rw p.1 (way_turn g.D.Disk origin c.args.concentrator.now.house.budget state before port moment meter to_commit link commits _ _ _ c.args.concentrator.now c.told_commit.new.concentrator
-    refl (c.told_commit.ensures.went origin state before chain at) (λ answer is. (tt, fails_in_one g.W.Sink port c.args.out.now c.told_commit.new.out (does (commits, answer)) c.in_err-answer.ensures.counted.1, refl)) (λ answer is. tt))
+    rw p.1 (way_turn g.D.Disk origin c.args.concentrator.now.house.budget state before line moment meter to_commit link commits _ _ _ c.args.concentrator.now c.told_commit.new.concentrator
+    refl (c.told_commit.ensures.went origin state before chain at) (λ answer is. (tt, fails_in_one g.W.Sink c.args.out.now c.told_commit.new.out (does (commits, answer)) c.in_err-answer.ensures.counted.1, refl)) (λ answer is. tt))

@@ -21,11 +21,11 @@ returns-in-Ok-clause-went g c meter link origin state before chain at =
     let w2 = w c.after_heard.new.out in
     let one = c.in_ok-answer.ensures.went origin state before chain at in
     let told = subst (λ (a : Result LineHeard HearFault). Puts w0 w1 (told_text (heard a))) c.in-Ok.is one.is_such.1 in
-    turn_then g.D.Disk origin c.args.concentrator.now.house.budget state before c.args.port c.args.moment.seconds meter (to_hear c.args.bytes.now) link (hears c.args.port.line c.args.moment.seconds c.args.bytes.now) _ (heard (Ok c.in-Ok.heard)) _ _ _ _ c.args.concentrator.now c.told_hear.new.concentrator c.after_heard.new.concentrator
-    refl one (λ answer s. s.0 ∙ ap heard c.in-Ok.is) c.told_hear.ensures.budget (λ behind ch a. c.after_heard.ensures.went c.args.port c.args.moment.seconds meter link origin state behind ch a)
+    turn_then g.D.Disk origin c.args.concentrator.now.house.budget state before c.args.line c.args.moment.seconds meter (to_hear c.args.bytes.now) link (hears c.args.line c.args.moment.seconds c.args.bytes.now) _ (heard (Ok c.in-Ok.heard)) _ _ _ _ c.args.concentrator.now c.told_hear.new.concentrator c.after_heard.new.concentrator
+    refl one (λ answer s. s.0 ∙ ap heard c.in-Ok.is) c.told_hear.ensures.budget (λ behind ch a. c.after_heard.ensures.went c.args.line c.args.moment.seconds meter link origin state behind ch a)
     (λ more last e. (
       e.0,
-      if_fails_later g.W.Sink c.args.port c.after_heard.result c.args.out.now c.told_hear.new.out c.after_heard.new.out (hears c.args.port.line c.args.moment.seconds c.args.bytes.now, heard (Ok c.in-Ok.heard)) more told c.in_ok-answer.ensures.counted.0 e.1,
+      if_fails_later g.W.Sink c.after_heard.result c.args.out.now c.told_hear.new.out c.after_heard.new.out (hears c.args.line c.args.moment.seconds c.args.bytes.now, heard (Ok c.in-Ok.heard)) more told c.in_ok-answer.ensures.counted.0 e.1,
       e.2,
     ))
     (λ more m. on_ok c.after_heard.result _ _ (λ p. puts-both w0 w1 w2 (told_text (heard (Ok c.in-Ok.heard))) more told p) m)
@@ -39,11 +39,11 @@ returns-in-PendingFull-clause-went g c meter link origin state before chain at =
     let full = is_full c.in_ok-answer.answer c.in-Err.fault c.in-Err.is c.in-PendingFull.is in
     let one = c.in_ok-answer.ensures.went origin state before chain at in
     let told = subst (λ (a : Result LineHeard HearFault). Puts w0 w1 (told_text (heard a))) full one.is_such.1 in
-    turn_then g.D.Disk origin c.args.concentrator.now.house.budget state before c.args.port c.args.moment.seconds meter (to_hear c.args.bytes.now) link (hears c.args.port.line c.args.moment.seconds c.args.bytes.now) _ (heard (Err PendingFull)) _ _ _ _ c.args.concentrator.now c.told_hear.new.concentrator c.hear_again.new.concentrator
+    turn_then g.D.Disk origin c.args.concentrator.now.house.budget state before c.args.line c.args.moment.seconds meter (to_hear c.args.bytes.now) link (hears c.args.line c.args.moment.seconds c.args.bytes.now) _ (heard (Err PendingFull)) _ _ _ _ c.args.concentrator.now c.told_hear.new.concentrator c.hear_again.new.concentrator
     refl one (λ answer s. s.0 ∙ ap heard full) c.told_hear.ensures.budget (λ behind ch a. c.hear_again.ensures.went meter link origin state behind ch a)
     (λ more last e. (
       e.0,
-      if_fails_later g.W.Sink c.args.port c.hear_again.result c.args.out.now c.told_hear.new.out c.hear_again.new.out (hears c.args.port.line c.args.moment.seconds c.args.bytes.now, heard (Err PendingFull)) more told c.in_ok-answer.ensures.counted.0 e.1,
+      if_fails_later g.W.Sink c.hear_again.result c.args.out.now c.told_hear.new.out c.hear_again.new.out (hears c.args.line c.args.moment.seconds c.args.bytes.now, heard (Err PendingFull)) more told c.in_ok-answer.ensures.counted.0 e.1,
       e.2,
     ))
     (λ more m. on_ok c.hear_again.result _ _ (λ p. puts-both w0 w1 w2 (told_text (heard (Err PendingFull))) more told p) m)
@@ -55,7 +55,7 @@ returns-in_default g c =
           let w0 = g.W.Sink.written c.args.out.now in
           let w1 = g.W.Sink.written c.told_hear.new.out in
           let one = c.in_ok-answer.ensures.went origin state before chain at in
-          turn_last g.D.Disk origin c.args.concentrator.now.house.budget state before c.args.port c.args.moment.seconds meter (to_hear c.args.bytes.now) link (hears c.args.port.line c.args.moment.seconds c.args.bytes.now) _ (heard (Err c.in-Err.fault)) _ _ c.args.concentrator.now c.told_hear.new.concentrator
+          turn_last g.D.Disk origin c.args.concentrator.now.house.budget state before c.args.line c.args.moment.seconds meter (to_hear c.args.bytes.now) link (hears c.args.line c.args.moment.seconds c.args.bytes.now) _ (heard (Err c.in-Err.fault)) _ _ c.args.concentrator.now c.told_hear.new.concentrator
           refl one (λ answer s. s.0 ∙ ap heard c.in-Err.is) (ap (λ (d : Due). record { due = d; link = link }) (behind_other c.args.bytes.now c.in-Err.fault c.in_default.not-PendingFull), tt, refl) (subst (λ (a : Result LineHeard HearFault). Puts w0 w1 (told_text (heard a))) c.in-Err.is one.is_such.1);
       counted = (c.in_ok-answer.ensures.counted.0, tt);
       fewer = λ on. absurd cc;
@@ -65,14 +65,14 @@ returns-in_default g c =
 pub returns-in_err-answer-clause-went : goal.returns-in_err-answer-clause-went
 returns-in_err-answer-clause-went g c meter link origin state before chain at =
     let p = err_from_is_err_and c.from_residual.result c.from_residual.ensures.1 in
-    rw p.1 (way_turn g.D.Disk origin c.args.concentrator.now.house.budget state before c.args.port c.args.moment.seconds meter (to_hear c.args.bytes.now) link (hears c.args.port.line c.args.moment.seconds c.args.bytes.now) _ _ _ c.args.concentrator.now c.told_hear.new.concentrator
-    refl (c.told_hear.ensures.went origin state before chain at) (λ answer is. (tt, fails_in_one g.W.Sink c.args.port c.args.out.now c.told_hear.new.out (does (hears c.args.port.line c.args.moment.seconds c.args.bytes.now, answer)) c.in_err-answer.ensures.counted.1, refl)) (λ answer is. tt))
+    rw p.1 (way_turn g.D.Disk origin c.args.concentrator.now.house.budget state before c.args.line c.args.moment.seconds meter (to_hear c.args.bytes.now) link (hears c.args.line c.args.moment.seconds c.args.bytes.now) _ _ _ c.args.concentrator.now c.told_hear.new.concentrator
+    refl (c.told_hear.ensures.went origin state before chain at) (λ answer is. (tt, fails_in_one g.W.Sink c.args.out.now c.told_hear.new.out (does (hears c.args.line c.args.moment.seconds c.args.bytes.now, answer)) c.in_err-answer.ensures.counted.1, refl)) (λ answer is. tt))
 
 pub returns-in-Ok-clause-fewer : goal.returns-in-Ok-clause-fewer
 returns-in-Ok-clause-fewer g c =
-    c.after_heard.ensures.fewer c.args.port.line c.args.concentrator.now.lines
-    (subst (λ (a : Result LineHeard HearFault). OnOk a (requests_on c.args.port.line c.told_hear.new.concentrator.lines < requests_on c.args.port.line c.args.concentrator.now.lines)) c.in-Ok.is c.in_ok-answer.ensures.fewer)
+    c.after_heard.ensures.fewer c.args.line c.args.concentrator.now.lines
+    (subst (λ (a : Result LineHeard HearFault). OnOk a (requests_on c.args.line c.told_hear.new.concentrator.lines < requests_on c.args.line c.args.concentrator.now.lines)) c.in-Ok.is c.in_ok-answer.ensures.fewer)
 
 pub returns-in-PendingFull-clause-fewer : goal.returns-in-PendingFull-clause-fewer
 returns-in-PendingFull-clause-fewer g c =
-    then_spends c.hear_again.result c.args.port.line c.args.concentrator.now.lines c.told_hear.new.concentrator.lines c.hear_again.new.concentrator.lines c.told_hear.ensures.no_more c.hear_again.ensures.fewer
+    then_spends c.hear_again.result c.args.line c.args.concentrator.now.lines c.told_hear.new.concentrator.lines c.hear_again.new.concentrator.lines c.told_hear.ensures.no_more c.hear_again.ensures.fewer

@@ -14,11 +14,11 @@ returns-clause-went g c meter link origin state before chain at =
     let w1 = w c.told_hear.new.out in
     let w2 = w c.after_heard.new.out in
     let one = c.in_ok-answer.ensures.went origin state before chain at in
-    turn_then g.D.Disk origin c.args.concentrator.now.house.budget state before c.args.port c.args.moment.seconds meter (to_hear_again c.args.bytes.now) link (hears c.args.port.line c.args.moment.seconds c.args.bytes.now) _ (heard c.in_ok-answer.answer) _ _ _ _ c.args.concentrator.now c.told_hear.new.concentrator c.after_heard.new.concentrator
-    refl one (λ answer s. s.0) c.told_hear.ensures.budget (λ behind ch a. c.after_heard.ensures.went c.args.port c.args.moment.seconds meter link origin state behind ch a)
+    turn_then g.D.Disk origin c.args.concentrator.now.house.budget state before c.args.line c.args.moment.seconds meter (to_hear_again c.args.bytes.now) link (hears c.args.line c.args.moment.seconds c.args.bytes.now) _ (heard c.in_ok-answer.answer) _ _ _ _ c.args.concentrator.now c.told_hear.new.concentrator c.after_heard.new.concentrator
+    refl one (λ answer s. s.0) c.told_hear.ensures.budget (λ behind ch a. c.after_heard.ensures.went c.args.line c.args.moment.seconds meter link origin state behind ch a)
     (λ more last e. (
       e.0,
-      if_fails_later g.W.Sink c.args.port c.after_heard.result c.args.out.now c.told_hear.new.out c.after_heard.new.out (hears c.args.port.line c.args.moment.seconds c.args.bytes.now, heard c.in_ok-answer.answer) more one.is_such.1 c.in_ok-answer.ensures.counted.0 e.1,
+      if_fails_later g.W.Sink c.after_heard.result c.args.out.now c.told_hear.new.out c.after_heard.new.out (hears c.args.line c.args.moment.seconds c.args.bytes.now, heard c.in_ok-answer.answer) more one.is_such.1 c.in_ok-answer.ensures.counted.0 e.1,
       e.2,
     ))
     (λ more m. on_ok c.after_heard.result _ _ (λ p. puts-both w0 w1 w2 (told_text (heard c.in_ok-answer.answer)) more one.is_such.1 p) m)
@@ -26,8 +26,8 @@ returns-clause-went g c meter link origin state before chain at =
 pub returns-in_err-answer-clause-went : goal.returns-in_err-answer-clause-went
 returns-in_err-answer-clause-went g c meter link origin state before chain at =
     let p = err_from_is_err_and c.from_residual.result c.from_residual.ensures.1 in
-    rw p.1 (way_turn g.D.Disk origin c.args.concentrator.now.house.budget state before c.args.port c.args.moment.seconds meter (to_hear_again c.args.bytes.now) link (hears c.args.port.line c.args.moment.seconds c.args.bytes.now) _ _ _ c.args.concentrator.now c.told_hear.new.concentrator
-    refl (c.told_hear.ensures.went origin state before chain at) (λ answer is. (tt, fails_in_one g.W.Sink c.args.port c.args.out.now c.told_hear.new.out (does (hears c.args.port.line c.args.moment.seconds c.args.bytes.now, answer)) c.in_err-answer.ensures.counted.1, refl)) (λ answer is. tt))
+    rw p.1 (way_turn g.D.Disk origin c.args.concentrator.now.house.budget state before c.args.line c.args.moment.seconds meter (to_hear_again c.args.bytes.now) link (hears c.args.line c.args.moment.seconds c.args.bytes.now) _ _ _ c.args.concentrator.now c.told_hear.new.concentrator
+    refl (c.told_hear.ensures.went origin state before chain at) (λ answer is. (tt, fails_in_one g.W.Sink c.args.out.now c.told_hear.new.out (does (hears c.args.line c.args.moment.seconds c.args.bytes.now, answer)) c.in_err-answer.ensures.counted.1, refl)) (λ answer is. tt))
 
 pub returns-clause-fewer : goal.returns-clause-fewer
-returns-clause-fewer g c = c.after_heard.ensures.fewer c.args.port.line c.args.concentrator.now.lines c.in_ok-answer.ensures.fewer
+returns-clause-fewer g c = c.after_heard.ensures.fewer c.args.line c.args.concentrator.now.lines c.in_ok-answer.ensures.fewer

@@ -15,7 +15,7 @@ rounds-init g c =
       budget = refl;
       well = refl;
       untouched = λ is. refl;
-      so_far = λ meter origin state before chain at. way_none g.D.Disk origin c.args.concentrator.now.house.budget state before c.args.port c.args.moment.seconds meter _ _ _ c.args.concentrator.now (went_none g.D.Disk origin c.args.concentrator.now.house.budget state before c.args.concentrator.now chain at (λ h image left. g.met.D.Disk.only_now c.args.concentrator.now.store.disk image left)) (refl, refl) (puts-none (g.W.Sink.written c.args.out.now));
+      so_far = λ meter origin state before chain at. way_none g.D.Disk origin c.args.concentrator.now.house.budget state before c.args.line c.args.moment.seconds meter _ _ _ c.args.concentrator.now (went_none g.D.Disk origin c.args.concentrator.now.house.budget state before c.args.concentrator.now chain at (λ h image left. g.met.D.Disk.only_now c.args.concentrator.now.store.disk image left)) (refl, refl) (puts-none (g.W.Sink.written c.args.out.now));
     }
 
 pub rounds-preserved : goal.rounds-preserved
@@ -30,7 +30,7 @@ rounds-preserved g c =
           let old = c.rounds.concentrator in
           let new = c.ask_and_hear.new.concentrator in
           let one = c.rounds.invariant.so_far meter origin state before chain at in
-          way_then g.D.Disk origin first.house.budget state before c.args.port c.args.moment.seconds meter _ _ _ _ _ _ _ _ first old new
+          way_then g.D.Disk origin first.house.budget state before c.args.line c.args.moment.seconds meter _ _ _ _ _ _ _ _ first old new
           one one.ends_so.0 c.rounds.invariant.budget (λ behind ch a. c.in_ok-more.ensures.went meter origin state behind ch a)
           (λ more last e. (
             e.0 ∙ ap (λ (b : Bool). record { due = goes_on b; link = link_by (g.B.Bus.lost c.ask_and_hear.new.bus) }) c.if-not-more.false,
@@ -46,7 +46,7 @@ returns-then-not-more-clause-went g c meter origin state before chain at =
     let old = c.rounds.concentrator in
     let new = c.ask_and_hear.new.concentrator in
     let one = c.rounds.invariant.so_far meter origin state before chain at in
-    way_then g.D.Disk origin first.house.budget state before c.args.port c.args.moment.seconds meter _ _ _ _ _ _ _ _ first old new
+    way_then g.D.Disk origin first.house.budget state before c.args.line c.args.moment.seconds meter _ _ _ _ _ _ _ _ first old new
     one one.ends_so.0 c.rounds.invariant.budget (λ behind ch a. c.in_ok-more.ensures.went meter origin state behind ch a)
     (λ more last e. (
       e.0 ∙ ap (λ (b : Bool). record { due = goes_on b; link = link_by (g.B.Bus.lost c.ask_and_hear.new.bus) }) c.if-not-more.true,
@@ -75,11 +75,11 @@ returns-in_err-more-clause-went g c meter origin state before chain at =
     let old = c.rounds.concentrator in
     let new = c.ask_and_hear.new.concentrator in
     let one = c.rounds.invariant.so_far meter origin state before chain at in
-    way_then g.D.Disk origin first.house.budget state before c.args.port c.args.moment.seconds meter _ _ _ _ _ _ _ _ first old new
+    way_then g.D.Disk origin first.house.budget state before c.args.line c.args.moment.seconds meter _ _ _ _ _ _ _ _ first old new
     one one.ends_so.0 c.rounds.invariant.budget (λ behind ch a. c.in_err-more.ensures.went meter origin state behind ch a)
     (λ more last e. (
       tt,
-      fails_after g.W.Sink c.args.port c.args.out.now c.rounds.out c.ask_and_hear.new.out one.happened more one.text c.rounds.invariant.well e.1,
+      fails_after g.W.Sink c.args.out.now c.rounds.out c.ask_and_hear.new.out one.happened more one.text c.rounds.invariant.well e.1,
       exchanged_after g.B.Bus.asks c.args.bus.now c.rounds.bus c.ask_and_hear.new.bus one.happened more one.ends_so.1 e.2,
     ))
     (λ text more p q. tt))

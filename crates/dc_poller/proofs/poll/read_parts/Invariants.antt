@@ -19,10 +19,10 @@ invariant-rounds g l = record {
   well : g.W.Sink.put_failures l.out ≡ g.W.Sink.put_failures l.fn.out;
   untouched : g.B.Bus.lost l.fn.bus ≡ true → l.bus ≡ l.fn.bus;
   so_far : (meter : Identity) (origin : g.row.D.Denot) (state : State) (before : List Turn) → IsChain l.fn.concentrator.house.budget (opened state) before → IsAt g.D.Disk origin l.fn.concentrator (leads (opened state) before)
-      → Way g.D.Disk (run_of origin l.fn.concentrator.house.budget state before l.fn.concentrator l.concentrator) l.port l.moment.seconds meter (record { due = to_ask; link = link_by (g.B.Bus.lost l.fn.bus) }) (λ happened last. (last ≡ record { due = to_ask; link = link_by (g.B.Bus.lost l.bus) })
+      → Way g.D.Disk (run_of origin l.fn.concentrator.house.budget state before l.fn.concentrator l.concentrator) l.line l.moment.seconds meter (record { due = to_ask; link = link_by (g.B.Bus.lost l.fn.bus) }) (λ happened last. (last ≡ record { due = to_ask; link = link_by (g.B.Bus.lost l.bus) })
       × AreExchanged g.B.Bus.asks l.fn.bus (happened_exchanges happened) l.bus) (Puts (g.W.Sink.written l.fn.out) (g.W.Sink.written l.out));
 }
 
 -- each round takes away one of the requests that the line's session may make
 abbrev pub decreases-rounds : goal.decreases-rounds
-decreases-rounds g l = requests_on l.port.line l.concentrator.lines
+decreases-rounds g l = requests_on l.line l.concentrator.lines

@@ -9,7 +9,7 @@ use Rattle.mbdc_io.specs.Stream.{Puts}
 use Rattle.mbdc_io.specs.Lines.{lines_of}
 use Rattle.dc_poller.specs.Run.{run_of}
 use Rattle.dc_poller.specs.ImageRun.{ImageWent}
-use Rattle.dc_poller.specs.Link.{AreAbsent, links_of}
+use Rattle.dc_poller.specs.Link.{HasBus, link_of}
 use Rattle.dc_poller.specs.Script.{ScriptCut}
 use Rattle.dc_poller.specs.Starved.{ScriptStarved}
 use Rattle.dc_poller.specs.Traffic.{AreCarried}
@@ -55,19 +55,19 @@ pub returns-in-Write-clause-cut : goal.returns-in-Write-clause-cut
 returns-in-Write-clause-cut g c premise write =
     let first = c.in-Ok-open.concentrator in
     gone_over g (goal.at.returns-in-Write-clause-cut g c).After-run_lines _ c.close-in-Write.result premise
-    (λ at. (of_write Bool c.in-Err-run_lines.halt (ScriptCut g.D.Disk (run_of first.store.disk first.house.budget first.house.state [] first c.run_lines.new.concentrator) (links_of g.B.Bus.lost c.args.lines.now) (lines_of c.as_slice.result.now) (AreCarried g.B.Bus.lost g.B.Bus.asks g.B.Bus.asks_all c.args.lines.now c.run_lines.new.slots)) c.in-Write.is (c.in-Err-run_lines.ensures.cut first.store.disk first.house.state [] tt at))) c.close-in-Write.ensures.disk
+    (λ at. (of_write Bool c.in-Err-run_lines.halt (ScriptCut g.D.Disk (run_of first.store.disk first.house.budget first.house.state [] first c.run_lines.new.concentrator) (link_of g.B.Bus.lost c.args.gateway.now) (lines_of c.as_slice.result.now) (AreCarried g.B.Bus.lost g.B.Bus.asks c.args.gateway.now c.run_lines.new.gateway)) c.in-Write.is (c.in-Err-run_lines.ensures.cut first.store.disk first.house.state [] tt at))) c.close-in-Write.ensures.disk
 
 pub returns-clause-starved : goal.returns-clause-starved
 returns-clause-starved g c premise write =
     let first = c.in-Ok-open.concentrator in
     inr (gone_over g (goal.at.returns-clause-starved g c).After-run_lines _ c.close-in-NoMemory.result premise
-    (λ at. (of_no_memory Bool c.in-Err-run_lines.halt (ScriptStarved g.D.Disk (run_of first.store.disk first.house.budget first.house.state [] first c.run_lines.new.concentrator) (links_of g.B.Bus.lost c.args.lines.now) (lines_of c.as_slice.result.now) (Puts (g.W.Sink.written c.args.writer.now) (g.W.Sink.written c.run_lines.new.out)) (AreCarried g.B.Bus.lost g.B.Bus.asks g.B.Bus.asks_all c.args.lines.now c.run_lines.new.slots)) c.in-NoMemory.is (c.in-Err-run_lines.ensures.starved first.store.disk first.house.state [] tt at))) c.close-in-NoMemory.ensures.disk)
+    (λ at. (of_no_memory Bool c.in-Err-run_lines.halt (ScriptStarved g.D.Disk (run_of first.store.disk first.house.budget first.house.state [] first c.run_lines.new.concentrator) (link_of g.B.Bus.lost c.args.gateway.now) (lines_of c.as_slice.result.now) (Puts (g.W.Sink.written c.args.writer.now) (g.W.Sink.written c.run_lines.new.out)) (AreCarried g.B.Bus.lost g.B.Bus.asks c.args.gateway.now c.run_lines.new.gateway)) c.in-NoMemory.is (c.in-Err-run_lines.ensures.starved first.store.disk first.house.state [] tt at))) c.close-in-NoMemory.ensures.disk)
 
 pub returns-clause-unread : goal.returns-clause-unread
-returns-clause-unread g c of_reading = inr (refl, of_no_memory Bool c.in-Err-run_lines.halt (¬ (AreAbsent (links_of g.B.Bus.lost c.args.lines.now))) c.in-NoMemory.is c.in-Err-run_lines.ensures.through)
+returns-clause-unread g c of_reading = inr (refl, of_no_memory Bool c.in-Err-run_lines.halt (HasBus (link_of g.B.Bus.lost c.args.gateway.now)) c.in-NoMemory.is c.in-Err-run_lines.ensures.through)
 
 pub returns-clause-untouched : goal.returns-clause-untouched
-returns-clause-untouched g c other = inr (refl, of_no_memory Bool c.in-Err-run_lines.halt (¬ (AreAbsent (links_of g.B.Bus.lost c.args.lines.now))) c.in-NoMemory.is c.in-Err-run_lines.ensures.through)
+returns-clause-untouched g c other = inr (refl, of_no_memory Bool c.in-Err-run_lines.halt (HasBus (link_of g.B.Bus.lost c.args.gateway.now)) c.in-NoMemory.is c.in-Err-run_lines.ensures.through)
 
 -- the store's refusal, of the disk as it came
 pub returns-in-Err-open-clause-unopened : goal.returns-in-Err-open-clause-unopened

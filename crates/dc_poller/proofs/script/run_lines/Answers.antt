@@ -8,16 +8,16 @@ use Rattle.dc_core.specs.Images.{IsAt}
 use Rattle.dc_core.specs.Transcript.{Turn, leads, IsChain}
 use Rattle.mbdc_io.specs.Lines.{lines_of}
 use Rattle.dc_poller.specs.Run.{run_of}
-use Rattle.dc_poller.specs.Link.{AreAbsent, links_of}
+use Rattle.dc_poller.specs.Link.{HasBus, link_of}
 use Rattle.dc_poller.specs.Script.{AskFor, LineRan, LineCut, ScriptCut, deeds_turns, deeds_text}
 use Rattle.dc_poller.specs.ScriptLine.{seen}
 use Rattle.dc_poller.specs.Starved.{LineStarved, ScriptStarved}
 use Rattle.dc_poller.proofs.Halts.{on_write, on_no_memory}
 use Rattle.mbdc_decode.proofs.Inputs.{no_line}
-use Rattle.dc_poller.specs.Traffic.{AreCarried, IsCarried}
+use Rattle.dc_poller.specs.Traffic.{AreCarried}
 use Rattle.dc_poller.proofs.LineRuns.{SoFar, one_more, cut_here, lines_none}
 use Rattle.dc_poller.proofs.Starvings.{starved_here}
-use Rattle.dc_poller.proofs.Traffics.{carried_both}
+use Rattle.dc_poller.proofs.Traffics.{carried_both, carries_none}
 use Rattle.dc_core.proofs.Wents.{went_none, went_chain, went_at}
 use Rattle.dc_poller.proofs.script.run_lines.Given.{Over}
 use Rattle.dc_poller.proofs.script.run_lines.Goals.{After-first_line}
@@ -27,8 +27,8 @@ use Rattle.dc_poller.proofs.script.run_lines.Goals as goal
 
 -- the loop's own, with these lines to come
 abbrev SoFarWith : (g : Over) → g.row.D.Denot → After-first_line g → List (List ℕ) → Type 0
-SoFarWith g origin c rest = SoFar g.D.Disk origin c.args.concentrator.now.house.budget (links_of g.B.Bus.lost c.args.slots.now) (links_of g.B.Bus.lost c.lines.slots) (lines_of c.args.input.now) rest
-    c.lines.moment.0 c.lines.count (Puts (g.W.Sink.written c.args.out.now) (g.W.Sink.written c.lines.out)) (AreCarried g.B.Bus.lost g.B.Bus.asks g.B.Bus.asks_all c.args.slots.now c.lines.slots) c.args.concentrator.now c.lines.concentrator
+SoFarWith g origin c rest = SoFar g.D.Disk origin c.args.concentrator.now.house.budget (link_of g.B.Bus.lost c.args.gateway.now) (link_of g.B.Bus.lost c.lines.gateway) (lines_of c.args.input.now) rest
+    c.lines.moment.0 c.lines.count (Puts (g.W.Sink.written c.args.out.now) (g.W.Sink.written c.lines.out)) (AreCarried g.B.Bus.lost g.B.Bus.asks c.args.gateway.now c.lines.gateway) c.args.concentrator.now c.lines.concentrator
 
 here : (g : Over) (origin : g.row.D.Denot) (c : After-first_line g) → SoFarWith g origin c (c.first_line.result.0.now ∷ lines_of c.first_line.result.1.now)
 here g origin c = subst (SoFarWith g origin c) c.first_line.ensures.lines (c.lines.invariant.so_far origin)
@@ -60,15 +60,15 @@ lines-init g c = record {
   budget = refl;
   well = refl;
   moment = omega arith;
-  absent = λ is. is;
+  had = λ is. is;
   so_far = λ origin. record {
     done = [];
     are_read = refl;
     moment_is = refl;
     count_is = refl;
-    ran = λ state before chain at. lines_none g.D.Disk origin c.args.concentrator.now.house.budget state before (links_of g.B.Bus.lost c.args.slots.now) (Puts (g.W.Sink.written c.args.out.now) (g.W.Sink.written c.args.out.now)) (AreCarried g.B.Bus.lost g.B.Bus.asks g.B.Bus.asks_all c.args.slots.now c.args.slots.now) c.args.concentrator.now
+    ran = λ state before chain at. lines_none g.D.Disk origin c.args.concentrator.now.house.budget state before (link_of g.B.Bus.lost c.args.gateway.now) (Puts (g.W.Sink.written c.args.out.now) (g.W.Sink.written c.args.out.now)) (AreCarried g.B.Bus.lost g.B.Bus.asks c.args.gateway.now c.args.gateway.now) c.args.concentrator.now
         (went_none g.D.Disk origin c.args.concentrator.now.house.budget state before c.args.concentrator.now chain at (λ h image left. g.met.D.Disk.only_now c.args.concentrator.now.store.disk image left))
-        (puts-none (g.W.Sink.written c.args.out.now)) (λ n. refl);
+        (puts-none (g.W.Sink.written c.args.out.now)) (carries_none g.B.Bus.lost g.B.Bus.asks c.args.gateway.now);
   };
 }
 
@@ -89,15 +89,15 @@ lines-preserved g c =
       budget = c.run_line.ensures.budget ∙ b_is;
       well = c.in_default-run_line.ensures.counted ∙ c.lines.invariant.well;
       moment = c.moment_behind-moment.result.fits;
-      absent = λ is. c.run_line.ensures.absent (c.lines.invariant.absent is);
-      so_far = λ origin. subst (λ (m : ℕ). SoFar g.D.Disk origin first.house.budget (links_of g.B.Bus.lost c.args.slots.now) (links_of g.B.Bus.lost c.run_line.new.slots) (lines_of c.args.input.now) (lines_of c.first_line.result.1.now) m (c.lines.count + 1) (Puts (w c.args.out.now) (w c.run_line.new.out)) (AreCarried g.B.Bus.lost g.B.Bus.asks g.B.Bus.asks_all c.args.slots.now c.run_line.new.slots) first new)
+      had = λ is. c.lines.invariant.had (c.run_line.ensures.had is);
+      so_far = λ origin. subst (λ (m : ℕ). SoFar g.D.Disk origin first.house.budget (link_of g.B.Bus.lost c.args.gateway.now) (link_of g.B.Bus.lost c.run_line.new.gateway) (lines_of c.args.input.now) (lines_of c.first_line.result.1.now) m (c.lines.count + 1) (Puts (w c.args.out.now) (w c.run_line.new.out)) (AreCarried g.B.Bus.lost g.B.Bus.asks c.args.gateway.now c.run_line.new.gateway) first new)
           (sym c.moment_behind-moment.ensures)
-          (one_more g.D.Disk origin first.house.budget (links_of g.B.Bus.lost c.args.slots.now) (links_of g.B.Bus.lost c.lines.slots) (links_of g.B.Bus.lost c.run_line.new.slots) (lines_of c.args.input.now) c.first_line.result.0.now (lines_of c.first_line.result.1.now) asked c.lines.moment.0 c.lines.count
-          (Puts (w c.args.out.now) (w c.lines.out)) piece (Puts (w c.args.out.now) (w c.run_line.new.out)) (AreCarried g.B.Bus.lost g.B.Bus.asks g.B.Bus.asks_all c.args.slots.now c.lines.slots) (AreCarried g.B.Bus.lost g.B.Bus.asks g.B.Bus.asks_all c.args.slots.now c.run_line.new.slots) (IsCarried g.B.Bus.lost g.B.Bus.asks g.B.Bus.asks_all asked c.lines.slots c.run_line.new.slots) first old new (here g origin (goal.at.lines-preserved g c).After-first_line) c.in-Some.ensures.found
-          (λ state before chain at. subst (λ (b : ℕ). LineRan g.D.Disk (run_of origin b state before old new) c.lines.moment.0 asked (links_of g.B.Bus.lost c.lines.slots) (links_of g.B.Bus.lost c.run_line.new.slots) piece (IsCarried g.B.Bus.lost g.B.Bus.asks g.B.Bus.asks_all asked c.lines.slots c.run_line.new.slots)) b_is
+          (one_more g.D.Disk origin first.house.budget (link_of g.B.Bus.lost c.args.gateway.now) (link_of g.B.Bus.lost c.lines.gateway) (link_of g.B.Bus.lost c.run_line.new.gateway) (lines_of c.args.input.now) c.first_line.result.0.now (lines_of c.first_line.result.1.now) asked c.lines.moment.0 c.lines.count
+          (Puts (w c.args.out.now) (w c.lines.out)) piece (Puts (w c.args.out.now) (w c.run_line.new.out)) (AreCarried g.B.Bus.lost g.B.Bus.asks c.args.gateway.now c.lines.gateway) (AreCarried g.B.Bus.lost g.B.Bus.asks c.args.gateway.now c.run_line.new.gateway) (AreCarried g.B.Bus.lost g.B.Bus.asks c.lines.gateway c.run_line.new.gateway) first old new (here g origin (goal.at.lines-preserved g c).After-first_line) c.in-Some.ensures.found
+          (λ state before chain at. subst (λ (b : ℕ). LineRan g.D.Disk (run_of origin b state before old new) c.lines.moment.0 asked (link_of g.B.Bus.lost c.lines.gateway) (link_of g.B.Bus.lost c.run_line.new.gateway) piece (AreCarried g.B.Bus.lost g.B.Bus.asks c.lines.gateway c.run_line.new.gateway)) b_is
           (c.in_default-run_line.ensures.ran origin state before (subst (λ (b : ℕ). IsChain b (opened state) before) (sym b_is) chain) at))
           (λ text more wrote put. puts-both (w c.args.out.now) (w c.lines.out) (w c.run_line.new.out) text more wrote put)
-          (λ traffic exchanges so one. carried_both g.B.Bus.lost g.B.Bus.asks g.B.Bus.asks_all c.args.slots.now c.lines.slots c.run_line.new.slots traffic (record { asked = asked; exchanges = exchanges } ∷ []) so one));
+          (λ exchanges more so one. carried_both g.B.Bus.lost g.B.Bus.asks c.args.gateway.now c.lines.gateway c.run_line.new.gateway exchanges more so one));
     }
 
 pub returns-in-Err-run_line-clause-cut : goal.returns-in-Err-run_line-clause-cut
@@ -109,13 +109,13 @@ returns-in-Err-run_line-clause-cut g c origin state before chain at =
     let old = c.lines.concentrator in
     let new = c.run_line.new.concentrator in
     let turns = turns_here g from origin state before chain at in
-    on_write (Unit {0}) Bool c.in-Err-run_line.halt (LineCut g.D.Disk (run_of origin old.house.budget state (before ++ turns) old new) c.lines.moment.0 asked (links_of g.B.Bus.lost c.lines.slots) (IsCarried g.B.Bus.lost g.B.Bus.asks g.B.Bus.asks_all asked c.lines.slots c.run_line.new.slots))
-    (ScriptCut g.D.Disk (run_of origin first.house.budget state before first new) (links_of g.B.Bus.lost c.args.slots.now) (lines_of c.args.input.now) (AreCarried g.B.Bus.lost g.B.Bus.asks g.B.Bus.asks_all c.args.slots.now c.run_line.new.slots))
+    on_write (Unit {0}) Bool c.in-Err-run_line.halt (LineCut g.D.Disk (run_of origin old.house.budget state (before ++ turns) old new) c.lines.moment.0 asked (link_of g.B.Bus.lost c.lines.gateway) (AreCarried g.B.Bus.lost g.B.Bus.asks c.lines.gateway c.run_line.new.gateway))
+    (ScriptCut g.D.Disk (run_of origin first.house.budget state before first new) (link_of g.B.Bus.lost c.args.gateway.now) (lines_of c.args.input.now) (AreCarried g.B.Bus.lost g.B.Bus.asks c.args.gateway.now c.run_line.new.gateway))
     (λ here_cut.
-    let cut = subst (λ (b : ℕ). LineCut g.D.Disk (run_of origin b state (before ++ turns) old new) c.lines.moment.0 asked (links_of g.B.Bus.lost c.lines.slots) (IsCarried g.B.Bus.lost g.B.Bus.asks g.B.Bus.asks_all asked c.lines.slots c.run_line.new.slots)) b_is here_cut in
-    cut_here g.D.Disk origin first.house.budget (links_of g.B.Bus.lost c.args.slots.now) (links_of g.B.Bus.lost c.lines.slots) (lines_of c.args.input.now) c.first_line.result.0.now (lines_of c.first_line.result.1.now) c.lines.moment.0 c.lines.count (Puts (g.W.Sink.written c.args.out.now) (g.W.Sink.written c.lines.out)) (AreCarried g.B.Bus.lost g.B.Bus.asks g.B.Bus.asks_all c.args.slots.now c.lines.slots) (AreCarried g.B.Bus.lost g.B.Bus.asks g.B.Bus.asks_all c.args.slots.now c.run_line.new.slots) cut.turns (record { asked = asked; exchanges = cut.exchanges } ∷ []) first old new (here g origin from) state before chain at
-    (inl (asked, cut.exchanges, c.in-Some.ensures.found, cut.does, refl))
-    (λ traffic so. carried_both g.B.Bus.lost g.B.Bus.asks g.B.Bus.asks_all c.args.slots.now c.lines.slots c.run_line.new.slots traffic (record { asked = asked; exchanges = cut.exchanges } ∷ []) so cut.over) cut.went)
+    let cut = subst (λ (b : ℕ). LineCut g.D.Disk (run_of origin b state (before ++ turns) old new) c.lines.moment.0 asked (link_of g.B.Bus.lost c.lines.gateway) (AreCarried g.B.Bus.lost g.B.Bus.asks c.lines.gateway c.run_line.new.gateway)) b_is here_cut in
+    cut_here g.D.Disk origin first.house.budget (link_of g.B.Bus.lost c.args.gateway.now) (link_of g.B.Bus.lost c.lines.gateway) (lines_of c.args.input.now) c.first_line.result.0.now (lines_of c.first_line.result.1.now) c.lines.moment.0 c.lines.count (Puts (g.W.Sink.written c.args.out.now) (g.W.Sink.written c.lines.out)) (AreCarried g.B.Bus.lost g.B.Bus.asks c.args.gateway.now c.lines.gateway) (AreCarried g.B.Bus.lost g.B.Bus.asks c.args.gateway.now c.run_line.new.gateway) cut.turns cut.exchanges first old new (here g origin from) state before chain at
+    (inl (asked, c.in-Some.ensures.found, cut.does))
+    (λ exchanges so. carried_both g.B.Bus.lost g.B.Bus.asks c.args.gateway.now c.lines.gateway c.run_line.new.gateway exchanges cut.exchanges so cut.over) cut.went)
     (c.in-Err-run_line.ensures.cut origin state (before ++ turns) (subst (λ (b : ℕ). IsChain b (opened state) (before ++ turns)) (sym b_is) (chain_here g from origin state before chain at)) (at_here g from origin state before chain at))
 
 pub returns-in-Err-run_line-clause-starved : goal.returns-in-Err-run_line-clause-starved
@@ -129,17 +129,17 @@ returns-in-Err-run_line-clause-starved g c origin state before chain at =
     let new = c.run_line.new.concentrator in
     let turns = turns_here g from origin state before chain at in
     let piece : List ℕ → Type 0 = Puts (w c.lines.out) (w c.run_line.new.out) in
-    on_no_memory (Unit {0}) Bool c.in-Err-run_line.halt (LineStarved g.D.Disk (run_of origin old.house.budget state (before ++ turns) old new) asked (links_of g.B.Bus.lost c.lines.slots) piece (IsCarried g.B.Bus.lost g.B.Bus.asks g.B.Bus.asks_all asked c.lines.slots c.run_line.new.slots))
-    (ScriptStarved g.D.Disk (run_of origin first.house.budget state before first new) (links_of g.B.Bus.lost c.args.slots.now) (lines_of c.args.input.now) (Puts (w c.args.out.now) (w c.run_line.new.out)) (AreCarried g.B.Bus.lost g.B.Bus.asks g.B.Bus.asks_all c.args.slots.now c.run_line.new.slots))
-    (λ starved. starved_here g.D.Disk origin first.house.budget (links_of g.B.Bus.lost c.args.slots.now) (links_of g.B.Bus.lost c.lines.slots) (lines_of c.args.input.now) c.first_line.result.0.now (lines_of c.first_line.result.1.now) asked c.lines.moment.0 c.lines.count
-    (Puts (w c.args.out.now) (w c.lines.out)) piece (Puts (w c.args.out.now) (w c.run_line.new.out)) (AreCarried g.B.Bus.lost g.B.Bus.asks g.B.Bus.asks_all c.args.slots.now c.lines.slots) (AreCarried g.B.Bus.lost g.B.Bus.asks g.B.Bus.asks_all c.args.slots.now c.run_line.new.slots) (IsCarried g.B.Bus.lost g.B.Bus.asks g.B.Bus.asks_all asked c.lines.slots c.run_line.new.slots) first old new (here g origin from) c.in-Some.ensures.found b_is
+    on_no_memory (Unit {0}) Bool c.in-Err-run_line.halt (LineStarved g.D.Disk (run_of origin old.house.budget state (before ++ turns) old new) asked (link_of g.B.Bus.lost c.lines.gateway) piece (AreCarried g.B.Bus.lost g.B.Bus.asks c.lines.gateway c.run_line.new.gateway))
+    (ScriptStarved g.D.Disk (run_of origin first.house.budget state before first new) (link_of g.B.Bus.lost c.args.gateway.now) (lines_of c.args.input.now) (Puts (w c.args.out.now) (w c.run_line.new.out)) (AreCarried g.B.Bus.lost g.B.Bus.asks c.args.gateway.now c.run_line.new.gateway))
+    (λ starved. starved_here g.D.Disk origin first.house.budget (link_of g.B.Bus.lost c.args.gateway.now) (link_of g.B.Bus.lost c.lines.gateway) (lines_of c.args.input.now) c.first_line.result.0.now (lines_of c.first_line.result.1.now) asked c.lines.moment.0 c.lines.count
+    (Puts (w c.args.out.now) (w c.lines.out)) piece (Puts (w c.args.out.now) (w c.run_line.new.out)) (AreCarried g.B.Bus.lost g.B.Bus.asks c.args.gateway.now c.lines.gateway) (AreCarried g.B.Bus.lost g.B.Bus.asks c.args.gateway.now c.run_line.new.gateway) (AreCarried g.B.Bus.lost g.B.Bus.asks c.lines.gateway c.run_line.new.gateway) first old new (here g origin from) c.in-Some.ensures.found b_is
     (λ text more wrote put. puts-both (w c.args.out.now) (w c.lines.out) (w c.run_line.new.out) text more wrote put)
-    (λ traffic exchanges so one. carried_both g.B.Bus.lost g.B.Bus.asks g.B.Bus.asks_all c.args.slots.now c.lines.slots c.run_line.new.slots traffic (record { asked = asked; exchanges = exchanges } ∷ []) so one) state before chain at starved)
+    (λ exchanges more so one. carried_both g.B.Bus.lost g.B.Bus.asks c.args.gateway.now c.lines.gateway c.run_line.new.gateway exchanges more so one) state before chain at starved)
     (c.in-Err-run_line.ensures.starved origin state (before ++ turns) (subst (λ (b : ℕ). IsChain b (opened state) (before ++ turns)) (sym b_is) (chain_here g from origin state before chain at)) (at_here g from origin state before chain at))
 
 pub returns-in-Err-run_line-clause-through : goal.returns-in-Err-run_line-clause-through
 returns-in-Err-run_line-clause-through g c =
-    on_no_memory (Unit {0}) Bool c.in-Err-run_line.halt (¬ (AreAbsent (links_of g.B.Bus.lost c.lines.slots))) (¬ (AreAbsent (links_of g.B.Bus.lost c.args.slots.now))) (λ some are. some (c.lines.invariant.absent are)) c.in-Err-run_line.ensures.through
+    on_no_memory (Unit {0}) Bool c.in-Err-run_line.halt (HasBus (link_of g.B.Bus.lost c.lines.gateway)) (HasBus (link_of g.B.Bus.lost c.args.gateway.now)) c.lines.invariant.had c.in-Err-run_line.ensures.through
 
 pub returns-in-Ok-clause-ran : goal.returns-in-Ok-clause-ran
 returns-in-Ok-clause-ran g c origin state before chain at =
@@ -166,9 +166,9 @@ returns-in-Err-clause-cut g c origin state before chain at =
     let from = (goal.at.returns-in-Err-clause-cut g c).After-first_line in
     let first = c.args.concentrator.now in
     let old = c.lines.concentrator in
-    cut_here g.D.Disk origin first.house.budget (links_of g.B.Bus.lost c.args.slots.now) (links_of g.B.Bus.lost c.lines.slots) (lines_of c.args.input.now) c.first_line.result.0.now (lines_of c.first_line.result.1.now) c.lines.moment.0 c.lines.count (Puts (g.W.Sink.written c.args.out.now) (g.W.Sink.written c.lines.out)) (AreCarried g.B.Bus.lost g.B.Bus.asks g.B.Bus.asks_all c.args.slots.now c.lines.slots) (AreCarried g.B.Bus.lost g.B.Bus.asks g.B.Bus.asks_all c.args.slots.now c.lines.slots) [] [] first old old (here g origin from) state before chain at
+    cut_here g.D.Disk origin first.house.budget (link_of g.B.Bus.lost c.args.gateway.now) (link_of g.B.Bus.lost c.lines.gateway) (lines_of c.args.input.now) c.first_line.result.0.now (lines_of c.first_line.result.1.now) c.lines.moment.0 c.lines.count (Puts (g.W.Sink.written c.args.out.now) (g.W.Sink.written c.lines.out)) (AreCarried g.B.Bus.lost g.B.Bus.asks c.args.gateway.now c.lines.gateway) (AreCarried g.B.Bus.lost g.B.Bus.asks c.args.gateway.now c.lines.gateway) [] [] first old old (here g origin from) state before chain at
     (inr (c.in_default.ensures.only, refl, refl))
-    (λ traffic so. subst (AreCarried g.B.Bus.lost g.B.Bus.asks g.B.Bus.asks_all c.args.slots.now c.lines.slots) (sym (append-nil traffic)) so)
+    (λ exchanges so. subst (AreCarried g.B.Bus.lost g.B.Bus.asks c.args.gateway.now c.lines.gateway) (sym (append-nil exchanges)) so)
     (went_none g.D.Disk origin first.house.budget state (before ++ turns_here g from origin state before chain at) old (chain_here g from origin state before chain at) (at_here g from origin state before chain at)
     (λ h image left. g.met.D.Disk.only_now old.store.disk image left))
 

@@ -2,7 +2,7 @@ use Rattle.std.proofs.Common.{◌≡◌, ◌≤◌, ◌+◌, ◌*◌, length}
 use Rattle.mbdc_change.specs.Fields.{last_moment}
 use Rattle.mbdc_io.specs.Stream.{Puts}
 use Rattle.mbdc_io.specs.Lines.{lines_of, longest_input_line}
-use Rattle.dc_poller.specs.Link.{AreAbsent, links_of}
+use Rattle.dc_poller.specs.Link.{HasBus, link_of}
 use Rattle.dc_poller.specs.Traffic.{AreCarried}
 use Rattle.dc_poller.proofs.LineRuns.{SoFar}
 use Rattle.dc_poller.proofs.script.run_lines.Given as goal
@@ -14,9 +14,9 @@ invariant-lines g l = record {
   budget : l.concentrator.house.budget ≡ l.fn.concentrator.house.budget;
   well : g.W.Sink.put_failures l.out ≡ g.W.Sink.put_failures l.fn.out;
   moment : l.moment.0 ≤ last_moment;
-  absent : AreAbsent (links_of g.B.Bus.lost l.fn.slots) → AreAbsent (links_of g.B.Bus.lost l.slots);
-  so_far : (origin : g.row.D.Denot) → SoFar g.D.Disk origin l.fn.concentrator.house.budget (links_of g.B.Bus.lost l.fn.slots) (links_of g.B.Bus.lost l.slots) (lines_of l.input) (lines_of l.rest) l.moment.0 l.count
-      (Puts (g.W.Sink.written l.fn.out) (g.W.Sink.written l.out)) (AreCarried g.B.Bus.lost g.B.Bus.asks g.B.Bus.asks_all l.fn.slots l.slots) l.fn.concentrator l.concentrator;
+  had : HasBus (link_of g.B.Bus.lost l.gateway) → HasBus (link_of g.B.Bus.lost l.fn.gateway);
+  so_far : (origin : g.row.D.Denot) → SoFar g.D.Disk origin l.fn.concentrator.house.budget (link_of g.B.Bus.lost l.fn.gateway) (link_of g.B.Bus.lost l.gateway) (lines_of l.input) (lines_of l.rest) l.moment.0 l.count
+      (Puts (g.W.Sink.written l.fn.out) (g.W.Sink.written l.out)) (AreCarried g.B.Bus.lost g.B.Bus.asks l.fn.gateway l.gateway) l.fn.concentrator l.concentrator;
 }
 
 abbrev pub decreases-lines : goal.decreases-lines

@@ -5,4 +5,4 @@ pub returns-in-Err : goal.returns-in-Err
 returns-in-Err g c = inr c.in-Err.ensures.shut
 
 pub returns : goal.returns
-returns g c = inl (c.guarded.new.disk, c.in-Ok.ensures.ready, (c.run_slots-disk.result.1, c.ended.ensures, c.run_slots-disk.ensures))
+returns g c = inl (c.guarded.new.disk, c.in-Ok.ensures.ready, (c.run_lines-disk.result.1, c.ended.ensures, c.run_lines-disk.ensures))

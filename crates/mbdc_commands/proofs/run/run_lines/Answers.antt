@@ -3,17 +3,17 @@ use Rattle.std.specs.Io.Buffered.{line_writer_contents}
 use Rattle.mbdc_commands.proofs.Printed.{kept_so, nothing_put, printed_so, read_so, written_out}
 use Rattle.mbdc_commands.proofs.RunLeaving.{none_done, runs_so}
 use Rattle.mbdc_commands.specs.Bytes.{text_of}
-use Rattle.mbdc_commands.specs.RunOver.{OverSlots}
-use Rattle.dc_poller.specs.Link.{links_of}
-use Rattle.mbdc_commands.proofs.run.run_slots.Goals as goal
+use Rattle.mbdc_commands.specs.RunOver.{OverGateway}
+use Rattle.dc_poller.specs.Link.{link_of}
+use Rattle.mbdc_commands.proofs.run.run_lines.Goals as goal
 
 pub returns-in_default : goal.returns-in_default
 returns-in_default g c =
-    none_done g.D.Disk (links_of g.B.Bus.lost c.args.slots.now) (OverSlots g.B.Bus.lost g.B.Bus.asks g.B.Bus.asks_all c.args.slots.now c.args.slots.now) (λ P Q shows p. shows _ p) g.O.Write.contents c.args.out c.args.disk c.args.disk (g.F.Read.remaining c.args.lines)
+    none_done g.D.Disk (link_of g.B.Bus.lost c.args.gateway.now) (OverGateway g.B.Bus.lost g.B.Bus.asks c.args.gateway.now c.args.gateway.now) (λ P Q shows p. shows _ p) g.O.Write.contents c.args.out c.args.disk c.args.disk (g.F.Read.remaining c.args.lines)
 
 pub returns : goal.returns
 returns g c =
-    runs_so g.D.Disk (links_of g.B.Bus.lost c.args.slots.now) (OverSlots g.B.Bus.lost g.B.Bus.asks g.B.Bus.asks_all c.args.slots.now c.run_script_over-disk.new.lines) (λ P Q shows p. shows _ p) g.O.Write.contents c.args.out c.args.disk c.run_script_over-disk.result.0
+    runs_so g.D.Disk (link_of g.B.Bus.lost c.args.gateway.now) (OverGateway g.B.Bus.lost g.B.Bus.asks c.args.gateway.now c.run_script_over-disk.new.gateway) (λ P Q shows p. shows _ p) g.O.Write.contents c.args.out c.args.disk c.run_script_over-disk.result.0
     c.run_script_over-disk.result.1 c.run_result.result c.is_written-is_written.result _ (g.F.Read.remaining c.args.lines) _ _
     (read_so g.F.Read.remaining g.K.Known.reads c.args.lines _ c.requires.reads c.new-reader.ensures.reader)
     c.run_result.ensures
