@@ -39,6 +39,18 @@ def test_a_commit_with_other_sources_has_a_plus(tmp_path: pathlib.Path) -> None:
     assert printed(*commit) == f"{head}+\n"
 
 
+def test_check_has_a_help_that_runs_nothing(tmp_path: pathlib.Path) -> None:
+    (tmp_path / "check").symlink_to(ROOT / "check")
+    assert [line.split()[0] for line in printed("./check", "--help", cwd=tmp_path).splitlines()][::4] == ["Proves", "`./check"]
+
+
+def test_who_reads_no_more_of_the_headline_ends_it_without_a_word() -> None:
+    with subprocess.Popen([ROOT / "tools/headline", "--names"], stdout=subprocess.PIPE, stderr=subprocess.PIPE) as ran:
+        assert ran.stdout and ran.stderr
+        ran.stdout.close()
+        assert ran.stderr.read() == b""
+
+
 def test_the_file_for_pkg_config_of_the_packages() -> None:
     lines = printed(ROOT / "tools/library", "--pc", "/usr", "/usr/lib/x").splitlines()
     assert lines[:3] == ["prefix=/usr", "includedir=${prefix}/include", "libdir=/usr/lib/x"]
