@@ -34,35 +34,70 @@ check_words() {
     esac
 }
 
-is_number() {
+# Whether it is a number within: is_within LEAST MOST NUMBER
+is_within() {
+    case $3 in
+    '' | 0* | *[!0-9]* | ??????*) return 1 ;;
+    esac
+    [ "$3" -ge "$1" ] && [ "$3" -le "$2" ]
+}
+
+is_path() {
     case $1 in
-    '' | 0* | *[!0-9]* | ???????*) return 1 ;;
+    /*) ;;
+    *) return 1 ;;
     esac
 }
 
 # A speed in baud, after which may stand whether bytes have a parity bit: 2400, 2400,8N1
 is_speed() {
-    case $1 in
-    *,8E1 | *,8N1) is_number "${1%,*}" ;;
-    *) is_number "$1" ;;
+    case ${1%,8[EN]1} in
+    300 | 600 | 1200 | 2400 | 4800 | 9600 | 19200 | 38400) ;;
+    *) return 1 ;;
     esac
 }
 
-# One setting: set_value NAME VALUE. Status 1 where it is none.
-set_value() {
-    case $2 in
-    '' | *[!]A-Za-z0-9._:/@%+,[-]*) return 1 ;;
-    esac
+# A link as mbdc takes it, with a whole path, since units run in a folder of their own.
+is_link() {
     case $1 in
-    IMAGE) [ "${2#/}" != "$2" ] && image=$2 ;;
-    BACKUP) [ "${2#/}" != "$2" ] && backups=$2 ;;
-    BAUD) is_speed "$2" && baud=$2 ;;
-    BAUD_[1-8]) is_speed "$2" && bauds="$bauds ${1#BAUD_}=$2" ;;
-    TRIES) is_number "$2" && tries=$2 ;;
-    PATIENCE) is_number "$2" && patience=$2 ;;
-    LINE_[1-8]) lines="$lines ${1#LINE_}=$2" ;;
+    serial:/?*) ;;
+    tcp://?*:* | blocks://?*:*) is_within 1 65535 "${1##*:}" ;;
     *) return 1 ;;
     esac
+}
+
+# One setting: set_value NAME VALUE. Status 1 where it is none: `takes` says what that name takes.
+set_value() {
+    case $1 in
+    IMAGE | BACKUP) is=is_path takes='a path from / on, without blanks' ;;
+    BAUD | BAUD_[1-8]) is=is_speed takes='300, 600, 1200, 2400, 4800, 9600, 19200 or 38400, and ,8N1 after it for no parity' ;;
+    TRIES) is='is_within 1 9' takes='a number from 1 to 9' ;;
+    PATIENCE) is='is_within 1 60000' takes='a number from 1 to 60000' ;;
+    LINE_[1-8]) is=is_link takes='tcp://HOST:PORT, serial:/PATH or blocks://HOST:PORT' ;;
+    *) is=false takes='' ;;
+    esac
+    case $2 in
+    *[!]A-Za-z0-9._:/@%+,[-]*) return 1 ;;
+    esac
+    $is "$2" || return 1
+    case $1 in
+    IMAGE) image=$2 ;;
+    BACKUP) backups=$2 ;;
+    BAUD) baud=$2 ;;
+    BAUD_*) bauds="$bauds ${1#BAUD_}=$2" ;;
+    TRIES) tries=$2 ;;
+    PATIENCE) patience=$2 ;;
+    LINE_*) add_line "${1#LINE_}" "$2" ;;
+    esac
+}
+
+# A bus line has one link, and two lines can't share theirs: both would ask on one bus at once.
+add_line() {
+    takes='a link that no other line of this file has'
+    case "$lines " in
+    *" $1="* | *"=$2 "*) return 1 ;;
+    esac
+    lines="$lines $1=$2"
 }
 
 # Prints the speed of a bus line's port, that of all of them where it has none of its own, and its parity: speed_of N
@@ -74,20 +109,27 @@ speed_of() {
     echo "$speed" | tr , ' '
 }
 
-# Reads /etc/mbdc/HOUSE.conf into image, backups, lines (words N=LINK), baud, bauds (words N=BAUD), tries and patience.
-# (MBDC_SETTINGS names another folder, for tries without the package; neither sudo nor a unit passes it on.)
+# Reads /etc/mbdc/HOUSE.conf into image, backups, lines (words N=LINK), baud, bauds (words N=BAUD), tries and patience. Each line
+# that is no setting is named. (MBDC_SETTINGS names another folder, for tries without the package; neither sudo nor a unit passes it on.)
 read_settings() {
     settings=${MBDC_SETTINGS:-/etc/mbdc}/$1.conf
     image=/var/lib/mbdc/$1.image backups='' lines='' baud=2400 bauds='' tries=2 patience=''
     [ -r "$settings" ] || fail "$CONFIGURATION" "$settings: it can't be read"
-    number=0
+    number=0 wrong=
     while IFS= read -r line || [ -n "$line" ]; do
         number=$((number + 1))
         case $line in
         '' | '#'*) continue ;;
         esac
-        set_value "${line%%=*}" "${line#*=}" || fail "$CONFIGURATION" "$settings:$number: no setting: $line"
+        set_value "${line%%=*}" "${line#*=}" && continue
+        wrong=yes
+        if [ -n "$takes" ]; then
+            say "$settings:$number: ${line%%=*} takes $takes, not ${line#*=}"
+        else
+            say "$settings:$number: no setting: $line"
+        fi
     done <"$settings"
+    [ -z "$wrong" ] || exit "$CONFIGURATION"
     backups=${backups:-$image.backup}
 }
 

@@ -74,4 +74,4 @@ def test_a_speed_that_is_none_is_refused(tmp_path: pathlib.Path, speed: str) -> 
     (tmp_path / "house.conf").write_text(f"BAUD_1={speed}\n")
     ran = subprocess.run([ROOT / "packaging/mbdc-house", "status"], stderr=subprocess.PIPE, text=True,
                          env={"MBDC_SETTINGS": str(tmp_path), "PATH": "/usr/bin:/bin"})
-    assert ran.returncode == 78 and "no setting" in ran.stderr
+    assert ran.returncode == 78 and ":1: BAUD_1 takes 300, " in ran.stderr
