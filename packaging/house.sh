@@ -1,5 +1,5 @@
-# Shell functions that mbdc-house, metrics, office-inbox and office-line share: the settings of a house, the lock of its image, and
-# what the office may send.
+# Shell functions that mbdc-house, office-inbox and office-line share: the settings of a house, the lock of its image, and what the
+# office may send.
 # Sourced with `program` set to the name that messages begin with.
 # shellcheck shell=sh disable=SC2034,SC2154
 
