@@ -1,11 +1,13 @@
 #!/usr/bin/env python3
-"""Makes what packaging/commands.txt and `mbdc --help` say into completions and parts of a manual page.
+"""Makes completions and parts of manual pages of what packaging/commands.txt and `mbdc --help` say, and of the help of
+mbdc-house and mbdc-page and the comments of house.conf.
 
-`words.py bash|zsh|synopsis|commands PROGRAM` prints that. `words.py check PROGRAM` prints each difference between the
+`words.py bash|zsh|fish|synopsis|commands|house|page|settings PROGRAM` prints that. `words.py check PROGRAM` prints each difference between the
 list and the help of the program, with status 1 where there is one. `words.py help PROGRAM` writes packaging/help anew: the help
 of the program and of each command, and what it says of the mistakes that packaging/help/mistakes.txt lists.
 """
 
+import os
 import pathlib
 import re
 import shlex
@@ -14,13 +16,14 @@ import sys
 from collections.abc import Iterator
 from typing import Optional
 
-LIST = pathlib.Path(__file__).with_name("commands.txt")
-TEXTS = pathlib.Path(__file__).with_name("help")
+HERE = pathlib.Path(__file__).resolve().parent
+LIST, TEXTS, CONF = HERE / "commands.txt", HERE / "help", HERE / "house.conf"
 OF_THE_PROGRAM = ["--verbose", "--help", "--version"]
 OF_EACH_COMMAND = OF_THE_PROGRAM[:2]
 NO_GROUPS = {"Arguments:", "Options:", "Example:"}  # the other sections of a help
 SCHEMES = ["tcp://", "serial:", "blocks://"]
 BUS_LINES = range(1, 9)
+OF_BUS_LINES = {"--line", "--gateway", "--csv"}  # which mbdc-house gives itself
 FILES = {"FILE", "IMAGE", "LIST", "SCRIPT"}  # the words that are completed as names of files
 USAGE = 2
 
@@ -45,6 +48,10 @@ class Command:
             elif not word.startswith("--"):
                 self.arguments.append((word, f"[{word}]" not in self.words))
 
+    def common(self) -> list[str]:
+        """The options that each command of mbdc has."""
+        return OF_EACH_COMMAND if self.group else []
+
 
 def listed() -> list[Command]:
     commands, group = [], ""
@@ -54,6 +61,32 @@ def listed() -> list[Command]:
         elif line and not line.startswith("#"):
             commands.append(Command(line, group))
     return commands
+
+
+def said_by(script: str) -> list[str]:
+    """The lines of the help of a script beside this one."""
+    done = subprocess.run([HERE / script, "--help"], stdout=subprocess.PIPE, text=True, check=True, env={**os.environ, "COLUMNS": "200"})
+    return done.stdout.splitlines()
+
+
+def of_house() -> list[tuple[Command, str]]:
+    """The commands of mbdc-house and their texts. One of mbdc's takes its options, too, but those of bus lines."""
+    options, found = {it.name: it.options for it in listed()}, list[tuple[Command, str]]()
+    for line in said_by("mbdc-house"):
+        if entry := re.match(r"  ([a-z]\S*.*?)  +(\S.*)", line):
+            command = Command(entry[1], "mbdc" if entry[1].split()[0] in options else "")
+            of_mbdc = {name: value for name, value in options.get(command.name, {}).items() if name not in OF_BUS_LINES}
+            command.options = {**of_mbdc, **command.options}
+            found.append((command, entry[2]))
+        elif found and line.startswith("   "):
+            found[-1] = (found[-1][0], f"{found[-1][1]} {line.strip()}")
+    return found
+
+
+def of_page() -> dict[str, tuple[str, str]]:
+    """The options of mbdc-page, each with its value (en,de for one of these) and its text."""
+    found = (re.match(r"  (--\w+) [{]?([\w,]+)[}]?(?:  +(.*))?$", line) for line in said_by("mbdc-page"))
+    return {it[1]: (it[2], it[3] or "") for it in found if it}
 
 
 class Help:
@@ -112,31 +145,29 @@ def bash_case(command: Command) -> str:
     """One arm: what follows each option, and else the arguments or the options."""
     values = [f"            {option}) kind={kind_of(value)} ;;" for option, value in command.options.items() if value]
     kinds = dict.fromkeys(kind_of(argument) for argument, _ in command.arguments)
-    return "\n".join([f"    {command.name})", f"        options='{' '.join([*command.options, *OF_EACH_COMMAND])}'",
+    return "\n".join([f"    {command.name})", f"        options='{' '.join([*command.options, *command.common()])}'",
                       f"        kind={''.join(kinds) if len(kinds) == 1 else shlex.quote(' '.join(kinds))}",
                       *(['        case $before in', *values, "        esac"] if values else []), "        ;;"])
 
 
 def kind_of(value: str) -> str:
     """How a value is completed: the function of the completion that does it has this name."""
-    return {"N=LINK": "line", "LINK": "link", "TABLE": "table"}.get(value, "file" if value in FILES else "none")
+    return {"N=LINK": "line", "LINK": "link", "N": "number", "TABLE": "table"}.get(value, "file" if value in FILES else "none")
 
 
-BASH = """# Completion of mbdc for bash.
-# Made by packaging/words.py from packaging/commands.txt.
-
-_mbdc() {{
-    local word=${{COMP_WORDS[COMP_CWORD]}} before=${{COMP_WORDS[COMP_CWORD - 1]}} options='' kind='' each
+BASH = """
+{function}() {{
+    local word=${{COMP_WORDS[COMP_CWORD]}} before=${{COMP_WORDS[COMP_CWORD - 1]}} options='' kind='' each at=1
     COMPREPLY=()
     # bash makes a word of its own of each = and :
     case $word in
     = | :) before=$word word='' ;;
     esac
-    if ((COMP_CWORD == 1)); then
+{house}    if ((COMP_CWORD == at)); then
         mapfile -t COMPREPLY < <(compgen -W '{names} {own}' -- "$word")
         return
     fi
-    case ${{COMP_WORDS[1]}} in
+    case ${{COMP_WORDS[at]}} in
 {cases}
     esac
     case $before:$word in
@@ -149,20 +180,67 @@ _mbdc() {{
         file) compopt -o filenames; mapfile -t COMPREPLY < <(compgen -f -- "$word") ;;
         link) compopt -o nospace; mapfile -t COMPREPLY < <(compgen -W '{schemes}' -- "$word") ;;
         line) compopt -o nospace; mapfile -t COMPREPLY < <(compgen -W '{lines}' -- "$word") ;;
+        number) mapfile -t COMPREPLY < <(compgen -W '{numbers}' -- "$word") ;;
         table) mapfile -t -O "${{#COMPREPLY[@]}}" COMPREPLY < <(compgen -W register -- "$word") ;;
         option) mapfile -t COMPREPLY < <(compgen -W "$options" -- "$word") ;;
         esac
     done
 }}
-complete -F _mbdc mbdc
+complete -F {function} {program}
+"""
+# The first word of mbdc-house may be a house.
+BASH_HOUSE = """    case ${{COMP_WORDS[1]}} in
+    {names} | -*) ;;
+    *) ((COMP_CWORD == 1)) || at=2 ;;
+    esac
+"""
+BASH_PAGE = """
+_mbdc_page() {{
+    local word=${{COMP_WORDS[COMP_CWORD]}}
+    case ${{COMP_WORDS[COMP_CWORD - 1]}}:$word in
+{cases}
+    *:-*) mapfile -t COMPREPLY < <(compgen -W '{options}' -- "$word") ;;
+    *) compopt -o filenames; mapfile -t COMPREPLY < <(compgen -f -- "$word") ;;
+    esac
+}}
+complete -F _mbdc_page mbdc-page
 """
 
 
+def bash_of(program: str, function: str, commands: list[Command], house: str = "") -> str:
+    """The completion of a program that has commands."""
+    return BASH.format(function=function, program=program, house=house, names=" ".join(it.name for it in commands),
+                       own=" ".join(OF_THE_PROGRAM), cases="\n".join(bash_case(it) for it in commands), schemes=" ".join(SCHEMES),
+                       lines=" ".join(f"{n}=" for n in BUS_LINES), numbers=" ".join(map(str, BUS_LINES)))
+
+
 def bash(program: str) -> str:
-    commands = listed()
-    return BASH.format(names=" ".join(it.name for it in commands), own=" ".join(OF_THE_PROGRAM),
-                       cases="\n".join(bash_case(it) for it in commands), schemes=" ".join(SCHEMES),
-                       lines=" ".join(f"{n}=" for n in BUS_LINES))
+    house, page = [it for it, _ in of_house()], of_page()
+    cases = (f"    {option}:*) mapfile -t COMPREPLY < <(compgen -W '{value.replace(',', ' ') if value.islower() else ''}' -- \"$word\") ;;"
+             for option, (value, _) in page.items() if value not in FILES)
+    return "".join(["# Completion of mbdc, mbdc-house and mbdc-page for bash.\n# Made by packaging/words.py.\n",
+                    bash_of("mbdc", "_mbdc", listed()),
+                    bash_of("mbdc-house", "_mbdc_house", house, BASH_HOUSE.format(names=" | ".join(it.name for it in house))),
+                    BASH_PAGE.format(cases="\n".join(cases), options=" ".join([*page, "--help"]))])
+
+
+def fish_of(program: str, commands: list[tuple[Command, str]]) -> Iterator[str]:
+    """The completion of a program that has commands."""
+    for command, text in commands:
+        after = f"complete -c {program} -n '__fish_seen_subcommand_from {command.name}'"
+        yield f"complete -c {program} -f -n __fish_use_subcommand -a {command.name} -d {shlex.quote(text)}"
+        if not any(argument in FILES for argument, _ in command.arguments):
+            yield f"{after} -f"
+        for option, value in {**command.options, **dict.fromkeys(command.common())}.items():
+            yield f"{after} -l {option[2:]}{' -r' if value else ''}{' -F' if value in FILES else ''}"
+
+
+def fish(program: str) -> str:
+    texts = Help(program).commands
+    page = (f"complete -c mbdc-page -l {option[2:]} -r" + (f" -f -a '{value.replace(',', ' ')}'" if value.islower() else "")
+            for option, (value, _) in of_page().items())
+    return "\n".join(["# Completion of mbdc, mbdc-house and mbdc-page for fish.", "# Made by packaging/words.py.",
+                      *fish_of("mbdc", [(it, texts[it.name][1]) for it in listed()]), *fish_of("mbdc-house", of_house()), *page]) + "\n"
 
 
 def zsh_text(text: str) -> str:
@@ -259,6 +337,31 @@ def commands_of(program: str) -> str:
     return "\n".join([*texts, VERBOSE_IN_ROFF]) + "\n"
 
 
+def house(program: str) -> str:
+    """A paragraph for each command of mbdc-house."""
+    return "".join(f".TP\n\\fB{roff(it.name)}\\fR {roff_words(it.words)}\n{roff(text)}.\n" for it, text in of_house())
+
+
+def page(program: str) -> str:
+    """A paragraph for each option of mbdc-page."""
+    return "".join(f".TP\n.BI {roff(option)} \" {value.replace(',', ' | ')}\"\n{roff(text) or 'The language of the page'}.\n"
+                   for option, (value, text) in of_page().items())
+
+
+def settings(program: str) -> str:
+    """A paragraph for each setting of house.conf, by the comment before it."""
+    made = []
+    for block in CONF.read_text().split("\n\n")[1:]:
+        lines = block.splitlines()
+        names = [line.lstrip("#") for line in lines if "=" in line and " " not in line]
+        texts = [line[2:] for line in lines if line.startswith("# ")]
+        tags = "\n.TQ\n".join(f".B {roff(name)}" for name in names)
+        body = [roff(it) + ("." if it.endswith(".") else "") for it in texts if not it.startswith(" ")]
+        values = [f".RS\n.TP\n.B {roff(value)}\n{roff(text)}.\n.RE" for it in texts if it.startswith(" ") for value, text in [it.split(maxsplit=1)]]
+        made.append("\n".join([".TP", tags, *body, *values]) + "\n")
+    return "".join(made)
+
+
 VERBOSE_IN_ROFF = """.PP
 Each command takes
 .BR \\-\\-verbose :
@@ -279,7 +382,8 @@ def write_help(program: str) -> None:
 
 
 def main() -> int:
-    makers = {"bash": bash, "zsh": zsh, "synopsis": synopsis, "commands": commands_of}
+    makers = {"bash": bash, "zsh": zsh, "fish": fish, "synopsis": synopsis, "commands": commands_of, "house": house, "page": page,
+              "settings": settings}
     if len(sys.argv) != 3 or sys.argv[1] not in [*makers, "check", "help"]:
         print(__doc__, file=sys.stderr)
         return USAGE
