@@ -108,8 +108,8 @@ def test_a_function_that_a_carrier_calls_is_beneath_it(promises: types.ModuleTyp
     assert crate.beneath({append}) == {append, law} and list(crate.loose({append, shown})) == []
 
 
-def test_a_crate_of_theorems_needs_a_closed_example(promises: types.ModuleType) -> None:
+def test_a_file_of_theorems_needs_a_closed_example(promises: types.ModuleType) -> None:
     tree = promises.Tree()
     every = {function for crate in tree.crates.values() for function in crate.functions}
-    assert "mbdc_theorems" in promises.unmet(tree, set())
+    assert "mbdc_theorems/poll/laws.rt" in promises.unmet(tree, set())
     assert not list(promises.unmet(tree, every))

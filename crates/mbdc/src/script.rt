@@ -1,12 +1,14 @@
 //! The command `run`: a script over an image in a file.
 
 use crate::connecting::{connected, released};
+use crate::fit::read_whole;
 use crate::journal::Noting;
 use dc_sectors::FileDisk;
 use mbdc_bus::Both;
 use mbdc_commands::run_over;
 use mbdc_ending::Ending;
 use mbdc_files::{Host, Noted, open_disk};
+use mbdc_io::ReadSource;
 use mbdc_raw::links::{Peer, SystemBus, Waiter};
 use mbdc_words::RunTask;
 use std::fs::{File, OpenFile};
@@ -41,7 +43,7 @@ where
     ending
 }
 
-// Runs the lines of a file over a disk, with a connected gateway.
+// Runs the lines of a file over a disk, with a connected gateway. They are read before the image is looked at.
 fn run_over_peers<'a, F, D, R>(
     host: &Host<'_, R>,
     disk: FileDisk<D>,
@@ -58,13 +60,17 @@ where
         Ok(gateway) => gateway,
         Err(ending) => return ending,
     };
+    let lines = match read_whole(host.rt.alloc(), &mut ReadSource::new(lines)) {
+        Ok(lines) => lines,
+        Err(fault) => return host.why.ended(Err(fault), task.script),
+    };
     let out = Noted::new(io::writer(host.rt), host.why);
     let mut notes = Noting::new(host, task.image, None);
     let (_, ending) = run_over(
         host.rt.alloc(),
         host.why,
         disk,
-        lines,
+        lines.as_slice(),
         out,
         &mut gateway,
         &mut notes,
