@@ -20,7 +20,7 @@ RANGES = {"--patience": (1, 60_000), "--tries": (1, 9), "--budget": (0, 4_294_96
           "NEW": (0, 250), "--csv": (1, 8)}
 GREATEST = 2 ** 63 - 1
 REPEATED = {"--line", "--only"}
-EXCLUSIVE = [{"--json", "--explain"}, {"--json", "--prometheus"}, {"--primary", "--budget"}, {"--csv", "--json"}, {"--dry-run", "--json"},
+EXCLUSIVE = [{"--json", "--explain"}, {"--primary", "--budget"}, {"--csv", "--json"}, {"--dry-run", "--json"},
              {"--dry-run", "--trace"}]
 WRITING = {"format", "run", "fit", "swap", "move", "out", "poll"}  # the commands that write to their image; `poll --dry-run` doesn't
 # As crates/mbdc_words/src/near.rt has them

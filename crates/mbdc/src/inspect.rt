@@ -7,7 +7,7 @@ use mbdc_files::{Host, LookedAt, Noted, ROUNDS, journal_lines};
 use mbdc_io::NoMemory;
 use mbdc_json::journal::{Journal, Keeps, read_journal};
 use mbdc_log::Greatest;
-use mbdc_looks::{Asked, Form, Report, Shown, StatusForm, answer, scan};
+use mbdc_looks::{Asked, Form, Report, Shown, answer, scan};
 use std::alloc::Global;
 use std::fs::File;
 use std::io;
@@ -138,7 +138,7 @@ pub fn tell_status<'a, R>(
     host: &Host<'_, R>,
     image: &'a str,
     silent: u64,
-    form: mbdc_words::StatusForm,
+    is_json: bool,
 ) -> Ending<'a>
 where
     R: Files<File = File> + Clock + Print + AllocGlobal,
@@ -150,10 +150,5 @@ where
         now: moment.seconds,
         patience: silent,
     };
-    let form = match form {
-        mbdc_words::StatusForm::Text => StatusForm::Text,
-        mbdc_words::StatusForm::Json => StatusForm::Json,
-        mbdc_words::StatusForm::Prometheus => StatusForm::Metrics,
-    };
-    look_into(host, Asked::Status(form, clock), image)
+    look_into(host, Asked::Status(form_of(is_json), clock), image)
 }

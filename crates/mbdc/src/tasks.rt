@@ -62,8 +62,8 @@ where
         Task::Status {
             image,
             silent,
-            form,
-        } => tell_status(host, image, *silent, *form),
+            is_json,
+        } => tell_status(host, image, *silent, *is_json),
         Task::Fit { image, list } => fit_on_image(host, image, list),
         Task::Order(task) => order_on_image(host, task),
         Task::Copy { image, file } => back_up(host, image, file),

@@ -20,8 +20,6 @@ pub mod Row
 pub mod Status
 -- the same as JSON objects
 pub mod Object
--- the same as metrics
-pub mod Metrics
 -- what SILENT, ROOM and DAYS mean
 pub mod Laws
 -- of the module `journal`

@@ -3,8 +3,7 @@
 //! [`put_status`] writes, at a clock that is handed in, a line for each registered meter by flat: the newest telegram
 //! of it that the register holds, how long ago that was, whether it is silent, and what its status byte says; then how
 //! full the image is, in how many days it is full at this pace, and how many more readings it has room for.
-//! [`put_status_objects`] writes the same as JSON objects, [`put_metrics`] as metrics for Prometheus. [`any_silent`]
-//! says whether a meter is silent.
+//! [`put_status_objects`] writes the same as JSON objects. [`any_silent`] says whether a meter is silent.
 //!
 //! What is shown of a meter is one row (`specs/Row.antt`), which each form writes.
 //!
@@ -14,14 +13,12 @@
 mod full;
 mod laws;
 mod lines;
-mod metrics;
 mod object;
 mod row;
 mod silence;
 
 pub use laws::rows_mean_what_they_say;
 pub use lines::put_status;
-pub use metrics::put_metrics;
 pub use object::put_status_objects;
 pub(crate) use row::{is_later, taken_at};
 pub(crate) use silence::moment_of;

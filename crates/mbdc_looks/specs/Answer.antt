@@ -14,7 +14,6 @@ use Rattle.mbdc_json.specs.Journal.{Notes}
 use Rattle.mbdc_looks.specs.Report.{due_lines, register_lines}
 use Rattle.mbdc_json.specs.Values.{values_lines}
 use Rattle.mbdc_json.specs.Latest.{values_text}
-use Rattle.mbdc_json.specs.Metrics.{metrics_text}
 use Rattle.mbdc_json.specs.Object.{status_objects}
 use Rattle.mbdc_json.specs.Status.{any_silent, status_text}
 use Rattle.mbdc_json.specs.declared.status.silence.Clock.{Clock}
@@ -22,8 +21,6 @@ use Rattle.mbdc_looks.specs.declared.asking.Asked.{Asked}
 use Rattle.mbdc_looks.specs.declared.asking.Asked.TheVariants.{Contents, Values, Status, Table}
 use Rattle.mbdc_looks.specs.declared.asking.Form.{Form}
 use Rattle.mbdc_looks.specs.declared.asking.Form.TheVariants.{Text, Json}
-use Rattle.mbdc_looks.specs.declared.asking.StatusForm.{StatusForm}
-use Rattle.mbdc_looks.specs.declared.asking.StatusForm.TheVariants.{Text as Lines, Json as Objects, Metrics}
 use Rattle.mbdc_looks.specs.declared.asking.Report.{Report}
 use Rattle.mbdc_looks.specs.declared.asking.Report.TheVariants.{Register, Due}
 use Rattle.mbdc_looks.specs.declared.look.Outlook.{Outlook}
@@ -39,10 +36,9 @@ abbrev pub values_in : Form → Notes → State → List ℕ
 values_in Text journal state = values_text journal state
 values_in Json journal state = values_lines journal state
 
-abbrev pub status_in : StatusForm → Clock → Notes → Held → List ℕ
-status_in Lines clock journal house = status_text clock.patience clock.now journal house
-status_in Objects clock journal house = status_objects clock.patience clock.now journal house
-status_in Metrics clock journal house = metrics_text clock.patience clock.now journal house
+abbrev pub status_in : Form → Clock → Notes → Held → List ℕ
+status_in Text clock journal house = status_text clock.patience clock.now journal house
+status_in Json clock journal house = status_objects clock.patience clock.now journal house
 
 abbrev pub table_text : Form → Report → State → List ℕ
 table_text Text Register state = register_text state

@@ -13,7 +13,7 @@ ghost use Rattle.mbdc_looks.specs.Answer.{is_silent, small_text, status_in, tabl
 ghost use Rattle.mbdc_looks.specs.Look.{EndsLook, IsPlaced, seen_of};
 ghost use Rattle.mbdc_looks.specs.Told.{IsOfLook};
 
-use crate::asking::{Asked, Form, Report, StatusForm};
+use crate::asking::{Asked, Form, Report};
 use crate::look::{Look, Outlook, Slots, look_at, read_slots};
 use crate::report::{put_due_objects, put_register_objects};
 use crate::text::{put_image, put_number_line, put_small};
@@ -25,7 +25,7 @@ use mbdc_io::{Bytes, IoFault, NoMemory, Sink};
 use mbdc_json::journal::Journal;
 use mbdc_json::latest::put_values;
 use mbdc_json::put_value_objects;
-use mbdc_json::status::{Clock, any_silent, put_metrics, put_status, put_status_objects};
+use mbdc_json::status::{Clock, any_silent, put_status, put_status_objects};
 use mbdc_log::{FEWEST_SECTORS, Greatest, OpenFault, greatest_of, half_len_of};
 use std::alloc::Allocator;
 
@@ -53,7 +53,7 @@ fn kept(put: Result<(), IoFault>) -> Result<(), NoMemory>
 // Writes the status of a house.
 fn put_status_in<A: Allocator + Copy, W: Sink>(
     out: &mut W,
-    form: StatusForm,
+    form: Form,
     clock: Clock,
     journal: &Journal<A>,
     house: &House<A>,
@@ -61,9 +61,8 @@ fn put_status_in<A: Allocator + Copy, W: Sink>(
     ensures { Wrote W.Sink result out.old out.new (status_in form clock journal.now house.now) }
 {
     match form {
-        StatusForm::Text => put_status(out, house, clock, journal),
-        StatusForm::Json => put_status_objects(out, house, clock, journal),
-        StatusForm::Metrics => put_metrics(out, house, clock, journal),
+        Form::Text => put_status(out, house, clock, journal),
+        Form::Json => put_status_objects(out, house, clock, journal),
     }
 }
 

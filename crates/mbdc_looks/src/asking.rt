@@ -16,7 +16,7 @@ pub enum Asked {
     /// What its meters stand at.
     Values(Form),
     /// When its meters were last heard at a clock, and how full the image is.
-    Status(StatusForm, Clock),
+    Status(Form, Clock),
     /// A table of its contents.
     Table(Report, Form),
 }
@@ -28,17 +28,6 @@ pub enum Form {
     Text,
     /// JSON Lines (RFC 8259), an object a meter or a row.
     Json,
-}
-
-/// How the status is written.
-#[derive(Clone, Copy)]
-pub enum StatusForm {
-    /// Lines of words, one a meter.
-    Text,
-    /// JSON Lines (RFC 8259), an object a meter and one for the image.
-    Json,
-    /// The text format of Prometheus.
-    Metrics,
 }
 
 /// A table of an image's contents.

@@ -19,6 +19,6 @@ mod summary;
 mod text;
 
 pub use answering::{Shown, answer, scan};
-pub use asking::{Asked, Form, Report, StatusForm};
+pub use asking::{Asked, Form, Report};
 pub use look::Outlook;
 pub use register::register_of;

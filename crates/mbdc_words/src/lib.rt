@@ -22,6 +22,6 @@ pub use links::{LINES, Links};
 pub use near::nearest;
 pub use task::{
     BusTask, Call, Engine, Errand, Form, Listing, MeterName, OrderTask, PollTask, Reached, RunTask,
-    Scan, StatusForm, Task, Turn,
+    Scan, Task, Turn,
 };
 pub use words::call_of;

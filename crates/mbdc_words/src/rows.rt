@@ -470,13 +470,6 @@ const IMAGES: &[CommandRow] = &[
                 ..OPTION
             },
             JSON,
-            Row {
-                id: "PROMETHEUS",
-                long: Some("prometheus"),
-                others: &["JSON"],
-                help: "Prints metrics in the text format of Prometheus",
-                ..FLAG
-            },
         ],
     },
     CommandRow {

@@ -31,17 +31,6 @@ pub enum Engine {
     Fill,
 }
 
-/// How the status of an image is printed.
-#[derive(Clone, Copy)]
-pub enum StatusForm {
-    /// Lines of words, one a meter.
-    Text,
-    /// JSON Lines: an object a meter and one for the image.
-    Json,
-    /// The text format of Prometheus.
-    Prometheus,
-}
-
 /// How meters are searched for on a bus without an image.
 #[derive(Clone, Copy)]
 pub enum Scan {
@@ -226,8 +215,8 @@ pub enum Task<'a> {
         image: &'a str,
         /// The number of seconds after which a meter is silent.
         silent: u64,
-        /// How it is printed.
-        form: StatusForm,
+        /// Whether it is printed as JSON Lines.
+        is_json: bool,
     },
     /// The meters of a list, added to the register of an image.
     Fit {

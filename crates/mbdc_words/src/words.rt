@@ -7,7 +7,7 @@ use crate::rows::program;
 use crate::silence::silence_of;
 use crate::task::{
     BusTask, Call, Engine, Errand, Form, Listing, MeterName, OrderTask, PollTask, Reached, RunTask,
-    Scan, StatusForm, Task, Turn,
+    Scan, Task, Turn,
 };
 use clap::ArgMatches;
 use dc_address::Primary;
@@ -203,17 +203,10 @@ fn swap_of(inner: &ArgMatches<'_>, flat: Option<Flat>) -> Result<Turn, WordsFaul
 
 fn status_task<'a>(image: &'a str, inner: &ArgMatches<'a>) -> Result<Task<'a>, WordsFault> {
     let word = inner.get_str("SILENT").unwrap_or_default();
-    let form = if inner.get_flag("JSON") {
-        StatusForm::Json
-    } else if inner.get_flag("PROMETHEUS") {
-        StatusForm::Prometheus
-    } else {
-        StatusForm::Text
-    };
     Ok(Task::Status {
         image,
         silent: silence_of(word.as_bytes()).ok_or(WordsFault::Silence)?,
-        form,
+        is_json: inner.get_flag("JSON"),
     })
 }
 
