@@ -4,12 +4,18 @@ import contextlib
 import datetime
 import os
 import re
+import selectors
 import shlex
 import signal
 import subprocess
+import time
 from typing import Iterator, List, NamedTuple, Optional, Tuple
 
 PAGE = 100  # the most readings that one WINDOW shows
+# Bytes of one run at a box, of one of its lines, and of what is kept of its complaints. A page of readings of 32 telegrams has 1.7 MB,
+# and a line of a telegram 540 bytes.
+LONGEST_ANSWER, LONGEST_LINE, LAST_COMPLAINT = 3 << 20, 1024, 4096
+CHUNK = 1 << 16
 # A numbered line that no box accepts, since its number isn't the next one's: it is answered `ERR ORDER last`.
 PROBE = "999999999999999999 CONFIRM 0"
 REPLY_ENDS = ("OK", "ERR", "END")
@@ -22,6 +28,10 @@ UTC = datetime.timezone.utc
 
 class Unreached(Exception):
     """The box gave no whole answer. What it did isn't known, and the same may be sent again."""
+
+
+class Talks(Unreached):
+    """The box says more than any box has to say. Nothing of it is kept."""
 
 
 class Disagreement(Exception):
@@ -104,19 +114,47 @@ class Link:
                                        stderr=subprocess.PIPE, start_new_session=True)
         except OSError as fault:
             raise Unreached(f"{self.words[0]}: {fault.strerror}") from fault
-        try:
-            printed, complaint = process.communicate(script.encode(), self.timeout)
-        except subprocess.TimeoutExpired as late:
-            raise Unreached(f"no answer within {self.timeout:g} s") from late
-        finally:
-            if process.returncode is None:
-                with contextlib.suppress(ProcessLookupError):
-                    os.killpg(process.pid, signal.SIGKILL)
-                process.communicate()
+        end = time.monotonic() + self.timeout
+        with process:
+            try:
+                printed, complaint = self.told(process, script.encode(), end)
+                process.wait(max(end - time.monotonic(), 0.1))
+            except subprocess.TimeoutExpired as late:
+                raise Unreached(f"no answer within {self.timeout:g} s") from late
+            finally:
+                if process.returncode is None:
+                    with contextlib.suppress(ProcessLookupError):
+                        os.killpg(process.pid, signal.SIGKILL)
         if process.returncode != 0:
             last = complaint.decode(errors="replace").strip().rpartition("\n")[2]
             raise Unreached(f"status {process.returncode} {last}".strip())
         return printed
+
+    def told(self, process: "subprocess.Popen[bytes]", script: bytes, end: float) -> Tuple[bytes, bytes]:
+        """What a process prints of a script up to a moment, and the last bytes that it complains in.
+
+        Raises TimeoutExpired and Talks."""
+        assert process.stdin and process.stdout and process.stderr
+        printed, complaint = bytearray(), b""
+        with contextlib.suppress(BrokenPipeError), process.stdin:
+            process.stdin.write(script)
+        with selectors.DefaultSelector() as waiting:
+            waiting.register(process.stdout, selectors.EVENT_READ)
+            waiting.register(process.stderr, selectors.EVENT_READ)
+            while waiting.get_map():
+                ready = waiting.select(max(end - time.monotonic(), 0))
+                if not ready or time.monotonic() > end:
+                    raise subprocess.TimeoutExpired(self.words, self.timeout)
+                stream = ready[0][0].fileobj
+                chunk = os.read(ready[0][0].fd, CHUNK)
+                if not chunk:
+                    waiting.unregister(stream)
+                elif stream is process.stderr:
+                    complaint = (complaint + chunk)[-LAST_COMPLAINT:]
+                else:
+                    printed += chunk
+                    check_length(printed)
+        return bytes(printed), complaint
 
     def look(self, first: int) -> Seen:
         """What the box shows, with the readings from that serial on, or from the first that isn't confirmed.
@@ -146,6 +184,14 @@ class Link:
             raise Unreached(f"unexpected answers: {order[0]}, {mark[0]}, {window[0]}")
         readings = readings_of(window)
         return Seen(self.identity, int(number[1]), confirmed, meters_of(register), readings, len(readings) < PAGE)
+
+
+def check_length(printed: bytearray) -> None:
+    """Raises Talks where an answer, or the line that it ends with, is longer than any can be."""
+    if len(printed) > LONGEST_ANSWER:
+        raise Talks(f"it says more than {LONGEST_ANSWER >> 20} MB at once")
+    if len(printed) - printed.rfind(b"\n") > LONGEST_LINE:
+        raise Talks(f"it says a line of more than {LONGEST_LINE} bytes")
 
 
 def whole_replies(text: str, count: int) -> List[Reply]:

@@ -23,10 +23,11 @@ FROM collections WHERE begun_at <= %(at)s
 HAVING coalesce(max(ended_at) < %(at)s - make_interval(hours => %(hours)s), true)"""
 CLOCKS = "SELECT 'clock', house, name, jsonb_build_object('box', name, 'text', clock) FROM boxes WHERE active AND clock IS NOT NULL ORDER BY name"
 LATE = "SELECT 'late', house, name, jsonb_build_object('box', name, 'text', late) FROM boxes WHERE active AND late IS NOT NULL ORDER BY name"
+TALKS = "SELECT 'talks', house, name, jsonb_build_object('box', name, 'text', talks) FROM boxes WHERE active AND talks IS NOT NULL ORDER BY name"
 # Of a box that isn't collected, and of one without a meter that is heard, one item; its meters are counted there
 BOXES = """
 SELECT 'box', b.house, s.box, jsonb_build_object('box', s.box, 'why', s.why, 'fault', s.fault, 'meters', coalesce(o.count, 0), 'since', s.since)
-FROM stale_boxes_at(%(at)s) s JOIN boxes b ON b.name = s.box
+FROM stale_boxes_at(%(at)s) s JOIN boxes b ON b.name = s.box AND (b.talks IS NULL OR s.why <> 'failed')
 LEFT JOIN (SELECT box, count(*) FROM overdue_at(%(at)s) GROUP BY box) o ON o.box = s.box"""
 SILENT_BOXES = """
 SELECT 'box', b.house, o.box, jsonb_build_object('box', o.box, 'why', 'none heard', 'fault', NULL, 'meters', o.count, 'since', o.heard)
@@ -137,7 +138,7 @@ SELECT 'audit', r.house, r.house || ' ' || r.period, jsonb_build_object('period'
        CASE WHEN length(r.period) = 7 THEN (SELECT count(*)::integer FROM tenancies t WHERE t.house = r.house AND t.wants <> 'nothing'
            AND t.days && daterange((r.period || '-01')::date, ((r.period || '-01')::date + interval '1 month')::date)) ELSE 0 END
 FROM refusals r ORDER BY 3"""
-ALL = (COLLECTOR, BOXES, SILENT_BOXES, CLOCKS, LATE, SILENT, STATES, NO_USE, STEPS, STILL, NIGHT, CHANGES, NOT_SENT, REFUSED)
+ALL = (COLLECTOR, BOXES, SILENT_BOXES, CLOCKS, LATE, TALKS, SILENT, STATES, NO_USE, STEPS, STILL, NIGHT, CHANGES, NOT_SENT, REFUSED)
 # What takes the number of its meter's month, by the grade that it leaves
 CAUSES = {"missing": ("silent", "error", "power", "no use", "too large", "no consumption"), "disturbed": ("disturbed", "turn", "error"),
           "unclear": ("no use",), "held": ()}

@@ -15,11 +15,12 @@ import psycopg2
 from box_commands import change_of
 from database import Cursor, Database, insert, one
 from decoding import Undecoded
-from link import Command, Disagreement, Link, Meter, Reading, Seen, Unreached
+from link import PAGE, Command, Disagreement, Link, Meter, Reading, Seen, Unreached
 from stamps import Window
 from storing import store_readings, stored
 
 LONGEST_PAUSE = 60  # seconds between two tries
+PAGES = 100  # of a collection of a box
 REFUSALS = ("SYNTAX", "KNOWN", "UNKNOWN", "ADDRESS", "FULL")  # of an order; its number is used again
 NO_BOX = "there is no such box in the database"
 IS_OPEN = "state IN ('pending', 'queued')"  # in the words of the index open_orders
@@ -353,17 +354,25 @@ class Visit:
 
     # ---- readings
 
-    def collect(self) -> int:
-        """Stores all that the box shows, page by page, and confirms it; returns the serial up to which it has."""
-        is_all = False
-        while not is_all:
+    def collect(self, pages: int = PAGES) -> int:
+        """Stores what the box shows, page by page and at most so many, and confirms it; returns the serial up to which it has."""
+        for _ in range(pages):
             self.settle()
             count, is_all = self.take_page()
             self.stored_count += count
+            if is_all:
+                break
+        else:
+            self.note_talks(f"it has more than {pages * PAGE} readings, and the rest waits for the next collection")
         self.settle()
         with self.transaction() as cursor:
             cursor.execute("SELECT confirmed FROM boxes WHERE name = %s", (self.box,))
             return int(one(cursor)[0])
+
+    def note_talks(self, why: str) -> None:
+        """Notes that a box has more to say than a box should (the alarm `talks`), until it is collected whole."""
+        with self.transaction() as cursor:
+            cursor.execute("UPDATE boxes SET talks = %s WHERE name = %s", (why, self.box))
 
     def take_page(self) -> Tuple[int, bool]:
         """Stores a page, and its CONFIRM with it; returns how many readings were new, and whether there are no more."""
@@ -377,7 +386,7 @@ class Visit:
             if seen.readings:
                 self.store_confirm(cursor, standing.number + 1, seen.readings[-1].serial)
             if seen.is_all:
-                cursor.execute("UPDATE boxes SET collected_at = now(), fault = NULL WHERE name = %s", (self.box,))
+                cursor.execute("UPDATE boxes SET collected_at = now(), fault = NULL, talks = NULL WHERE name = %s", (self.box,))
             return len(new), seen.is_all
 
     def store_confirm(self, cursor: Cursor, number: int, serial: int) -> None:

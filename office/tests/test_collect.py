@@ -14,7 +14,7 @@ import types
 from typing import Any, List
 
 import pytest
-from conftest import FITS, OFFICE, Box, Office
+from conftest import FITS, OFFICE, Box, Office, telegram
 
 import database
 import decoding
@@ -230,3 +230,58 @@ def test_a_box_that_was_formatted_anew(office: Office, box: Box) -> None:
     ended = office.collect()
     assert ended.status == 1 and "STOPPED: the box's last order is 2, the database's 3" in ended.printed
     assert office.sql("SELECT count(*) FROM readings") == [(3,)] and new.state()["confirmed"] == 0
+
+
+# A box that shows 100 more readings whenever it is asked, each as if it were its last
+ENDLESS = """#!/usr/bin/python3 -IS
+import pathlib, sys
+file = pathlib.Path(__file__).with_suffix(".state")
+number, confirmed, line = file.read_text().split(" ", 2) if file.exists() else ("0", "0", "")
+print("BOX " + "0" * 31 + "1")
+for office, *words in (line.split() for line in sys.stdin if line.startswith("OFFICE ")):
+    if words[0] == "WINDOW" and int(words[1]) <= int(confirmed):
+        print("ERR GONE", confirmed)
+    elif words[0] == "WINDOW":
+        for serial in range(int(words[1]), int(words[1]) + int(words[2])):
+            print(f"READING {serial} 11111111.PAD.01.07 A1 1\\nPART 1 1735689600 TELEGRAM")
+        print("END", words[2])
+    elif words[0] == "REGISTER":
+        print("METER 11111111.PAD.01.07 1 1 A1 0\\nEND 1")
+    elif words[0] == "999999999999999999":
+        print("ERR ORDER", number)
+    else:
+        number, confirmed = words[0], words[2]
+        print("OK", number)
+file.write_text(f"{number} {confirmed} ")
+"""
+# Runs a program, and prints the most memory that a process below it has taken, in KB
+MEASURED = "import resource, subprocess, sys; subprocess.run(sys.argv[1:]); print(resource.getrusage(resource.RUSAGE_CHILDREN).ru_maxrss)"
+
+
+def test_boxes_that_say_too_much(office: Office, box: Box) -> None:
+    """Endlessly many lines, a line without an end, complaints without an end, a million readings: each fails for itself, or is taken in
+    parts, and none takes memory."""
+    box.hears(150)
+    endless = office.folder / "endless"
+    endless.write_text(ENDLESS.replace("TELEGRAM", telegram(1)), encoding="ascii")
+    endless.chmod(0o755)
+    for name, command in (("yes", "yes READING"), ("zeros", "cat /dev/zero"), ("errs", "sh -c 'yes error >&2'"), ("endless", str(endless))):
+        office.sql("INSERT INTO boxes (name, command) VALUES (%s, %s)", name, command)
+    done = subprocess.run([sys.executable, "-c", MEASURED, OFFICE / "collect", "--database", office.name, "--tries", "2", "--pause", "0.01",
+                           "--timeout", "3", "--pages", "3"], env=office.environment, capture_output=True, text=True, check=True)
+    *lines, summary, most = done.stdout.splitlines()
+    assert int(most) < 100_000, done.stdout
+    assert summary.startswith("5 boxes, 450 readings, 3 failed")
+    said = {name: rest.strip() for name, _, rest in (line.partition(":") for line in lines)}
+    assert said["yes"] == "FAILED: it says more than 3 MB at once"
+    assert said["zeros"] == "FAILED: it says a line of more than 1024 bytes"
+    assert said["errs"] == "FAILED: no answer within 3 s"
+    assert said["endless"].startswith("300 readings, confirmed up to 300")
+    assert said["house-1"].startswith("150 readings, confirmed up to 150")
+    assert "NEW talks endless: A box says too much: it has more than 300 readings, and the rest waits for the next collection." in (
+        told := office.run("alarms").printed.splitlines())
+    assert {"NEW box errs", "NEW box yes", "NEW talks yes"} & {line.split(":")[0] for line in told} == {"NEW box errs", "NEW talks yes"}
+    endless.write_text(ENDLESS.replace("TELEGRAM", telegram(1)).replace("int(words[2])", "30").replace('"END", words[2]', '"END", min(30, int(words[2]))'),
+                       encoding="ascii")
+    assert office.collect("endless").status == 0
+    assert office.sql("SELECT talks, collected_at IS NULL FROM boxes WHERE name = 'endless'") == [(None, False)]
