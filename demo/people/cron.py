@@ -90,7 +90,7 @@ class Cron:
         age = (today.year - present.year) * 12 + today.month - present.month + KEPT_MONTHS
         self.run("retain", "--days", str(age), "--readings", str(age), "--alarms", str(age))
         for tenancy, in self.office.sql(LEFT, shifted(month, -1)):
-            self.run("forget", str(tenancy), "--out", str(self.out))
+            self.run("forget", str(tenancy))
             self.forgotten += 1
         self.run("close")
 

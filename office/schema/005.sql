@@ -47,17 +47,7 @@ $$;
 CREATE VIEW stale_boxes AS SELECT * FROM stale_boxes_at(now());
 
 -- clerk: puts orders into the table, which the collector sends. collector: office/collect and office/order. reader:
--- looks. Who may write boxes.command may run programs as the user of the collector: none of them.
-DO $$
-DECLARE
-    of_role text;
-BEGIN
-    FOREACH of_role IN ARRAY ARRAY['clerk', 'collector', 'reader'] LOOP
-        IF NOT EXISTS (SELECT FROM pg_roles WHERE rolname = of_role) THEN
-            EXECUTE format('CREATE ROLE %I NOLOGIN', of_role);
-        END IF;
-    END LOOP;
-END $$;
+-- looks (roles.sql). Who may write boxes.command may run programs as the user of the collector: none of them.
 GRANT SELECT ON boxes, orders, readings, points, due_readings, meters, collections, due_values, meter_states, overdue,
     stale_boxes TO clerk, collector, reader;
 GRANT INSERT (box, key, line) ON orders TO clerk;

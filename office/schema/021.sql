@@ -2,19 +2,6 @@
 
 -- ---- People. The page's login is a member of `desk`, which may do nothing by itself but become one of three roles.
 
-DO $$
-DECLARE
-    of_role text;
-BEGIN
-    FOREACH of_role IN ARRAY ARRAY['publisher', 'desk'] LOOP
-        IF NOT EXISTS (SELECT FROM pg_roles WHERE rolname = of_role) THEN
-            EXECUTE format('CREATE ROLE %I NOLOGIN', of_role);
-        END IF;
-    END LOOP;
-END $$;
-ALTER ROLE desk NOINHERIT;
-GRANT clerk TO publisher;
-GRANT reader, clerk, publisher TO desk;
 CREATE SCHEMA desk;
 GRANT USAGE ON SCHEMA desk TO reader, clerk, publisher, desk;
 

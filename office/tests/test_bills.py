@@ -157,7 +157,7 @@ def test_statistics(office: Office, elm: Supplied) -> None:
     elm.days(elm.meter(1, HEAT, "A1"), "2022-01-01", 1000, 1000, 10)
     assert ("day_values",) in office.sql("SELECT analyze_days()")
     assert ("day_values",) not in office.sql("SELECT analyze_days()")
-    office.sql("SET ROLE collector")
+    office.sql("SET ROLE closer")
     office.sql("SELECT analyze_days()")
     office.sql("RESET ROLE")
 
@@ -174,9 +174,10 @@ def test_a_user_is_forgotten(office: Office, elm: Supplied, tmp_path: pathlib.Pa
     assert early.status == 3 and "2025-01 of tenancy" in early.printed and "isn't out" in early.printed
     for month in ("2025-01", "2025-02"):
         assert office.run("sheets", month, "--out", str(tmp_path), "--pdf", "none", "--release").status == 0
-    assert office.run("forget", str(other), "--out", str(tmp_path)).status == 3
-    ended = office.run("forget", str(one), "--out", str(tmp_path))
+    assert office.run("forget", str(other)).status == 3
+    ended = office.run("forget", str(one))
     assert ended.status == 0 and "2 sheets" in ended.printed, ended.printed
+    assert office.run("work", "--only", "erase", "--out", str(tmp_path), "--link", "https://office.example").printed.endswith(": 0 its sheets\n")
     assert len(list(tmp_path.glob("sheets/*/*.html"))) == 1
     assert office.sql("SELECT count(*) FROM tenancies WHERE person LIKE 'S%%'") == [(0,)]
     assert office.sql("SELECT amount, basis FROM month_use WHERE month = '2025-01-01'") == [(310 * WH, [])]
@@ -203,46 +204,9 @@ def test_what_is_kept(office: Office, elm: Supplied) -> None:
     assert office.run("retain", "--days", "3").status == 2
 
 
-def test_roles(office: Office, elm: Supplied, tmp_path: pathlib.Path) -> None:
-    """The collector closes days, computes months and notes alarms; a clerk makes sheets and bills; a reader looks."""
+def test_who_struck_a_value(office: Office, elm: Supplied) -> None:
     meter = elm.meter(1, HEAT, "A1")
-    elm.reads(meter, at("2025-01-01T06:00"), 1000, ("2024-12-31", 990))
-    elm.reads(meter, at("2025-02-01T06:00"), 1310, ("2025-01-31", 1300))
-    elm.tenancy("A1", "2024-01-01", None)
-    runs = (("collector", (["close"], ["close", "--all", "--since", "2025-01-01"], ["month", "2025-01"], ["estimate", "2025-01"],
-                           ["alarms"])),
-            ("publisher", (["publish", "elm-1", "2025-01"], ["publish", "elm-1", "2025-01", "--bill"])),
-            ("clerk", (["sheets", "2025-01", "--out", str(tmp_path), "--pdf", "none"], ["bill", "elm-1", "2025-01", "--release"])),
-            ("collector", (["month", "2025-01"], ["close"])))  # which looks at the bill that is out
-    for role, commands in runs:
-        office.sql(f"ALTER ROLE office SET role = '{role}'")
-        try:
-            for words in commands:
-                ended = office.run(*words)
-                assert ended.status in (0, 1), (role, words, ended.printed)
-        finally:
-            office.sql("ALTER ROLE office RESET role")
-    for role, query in (
-            ("reader", "SELECT person FROM tenancies"), ("reader", "SELECT token FROM tenancies"),
-            ("reader", "SELECT path FROM sheets"), ("collector", "SELECT person FROM tenancies"),
-            *((role, query) for role in ("reader", "collector") for query in (
-                "UPDATE houses SET address = 'x'", "UPDATE tenancies SET days = days", "UPDATE places SET weight = 2",
-                "SELECT strike(1, 'x')", "SELECT put_value(1, '2025-01-31', 1, 'Wh', 'x')", "DELETE FROM tenancies",
-                "UPDATE fittings SET vib = '06'")),
-            *(("reader", query) for query in (
-                "SELECT close_houses('{elm-1}')", "SELECT queue_since('2025-01-01', '{elm-1}')", "INSERT INTO day_values DEFAULT VALUES", "DELETE FROM month_use",
-                "UPDATE alarms SET known_by = 'x'", "INSERT INTO houses DEFAULT VALUES")),
-            *(("clerk", query) for query in (
-                "UPDATE day_values SET value = 1", "INSERT INTO day_values (fitting, day, at, value, unit, source)"
-                " VALUES (1, '2025-01-02', now(), 1, 'Wh', 'by hand')", "DELETE FROM day_values",
-                "UPDATE month_use SET amount = 1", "INSERT INTO month_use DEFAULT VALUES", "DELETE FROM tenancies",
-                "UPDATE tenancies SET token = 'x'", "UPDATE day_values SET struck_by = 'another'",
-                "INSERT INTO orders (box, line, confirms) VALUES ('elm-1', 'CONFIRM 1', 1)", "DELETE FROM sheets",
-                "SELECT end_fitting('elm-1', 'elm-1', 'x')", "UPDATE boxes SET house = NULL",
-                "INSERT INTO audits (house, version, sha256, says) VALUES ('elm-1', 1, 'x', 'x')",
-                "INSERT INTO published (house, key, text, mark) VALUES ('elm-1', 'x', '1', 'x')")),
-            *(("publisher", query) for query in ("UPDATE audits SET says = 'x'", "DELETE FROM audits", "UPDATE published SET text = '1'"))):
-        assert "permission denied" in refused(office, query, role=role), (role, query)
+    elm.values(meter, {"2025-01-31": 1300})
     office.sql("SET ROLE clerk")
     value = office.sql("SELECT put_value(%s, '2025-01-31', 1299, 'Wh', 'read at the meter')", meter)[0][0]
     office.sql("SELECT strike(%s, 'a mistake')", value)

@@ -129,7 +129,7 @@ def test_neither_retain_nor_forget_changes_a_number(office: Office, elm: Supplie
     before = rows(office)
     assert len(before) == 5
     frozen = office.sql("SELECT entries FROM frozen_values WHERE month = '2021-01-01'")[0][0]
-    forgotten = office.run("forget", str(one), "--out", str(tmp_path))
+    forgotten = office.run("forget", str(one))
     assert forgotten.status == 0, forgotten.printed
     closed(office, "2021-01", "2021-02", "2021-03")
     assert office.run("month", "2021-01", "--open").status == 0
@@ -235,7 +235,7 @@ def test_neither_retain_nor_forget_changes_a_bill(office: Office, elm: Supplied,
     open_bill = office.run("forget", str(one))
     assert open_bill.status == 3 and "the bill 2021-01-01..2021-03-31 of tenancy" in open_bill.printed
     bill(office, "2021-01-01..2021-03-31", "--release")
-    assert office.run("forget", str(one), "--out", str(tmp_path)).status == 0
+    assert office.run("forget", str(one)).status == 0
     closed(office, "2021-01", "2021-02", "2021-03")
     assert office.sql("SELECT changed, is_to_check FROM bills_now") == [(None, False)]
     after = bill(office, "2021-01-01..2021-03-31")

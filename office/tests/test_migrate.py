@@ -11,7 +11,7 @@ from test_schema import refused
 
 from box_commands import BOX_COMMANDS
 
-LAST = max(int(path.stem) for path in (OFFICE / "schema").glob("*.sql"))
+LAST = max(int(path.stem) for path in (OFFICE / "schema").glob("[0-9]*.sql"))
 HAS_COMMANDS = 9  # the first version with the table of commands
 TOLD = {number: f"version {number}\n" for number in range(2, LAST + 1)}
 TOLD[HAS_COMMANDS] += "".join(f"command {verb}\n" for verb in BOX_COMMANDS)
