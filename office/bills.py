@@ -2,17 +2,18 @@
 
 import datetime
 import zoneinfo
-from typing import Dict, Iterable, List, NamedTuple, Optional, Tuple
+from typing import Dict, Iterable, Iterator, List, NamedTuple, Optional, Set, Tuple
 
 from psycopg2.extras import DateRange
 
+from accepted import file_of
 from database import Cursor, Database, one
 from drafts import Published
 from exporting import Readings, Writer, bodies_of, span_line, struck_of, use_lines, user_lines
 from grading import PROVISIONAL, Period, around, graded
 from months import Split, differences, kept_month, lock, shown_line, splits_of, window_at
 from periods import begin_of, later_month
-from program import AtFault, filled
+from program import AtFault, NotComputed, filled
 from published import NONE
 from supply import Entry, seconds
 
@@ -22,6 +23,8 @@ NAMES = ("flat", "use", "place", "from", "to")  # of a row
 # The smallest unit of a quantity, and the unit that people read
 SHOWN = {"energy": ("mJ", "kWh"), "volume": ("ml", "m3"), "allocation": ("0.001 units", "count")}
 DECIMALS = 3
+SMALLEST = "smallest"
+COLUMNS = {SMALLEST: "amount", "HCA": "HCA", **{unit: "consumption" for _, unit in SHOWN.values()}}  # by unit of the audit file
 HELD = "held"
 PRINTED = """
 SELECT p.tenancy, p.key, p.text FROM published p JOIN bills b ON (b.house, b.days, b.version) = (p.house, p.days, p.version)
@@ -71,7 +74,7 @@ class Asked(NamedTuple):
         texts = {column: text for column, (text, _) in zip(self.lines, numbers) if text != NONE and grade != PROVISIONAL}
         for name, line in ends.items():
             _, _, moment, texts[f"{name}_value"], _ = line.split(",")
-            texts[f"{name}_at"] = f"{datetime.datetime.fromtimestamp(int(moment), self.zone):%Y-%m-%dT%H:%M}"
+            texts[f"{name}_at"] = local(int(moment), self.zone)
         cells = {**self.cells, **texts, "grade": grade, "estimated": "yes" if grade == "estimated" else "no"}
         return Row(self.tenancy, {name: cells[name] for name in HEADER if cells.get(name)})
 
@@ -114,7 +117,7 @@ def asked_row(one: Split, period: Period, is_held: bool) -> Asked:
              "meter": entries[0].fitting.identity if entries else "", "value_unit": entries[0].value.unit if entries else "",
              "serials": " ".join(str(it.value.telegram[1]) for it in first + last if it.value.telegram is not None),
              "weight": f"{one.place.weight:f}"}
-    units = {"amount": ("smallest", 0), "consumption": (unit, DECIMALS), **({"HCA": ("HCA", DECIMALS)} if unit == "count" else {})}
+    units = {"amount": (SMALLEST, 0), "consumption": (unit, DECIMALS), **({"HCA": ("HCA", DECIMALS)} if unit == "count" else {})}
     ends = {name: end[0] for name, end in (("first", first), ("last", last)) if end}
     return Asked(period.tenancy, cells, {} if is_held else {column: shown_line(period, *of_unit) for column, of_unit in units.items()}, ends, zone)
 
@@ -174,12 +177,64 @@ def readings_of(split: Split, periods: List[Period]) -> Readings:
 def printed(cursor: Cursor, house: str, days: DateRange, version: int) -> List[Row]:
     """The rows of a version that is out, as they were printed.
 
-    Raises LookupError where it isn't out."""
+    Raises LookupError where it isn't out, and NotComputed, as compare."""
     cursor.execute(IS_OUT, (house, days, version))
     if not one(cursor)[0]:
         raise LookupError(f"version {version} of this bill isn't out")
     cursor.execute(PRINTED, (house, days, version))
-    return rows_in(cursor)
+    rows = rows_in(cursor)
+    cursor.execute("SELECT audit FROM bills WHERE (house, days, version) = (%s, %s, %s)", (house, days, version))
+    compare(cursor, house, one(cursor)[0], rows)
+    return rows
+
+
+def compare(cursor: Cursor, house: str, audit: Optional[int], rows: List[Row]) -> None:
+    """Raises NotComputed where a row has a number that the bill's audit file doesn't have, as long as that is kept."""
+    lines = file_of(cursor, audit)
+    if lines is None:
+        return
+    cursor.execute("SELECT zone FROM houses WHERE house = %s", (house,))
+    facts = facts_of(lines, zoneinfo.ZoneInfo(one(cursor)[0]))
+    for row in rows:
+        wrong = next((it for it in numbers_of(row) if it not in facts), None)
+        if wrong:
+            raise NotComputed(f"the bill isn't printed: {' '.join(map(str, wrong))} isn't in its audit file")
+
+
+def numbers_of(row: Row) -> Iterator[Tuple[str, ...]]:
+    """What a row says that an audit file has to say."""
+    cells, place = row.cells, (row.cells["flat"], row.cells["use"])
+    period = (cells["from"], cells["to"])
+    yield from ((*place, *period, column, cells[column]) for column in dict.fromkeys(COLUMNS.values()) if column in cells)
+    yield from ((*place, cells[f"{name}_at"], cells[f"{name}_value"]) for name in ("first", "last") if f"{name}_value" in cells)
+    if "amount" in cells:
+        yield (*place, *period, "grade", cells["grade"])
+        if row.tenancy is not None:
+            yield (*place, *period, "user", str(row.tenancy))
+
+
+def facts_of(lines: List[str], zone: zoneinfo.ZoneInfo) -> Set[Tuple[str, ...]]:
+    """What a bill's audit file says of each place's periods and of the meters' values, with moments as a row has them."""
+    found: Set[Tuple[str, ...]] = set()
+    place: Tuple[str, ...] = ()
+    for line in lines:
+        kind, *fields = line.split(",")
+        if kind == "place":
+            place = (fields[1], fields[2])
+        elif kind == "part":
+            found.add((*place, *(local(int(it), zone) for it in fields[1:3]), "user", fields[3]))
+        elif kind == "value":
+            found.add((*place, local(int(fields[1]), zone), fields[2]))
+        elif kind == "shown":
+            period = (*place, *(local(int(it), zone) for it in fields[1:3]))
+            found.add((*period, COLUMNS[fields[3]], fields[4]))
+            if fields[3] == SMALLEST:
+                found.add((*period, "grade", graded(*fields[4:]).grade))
+    return found
+
+
+def local(moment: int, zone: zoneinfo.ZoneInfo) -> str:
+    return f"{datetime.datetime.fromtimestamp(moment, zone):%Y-%m-%dT%H:%M}"
 
 
 def rows_in(cells: Iterable[Tuple[Optional[int], str, str]]) -> List[Row]:
@@ -207,13 +262,15 @@ def lock_bill(cursor: Cursor, house: str, days: DateRange) -> None:
 
 
 def accepted(cursor: Cursor, house: str, days: DateRange) -> Optional[List[Row]]:
-    """The rows of the present version as they were audited; None without an audit."""
+    """The rows of the present version as they were audited; None without an audit. Raises NotComputed, as compare."""
     cursor.execute("SELECT id FROM audits_now WHERE (house, days) = (%s, %s)", (house, days))
     row = cursor.fetchone()
     if row is None:
         return None
     cursor.execute("SELECT tenancy, key, text FROM published WHERE audit = %s ORDER BY id", row)
-    return rows_in(cursor)
+    rows = rows_in(cursor)
+    compare(cursor, house, row[0], rows)
+    return rows
 
 
 def check(database: Database, houses: List[str]) -> None:

@@ -10,7 +10,6 @@ from typing import Dict, List
 import pytest
 from conftest import Office
 from supplied import COLD, HEAT, WATER, Supplied, at
-from test_schema import refused
 from test_sheets import published
 
 WH = 3_600_000

@@ -335,3 +335,51 @@ def test_the_audit_accepts(office: Office, elm: Supplied) -> None:
     lines = b"".join(bytes(row[0]) for row in office.sql("SELECT file FROM audits")).decode()
     for kind in ("read", "stored", "hand", "estimated", "first", "last", "struck", "ended", "zero", "value", "of_flat", "of_house", "mean"):
         assert f"\n{kind}," in lines or kind == "struck", kind
+
+
+# What a publisher might write: the present audit once more, and its numbers, one of them another
+AGAIN = """
+WITH a AS (INSERT INTO audits (house, month, days, version, file, sha256, program, program_sha256, says)
+           SELECT house, month, days, version, file, sha256, program, program_sha256, says FROM audits WHERE id = %s RETURNING id)
+INSERT INTO published (audit, house, month, days, version, tenancy, key, text, mark)
+SELECT a.id, p.house, p.month, p.days, p.version, p.tenancy, p.key, CASE WHEN p.key = %s THEN '4444.4' ELSE p.text END, p.mark FROM published p, a
+WHERE p.audit = %s"""
+
+
+def test_a_number_that_its_audit_file_does_not_have(office: Office, elm: Supplied, tmp_path: pathlib.Path) -> None:
+    """It is printed nowhere: neither a user's, nor a place's, nor a reading, nor a bar of a chart, nor one in a bill."""
+    words = ("sheets", "2025-01", "--out", str(tmp_path), "--pdf", "none")
+    elm.tenancy("A1", "2023-01-01", None)
+    for month in ("2024-12", "2025-01"):
+        elm.month(month)
+        published(office, month)
+    assert office.run("publish", "elm-1", "2025-01", "--bill").status == 0
+    assert office.run(*words).status == 0
+    files = {path: path.stat().st_mtime_ns for path in tmp_path.rglob("*.*")}
+    for month, like in (("2025-01-01", "A1 heat 2025-01 %"), ("2025-01-01", "A1 heat 1 %"), ("2025-01-01", "reading %"), ("2025-01-01", "house heat"),
+                        ("2024-12-01", "% 2024-12 chart %")):
+        (audit, key), = office.sql("SELECT p.audit, min(p.key) FROM published p JOIN audits_now a ON a.id = p.audit WHERE a.month = %s"
+                                   " AND p.key LIKE %s GROUP BY 1", month, like)
+        office.sql("SET ROLE publisher")
+        office.sql(AGAIN, audit, key, audit)
+        office.sql("RESET ROLE")
+        ended = office.run(*words)
+        assert ended.status == 3 and "4444.4 isn't in its audit file" in ended.printed, (key, ended.printed)
+        assert {path: path.stat().st_mtime_ns for path in tmp_path.rglob("*.*")} == files
+        office.sql("UPDATE audits SET void_at = now() WHERE id = (SELECT max(id) FROM audits)")
+    assert office.run(*words).status == 0
+    (audit, key), = office.sql("SELECT audit, min(key) FROM published WHERE days IS NOT NULL AND key LIKE '%% last_value' GROUP BY 1")
+    for number in (key, key.replace("last_value", "amount"), key.replace("last_value", "consumption")):
+        office.sql(AGAIN, audit, number, audit)
+        ended = office.run("bill", "elm-1", "2025-01")
+        assert ended.status == 3 and "4444.4" in ended.printed and "A1,heat" not in ended.printed, (number, ended.printed)
+        office.sql("UPDATE audits SET void_at = now() WHERE id = (SELECT max(id) FROM audits)")
+    assert "A1,heat" in office.run("bill", "elm-1", "2025-01").printed
+
+
+def test_an_audit_is_its_file(office: Office, elm: Supplied) -> None:
+    elm.month("2025-01")
+    published(office, "2025-01")
+    for columns in ("convert_to('other', 'UTF8'), sha256", "file, repeat('0', 64)", "NULL, sha256"):
+        query = f"INSERT INTO audits (house, month, version, file, sha256, program, program_sha256, says) SELECT house, month, version, {columns}, program, program_sha256, says FROM audits"
+        assert re.search("is_its_file|without its file", refused(office, query, role="publisher")), columns

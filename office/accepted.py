@@ -1,0 +1,93 @@
+"""What may be printed of a month: what was published of it, as far as the audit files of it and of earlier months have it too."""
+
+import datetime
+import re
+from typing import Dict, Iterable, List, Optional, Set, Tuple
+
+from database import Cursor
+from drafts import Reader
+from periods import later_month
+from published import NONE, Printed, Published, reading_key
+
+CHARTED = 13  # months
+# Of these houses the audit of a month
+AUDITS = "SELECT house, id FROM audits_now WHERE house = ANY (%s) AND month = %s"
+# What was published of a month, and of earlier ones and their users: for charts and where a month has no evidence any more
+NUMBERS = """
+SELECT p.audit, p.tenancy, p.key, p.text, p.mark FROM published p JOIN audits_now a ON a.id = p.audit
+WHERE a.house = %s AND (a.month = %s OR a.month >= %s AND a.month < %s AND p.tenancy IS NOT NULL AND p.key LIKE '%% ' || to_char(a.month, 'YYYY-MM') || ' %%')
+ORDER BY a.month, p.id"""
+FILE = "SELECT file FROM audits WHERE id = %s AND file IS NOT NULL"
+# What only the database knows: which meter a reading is of, and which place of a flat's use
+READING, PLACE = re.compile(r"reading \d+ (\d+)"), re.compile(r"(.+) \d+ (\d{6,} \d{6,} \S+)")
+Number = Tuple[Optional[int], str, str, str]  # tenancy, key, text, mark
+
+
+class Facts(Reader):
+    """All numbers of an audit file, by keys without what only the database knows."""
+
+    def __init__(self) -> None:
+        super().__init__([])
+        self.all: Set[Number] = set()
+
+    def put(self, user: str, key: str, text: str, mark: str) -> None:
+        self.all.add((None if user == NONE else int(user), key, text, mark))
+
+    def take_place(self, _: str, flat: str, use: str, __: str) -> None:
+        self.place, self.parts = (flat, use, 0), {}
+
+    def take_value(self, run: str, moment: str, text: str, _: str) -> None:
+        self.put(NONE, reading_key(0, int(moment)), text, "reading")
+
+
+def neutral(key: str) -> str:
+    """A key without what only the database knows.
+
+    >>> neutral("reading 170000 1738364400"), neutral("A1 warm water 2 1735686000 1738364400 m3"), neutral("A1 heat 2025-01 kWh")
+    ('reading 0 1738364400', 'A1 warm water 0 1735686000 1738364400 m3', 'A1 heat 2025-01 kWh')
+    """
+    for pattern, form in ((READING, r"reading 0 \1"), (PLACE, r"\1 0 \2")):
+        found = pattern.fullmatch(key)
+        if found:
+            return found.expand(form)
+    return key
+
+
+def file_of(cursor: Cursor, audit: Optional[int]) -> Optional[List[str]]:
+    """The lines of an audit's file; None once it was dropped."""
+    cursor.execute(FILE, (audit,))
+    row = cursor.fetchone()
+    return None if row is None else bytes(row[0]).decode().splitlines()
+
+
+def unknown(cursor: Cursor, audit: Optional[int], numbers: Iterable[Number]) -> Optional[str]:
+    """The first of an audit's numbers that its file doesn't have. A user who was forgotten has none."""
+    lines = file_of(cursor, audit)
+    if lines is None:
+        return None
+    facts = Facts()
+    facts.read(lines)
+    nobodys = {it[1:] for it in facts.all}
+    return next((f"{key} {text}" for tenancy, key, text, mark in numbers
+                 if not ((tenancy, neutral(key), text, mark) in facts.all or tenancy is None and (neutral(key), text, mark) in nobodys)), None)
+
+
+def published_of(cursor: Cursor, houses: List[str], month: datetime.date) -> Tuple[Dict[str, Published], List[str]]:
+    """What may be printed of a month of these houses, and which houses have a number that its audit file doesn't have; of a house
+    without an audit nothing."""
+    cursor.execute(AUDITS, (houses, month))
+    found = {house: Published(audit, {}, {}) for house, audit in cursor}
+    refused = []
+    for house, published in list(found.items()):
+        cursor.execute(NUMBERS, (house, month, later_month(month, 1 - CHARTED), month))
+        of_audits: Dict[int, List[Number]] = {}
+        for audit, *number in cursor:
+            of_audits.setdefault(audit, []).append((number[0], number[1], number[2], number[3]))
+        wrong = [it for it in (unknown(cursor, audit, numbers) for audit, numbers in of_audits.items()) if it]
+        if wrong:
+            refused.append(f"{house}: {wrong[0]} isn't in its audit file")
+            del found[house]
+        for tenancy, key, text, mark in (it for numbers in of_audits.values() for it in numbers):
+            numbers = published.of_house if tenancy is None else published.of_users.setdefault(tenancy, {})
+            numbers[key] = Printed(text, mark)
+    return found, refused
