@@ -2,15 +2,15 @@
 
 import bisect
 import datetime
-import statistics
+import itertools
 from typing import Any, Dict, List, NamedTuple, Optional
 
 from published import NONE
 from supply import DUE_DATE, ENDED, FITTED, REMOVED, RESTARTED, Entry, Place
 
-LEAP, LEAP_AT_EXCHANGE = 10, 5  # times the median day
-FEWEST_DAYS = 10  # of a median
-# A day's use that is never held: 100 kWh, a cubic metre, 60 units
+LEAP, LEAP_AT_EXCHANGE = 10, 5  # times the usual day
+FEWEST_DAYS, FEWEST_STEPS = 10, 3  # of what is usual at a place
+# A day's use that is never held where it is known what is usual at the place: 100 kWh, a cubic metre, 60 units. By other places, a tenth.
 LITTLE = {"energy": 360_000_000_000, "volume": 1_000_000, "allocation": 60_000}
 MEASURED, ZERO, PROVISIONAL, UNCLEAR = "measured", "zero", "provisional", "unclear"
 AT_EXCHANGES = (FITTED, REMOVED, RESTARTED, ENDED, DUE_DATE)
@@ -50,22 +50,49 @@ def basis_of(entries: List[Entry], period: Period) -> List[Dict[str, Any]]:
     return [entry.basis() for entry in entries if id(entry) in chosen]
 
 
-def is_held(place: Place, entries: List[Entry], period: Period) -> bool:
-    """Whether a step of the period is ten times the place's median day, per day of its length, or five times at an
-    exchange: a person has to say why that is right."""
-    steps = [(one, other, a_day(one, other)) for one, other in zip(entries, entries[1:])
-             if one.line.meter == other.line.meter and one.value.at < other.value.at]
-    median = statistics.median(use for _, _, use in steps) if len(steps) >= FEWEST_DAYS else 0
-    touching = [step for step in steps if period.begins < step[1].value.at and step[0].value.at < period.ends]
-    return median > 0 and any(
-        use >= LEAP * median and use > LITTLE[place.quantity] or use >= LEAP_AT_EXCHANGE * median and is_at_exchange(one, other)
-        for one, other, use in touching)
+class Step(NamedTuple):
+    """What a meter counted from an entry to the next one."""
+    one: Entry
+    other: Entry
+    use: float  # a day
+    days: float
+
+
+def steps_of(entries: List[Entry]) -> List[Step]:
+    return [Step(one, other, a_day(one, other), days_between(one, other)) for one, other in zip(entries, entries[1:])
+            if one.line.meter == other.line.meter and one.value.at < other.value.at]
+
+
+def usual_day(steps: List[Step]) -> float:
+    """The median of the days of steps, each as often as it has days; 0 where there are too few."""
+    days = sum(step.days for step in steps)
+    if len(steps) < FEWEST_STEPS or days < FEWEST_DAYS:
+        return 0
+    ordered = sorted(steps, key=lambda step: step.use)
+    before = itertools.accumulate(step.days for step in ordered)
+    return next(step.use for step, until in zip(ordered, before) if until >= days / 2)
+
+
+def is_held(place: Place, entries: List[Entry], period: Period, elsewhere: float) -> bool:
+    """Whether a person has to say why a step of the period is right: it is ten times a usual day of the place, per day of its length, or
+    five times at an exchange. Where nothing is usual there, as in an empty flat: ten times a day of the year before or of other flats
+    (`elsewhere`), or more than is never held where that isn't known either."""
+    steps, little = steps_of(entries), LITTLE[place.quantity]
+    usual = usual_day(steps)
+    touching = [step for step in steps if period.begins < step.other.value.at and step.one.value.at < period.ends]
+    if usual == 0:
+        return any(step.use > little / 10 and step.use >= LEAP * elsewhere if elsewhere > 0 else step.use > little for step in touching)
+    return any(step.use >= LEAP * usual and step.use > little or step.use >= LEAP_AT_EXCHANGE * usual and is_at_exchange(step.one, step.other)
+               for step in touching)
 
 
 def a_day(one: Entry, other: Entry) -> float:
     """What was used a day in a step; nothing of a fall, which is another matter."""
-    length = (other.value.at - one.value.at).total_seconds() / 86400
-    return max(other.value.amount - one.value.amount, 0) / max(length, 0.5)
+    return max(other.value.amount - one.value.amount, 0) / max(days_between(one, other), 0.5)
+
+
+def days_between(one: Entry, other: Entry) -> float:
+    return (other.value.at - one.value.at).total_seconds() / 86400
 
 
 def is_at_exchange(one: Entry, other: Entry) -> bool:

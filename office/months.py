@@ -4,6 +4,7 @@ import collections
 import datetime
 import itertools
 import multiprocessing
+import statistics
 from typing import Any, Callable, Dict, Iterator, List, Mapping, NamedTuple, Optional, Sequence, Tuple
 
 import psycopg2.extras
@@ -12,8 +13,8 @@ from command import SECONDS
 from database import Cursor, Database, insert
 from drafts import asked
 from exporting import Part, Window, Writer, bodies_of, span_line, use_lines, window_of
-from grading import UNCLEAR, Graded, Period, basis_of, graded, is_held
-from periods import begin_of, next_month
+from grading import UNCLEAR, Graded, Period, basis_of, graded, is_held, steps_of
+from periods import begin_of, later_month, next_month
 from program import AtFault, filled
 from supply import Entry, Place, Tenancy, needed, places_of, seconds, tenancies_of
 
@@ -31,6 +32,10 @@ OPEN_ROWS = ("DELETE FROM {} k USING places p WHERE p.id = k.place AND k.month =
 OUT = """
 SELECT u.place, u.part, u.begins, u.ends, u.tenancy, u.amount, u.grade FROM month_now u JOIN places p ON p.id = u.place
 WHERE u.month = %s AND p.house = %s"""
+# What was used a day in a month at a place
+BEFORE = """
+SELECT place, amount / (extract(epoch FROM ends - begins) / 86400)::float FROM month_now
+WHERE month = %s AND place = ANY (%s) AND part = 0 AND amount > 0 AND ends > begins AND grade IN ('measured', 'hand') AND NOT is_held"""
 CHANGED = """
 INSERT INTO changes AS c (house, month, says) VALUES (%s, %s, %s)
 ON CONFLICT (house, month) DO UPDATE SET says = excluded.says, seen_at = now(), left_why = NULL, left_by = NULL
@@ -151,6 +156,7 @@ def write_month(cursor: Cursor, month: datetime.date, houses: List[str]) -> "col
     versions = {house: (version, is_out) for house, version, is_out in cursor}
     open_houses = [house for house, (_, is_out) in versions.items() if not is_out]
     splits = splits_of(cursor, houses, month, next_month(month))
+    elsewhere = days_elsewhere(cursor, month, splits)
     rows: List[Tuple[Any, ...]] = []
     now: Dict[str, List[Tuple[Any, ...]]] = {house: [] for house in houses}
     counts: "collections.Counter[str]" = collections.Counter()
@@ -160,7 +166,7 @@ def write_month(cursor: Cursor, month: datetime.date, houses: List[str]) -> "col
         now[one.place.house].append((one.place.id, *period, found.amount, found.grade))
         if not is_out:
             rows.append((month, one.place.id, period.part, period.begins, period.ends, period.tenancy, found.amount,
-                         found.grade, is_held(one.place, one.entries, period), psycopg2.extras.Json(basis_of(one.entries, period)), version))
+                         found.grade, is_held(one.place, one.entries, period, elsewhere.get(one.place.id, 0)), psycopg2.extras.Json(basis_of(one.entries, period)), version))
     for table in ("frozen_values", "month_use"):
         cursor.execute(OPEN_ROWS.format(table), (month, month, open_houses))
     insert(cursor, MONTH_USE, rows)
@@ -173,6 +179,18 @@ def write_month(cursor: Cursor, month: datetime.date, houses: List[str]) -> "col
     for query in (BILLS, VOID_BILLS):
         cursor.execute(query, (houses, month, next_month(month)))
     return counts
+
+
+def days_elsewhere(cursor: Cursor, month: datetime.date, splits: List[Split]) -> Dict[int, float]:
+    """A day of each place in the same month of the year before, else the median one of the other flats of its house and use."""
+    means: Dict[Tuple[str, str], Dict[int, float]] = collections.defaultdict(dict)
+    for one in splits:
+        steps = steps_of(one.entries)
+        mean = sum(step.use * step.days for step in steps) / (sum(step.days for step in steps) or 1)
+        means[one.place.house, one.place.use][one.place.id] = mean
+    others = {place: [it for other, it in of_use.items() if other != place and it > 0] for of_use in means.values() for place in of_use}
+    cursor.execute(BEFORE, (later_month(month, -12), list(others)))
+    return {**{place: statistics.median(days) for place, days in others.items() if days}, **dict(cursor.fetchall())}
 
 
 def lock(cursor: Cursor, month: datetime.date, houses: List[str]) -> None:

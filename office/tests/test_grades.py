@@ -1,5 +1,6 @@
 """The grades by both steps around a boundary, turns, restarts, and numbers that are held."""
 
+import datetime
 import pathlib
 from typing import Any, List, Tuple
 
@@ -179,6 +180,38 @@ def test_a_number_is_held_until_a_person_says_why(office: Office, elm: Supplied,
     written(office, tmp_path, "--pdf", "none")
     assert checked(sheet_of(office, tmp_path, tenancy).read_text(encoding="utf-8")).cells["cold water", "2025-01-01"].split() == ["51,00"]
     elm.tells(meter, {str(day): value + 1 for day, value in office.sql("SELECT day, value FROM day_values WHERE day >= '2025-01-19'")}, "m3")
+    elm.month("2025-01")
+    assert office.sql("SELECT grade FROM month_kwh") == [("held",)]
+
+
+def test_a_leap_in_an_empty_flat_is_held(office: Office, elm: Supplied) -> None:
+    """Its usual day is none: what counts is a cubic metre a day or, where others are known, ten times their day."""
+    empty = elm.meter(1, COLD, "A1")
+    elm.days(empty, "2024-12-20", 30, 7, 0, "m3")
+    elm.days(empty, "2025-01-19", 30, 86, 0, "m3")
+    later = [row[0] for row in office.sql("SELECT day::text FROM day_values WHERE day >= '2025-01-19' ORDER BY 1")]
+    assert elm.month("2025-01") == [("A1", 0, 79_000_000, "measured")]
+    assert office.sql("SELECT grade FROM month_kwh") == [("held",)]
+    elm.tells(empty, {day: "7.9" for day in later}, "m3")  # less than a cubic metre
+    elm.month("2025-01")
+    assert office.sql("SELECT grade FROM month_kwh") == [("measured",)]
+    for number in (2, 3, 4):
+        elm.values(elm.meter(number, COLD, f"A{number}"), {
+            str(datetime.date(2024, 12, 20) + datetime.timedelta(day)): f"{7 + 0.05 * day:.2f}" for day in range(60)}, "m3")
+    elm.month("2025-01")
+    assert office.sql("SELECT flat, grade FROM month_kwh ORDER BY 1") == [("A1", "held"), ("A2", "measured"), ("A3", "measured"), ("A4", "measured")]
+    elm.tells(empty, {day: f"{7.15 + number * 0.15:.2f}" for number, day in enumerate(later)}, "m3")  # somebody moves in
+    elm.month("2025-01")
+    assert office.sql("SELECT grade FROM month_kwh WHERE flat = 'A1'") == [("measured",)]
+
+
+def test_a_leap_in_a_house_that_is_read_weekly_is_held(office: Office, elm: Supplied) -> None:
+    meter, weeks = elm.meter(1, COLD, "A1"), ("2024-12-09", "2024-12-16", "2024-12-23", "2024-12-30", "2025-01-06", "2025-01-13", "2025-01-20",
+                                              "2025-01-27", "2025-02-03", "2025-02-10")
+    elm.values(meter, {day: f"{100 + week * 0.7:.3f}" for week, day in enumerate(weeks)}, "m3")
+    elm.month("2025-01")
+    assert office.sql("SELECT grade FROM month_kwh") == [("estimated",)]
+    elm.tells(meter, {day: f"{150 + week * 0.7:.3f}" for week, day in enumerate(weeks) if day >= "2025-01-20"}, "m3")
     elm.month("2025-01")
     assert office.sql("SELECT grade FROM month_kwh") == [("held",)]
 
