@@ -200,27 +200,29 @@ module _ {D : Type 0} (g : Ghosts D) (origin : D) where
       (record { turns = []; exchanges = []; does = does; went = went; over = still })
 
   -- a poll over a gateway that is found so
-  pub polled_ran : {X E : Type 0} (budget : ℕ) (state : State) (before : List Turn) (moment line : ℕ) (meter : Identity) (link after : Link) (ends : List Happening → Phase → Type 0) (wrote : List ℕ → Type 0) (talked : List Exchange → Type 0) (first new : Machine D) (result : Result X E) → IsLinked link line
-      → Way g (run_of origin budget state before first new) line moment meter (record { due = to_start; link = link }) ends (λ text. OnOk result (wrote text))
+  pub polled_ran : {X E : Type 0} (budget : ℕ) (state : State) (before : List Turn) (moment line : ℕ) (meter : Identity) (link found after : Link) (ends : List Happening → Phase → Type 0) (wrote : List ℕ → Type 0) (talked : List Exchange → Type 0) (first new : Machine D) (result : Result X E) → link ≡ found → IsLinked link line
+      → Way g (run_of origin budget state before first new) line moment meter (record { due = to_start; link = found }) ends (λ text. OnOk result (wrote text))
       → ((happened : List Happening) (last : Phase) → ends happened last → OnOk result (last ≡ record { due = is_over; link = after }))
       → ((happened : List Happening) (last : Phase) → ends happened last → talked (happened_exchanges happened))
       → OnOk result (LineRan g (run_of origin budget state before first new) moment (poll line meter) link after wrote talked)
-  polled_ran budget state before moment line meter link after ends wrote talked first new (Ok x) linked way ends_so talks_so = record {
-    turns = happened_turns way.happened;
-    exchanges = happened_exchanges way.happened;
-    line = happened_text way.happened;
-    does = inl (linked, record { happened = way.happened; last = way.last; way = way.way; ends = ap (λ (p : Phase). p.due) (ends_so way.happened way.last way.ends_so); left_is = sym (ap (λ (p : Phase). p.link) (ends_so way.happened way.last way.ends_so)); turns_are = refl; exchanges_are = refl; text_is = refl });
-    went = way.went;
-    text = way.text;
-    over = talks_so way.happened way.last way.ends_so;
-  }
-  polled_ran budget state before moment line meter link after ends wrote talked first new (Err e) linked way ends_so talks_so = tt
+  polled_ran budget state before moment line meter link found after ends wrote talked first new (Ok x) is linked found_way ends_so talks_so =
+      let way = subst (λ (l : Link). Way g (run_of origin budget state before first new) line moment meter (record { due = to_start; link = l }) ends wrote) (sym is) found_way in record {
+        turns = happened_turns way.happened;
+        exchanges = happened_exchanges way.happened;
+        line = happened_text way.happened;
+        does = inl (linked, record { happened = way.happened; last = way.last; way = way.way; ends = ap (λ (p : Phase). p.due) (ends_so way.happened way.last way.ends_so); left_is = sym (ap (λ (p : Phase). p.link) (ends_so way.happened way.last way.ends_so)); turns_are = refl; exchanges_are = refl; text_is = refl });
+        went = way.went;
+        text = way.text;
+        over = talks_so way.happened way.last way.ends_so;
+      }
+  polled_ran budget state before moment line meter link found after ends wrote talked first new (Err e) is linked found_way ends_so talks_so = tt
 
-  pub polled_cut : {X E : Type 0} (budget : ℕ) (state : State) (before : List Turn) (moment line : ℕ) (meter : Identity) (link : Link) (ends : List Happening → Phase → Type 0) (wrote : List ℕ → Type 0) (talked : List Exchange → Type 0) (first new : Machine D) (result : Result X E) → IsLinked link line
-      → Way g (run_of origin budget state before first new) line moment meter (record { due = to_start; link = link }) ends wrote
+  pub polled_cut : {X E : Type 0} (budget : ℕ) (state : State) (before : List Turn) (moment line : ℕ) (meter : Identity) (link found : Link) (ends : List Happening → Phase → Type 0) (wrote : List ℕ → Type 0) (talked : List Exchange → Type 0) (first new : Machine D) (result : Result X E) → link ≡ found → IsLinked link line
+      → Way g (run_of origin budget state before first new) line moment meter (record { due = to_start; link = found }) ends wrote
       → ((happened : List Happening) (last : Phase) → ends happened last → talked (happened_exchanges happened))
       → OnErr result (LineCut g (run_of origin budget state before first new) moment (poll line meter) link talked)
-  polled_cut budget state before moment line meter link ends wrote talked first new result linked way talks_so =
+  polled_cut budget state before moment line meter link found ends wrote talked first new result is linked found_way talks_so =
+      let way = subst (λ (l : Link). Way g (run_of origin budget state before first new) line moment meter (record { due = to_start; link = l }) ends wrote) (sym is) found_way in
       on_err result (LineCut g (run_of origin budget state before first new) moment (poll line meter) link talked)
       (record {
         turns = happened_turns way.happened;

@@ -1,6 +1,6 @@
 -- A search, by the calls that it makes.
 use Rattle.std.proofs.Common.{◌≡◌, Bool, true, false, inl, inr, ℕ, Result, Ok, Err, Option, None, Some, List, [], ◌∷◌, ◌++◌, refl, ap, sym, subst, ◌∙◌}
-use Rattle.std.specs.Prelude.{OnOk}
+use Rattle.std.specs.Prelude.{IfOk, OnErr, OnOk}
 use Rattle.dc_address.specs.declared.identity.Identity.{Identity}
 use Rattle.mbdc_change.specs.State.{State}
 use Rattle.dc_core.specs.Core.{opened}
@@ -10,7 +10,7 @@ use Rattle.dc_core.specs.Text.{answer_text}
 use Rattle.dc_core.specs.Transcript.{Turn, leads, IsChain}
 use Rattle.dc_core.specs.declared.fault.CommitFault.{CommitFault}
 use Rattle.dc_core.specs.declared.fault.StartFault.TheVariants.{Busy}
-use Rattle.mbdc_bus.specs.Bus.{AreAskedBy, Exchange}
+use Rattle.mbdc_bus.specs.Bus.{AreAskedBy, AreExchanged, Exchange, HasAsked}
 use Rattle.dc_search.specs.State.{SearchState, new_search}
 use Rattle.mbdc_io.specs.declared.stream.IoFault.{IoFault}
 use Rattle.dc_sectors.specs.declared.device.Disk.{Ghosts}
@@ -19,7 +19,7 @@ use Rattle.dc_poller.specs.Halt.{OnNoMemory, OnWrite, halted_by}
 use Rattle.dc_poller.specs.Link.{HasBus, Link, gateway_line, link_by, loss_text, lost}
 use Rattle.dc_poller.specs.Script.{LineRan, LineCut}
 use Rattle.dc_poller.specs.ScriptLine.{search}
-use Rattle.dc_poller.specs.Search.{Comes, IsLeft, IsOver, Searches, Talked, looked_turns, refused_turns}
+use Rattle.dc_poller.specs.Search.{AreOfSearch, Comes, IsLeft, IsOver, Searches, Talked, looked_turns, refused_turns}
 use Rattle.dc_search.specs.Found.{search_text}
 use Rattle.dc_poller.specs.Starved.{LineStarved}
 use Rattle.dc_core.specs.Went.{TurnWent, TurnsWent, Went}
@@ -77,6 +77,12 @@ absurd_bool : {A : Type 0} → false ≡ true → A
 unfolding is_false
 absurd_bool e = absurd (subst is_false e tt)
 
+-- what was asked over a bus, whether memory was refused at last or not
+pub asked_anyway : {B E : Type 0} (by : B → List ℕ → List ℕ → B → Type 0) (budget : ℕ) (old new : B) (result : Result SearchState E) → IfOk result (λ s. HasAsked by budget old new s) → OnErr result ((s : SearchState) × HasAsked by budget old new s)
+    → (exchanges : List Exchange) × AreOfSearch budget exchanges × AreExchanged by old exchanges new
+asked_anyway by budget old new (Ok s) has halted = (has.exchanges, (s, has.asked), has.happened)
+asked_anyway by budget old new (Err refused) has (s, halted) = (halted.exchanges, (s, halted.asked), halted.happened)
+
 -- a search over a bus that states its meters, where nobody asks for them
 pub told_nowhere : (meters : Option (List Identity)) (budget : ℕ) (link left : Link) (turns : List Turn) (exchanges : List Exchange) (text : List ℕ)
     → Searches meters budget link left turns exchanges text → Searches None budget link left turns exchanges text
@@ -128,37 +134,39 @@ module _ {D : Type 0} (g : Ghosts D) (origin : D) where
 
   -- ---- as a line of a script, over a gateway that is found so
 
-  pub searched_ran : (budget : ℕ) (state : State) (before : List Turn) (moment most : ℕ) (meters : Option (List Identity)) (link after : Link) (talked also : List Exchange → Type 0) (wrote : List ℕ → Type 0) (first new : Machine D) (result : Result (Unit {0}) Halt) → HasBus link → ((exchanges : List Exchange) → talked exchanges → also exchanges)
-      → TurnsWent g origin budget state before (Comes meters most link after talked wrote result) first new
+  pub searched_ran : (budget : ℕ) (state : State) (before : List Turn) (moment most : ℕ) (meters : Option (List Identity)) (link found after : Link) (talked also : List Exchange → Type 0) (wrote : List ℕ → Type 0) (first new : Machine D) (result : Result (Unit {0}) Halt) → link ≡ found → HasBus link → ((exchanges : List Exchange) → talked exchanges → also exchanges)
+      → TurnsWent g origin budget state before (Comes meters most found after talked wrote result) first new
       → OnOk result (LineRan g (run_of origin budget state before first new) moment (search most) link after wrote also)
-  searched_ran budget state before moment most meters link after talked also wrote first new (Ok done) has_bus so some = record {
-    turns = some.turns;
-    exchanges = some.are_such.1;
-    line = some.are_such.0;
-    does = inl (has_bus, told_nowhere meters most link after some.turns some.are_such.1 some.are_such.0 some.are_such.2);
-    went = some.went;
-    text = some.are_such.4;
-    over = so some.are_such.1 some.are_such.3;
-  }
-  searched_ran budget state before moment most meters link after talked also wrote first new (Err halt) has_bus so some = tt
+  searched_ran budget state before moment most meters link found after talked also wrote first new (Ok done) is has_bus so found_some =
+      let some = subst (λ (l : Link). TurnsWent g origin budget state before (Comes meters most l after talked wrote (Ok done)) first new) (sym is) found_some in record {
+        turns = some.turns;
+        exchanges = some.are_such.1;
+        line = some.are_such.0;
+        does = inl (has_bus, told_nowhere meters most link after some.turns some.are_such.1 some.are_such.0 some.are_such.2);
+        went = some.went;
+        text = some.are_such.4;
+        over = so some.are_such.1 some.are_such.3;
+      }
+  searched_ran budget state before moment most meters link found after talked also wrote first new (Err halt) is has_bus so found_some = tt
 
-  pub searched_cut : (budget : ℕ) (state : State) (before : List Turn) (moment most : ℕ) (meters : Option (List Identity)) (link after : Link) (talked also : List Exchange → Type 0) (wrote : List ℕ → Type 0) (first new : Machine D) (result : Result (Unit {0}) Halt) → HasBus link → ((exchanges : List Exchange) → talked exchanges → also exchanges)
-      → TurnsWent g origin budget state before (Comes meters most link after talked wrote result) first new
+  pub searched_cut : (budget : ℕ) (state : State) (before : List Turn) (moment most : ℕ) (meters : Option (List Identity)) (link found after : Link) (talked also : List Exchange → Type 0) (wrote : List ℕ → Type 0) (first new : Machine D) (result : Result (Unit {0}) Halt) → link ≡ found → HasBus link → ((exchanges : List Exchange) → talked exchanges → also exchanges)
+      → TurnsWent g origin budget state before (Comes meters most found after talked wrote result) first new
       → OnWrite result (LineCut g (run_of origin budget state before first new) moment (search most) link also)
-  searched_cut budget state before moment most meters link after talked also wrote first new (Ok done) has_bus so some = tt
-  searched_cut budget state before moment most meters link after talked also wrote first new (Err Write) has_bus so some =
-      record { turns = some.turns; exchanges = some.are_such.0; does = inl (has_bus, some.are_such.1); went = some.went; over = so some.are_such.0 some.are_such.2 }
-  searched_cut budget state before moment most meters link after talked also wrote first new (Err NoMemory) has_bus so some = tt
+  searched_cut budget state before moment most meters link found after talked also wrote first new (Ok done) is has_bus so found_some = tt
+  searched_cut budget state before moment most meters link found after talked also wrote first new (Err Write) is has_bus so found_some =
+      let some = subst (λ (l : Link). TurnsWent g origin budget state before (Comes meters most l after talked wrote (Err Write)) first new) (sym is) found_some in record { turns = some.turns; exchanges = some.are_such.0; does = inl (has_bus, some.are_such.1); went = some.went; over = so some.are_such.0 some.are_such.2 }
+  searched_cut budget state before moment most meters link found after talked also wrote first new (Err NoMemory) is has_bus so found_some = tt
 
-  pub searched_starved : (budget : ℕ) (state : State) (before : List Turn) (most : ℕ) (meters : Option (List Identity)) (link after : Link) (talked also : List Exchange → Type 0) (wrote : List ℕ → Type 0) (first new : Machine D) (result : Result (Unit {0}) Halt) → HasBus link → ((exchanges : List Exchange) → talked exchanges → also exchanges)
-      → TurnsWent g origin budget state before (Comes meters most link after talked wrote result) first new
+  pub searched_starved : (budget : ℕ) (state : State) (before : List Turn) (most : ℕ) (meters : Option (List Identity)) (link found after : Link) (talked also : List Exchange → Type 0) (wrote : List ℕ → Type 0) (first new : Machine D) (result : Result (Unit {0}) Halt) → link ≡ found → HasBus link → ((exchanges : List Exchange) → talked exchanges → also exchanges)
+      → TurnsWent g origin budget state before (Comes meters most found after talked wrote result) first new
       → OnNoMemory result (LineStarved g (run_of origin budget state before first new) (search most) link wrote also)
-  searched_starved budget state before most meters link after talked also wrote first new (Ok done) has_bus so some = tt
-  searched_starved budget state before most meters link after talked also wrote first new (Err Write) has_bus so some = tt
-  searched_starved budget state before most meters link after talked also wrote first new (Err NoMemory) has_bus so some = record {
-    last = record { turns = some.turns; exchanges = some.are_such.1; text = some.are_such.0; left = after };
-    starves = record { budget = most; asked_is = refl; has_bus = has_bus; starves = some.are_such.2 };
-    went = some.went;
-    text = some.are_such.4;
-    over = so some.are_such.1 some.are_such.3;
-  }
+  searched_starved budget state before most meters link found after talked also wrote first new (Ok done) is has_bus so found_some = tt
+  searched_starved budget state before most meters link found after talked also wrote first new (Err Write) is has_bus so found_some = tt
+  searched_starved budget state before most meters link found after talked also wrote first new (Err NoMemory) is has_bus so found_some =
+      let some = subst (λ (l : Link). TurnsWent g origin budget state before (Comes meters most l after talked wrote (Err NoMemory)) first new) (sym is) found_some in record {
+        last = record { turns = some.turns; exchanges = some.are_such.1; text = some.are_such.0; left = after };
+        starves = record { budget = most; asked_is = refl; has_bus = has_bus; starves = some.are_such.2 };
+        went = some.went;
+        text = some.are_such.4;
+        over = so some.are_such.1 some.are_such.3;
+      }

@@ -19,7 +19,7 @@ returns-in_default g c = record {
   cut = λ origin state before chain at. halted_write c.run_plain.result c.written.result _ c.written.ensures (c.run_plain.ensures.cut origin state before chain at);
   starved = λ origin state before chain at. halted_never c.run_plain.result c.written.result _ c.written.ensures;
   through = halted_never c.run_plain.result c.written.result _ c.written.ensures;
-  absent = search rules;
+  had = search rules;
   counted = search rules;
   budget = search rules;
 }

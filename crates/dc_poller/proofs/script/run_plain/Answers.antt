@@ -24,7 +24,7 @@ returns-in-Nothing-clause-ran g c origin state before chain at =
     let idle : IsIdle c.args.moment.seconds (link_of g.B.Bus.lost c.args.gateway.now) [] c.args.asked.now =
     ⊎_elim (λ is. subst (IsIdle c.args.moment.seconds (link_of g.B.Bus.lost c.args.gateway.now) []) (sym is) (record { no_turns = refl; text_is = refl }, refl, refl))
     (⊎_elim (λ is. subst (IsIdle c.args.moment.seconds (link_of g.B.Bus.lost c.args.gateway.now) []) (sym is.1) (record { no_turns = refl; text_is = refl }, refl, refl))
-    (λ is. absurd (subst (λ (asked : ScriptLine). IsPlain (seen asked)) is.2 c.requires))) c.in-Nothing.is in
+    (λ is. absurd (subst (λ (asked : ScriptLine). IsPlain (seen asked)) is.1 c.requires))) c.in-Nothing.is in
     record {
       turns = [];
       exchanges = [];

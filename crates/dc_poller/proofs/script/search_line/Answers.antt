@@ -1,4 +1,4 @@
-use Rattle.std.proofs.Common.{inr, refl}
+use Rattle.std.proofs.Common.{ap, inr, refl}
 use Rattle.mbdc_io.specs.Stream.{Puts}
 use Rattle.dc_poller.specs.Link.{link_by, link_of}
 use Rattle.dc_poller.specs.Script.{no_gateway}
@@ -15,30 +15,30 @@ returns-in-Some-clause-ran g c moment origin state before chain at =
     let lost = g.B.Bus.lost in
     let old = c.args.gateway.now in
     let bus = c.in-Some.bus in
-    searched_ran g.D.Disk origin c.args.concentrator.now.house.budget state before moment c.args.budget (g.B.Bus.meters bus) (link_of lost old) (link_by (lost c.search.new.bus)) _ _
-    (Puts (g.W.Sink.written c.args.out.now) (g.W.Sink.written c.search.new.out)) c.args.concentrator.now c.search.new.concentrator c.search.result (has_one lost old bus c.in-Some.is)
+    searched_ran g.D.Disk origin c.args.concentrator.now.house.budget state before moment c.args.budget (g.B.Bus.meters bus) (link_of lost old) _ (link_by (lost c.search.new.bus)) _ _
+    (Puts (g.W.Sink.written c.args.out.now) (g.W.Sink.written c.search.new.out)) c.args.concentrator.now c.search.new.concentrator c.search.result (ap (link_of lost) c.in-Some.is) (has_one lost old bus c.in-Some.is)
     (λ exchanges so. carries_some lost g.B.Bus.asks exchanges old bus c.search.new.bus c.in-Some.is so c.search.ensures.untouched)
-    (rw c.in-Some.is (c.search.ensures.went origin state before chain at))
+    (c.search.ensures.went origin state before chain at)
 
 pub returns-in-Some-clause-cut : goal.returns-in-Some-clause-cut
 returns-in-Some-clause-cut g c moment origin state before chain at =
     let lost = g.B.Bus.lost in
     let old = c.args.gateway.now in
     let bus = c.in-Some.bus in
-    searched_cut g.D.Disk origin c.args.concentrator.now.house.budget state before moment c.args.budget (g.B.Bus.meters bus) (link_of lost old) (link_by (lost c.search.new.bus)) _ _
-    (Puts (g.W.Sink.written c.args.out.now) (g.W.Sink.written c.search.new.out)) c.args.concentrator.now c.search.new.concentrator c.search.result (has_one lost old bus c.in-Some.is)
+    searched_cut g.D.Disk origin c.args.concentrator.now.house.budget state before moment c.args.budget (g.B.Bus.meters bus) (link_of lost old) _ (link_by (lost c.search.new.bus)) _ _
+    (Puts (g.W.Sink.written c.args.out.now) (g.W.Sink.written c.search.new.out)) c.args.concentrator.now c.search.new.concentrator c.search.result (ap (link_of lost) c.in-Some.is) (has_one lost old bus c.in-Some.is)
     (λ exchanges so. carries_some lost g.B.Bus.asks exchanges old bus c.search.new.bus c.in-Some.is so c.search.ensures.untouched)
-    (rw c.in-Some.is (c.search.ensures.went origin state before chain at))
+    (c.search.ensures.went origin state before chain at)
 
 pub returns-in-Some-clause-starved : goal.returns-in-Some-clause-starved
 returns-in-Some-clause-starved g c origin state before chain at =
     let lost = g.B.Bus.lost in
     let old = c.args.gateway.now in
     let bus = c.in-Some.bus in
-    searched_starved g.D.Disk origin c.args.concentrator.now.house.budget state before c.args.budget (g.B.Bus.meters bus) (link_of lost old) (link_by (lost c.search.new.bus)) _ _
-    (Puts (g.W.Sink.written c.args.out.now) (g.W.Sink.written c.search.new.out)) c.args.concentrator.now c.search.new.concentrator c.search.result (has_one lost old bus c.in-Some.is)
+    searched_starved g.D.Disk origin c.args.concentrator.now.house.budget state before c.args.budget (g.B.Bus.meters bus) (link_of lost old) _ (link_by (lost c.search.new.bus)) _ _
+    (Puts (g.W.Sink.written c.args.out.now) (g.W.Sink.written c.search.new.out)) c.args.concentrator.now c.search.new.concentrator c.search.result (ap (link_of lost) c.in-Some.is) (has_one lost old bus c.in-Some.is)
     (λ exchanges so. carries_some lost g.B.Bus.asks exchanges old bus c.search.new.bus c.in-Some.is so c.search.ensures.untouched)
-    (rw c.in-Some.is (c.search.ensures.went origin state before chain at))
+    (c.search.ensures.went origin state before chain at)
 
 pub returns-in-Some-clause-through : goal.returns-in-Some-clause-through
 returns-in-Some-clause-through g c = no_memory_so c.search.result _ (has_one g.B.Bus.lost c.args.gateway.now c.in-Some.bus c.in-Some.is)

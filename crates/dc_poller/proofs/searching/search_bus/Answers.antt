@@ -5,7 +5,7 @@ use Rattle.mbdc_bus.specs.Bus.{AreExchanged}
 use Rattle.dc_poller.specs.Link.{link_by, loss_text}
 use Rattle.dc_search.specs.Found.{search_text}
 use Rattle.dc_poller.proofs.LineRuns.{on_ok}
-use Rattle.dc_poller.proofs.Searches.{left_by, lost_by, told_talked}
+use Rattle.dc_poller.proofs.Searches.{asked_anyway, left_by, lost_by, told_talked}
 use Rattle.dc_poller.proofs.searching.search_bus.Goals as goal
 
 pub returns-in-Ok-searched-clause-talked : goal.returns-in-Ok-searched-clause-talked
@@ -28,3 +28,20 @@ returns-in-Ok-searched-clause-talked g c =
     (cc (c.is_lost-was_lost.ensures, c.is_lost.ensures))
     (puts-both w0 w1 w2 (loss_text (link_by c.is_lost-was_lost.result) (link_by c.is_lost.result))
     (search_text c.in-Ok-searched.search) c.in-Ok.ensures.0 p)) c.put_search.ensures.0)
+
+pub returns-in-Err-searched-clause-talked : goal.returns-in-Err-searched-clause-talked
+returns-in-Err-searched-clause-talked g c =
+    let was = g.B.Bus.lost c.args.bus.now in
+    let is = g.B.Bus.lost c.search_over-searched.new.bus in
+    let w = g.W.Sink.written in
+    let stopped = c.in-Err-searched.ensures.stopped in (
+      stopped.1.exchanges,
+      (stopped.0, stopped.1.asked),
+      left_by was is (λ lost. ap g.B.Bus.lost (c.search_over-searched.ensures.untouched lost) ∙ lost),
+      stopped.1.happened,
+      subst (Puts (w c.args.out.now) (w c.put_loss.new.out)) (cc (c.is_lost-was_lost.ensures, c.is_lost.ensures)) c.in-Ok.ensures.0,
+    )
+
+pub returns-in-Err-clause-talked : goal.returns-in-Err-clause-talked
+returns-in-Err-clause-talked g c =
+    asked_anyway g.B.Bus.asks c.args.budget c.args.bus.now c.search_over-searched.new.bus c.search_over-searched.result c.search_over-searched.ensures.asked c.search_over-searched.ensures.stopped
