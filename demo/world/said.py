@@ -1,7 +1,9 @@
-"""The lines of `mbdc decode` and `mbdc poll` that say what an object of their `--json`, or of the web page, says."""
+"""The lines of `mbdc decode` and `mbdc poll` that say what an object of their `--json`, or of the web page, says; and what the Python package
+says, as these objects do."""
 
+import datetime
 from collections.abc import Iterator
-from typing import Any
+from typing import Any, Optional
 
 FUNCTIONS = ("instantaneous", "maximum", "minimum", "error state")
 
@@ -51,6 +53,44 @@ def lines_of(found: Object) -> Iterator[str]:
 def without_length(line: str) -> str:
     """A long frame's line without the body's length."""
     return " ".join(line.split()[:4]) if line.startswith("LONG") else line
+
+
+def value_text(record: Any) -> Optional[str]:
+    """The text in JSON of the value of the package's record."""
+    value = record.value
+    if value is None or isinstance(value, str):
+        return value
+    if isinstance(value, int):
+        return f"{value:0{2 * len(record.data)}X}"
+    if isinstance(value, datetime.datetime):
+        return value.isoformat(timespec="minutes" if record.type == "minute" else "seconds")
+    return value.isoformat() if isinstance(value, (datetime.date, datetime.time)) else f"{value:f}"
+
+
+def record_object(record: Any) -> Object:
+    """The object in JSON of the package's record."""
+    bytes_of = {name: found if found is None else found.hex().upper() for name in ("vib", "data", "maker") for found in [getattr(record, name)]}
+    return {**vars(record), **bytes_of, "qualifiers": list(record.qualifiers), "value": value_text(record)}
+
+
+def frame_object(frame: Any) -> Object:
+    """What the package's frame says, by the names of JSON."""
+    found: Any = frame.telegram
+    meter = found and found.meter and {**vars(found.meter), "id": str(found.meter) if found.meter.manufacturer else None}
+    fault = frame.fault and {"kind": frame.fault.place, "number": frame.fault.number, "name": frame.fault.name}
+    data = found and found.manufacturer_data
+    return {"frame": frame.kind, "control": frame.control, "address": frame.address, "ci": frame.ci, "fault": fault, "telegram": found and {
+        "meter": meter, "access": found.access, "status": found.status, "records": list(map(record_object, found.records)), "more": found.more,
+        "manufacturer_data": data if data is None else data.hex().upper()}}
+
+
+def same_object(one: Object) -> Object:
+    """What `mbdc decode --json` says of a frame, as `frame_object` has it."""
+    found = one if "meter" in one else one.get("content")
+    telegram = found and {**{name: found[name] for name in ("meter", "access", "records", "more", "manufacturer_data")},
+                          "status": found["status"] and found["status"]["code"]}
+    return {"frame": one["frame"], **{name: one.get(name) for name in ("control", "address", "ci")},
+            "fault": one.get("content", one).get("fault"), "telegram": telegram}
 
 
 def poll_line_of(event: Object) -> str:

@@ -1,6 +1,5 @@
 """Each record of readings.tsv, each body of contents.tsv and each headline of headlines.tsv is read as its row says, by both ways."""
 
-import datetime
 import decimal
 import json
 import pathlib
@@ -8,7 +7,9 @@ from typing import Any, Dict, List, Optional
 
 import pytest
 
-from mbdc import decode_body, decode_json, headline, readings
+import mbdc
+from world.frames import answer
+from world.said import frame_object, same_object
 
 HEADER = bytes.fromhex("785634122440010755000000")  # 12345678.PAD.01.07
 FIELDS = ("quantity", "qualifiers", "reading", "value", "unit", "type", "error", "phase", "direction", "maker", "label", "summer_time")
@@ -39,44 +40,17 @@ def wanted_of(field: str, cell: str) -> object:
 @pytest.mark.parametrize("row", READINGS, ids=[row[0] for row in READINGS])
 def test_a_record_is_read_as_its_row_says(row: List[str]) -> None:
     record, *cells = row
-    found: Dict[str, Any] = decode_body(HEADER + bytes.fromhex(record))["records"][0]
+    found: Dict[str, Any] = json.loads(mbdc.decode_json(answer(1, HEADER + bytes.fromhex(record)).hex()))["records"][0]
     assert {field: found[field] for field in FIELDS} == {field: wanted_of(field, cell) for field, cell in zip(FIELDS, cells)}
 
 
-def value_of(of_type: Optional[str], shown: Optional[str]) -> object:
-    """A value of JSON as the package has it."""
-    if shown is None or of_type is None:
-        return None
-    if of_type in ("number", "flags"):
-        return decimal.Decimal(shown) if of_type == "number" else int(shown, 16)
-    kinds = {"date": datetime.date, "time": datetime.time, "minute": datetime.datetime, "second": datetime.datetime}
-    return kinds[of_type].fromisoformat(shown) if of_type in kinds else shown  # type: ignore[attr-defined]
+FRAMES = [*(answer(1, HEADER + bytes.fromhex(row[0])) for row in READINGS), *(bytes.fromhex(row[0]) for row in CONTENTS)]
 
 
-def check_readings(ci: int, body: bytes, records: List[Dict[str, Any]]) -> None:
-    """The package's values of a body are those of its JSON, to the last digit."""
-    found = [vars(reading) for reading in readings(body, ci)]
-    wanted = [{**record, **{name: record[name] if record[name] is None else bytes.fromhex(record[name]) for name in ("vib", "data", "maker")},
-               "qualifiers": tuple(record["qualifiers"]), "value": value_of(record["type"], record["value"])} for record in records]
-    assert found == wanted and [str(one["value"]) for one in found] == [str(one["value"]) for one in wanted]
-
-
-@pytest.mark.parametrize("row", READINGS, ids=[row[0] for row in READINGS])
-def test_values_are_those_of_json(row: List[str]) -> None:
-    body = HEADER + bytes.fromhex(row[0])
-    check_readings(0x72, body, decode_body(body)["records"])
-
-
-@pytest.mark.parametrize("row", CONTENTS, ids=[row[0] for row in CONTENTS])
-def test_values_of_other_bodies_are_those_of_json(row: List[str]) -> None:
-    frame = bytes.fromhex(row[0])
-    check_readings(frame[6], frame[7:-2], json.loads(decode_json(row[0]))["content"]["records"])
-
-
-def test_another_ci_field_has_no_readings() -> None:
-    assert not list(readings(HEADER, 0x51))
-    with pytest.raises(ValueError):
-        readings(HEADER, 256)
+@pytest.mark.parametrize("frame", FRAMES, ids=[frame.hex() for frame in FRAMES])
+def test_values_are_those_of_json_to_the_last_digit(frame: bytes) -> None:
+    found, = mbdc.frames(frame, strict=False)
+    assert frame_object(found) == same_object(json.loads(mbdc.decode_json(frame.hex())))
 
 
 def cell_of(value: object) -> str:
@@ -98,7 +72,7 @@ def sent_of(record: Dict[str, Any]) -> str:
 @pytest.mark.parametrize("row", CONTENTS, ids=[row[0] for row in CONTENTS])
 def test_a_body_says_what_its_row_says(row: List[str]) -> None:
     frame, *cells = row
-    found = json.loads(decode_json(frame))["content"]
+    found = json.loads(mbdc.decode_json(frame))["content"]
     assert list(found) == ["structure", "meter", "access", "status", "security", "records", "more", "manufacturer_data", "fault", "reason"]
     security = found["security"] and "|".join(cell_of(value) for value in found["security"].values())
     status, fault = found["status"] and found["status"]["code"], found["fault"] and found["fault"]["name"]
@@ -110,5 +84,5 @@ def test_a_body_says_what_its_row_says(row: List[str]) -> None:
 def test_a_meter_stands_at_what_its_row_says(row: List[str]) -> None:
     body, cell = row
     wanted = [] if cell == "-" else [value.split(":") for value in cell.split(" ")]
-    found = [(reading.tariff, reading.value, reading.unit) for reading in headline(bytes.fromhex(body))]
+    found = [(record.tariff, record.value, record.unit) for record in mbdc.telegram(bytes.fromhex(body), strict=False).headline]
     assert found == [(int(tariff), decimal.Decimal(value), unit) for tariff, value, unit in wanted]
