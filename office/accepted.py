@@ -11,7 +11,7 @@ from published import NONE, Printed, Published, reading_key
 
 CHARTED = 13  # months
 # Of these houses the audit of a month
-AUDITS = "SELECT house, id FROM audits_now WHERE house = ANY (%s) AND month = %s"
+AUDITS = "SELECT n.house, n.id, a.says FROM audits_now n JOIN audits a ON a.id = n.id WHERE n.house = ANY (%s) AND n.month = %s"
 # What was published of a month, and of earlier ones and their users: for charts and where a month has no evidence any more
 NUMBERS = """
 SELECT p.audit, p.tenancy, p.key, p.text, p.mark FROM published p JOIN audits_now a ON a.id = p.audit
@@ -76,7 +76,7 @@ def published_of(cursor: Cursor, houses: List[str], month: datetime.date) -> Tup
     """What may be printed of a month of these houses, and which houses have a number that its audit file doesn't have; of a house
     without an audit nothing."""
     cursor.execute(AUDITS, (houses, month))
-    found = {house: Published(audit, {}, {}) for house, audit in cursor}
+    found = {house: Published(audit, {}, {}, says) for house, audit, says in cursor}
     refused = []
     for house, published in list(found.items()):
         cursor.execute(NUMBERS, (house, month, later_month(month, 1 - CHARTED), month))

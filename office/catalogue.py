@@ -44,7 +44,10 @@ WORDS: Dict[str, Tuple[str, str]] = {  # German, English
         "Average: consumption per m² of all comparable flats with a measured value, times your floor area, whole month."),
     "average_declared": ("Er ist über mehrere Häuser gerechnet: eine Angabe, die keine Prüfung nachrechnet.",
                          "It is of several houses: declared, and computed by no audit."),
-    "audited": ("Aus den Telegrammen der Zähler nachgerechnet (Prüfung {id}).", "Computed again from the meters' telegrams (audit {id})."),
+    "audited": ("Nachgerechnet (Prüfung {id}) aus {sources}.", "Computed again (audit {id}) from {sources}."),
+    "telegrams": ("Telegrammen der Zähler ({count})", "telegrams of the meters ({count})"),
+    "put": ("von Hand eingetragenen Werten ({count})", "values put by hand ({count})"),
+    "estimates": ("Schätzungen ({count})", "estimates ({count})"), "and": (" und ", " and "),
     "evidence": ("Die Belege Ihrer Zahlen hat die Datei", "The evidence of your numbers is in the file"),
     "explain_audit": ("Speichern Sie sie, und wählen Sie sie auf der", "Save it, and choose it on the"), "audit_page": ("Prüfseite", "audit page"),
     "declared_facts": (

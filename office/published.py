@@ -56,6 +56,7 @@ class Published(NamedTuple):
     audit: Optional[int]
     of_users: Dict[int, Numbers]
     of_house: Numbers
+    says: str = ""  # the audit's last line
 
     def of(self, tenancy: int) -> Numbers:
         return {**self.of_house, **self.of_users.get(tenancy, {})}

@@ -25,6 +25,7 @@ from sheet_facts import carbon, comparisons, corrected, costs, days_in, estimate
 
 TEMPLATES = pathlib.Path(__file__).resolve().parent / "templates"
 LONGEST = 300  # characters of what people wrote
+SOURCES = {"telegrams": "readings", "put": "by hand", "estimates": "estimated"}  # of the audit's last line, by the word for it
 FACTS = {"changes": comparisons, "weather": weather, "carbon": carbon, "costs": costs}
 
 
@@ -36,9 +37,10 @@ class Options(NamedTuple):
 
 
 class Evidence(NamedTuple):
-    """A sheet's audit file, which lies beside it."""
+    """A sheet's audit file, which lies beside it, and the last line that the audit says of it."""
     name: str
     sha256: str
+    says: str
 
 
 @functools.lru_cache(maxsize=None)
@@ -78,6 +80,7 @@ def sheet_html(sheet: Sheet, published: Published, options: Options, evidence: O
     number, flat = printed_in(numbers, words), user.flat
     means = {use.use: number(use_key(flat, use.use, "average", use.unit)) for use in sheet.uses}
     return html_of("sheet.html", words, sheet=sheet, user=user, months=compared(sheet.month), audit=published.audit, number=number,
+                   audited=audited_of(published.audit, evidence.says if evidence else published.says, words),
                    of_month=lambda use, month: number(month_key(flat, use, month)),
                    average=lambda use: means[use.use],
                    is_average_declared=any(it is not None and it.mark == DECLARED for it in means.values()),
@@ -88,6 +91,15 @@ def sheet_html(sheet: Sheet, published: Published, options: Options, evidence: O
                    said=said_of(sheet, words, numbers), corrected=corrected(sheet, words, numbers),
                    part=lambda month, of: part_of(month, of, words), decoder=options.decoder,
                    is_paper=with_codes, codes=codes_of(sheet, options) if with_codes else [])
+
+
+def audited_of(audit: Optional[int], says: str, words: Catalogue) -> str:
+    """Which audit, and what it counted: telegrams, values that people put, and estimates. Nothing without one."""
+    if audit is None:
+        return ""
+    counts = dict(it.rsplit(" ", 1) for it in says.split(", "))
+    *before, last = [words.word(word, count=counts[of]) for word, of in SOURCES.items() if counts.get(of, "0") != "0"] or ["-"]
+    return words.word("audited", id=audit, sources=words.word("and").join([", ".join(before), last] if before else [last]))
 
 
 def is_estimated(numbers: Numbers, key: str) -> bool:

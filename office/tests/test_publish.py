@@ -16,6 +16,7 @@ from test_sheets import published, sheet_of
 
 import auditing
 import program
+import rendering
 from catalogue import Catalogue
 from database import Database
 from drafts import Reader
@@ -25,7 +26,7 @@ Lie = Callable[[List[str]], List[str]]
 GAS = "03"
 SINCE = at("2023-12-01T00:00")
 DATES = (r"\d{4}-\d{2}\.audit", r"\d{2}\.\d{2}\.\d{4}(, \d{2}:\d{2})?", r"\d{1,2} [A-Z][a-z]{2} \d{4}(, \d{2}:\d{2})?", r"\b20\d{2}\b", r"\d+ (von|of) \d+ (Tagen|days)")
-NAMES = (r"SHA-256", r"\b[0-9a-f]{64}\b", r"\d{8}\.PAD\.01\.\d{2}", r"Elm Street 1", r"\bA\d\b", r"(Messstelle|Place) \d", r"CO2", r"elm-\d", r"kg CO2")
+NAMES = (r"SHA-256", r"(Zähler|Werten|Schätzungen|meters|hand|estimates) \(\d+\)", r"\b[0-9a-f]{64}\b", r"\d{8}\.PAD\.01\.\d{2}", r"Elm Street 1", r"\bA\d\b", r"(Messstelle|Place) \d", r"CO2", r"elm-\d", r"kg CO2")
 NUMBER = re.compile(r"\d[\d.,]*")
 
 
@@ -121,8 +122,8 @@ def test_each_digit_was_accepted(office: Office, elm: Supplied, tmp_path: pathli
         digits = digits_of(path.read_text(encoding="utf-8").replace("10115", ""), audit)
         assert len(digits) > 10 and digits <= known | declared | {"1"}, (path, digits - known)  # "1 m³ = .."
     text = pages[0][0].read_text(encoding="utf-8")
-    assert f"Aus den Telegrammen der Zähler nachgerechnet (Prüfung {audit})." in text and "€" in text and "kg CO2" in text
-    assert f"Computed again from the meters&#39; telegrams (audit {audit})." in pages[1][0].read_text(encoding="utf-8")
+    assert re.search(rf"Nachgerechnet \(Prüfung {audit}\) aus Telegrammen der Zähler \(\d+\)\.", text) and "€" in text and "kg CO2" in text
+    assert re.search(rf"Computed again \(audit {audit}\) from telegrams of the meters \(\d+\)\.", pages[1][0].read_text(encoding="utf-8"))
 
 
 def test_what_is_stored(office: Office, elm: Supplied, tmp_path: pathlib.Path) -> None:
@@ -383,3 +384,15 @@ def test_an_audit_is_its_file(office: Office, elm: Supplied) -> None:
     for columns in ("convert_to('other', 'UTF8'), sha256", "file, repeat('0', 64)", "NULL, sha256"):
         query = f"INSERT INTO audits (house, month, version, file, sha256, program, program_sha256, says) SELECT house, month, version, {columns}, program, program_sha256, says FROM audits"
         assert re.search("is_its_file|without its file", refused(office, query, role="publisher")), columns
+
+
+@pytest.mark.parametrize("counts, german, english", [
+    ((4, 0, 0), "Telegrammen der Zähler (4).", "telegrams of the meters (4)."), ((0, 4, 0), "von Hand eingetragenen Werten (4).", "values put by hand (4)."),
+    ((3, 1, 0), "Telegrammen der Zähler (3) und von Hand eingetragenen Werten (1).", "telegrams of the meters (3) and values put by hand (1)."),
+    ((3, 1, 2), "Telegrammen der Zähler (3), von Hand eingetragenen Werten (1) und Schätzungen (2).",
+     "telegrams of the meters (3), values put by hand (1) and estimates (2).")])
+def test_a_sheet_says_what_its_audit_counted(counts: Tuple[int, int, int], german: str, english: str) -> None:
+    says = "numbers 5, differ 0, readings {}, refused 0, by hand {}, estimated {}, struck 0, places 1".format(*counts)
+    assert rendering.audited_of(7, says, Catalogue("de", "UTC")) == f"Nachgerechnet (Prüfung 7) aus {german}"
+    assert rendering.audited_of(7, says, Catalogue("en", "UTC")) == f"Computed again (audit 7) from {english}"
+    assert rendering.audited_of(None, "", Catalogue("en", "UTC")) == ""
