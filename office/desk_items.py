@@ -257,6 +257,7 @@ def offers_of(item: Item, readings: List[Reading]) -> List[Offer]:
     key = key_of(item.kind, facts)
     found = {
         "box.never collected": [Offer("collect", {"box": facts.get("box")})], "box.not collected": [Offer("collect", {"box": facts.get("box")})],
+        "talks": [Offer("collect", {"box": facts.get("box")})],
         "box.failed": [Offer("collect", {"box": facts.get("box")})], "silent": [exchange, value], "error": [exchange, value],
         "power": [exchange], "disturbed": [*strike, value, Offer("restart", {**meter, "unit": day.unit if day else None})],
         "turn": [Offer("declare_counter", {**meter, "digits": facts.get("digits")}), *strike], "too large": [exchange],
@@ -266,6 +267,7 @@ def offers_of(item: Item, readings: List[Reading]) -> List[Offer]:
         "no number.missing": [value], "no number.disturbed": [*strike, value],
         "no number.unclear": [Offer("exchange", {"house": item.house, **pair(facts.get("meters"))})],
         "no number.held": [Offer("see_number", {"place": facts.get("place"), "month": facts.get("month")}), *strike],
+        "no number.provisional": [value, Offer("see_number", {"place": facts.get("place"), "month": facts.get("month")})],
         "changed": [Offer("correct_month", {"house": item.house, "month": facts.get("month")}),
                     Offer("leave_month", {"house": item.house, "month": facts.get("month")})],
         "not sent": [Offer("address", {"house": item.house, "flat": item.flat}), Offer("send", {"month": facts.get("month")})],

@@ -14,6 +14,7 @@ WINDOW_DAYS = 35  # of the values in which falls and leaps are looked for
 STILL_DAYS = 45
 NIGHTS = 7
 WAITING_DAYS = 95  # sheets of older months aren't waited for
+STEP_DAYS = 5  # after a month until a person is asked for a step after its end
 MANY = 3  # places of a house without a value in a month are one item
 Facts = Dict[str, Any]
 
@@ -117,7 +118,9 @@ CROSS JOIN LATERAL (
     SELECT jsonb_agg(f.identity ORDER BY lower(f.during)) AS meters, (array_agg(f.id ORDER BY lower(f.during) DESC))[1] AS fitting,
            (array_agg(f.identity ORDER BY lower(f.during) DESC))[1] AS identity
     FROM fittings f WHERE f.place = u.place AND f.during && tstzrange(u.begins, u.ends, '[]')) k
-WHERE u.part = 0 AND u.grade IN ('missing', 'disturbed', 'unclear', 'held') AND u.month >= %(at)s::date - 400
+WHERE u.part = 0 AND u.month >= %(at)s::date - 400
+  AND (u.grade IN ('missing', 'disturbed', 'unclear', 'held') OR n.out_at IS NULL AND waits_for_a_step(u.month, u.place)
+       AND u.month + interval '1 month' <= %(at)s::timestamptz - make_interval(days => %(step)s))
   AND u.month + interval '1 month' <= %(at)s
 ORDER BY u.house, u.place, u.month"""
 CHANGES = """
@@ -141,7 +144,7 @@ FROM refusals r ORDER BY 3"""
 ALL = (COLLECTOR, BOXES, SILENT_BOXES, CLOCKS, LATE, TALKS, SILENT, STATES, NO_USE, STEPS, STILL, NIGHT, CHANGES, NOT_SENT, REFUSED)
 # What takes the number of its meter's month, by the grade that it leaves
 CAUSES = {"missing": ("silent", "error", "power", "no use", "too large", "no consumption"), "disturbed": ("disturbed", "turn", "error"),
-          "unclear": ("no use",), "held": ()}
+          "unclear": ("no use",), "held": (), "provisional": ()}
 
 
 class Seen(NamedTuple):
@@ -155,7 +158,7 @@ class Seen(NamedTuple):
 
 def seen_at(cursor: Cursor, moment: datetime.datetime) -> Iterator[Seen]:
     """What is so at a moment; one a kind and subject."""
-    values = {"at": moment, "hours": COLLECTION_HOURS, "days": WINDOW_DAYS, "still": STILL_DAYS, "nights": NIGHTS, "waiting": WAITING_DAYS}
+    values = {"at": moment, "hours": COLLECTION_HOURS, "days": WINDOW_DAYS, "still": STILL_DAYS, "nights": NIGHTS, "waiting": WAITING_DAYS, "step": STEP_DAYS}
     found: Dict[Tuple[str, str], Seen] = {}
     for query in ALL:
         cursor.execute(query, values)

@@ -26,6 +26,7 @@ OUT = ("SELECT 'month', u.month::text, u.place, u.part, u.version, u.amount, u.g
 CHANGED = "SELECT house, to_char(month, 'YYYY-MM') FROM changes WHERE left_why IS NULL AND month > %s ORDER BY 1, 2"
 CHANGED_BILLS = """
 SELECT house, lower(days) || '..' || upper(days) - 1 FROM bills_now WHERE changed IS NOT NULL AND lower(days) > %s ORDER BY 1, 2"""
+WAITING = "SELECT see_number(m, p.id, 'read at the meter') FROM places p, (VALUES (%s::date)) AS k (m) WHERE waits_for_a_step(m, p.id)"
 LEFT = "SELECT id FROM tenancies WHERE upper(days) < %s ORDER BY id"
 WITHOUT_A_REASON = """
 SELECT count(*) FROM (SELECT version, why FROM versions UNION ALL SELECT version, why FROM bills) v
@@ -56,7 +57,10 @@ class Cron:
 
     def release(self, month: datetime.date, *words: str) -> None:
         self.run("publish", "-", f"{month:%Y-%m}")
-        self.run("sheets", f"{month:%Y-%m}", "--out", str(self.out), "--pdf", "none", "--release", *words)
+        sheets = ("sheets", f"{month:%Y-%m}", "--out", str(self.out), "--pdf", "none", "--release", *words)
+        self.run(*sheets, statuses=(0, 5))
+        if self.office.sql(WAITING, month):  # of meters that weren't heard since: a person takes the number as it is
+            self.run(*sheets)
 
     def correct(self, month: datetime.date) -> None:
         """In the month after this one a person corrects what would be another now, as far as its days are there."""

@@ -168,7 +168,7 @@ def test_a_user_is_forgotten(office: Office, elm: Supplied, tmp_path: pathlib.Pa
         elm.month(month)
         published(office, month)
         assert office.run("sheets", month, "--out", str(tmp_path), "--pdf", "none").status == 0
-    assert len(list(tmp_path.glob("sheets/*/*.html"))) == 3
+    assert len(list(tmp_path.glob("**/sheets/*/*.html"))) == 3
     early = office.run("forget", str(one))
     assert early.status == 3 and "2025-01 of tenancy" in early.printed and "isn't out" in early.printed
     for month in ("2025-01", "2025-02"):
@@ -176,8 +176,8 @@ def test_a_user_is_forgotten(office: Office, elm: Supplied, tmp_path: pathlib.Pa
     assert office.run("forget", str(other)).status == 3
     ended = office.run("forget", str(one))
     assert ended.status == 0 and "2 sheets" in ended.printed, ended.printed
-    assert office.run("work", "--only", "erase", "--out", str(tmp_path), "--link", "https://office.example").printed.endswith(": 0 its sheets\n")
-    assert len(list(tmp_path.glob("sheets/*/*.html"))) == 1
+    assert office.run("work", "--only", "erase", "--out", str(tmp_path), "--link", "https://office.example").printed.endswith(": 0 no sheets are left\n")
+    assert len(list(tmp_path.glob("**/sheets/*/*.html"))) == 1
     assert office.sql("SELECT count(*) FROM tenancies WHERE person LIKE 'S%%'") == [(0,)]
     assert office.sql("SELECT amount, basis FROM month_use WHERE month = '2025-01-01'") == [(310 * WH, [])]
     assert elm.month("2025-02")[0] == ("A1", 0, 280 * WH, "measured")

@@ -9,7 +9,7 @@ from conftest import Office
 from supplied import ALLOCATOR, COLD, HEAT, Supplied, at
 from test_bills import billed
 from test_schema import refused
-from test_sheets import checked, sheet_of, written
+from test_sheets import checked, published, sheet_of, written
 
 WH = 3_600_000
 FEBRUARY = ("2025-01", "2025-02", "2025-03")
@@ -182,6 +182,24 @@ def test_a_number_is_held_until_a_person_says_why(office: Office, elm: Supplied,
     elm.tells(meter, {str(day): value + 1 for day, value in office.sql("SELECT day, value FROM day_values WHERE day >= '2025-01-19'")}, "m3")
     elm.month("2025-01")
     assert office.sql("SELECT grade FROM month_kwh") == [("held",)]
+
+
+def test_a_provisional_number_is_not_released(office: Office, elm: Supplied, tmp_path: pathlib.Path) -> None:
+    """It waits for the step after the month's end, or a person says why it needn't."""
+    elm.days(elm.meter(1, HEAT, "A1"), "2024-12-28", 35, 1000, 10)
+    tenancy = elm.tenancy("A1", "2024-01-01", None)
+    assert elm.month("2025-01") == [("A1", 0, 310 * WH, "provisional")]
+    published(office)
+    words = ("sheets", "2025-01", "--out", str(tmp_path), "--pdf", "none", "--release")
+    ended = office.run(*words)
+    assert ended.status == 5 and "2025-01 waits for readings after its end: elm-1" in ended.printed
+    assert office.sql("SELECT ready_houses('2025-01-01')") == [] and "waits for readings" in refused(office, "SELECT release_month('elm-1', '2025-01-01')")
+    assert not (tmp_path / "sheets").exists() and sheet_of(office, tmp_path, tenancy).exists()
+    assert "no number elm-1" not in office.run("alarms", "--at", "2025-02-03T12:00+00:00").printed
+    assert "NEW no number elm-1/A1/heat/1 2025-01: No reading came after the month" in office.run("alarms", "--at", "2025-02-07T12:00+00:00").printed
+    office.sql("SELECT desk.see_number(place, '2025-01-01', 'the meter was removed') FROM fittings")
+    assert office.sql("SELECT ready_houses('2025-01-01')") == [("elm-1",)]
+    assert office.run(*words).status == 0 and (tmp_path / "sheets").exists()
 
 
 def test_a_leap_in_an_empty_flat_is_held(office: Office, elm: Supplied) -> None:

@@ -50,7 +50,7 @@ def test_a_house_of_2000_flats(office: Office, elm: Supplied, tmp_path: pathlib.
     checked(text)
     total = (300_000 * FLATS + FLATS * (FLATS + 1) // 2) / 1000
     assert f"{total:,.1f}".translate(str.maketrans(",.", ".,")) in foot_of(text)
-    assert text.count("<tr data-flat=") == FLATS == len(list(tmp_path.glob("sheets/*/2025-01.html")))
+    assert text.count("<tr data-flat=") == FLATS == len(list(tmp_path.glob("ready/sheets/*/2025-01.html")))
 
 
 def test_a_month_without_a_reading(office: Office, elm: Supplied, tmp_path: pathlib.Path) -> None:

@@ -106,7 +106,8 @@ def elm(office: Office) -> Supplied:
 
 def sheet_of(office: Office, out: pathlib.Path, tenancy: int, month: str = "2025-01", form: str = "html") -> pathlib.Path:
     token = office.sql("SELECT token FROM tenancies WHERE id = %s", tenancy)[0][0]
-    return out / f"sheets/{token}/{month}.{form}"
+    path = f"sheets/{token}/{month}.{form}"
+    return out / "ready" / path if (out / "ready" / path).exists() else out / path
 
 
 def published(office: Office, month: str = "2025-01", *words: str) -> None:
@@ -137,7 +138,7 @@ def test_a_sheet(office: Office, elm: Supplied, tmp_path: pathlib.Path) -> None:
     assert page.cells["cold water", "2025-01-01"].split() == ["31,00"]
     assert "fehlt" in page.cells["cold water", "2024-01-01"]
     noted = office.sql("SELECT form, path, sha256, made_by FROM sheets")
-    assert noted == [("html", str(path.relative_to(tmp_path)), hashlib.sha256(path.read_bytes()).hexdigest(), "office")]
+    assert noted == [("html", str(path.relative_to(tmp_path / "ready")), hashlib.sha256(path.read_bytes()).hexdigest(), "office")]
     written(office, tmp_path, "--pdf", "none")
     assert office.sql("SELECT count(*) FROM sheets") == [(1,)]
 
@@ -274,3 +275,25 @@ def test_a_folder_that_cannot_be_written(office: Office, elm: Supplied, tmp_path
     published(office)
     ended = office.run("sheets", "2025-01", "--out", str(tmp_path))
     assert ended.status == 3 and "houses" in ended.printed
+
+
+def test_nothing_is_served_before_it_is_out(office: Office, elm: Supplied, tmp_path: pathlib.Path) -> None:
+    """A page lies in ready/ until its release is committed, a corrected one beside the one that is out; a release that was cut off after
+    its commit is ended by what runs next."""
+    tenancy = elm.tenancy("A1", "2023-01-01", None)
+    elm.month("2025-01")
+    written(office, tmp_path, "--pdf", "none")
+    out = tmp_path / sheet_of(office, tmp_path, tenancy).relative_to(tmp_path / "ready")
+    assert not (tmp_path / "sheets").exists() and sheet_of(office, tmp_path, tenancy) != out
+    written(office, tmp_path, "--pdf", "none", "--release")
+    assert out.exists() and out.with_suffix(".audit").exists() and not list(tmp_path.glob("ready/sheets/*/*"))
+    first = out.read_bytes()
+    for file in (out, out.with_suffix(".audit")):  # as a kill after the commit leaves it
+        file.replace(tmp_path / "ready" / file.relative_to(tmp_path))
+    assert office.run("send", "2025-01", "--out", str(tmp_path), "--link", "https://office.example", "--sendmail", "/bin/true").status in (0, 1)
+    assert out.read_bytes() == first and out.with_suffix(".audit").exists()
+    assert office.run("correct", "elm-1", "2025-01", "--why", "a second look").status == 0
+    written(office, tmp_path, "--pdf", "none")
+    assert out.read_bytes() == first and "(Fassung 2)" in sheet_of(office, tmp_path, tenancy).read_text(encoding="utf-8")
+    written(office, tmp_path, "--pdf", "none", "--release")
+    assert out.read_bytes() != first and out.with_name("2025-01.1.html").exists() and not list(tmp_path.glob("ready/sheets/*/*"))
