@@ -7,6 +7,7 @@ import subprocess
 import pytest
 from conftest import Office
 from supplied import HEAT, Supplied
+from test_schema import refused
 from test_sheets import HOSTILE, checked, sheet_of
 
 LINK = ("--link", "https://office.example/sheets")
@@ -113,3 +114,19 @@ def test_a_house_that_is_not_ready_waits(office: Office, elm: Supplied, tmp_path
     assert office.sql("SELECT house FROM versions WHERE out_at IS NOT NULL") == [("oak-2",)]
     office.run("act", "release", "2025-01-01", "--why", "again")
     assert "no house is ready" in worked(office, tmp_path / "out", sendmail(tmp_path), 1)
+
+
+def test_one_bad_address_stops_no_other(office: Office, elm: Supplied, tmp_path: pathlib.Path) -> None:
+    """It is refused at input; one that is there all the same is an item, and the others get their mails."""
+    for number, mail in ((1, "weber@example.org"), (2, "roth@example.org")):
+        office.sql("UPDATE tenancies SET wants = 'link', mail = %s WHERE id = %s", mail, elm.tenancy(f"A{number}", "2024-01-01", None))
+    for mail in ("_@[a", "x,all@b", "x@b,y@c", "a b@c", "x@", "@b", "x@b.", "x@-b", "x\n@b", ".x@b", "<x@b>", "x;y@b", "x@b@c", "a" * 200 + "@b"):
+        assert "is_an_address" in refused(office, "UPDATE tenancies SET mail = %s WHERE flat = 'A1'", mail), mail
+    office.sql("UPDATE tenancies SET mail = %s WHERE flat = 'A2'", "o'neill+meters@mail.example-1.org")
+    office.sql("ALTER TABLE tenancies DROP CONSTRAINT is_an_address")
+    office.sql("UPDATE tenancies SET mail = '_@[a' WHERE flat = 'A1'")
+    office.run("month", "2025-01")
+    assert office.run("act", "release", "2025-01-01", "--why", "all is there").status == 0
+    assert "1 by mail, 0 to print, 1 failed" in worked(office, tmp_path / "out", sendmail(tmp_path), 1)
+    assert len(list(tmp_path.glob("mail.*"))) == 1 and "A2 1 sent o'neill" in sent(office)
+    assert "NEW not sent elm-1 2025-01" in office.run("alarms", "--at", "2025-02-10T12:00+00:00").printed
