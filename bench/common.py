@@ -101,7 +101,7 @@ class Bench:
 
     def compiled(self, name: str, *libraries: str) -> str:
         """A program of bench/, compiled."""
-        subprocess.run(["gcc", "-O2", "-o", self.path(name), HERE / f"{name}.c", *libraries], check=True)
+        subprocess.run(["gcc", "-O3", "-march=x86-64-v2", "-o", self.path(name), HERE / f"{name}.c", *libraries], check=True)
         return self.path(name)
 
     @functools.cached_property
