@@ -23,6 +23,7 @@ TARGET = "wasm64-unknown-unknown"
 TRANSLATED = [f"--target={TARGET}", "-mcpu=lime1", "-c"]  # as the toolchain does for that target
 OF_MODULE = ["-O3", "-ffunction-sections", "-fdata-sections", "-mllvm", "-expand-div-rem-bits=64", "-mllvm", "-trap-unreachable", "-x", "ir"]
 OF_HEAP = ["-O2", "-ffreestanding", "-nostdinc", "-Wall", "-Wextra", "-Werror", "-x", "c"]
+FREE = 9000  # the number of a group of attributes that no module has
 OF_X86 = re.compile(r' "(probe-stack|stack-probe-size|target-cpu)"="[^"]*"')
 # Stands in for clang where the toolchain translates the library, and keeps the module
 KEEPER = """#!/bin/sh
@@ -56,29 +57,44 @@ def module_of(library: Any, folder: pathlib.Path) -> pathlib.Path:
     return folder / "module.bc"
 
 
-def for_wasm(text: str) -> str:
-    """A module for x86-64 as one for WebAssembly: both have 64-bit pointers, and the least significant byte first."""
+def for_wasm(text: str, names: str) -> str:
+    """A module for x86-64 as one for WebAssembly that exports these functions: both have 64-bit pointers, and the least significant byte
+    first."""
     lines = [line for line in text.splitlines() if not line.startswith("target datalayout")]
     text = OF_X86.sub("", "\n".join(lines)).replace('target triple = "x86_64-unknown-linux-gnu"', f'target triple = "{TARGET}"')
-    text, count = re.subn(rf"^(define .*@{EXPORT}\(.*\)) #\d+ {{$", r"\1 #9999 {", text, flags=re.MULTILINE)
-    if count != 1:
-        sys.exit(f"audit_module: the module doesn't define {EXPORT}")
-    return f'{text}\nattributes #9999 = {{ nounwind "wasm-export-name"="{EXPORT}" }}\n'
+    found: list[str] = []
+
+    def exported(define: re.Match[str]) -> str:
+        found.append(define[2])
+        return f"{define[1]} #{FREE + len(found) - 1} {{"
+
+    text = re.sub(rf"^(define (?!internal).*@({names})\(.*\)) #\d+ \{{$", exported, text, flags=re.MULTILINE)
+    if not found:
+        sys.exit(f"audit_module: the module defines no {names}")
+    return text + "".join(f'\nattributes #{FREE + n} = {{ nounwind "wasm-export-name"="{name}" }}' for n, name in enumerate(found)) + "\n"
+
+
+def link(own: pathlib.Path, folder: pathlib.Path, text: str, made: str, heap: bool = False) -> None:
+    """Translates a module, and links it, with a heap or without one."""
+    toolchain, objects = own / "toolchain", [folder / "module.o"]
+    (folder / "wasm.ll").write_text(text, encoding="utf-8")
+    run([toolchain / "bin" / "clang", *TRANSLATED, *OF_MODULE, folder / "wasm.ll", "-o", objects[0]])
+    if heap:
+        objects.append(folder / "heap.o")
+        run([toolchain / "bin" / "clang", *TRANSLATED, *OF_HEAP, ROOT / "library/heap.c", "-o", objects[1]])
+    run([toolchain / "bin" / "llvm-ar", "rcs", "--format=gnu", folder / "module.a", *objects])
+    run([own / "bin" / "rattle-link", "--target", TARGET, "--toolchain", toolchain, "-o", made, folder / "module.a"])
 
 
 def main() -> None:
     library = kit.load().rtlib
     own = pathlib.Path(library.KIT)
-    clang = own / "toolchain" / "bin" / "clang"
     with tempfile.TemporaryDirectory(prefix="audit-module-", dir=os.environ.get("TMPDIR")) as name:
         folder = pathlib.Path(name)
         text = folder / "module.ll"
-        run([clang, "-S", "-emit-llvm", "-Xclang", "-disable-llvm-passes", "-x", "ir", module_of(library, folder), "-o", text])
-        text.write_text(for_wasm(text.read_text(encoding="utf-8")), encoding="utf-8")
-        run([clang, *TRANSLATED, *OF_MODULE, text, "-o", folder / "module.o"])
-        run([clang, *TRANSLATED, *OF_HEAP, ROOT / "library/heap.c", "-o", folder / "heap.o"])
-        run([own / "toolchain" / "bin" / "llvm-ar", "rcs", "--format=gnu", folder / "audit.a", folder / "module.o", folder / "heap.o"])
-        run([own / "bin" / "rattle-link", "--target", TARGET, "--toolchain", own / "toolchain", "-o", sys.argv[1], folder / "audit.a"])
+        run([own / "toolchain" / "bin" / "clang", "-S", "-emit-llvm", "-Xclang", "-disable-llvm-passes", "-x", "ir", module_of(library, folder), "-o",
+             text])
+        link(own, folder, for_wasm(text.read_text(encoding="utf-8"), EXPORT), sys.argv[1], heap=True)
 
 
 if __name__ == "__main__":

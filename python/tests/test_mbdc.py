@@ -7,6 +7,7 @@ import decimal
 import doctest
 import pathlib
 import pickle
+import shutil
 import subprocess
 import types
 import zipfile
@@ -83,6 +84,19 @@ def test_a_fault_has_its_byte_number_and_name(data: bytes, at: int, place: str, 
     for fault in (raised.value, pickle.loads(pickle.dumps(raised.value))):
         assert (fault.at, fault.place, fault.number, fault.name) == (at, place, number, name)
     assert str(raised.value) == f"byte {at}: {place} fault {number} {name}"
+
+
+def test_javascript_says_the_same_of_faults() -> None:
+    module = pathlib.Path(mbdc._library._path()).with_name("npm") / "mbdc.mjs"
+    if not module.exists() or not shutil.which("node"):
+        pytest.skip("node, and the package for npm of tools/library")
+    script = f"""const {{ frames }} = await import("{module}");
+for (const digits of {[it[0].hex() for it in FAULTS]})
+  try {{ frames(Uint8Array.from(digits.match(/../g) ?? [], (it) => parseInt(it, 16))); }} catch (fault) {{ console.log(fault.message, fault.fault); }}
+try {{ frames("E5"); }} catch (fault) {{ console.log(String(fault)); }}"""
+    done = subprocess.run(["node", "--input-type=module", "--eval", script], capture_output=True, text=True, check=True)
+    wanted = [f"byte {at}: {place} fault {number} {name} {name}" for _, at, place, number, name in FAULTS]
+    assert done.stdout.splitlines() == [*wanted, "TypeError: frames takes a Uint8Array"]
 
 
 @pytest.mark.parametrize("body, at, name, values", [(CUT, 17, "Cut", ["12.565"]), (ENCRYPTED, 12, "Encrypted", []), (b"", 0, "Short", []),
