@@ -2,9 +2,10 @@
 """Makes completions and parts of manual pages of what packaging/commands.txt and `mbdc --help` say, and of the help of
 mbdc-house and mbdc-page and the comments of house.conf.
 
-`words.py bash|zsh|fish|synopsis|commands|house|page|settings PROGRAM` prints that. `words.py check PROGRAM` prints each difference between the
-list and the help of the program, with status 1 where there is one. `words.py help PROGRAM` writes packaging/help anew: the help
-of the program and of each command, and what it says of the mistakes that packaging/help/mistakes.txt lists.
+`words.py bash|zsh|fish|synopsis|commands|house|page|settings PROGRAM` prints that. `words.py check PROGRAM` prints each
+difference between the list and the help of the program, with status 1 where there is one. `words.py help PROGRAM` writes
+packaging/help anew: the help of the program and of each command, and what it says of the mistakes that
+packaging/help/mistakes.txt lists.
 """
 
 import os
@@ -357,7 +358,8 @@ def settings(program: str) -> str:
         texts = [line[2:] for line in lines if line.startswith("# ")]
         tags = "\n.TQ\n".join(f".B {roff(name)}" for name in names)
         body = [roff(it) + ("." if it.endswith(".") else "") for it in texts if not it.startswith(" ")]
-        values = [f".RS\n.TP\n.B {roff(value)}\n{roff(text)}.\n.RE" for it in texts if it.startswith(" ") for value, text in [it.split(maxsplit=1)]]
+        given = [it.split(maxsplit=1) for it in texts if it.startswith(" ")]
+        values = [f".RS\n.TP\n.B {roff(value)}\n{roff(text)}.\n.RE" for value, text in given]
         made.append("\n".join([".TP", tags, *body, *values]) + "\n")
     return "".join(made)
 

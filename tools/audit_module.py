@@ -92,8 +92,8 @@ def main() -> None:
     with tempfile.TemporaryDirectory(prefix="audit-module-", dir=os.environ.get("TMPDIR")) as name:
         folder = pathlib.Path(name)
         text = folder / "module.ll"
-        run([own / "toolchain" / "bin" / "clang", "-S", "-emit-llvm", "-Xclang", "-disable-llvm-passes", "-x", "ir", module_of(library, folder), "-o",
-             text])
+        run([own / "toolchain" / "bin" / "clang", "-S", "-emit-llvm", "-Xclang", "-disable-llvm-passes", "-x", "ir",
+             module_of(library, folder), "-o", text])
         link(own, folder, for_wasm(text.read_text(encoding="utf-8"), EXPORT), sys.argv[1], heap=True)
 
 

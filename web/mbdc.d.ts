@@ -30,11 +30,21 @@ export interface Record {
   summer_time: boolean | null;
 }
 
+/** A status byte (EN 13757-3). */
+export interface Status {
+  code: number;
+  application: string;
+  power_low: boolean;
+  permanent_error: boolean;
+  temporary_error: boolean;
+  manufacturer_bits: number;
+}
+
 /** The body of a long frame after CI 72h, 73h, 78h or 7Ah. */
 export interface Telegram {
   meter: Meter | null;
   access: number | null;
-  status: { code: number; application: string; power_low: boolean; permanent_error: boolean; temporary_error: boolean; manufacturer_bits: number } | null;
+  status: Status | null;
   records: Record[];
   /** Whether another telegram of the readout follows (DIF 1F). */
   more: boolean;

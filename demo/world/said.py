@@ -1,5 +1,5 @@
-"""The lines of `mbdc decode` and `mbdc poll` that say what an object of their `--json`, or of the web page, says; and what the Python package
-says, as these objects do."""
+"""The lines of `mbdc decode` and `mbdc poll` that say what an object of their `--json`, or of the web page, says; and what the Python
+package says, as these objects do."""
 
 import datetime
 from collections.abc import Iterator
@@ -69,7 +69,8 @@ def value_text(record: Any) -> Optional[str]:
 
 def record_object(record: Any) -> Object:
     """The object in JSON of the package's record."""
-    bytes_of = {name: found if found is None else found.hex().upper() for name in ("vib", "data", "maker") for found in [getattr(record, name)]}
+    sent = {name: getattr(record, name) for name in ("vib", "data", "maker")}
+    bytes_of = {name: found if found is None else found.hex().upper() for name, found in sent.items()}
     return {**vars(record), **bytes_of, "qualifiers": list(record.qualifiers), "value": value_text(record)}
 
 
@@ -80,8 +81,8 @@ def frame_object(frame: Any) -> Object:
     fault = frame.fault and {"kind": frame.fault.place, "number": frame.fault.number, "name": frame.fault.name}
     data = found and found.manufacturer_data
     return {"frame": frame.kind, "control": frame.control, "address": frame.address, "ci": frame.ci, "fault": fault, "telegram": found and {
-        "meter": meter, "access": found.access, "status": found.status, "records": list(map(record_object, found.records)), "more": found.more,
-        "manufacturer_data": data if data is None else data.hex().upper()}}
+        "meter": meter, "access": found.access, "status": found.status, "records": list(map(record_object, found.records)),
+        "more": found.more, "manufacturer_data": data if data is None else data.hex().upper()}}
 
 
 def same_object(one: Object) -> Object:

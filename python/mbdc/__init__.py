@@ -13,6 +13,6 @@ decode --json`. All may be called from any thread.
 from mbdc._frames import Frame, Meter, Record, Telegram, TelegramFault, Value, decode, frames, telegram
 from mbdc._library import LibraryFault, decode_json, decode_text
 
-__all__ = ["Frame", "LibraryFault", "Meter", "Record", "Telegram", "TelegramFault", "Value", "decode", "decode_json", "decode_text", "frames",
-           "telegram"]
+__all__ = ["Frame", "LibraryFault", "Meter", "Record", "Telegram", "TelegramFault", "Value", "decode", "decode_json", "decode_text",
+           "frames", "telegram"]
 __version__ = "0.2.0"

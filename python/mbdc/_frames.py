@@ -18,8 +18,8 @@ _CORRECTIONS = "multiplicative correction 10^"
 _SAME = ("no error", "uncorrected", "at base conditions", "multiplied by 1000")
 _FORWARD = "forward flow only"
 
-# What library/mbdc.h has: mbdc_frame; mbdc_head; mbdc_record, of it the place and size of the data, next, reading, type, error, mantissa and
-# exponent, and summer_time to flags; types of values, tables, results
+# What library/mbdc.h has: mbdc_frame; mbdc_head; mbdc_record, of it the place and size of the data, next, reading, type, error, mantissa
+# and exponent, and summer_time to flags; types of values, tables, results
 _FRAME, _HEAD = struct.Struct("7Q"), struct.Struct("12Q")
 _RECORD, _NEXT = struct.Struct("27Q2q7Q"), 17
 _FOUND, _TIME_AND_FLAGS = struct.Struct("72x2Q48x3Q24xQ24x2q"), struct.Struct("208xQ16x7Q")
@@ -132,7 +132,8 @@ class Telegram:
     def headline(self) -> tuple[Record, ...]:
         """What the meter stands at, by its device type: an energy, a volume or an allocator's value that is current, without a
         manufacturer's VIFE, a text or a phase, and with qualifiers that leave it what it is; where there is none, that of forward flow. Of
-        the lowest subunit the total (tariff 0), otherwise the first of each tariff, ascending. Tariffs are never added. Empty after a fault.
+        the lowest subunit the total (tariff 0), otherwise the first of each tariff, ascending. Tariffs are never added. Empty after a
+        fault.
 
         >>> found = telegram(bytes.fromhex("785634122440010755000000" "0413B5050000" "44130A000000"))
         >>> [str(record.value) for record in found.headline]
@@ -312,9 +313,10 @@ def _telegram(body: bytes, ci: int, begins: int) -> Optional[Telegram]:
     is_named, number, manufacturer, version, medium, is_headed, access, status, _, _, _, first = _HEAD.unpack_from(space.head)
     records, at, result = _walk(body, ci, first)
     rest = body[at:].lstrip(_FILLER) if result in (_END, _MORE) and ci != _FIXED_DATA else b""
-    return Telegram(_meter(number, manufacturer, version, medium, ci == _FIXED_DATA) if is_named else None,
-                    access if is_headed else None, status if is_headed else None, tuple(records), result == _MORE, rest[1:] if rest else None,
-                    None if result < _FAULT else TelegramFault(begins + min(at, len(body)), "body", result - _FAULT))
+    meter = _meter(number, manufacturer, version, medium, ci == _FIXED_DATA) if is_named else None
+    fault = None if result < _FAULT else TelegramFault(begins + min(at, len(body)), "body", result - _FAULT)
+    return Telegram(meter, access if is_headed else None, status if is_headed else None, tuple(records), result == _MORE,
+                    rest[1:] if rest else None, fault)
 
 
 def _frame(data: bytes, at: int) -> Frame:
@@ -337,7 +339,8 @@ def _frame(data: bytes, at: int) -> Frame:
 
 def _given(call: str, data: Union[bytes, bytearray, memoryview]) -> bytes:
     if not isinstance(data, (bytes, bytearray, memoryview)):
-        raise TypeError(f"{call} takes bytes, not {type(data).__name__}" + ("; mbdc.decode takes hex digits" if isinstance(data, str) else ""))
+        other = "; mbdc.decode takes hex digits" if isinstance(data, str) else ""
+        raise TypeError(f"{call} takes bytes, not {type(data).__name__}{other}")
     return bytes(data)
 
 
@@ -374,8 +377,8 @@ def frames(data: Union[bytes, bytearray, memoryview], strict: bool = True) -> tu
 def decode(digits: str, strict: bool = True) -> tuple[Frame, ...]:
     """The frames that hex digits spell, as `frames` has them of their bytes.
 
-    Raises TypeError where the digits aren't a str, ValueError where they aren't pairs of digits, with blanks between them, and what `frames`
-    raises.
+    Raises TypeError where the digits aren't a str, ValueError where they aren't pairs of digits, with blanks between them, and what
+    `frames` raises.
 
     >>> decode("E5 10 5B 01 5C 16")[1].address
     1
@@ -388,7 +391,8 @@ def decode(digits: str, strict: bool = True) -> tuple[Frame, ...]:
 def telegram(body: Union[bytes, bytearray, memoryview], ci: int = _VARIABLE_DATA, strict: bool = True) -> Telegram:
     """The telegram that a body without its frame is, such as a PART of the office's lines has one.
 
-    Raises TelegramFault and TypeError as `frames` does, and ValueError where bodies after this CI field aren't read (72h, 73h, 78h, 7Ah are).
+    Raises TelegramFault and TypeError as `frames` does, and ValueError where bodies after this CI field aren't read (72h, 73h, 78h and
+    7Ah are).
 
     >>> found = telegram(bytes.fromhex("785634120A00E97E" "0100000035010000"), 0x73)
     >>> [(str(record.value), record.unit, record.storage) for record in found.records]

@@ -92,7 +92,11 @@ def test_javascript_says_the_same_of_faults() -> None:
         pytest.skip("node, and the package for npm of tools/library")
     script = f"""const {{ frames }} = await import("{module}");
 for (const digits of {[it[0].hex() for it in FAULTS]})
-  try {{ frames(Uint8Array.from(digits.match(/../g) ?? [], (it) => parseInt(it, 16))); }} catch (fault) {{ console.log(fault.message, fault.fault); }}
+  try {{
+    frames(Uint8Array.from(digits.match(/../g) ?? [], (it) => parseInt(it, 16)));
+  }} catch (fault) {{
+    console.log(fault.message, fault.fault);
+  }}
 try {{ frames("E5"); }} catch (fault) {{ console.log(String(fault)); }}"""
     done = subprocess.run(["node", "--input-type=module", "--eval", script], capture_output=True, text=True, check=True)
     wanted = [f"byte {at}: {place} fault {number} {name} {name}" for _, at, place, number, name in FAULTS]
@@ -127,7 +131,8 @@ def test_a_body_after_another_ci_field_is_no_telegram() -> None:
 
 @pytest.mark.parametrize("call, given, says", [
     (mbdc.decode, b"E5", "mbdc.frames takes bytes"), (mbdc.decode_text, b"E5", "mbdc.frames takes bytes"),
-    (mbdc.decode_json, b"E5", "mbdc.frames takes bytes"), (mbdc.frames, "E5", "mbdc.decode takes hex digits"), (mbdc.frames, None, "not NoneType"),
+    (mbdc.decode_json, b"E5", "mbdc.frames takes bytes"), (mbdc.frames, "E5", "mbdc.decode takes hex digits"),
+    (mbdc.frames, None, "not NoneType"),
     (mbdc.telegram, "00", "mbdc.decode takes hex digits"), (mbdc.frames, [0xE5], "not list")])
 def test_another_type_is_told_what_to_call(call: Callable[[Any], object], given: object, says: str) -> None:
     with pytest.raises(TypeError, match=says):
@@ -184,7 +189,8 @@ def test_examples(module: types.ModuleType) -> None:
 
 
 def test_a_wheel_has_the_package_and_its_metadata(tmp_path: pathlib.Path) -> None:
-    if not any(subprocess.run([it, "-c", "import setuptools, wheel"], capture_output=True).returncode == 0 for it in ("python3", "/usr/bin/python3")):
+    tried = [subprocess.run([it, "-c", "import setuptools, wheel"], capture_output=True) for it in ("python3", "/usr/bin/python3")]
+    if all(it.returncode for it in tried):
         pytest.skip("setuptools and wheel")
     subprocess.run([ROOT / "tools/library", "--pure", tmp_path], check=True)
     made, = tmp_path.iterdir()

@@ -6,7 +6,8 @@ import subprocess
 from typing import Any
 
 PACKAGING = pathlib.Path(__file__).resolve().parents[2] / "packaging"
-METER: dict[str, Any] = {"id": "12345678.PAD.01.07", "number": "12345678", "manufacturer": "PAD", "version": 1, "medium": "water", "medium_code": 7}
+METER: dict[str, Any] = {"id": "12345678.PAD.01.07", "number": "12345678", "manufacturer": "PAD", "version": 1, "medium": "water",
+                         "medium_code": 7}
 VALUE: dict[str, Any] = {"storage": 0, "tariff": 0, "subunit": 0, "quantity": "volume", "value": "12.565", "unit": "m3", "type": "number"}
 
 
@@ -35,7 +36,8 @@ def test_metrics_of_a_flat_with_any_letters_and_of_polls(tmp_path: pathlib.Path)
         (tmp_path / name).write_text(text)
     lost, ends = {"event": "lost"}, [{"event": "end", "read": 0, "failed": 1}, {"event": "end", "read": 1, "failed": 0}]
     events: list[dict[str, Any]] = [lost, lost, ends[0], lost, ends[1], {"event": "command"}, lost]
-    (tmp_path / "house.image.journal").write_text("".join(f"{json.dumps({'at': at, **it})}\n" for at, it in enumerate(events)) + '{"event":"en')
+    lines = (json.dumps({"at": at, **it}) for at, it in enumerate(events))
+    (tmp_path / "house.image.journal").write_text("\n".join([*lines, '{"event":"en']))
     mbdc = tmp_path / "mbdc"
     mbdc.write_text(f'#!/bin/sh\nexec cat "{tmp_path}/$1"\n')
     mbdc.chmod(0o755)
@@ -43,7 +45,7 @@ def test_metrics_of_a_flat_with_any_letters_and_of_polls(tmp_path: pathlib.Path)
     labels = r'flat="A \"1\\",meter="12345678.PAD.01.07",medium="water"'
     assert (done.returncode, done.stderr) == (0, "")
     assert [line for line in (tmp_path / "mbdc-house.prom").read_text().splitlines() if line[0] != "#"] == [
-        'mbdc_build_info{version="1.2.3",logic="0a"} 1', "mbdc_poll_timestamp_seconds 4", "mbdc_poll_meters_read 1", "mbdc_poll_meters_failed 0",
-        "mbdc_poll_lines_lost 1", f"mbdc_meter_heard_timestamp_seconds{{{labels}}} 1795900080", f"mbdc_meter_status{{{labels}}} 4",
+        'mbdc_build_info{version="1.2.3",logic="0a"} 1', "mbdc_poll_timestamp_seconds 4", "mbdc_poll_meters_read 1",
+        "mbdc_poll_meters_failed 0", "mbdc_poll_lines_lost 1", f"mbdc_meter_heard_timestamp_seconds{{{labels}}} 1795900080", f"mbdc_meter_status{{{labels}}} 4",
         f'mbdc_meter_value{{{labels},quantity="volume",tariff="0",subunit="0",unit="m3"}} 12.565', "mbdc_image_bytes 195",
         "mbdc_image_budget_bytes 249856"]

@@ -60,7 +60,8 @@ def house(tmp_path: pathlib.Path) -> House:
     ("PATIENCE=60001", "PATIENCE takes a number from 1 to 60000, not 60001"), ("IMAGE=house.image", "IMAGE takes a path from / on"),
     ("BAUD=2500", "BAUD takes 300, "), ("LINE_4=tcp://a b:1", "LINE_4 takes tcp://HOST:PORT"), ("a line", "no setting: a line")])
 def test_what_is_no_setting_is_named_with_its_file_and_line(house: House, line: str, says: str) -> None:
-    file = house.put("house.conf", f"# Lines\n{'' if line.startswith('LINE_1') else 'LINE_1=tcp://c:1'}\nLINE_2=tcp://a:1\n\n{line}\nBAD=1\n")
+    first_line = "" if line.startswith("LINE_1") else "LINE_1=tcp://c:1"
+    file = house.put("house.conf", f"# Lines\n{first_line}\nLINE_2=tcp://a:1\n\n{line}\nBAD=1\n")
     done = house.does("status")
     first, second = done.stderr.splitlines()
     assert (done.returncode, second) == (78, f"mbdc-house: {file}:6: no setting: BAD=1")
@@ -132,7 +133,8 @@ def test_restore_keeps_two_files_of_before_and_names_them(house: House) -> None:
     assert "next: mbdc-house house poll" in done.stderr
 
 
-@pytest.mark.parametrize("given, says", [(b"no image\n", ": it doesn't open as an image"), (b"\x1f\x8b\x08\x00cut", ": it can't be unpacked (unexpected end of file)")])
+@pytest.mark.parametrize("given, says", [
+    (b"no image\n", ": it doesn't open as an image"), (b"\x1f\x8b\x08\x00cut", ": it can't be unpacked (unexpected end of file)")])
 def test_a_copy_that_is_none_is_named_and_nothing_is_left_of_it(house: House, given: bytes, says: str) -> None:
     copy = house.folder / "copy"
     copy.write_bytes(given)
@@ -153,7 +155,7 @@ def test_a_folder_in_which_the_account_may_not_be_is_no_fault() -> None:
         if os.geteuid() == 0:
             os.chown(name, NOBODY, NOBODY)
             account = NOBODY
-        done = subprocess.run(["sh", "-c", f"chmod -f 0 .; exec {name}/mbdc-house backup"], cwd=closed, capture_output=True, text=True, env={
-            "MBDC_SETTINGS": name, "PATH": f"{name}:/usr/bin:/bin"}, user=account)
+        done = subprocess.run(["sh", "-c", f"chmod -f 0 .; exec {name}/mbdc-house backup"], cwd=closed, capture_output=True, text=True,
+                              env={"MBDC_SETTINGS": name, "PATH": f"{name}:/usr/bin:/bin"}, user=account)
         closed.chmod(0o700)
     assert (done.returncode, done.stderr) == (0, "") and done.stdout.startswith(f"{house.image}.backup/")

@@ -30,7 +30,8 @@ def share(tmp_path_factory: pytest.TempPathFactory) -> pathlib.Path:
     ("mbdc po", "poll"), ("mbdc poll house.image --tr", "--tries --trace"), ("mbdc poll house.image --line 1 = se", "serial:"),
     ("mbdc report house.image reg", "register"), ("mbdc-house che", "check"), ("mbdc-house check --", "--ports"),
     ("mbdc-house second che", "check"), ("mbdc-house second check --p", "--ports"), ("mbdc-house poll --o", "--only"),
-    ("mbdc-house status --s", "--silent"), ("mbdc-house poll --l", ""), ("mbdc-house scan 1 --c", "--csv"), ("mbdc-house read ''", "1 2 3 4 5 6 7 8"),
+    ("mbdc-house status --s", "--silent"), ("mbdc-house poll --l", ""), ("mbdc-house scan 1 --c", "--csv"),
+    ("mbdc-house read ''", "1 2 3 4 5 6 7 8"),
     ("mbdc-page --l", "--language"), ("mbdc-page --language d", "de"), ("mbdc-page --title x", "")])
 def test_words_are_completed(share: pathlib.Path, typed: str, wanted: str) -> None:
     program = typed.split()[0]
