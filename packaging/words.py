@@ -24,7 +24,7 @@ OF_EACH_COMMAND = OF_THE_PROGRAM[:2]
 NO_GROUPS = {"Arguments:", "Options:", "Example:"}  # the other sections of a help
 SCHEMES = ["tcp://", "serial:", "blocks://"]
 BUS_LINES = range(1, 9)
-OF_BUS_LINES = {"--line", "--gateway", "--csv"}  # which mbdc-house gives itself
+OF_BUS_LINES = {"--line", "--csv"}  # which mbdc-house gives itself
 FILES = {"FILE", "IMAGE", "LIST", "SCRIPT"}  # the words that are completed as names of files
 USAGE = 2
 

@@ -16,6 +16,7 @@ STATE = "METERS 2\nREADINGS 3\nMARK 1\nCOMMAND 2\n"
 # Stands in for mbdc: an image is a file of such lines. `report` has a meter on line 1 and one on line 2.
 MBDC = """#!/bin/sh
 case $1 in
+poll | run | scan) echo "$@" ;;
 copy | rescue) grep -q METERS "$2" && cp "$2" "$3" ;;
 inspect) grep METERS -A3 "$2" || exit 3 ;;
 *) grep -q METERS "$2" || { echo 'mbdc: open: 1 NotImage' >&2; exit 3; }
@@ -66,6 +67,13 @@ def test_what_is_no_setting_is_named_with_its_file_and_line(house: House, line: 
     first, second = done.stderr.splitlines()
     assert (done.returncode, second) == (78, f"mbdc-house: {file}:6: no setting: BAD=1")
     assert first.startswith(f"mbdc-house: {file}:5: {says}")
+
+
+@pytest.mark.parametrize("words, wanted", [
+    ("poll", "poll IMAGE --tries 2 --line 1=tcp://127.0.0.1:1 --line 2=serial:/dev/none"), ("run script.txt", "run IMAGE script.txt"),
+    ("poll --line 1=tcp://c:1 --tries 1", "poll IMAGE --line 1=tcp://c:1 --tries 1"), ("scan 1 --csv", "scan tcp://127.0.0.1:1 --csv 1")])
+def test_a_command_gets_the_bus_lines_that_it_takes(house: House, words: str, wanted: str) -> None:
+    assert house.does(*words.split()).stdout == wanted.replace("IMAGE", str(house.image)) + "\n"
 
 
 def test_a_check_prints_the_settings_the_image_and_what_a_poll_would_do(house: House) -> None:
