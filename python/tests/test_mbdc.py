@@ -179,10 +179,6 @@ def test_no_library(monkeypatch: pytest.MonkeyPatch) -> None:
         mbdc._library._load()
 
 
-def test_the_version_is_that_of_the_packages() -> None:
-    assert (ROOT / "debian/changelog").read_text().startswith(f"mbdc ({mbdc.__version__}) ")
-
-
 @pytest.mark.parametrize("module", [mbdc, mbdc._library, mbdc._frames])
 def test_examples(module: types.ModuleType) -> None:
     assert doctest.testmod(module).failed == 0

@@ -31,10 +31,10 @@ def test_entries_that_are_open(release: types.ModuleType) -> None:
 
 def test_the_version_by_each_place(release: types.ModuleType, tmp_path: pathlib.Path) -> None:
     for place, text in (("CHANGELOG.md", CHANGES), ("debian/changelog", "mbdc (0.2.0) unstable; urgency=low\n"),
-                        (release.HELP, 'pub const VERSION: &str = "0.1.0, logic x";\n')):
+                        (release.HELP, 'pub const VERSION: &str = "0.1.0, logic x";\n'), (release.PYTHON, '__version__ = "0.2.0"\n')):
         (tmp_path / place).parent.mkdir(parents=True, exist_ok=True)
         (tmp_path / place).write_text(text)
-    assert sorted(release.versions_of(tmp_path).values()) == ["0.1.0", "0.2.0", "0.2.0"]
+    assert sorted(release.versions_of(tmp_path).values()) == ["0.1.0", "0.2.0", "0.2.0", "0.2.0"]
 
 
 def test_a_case_that_prints_another_text(release: types.ModuleType, tmp_path: pathlib.Path) -> None:
