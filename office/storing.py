@@ -1,6 +1,7 @@
 """Stores readings with their points, in the transaction of their collection."""
 
 import datetime
+import itertools
 from typing import Dict, List, Optional, Tuple
 
 import psycopg2.extras
@@ -10,6 +11,7 @@ from decoding import Point, due_days, points_of
 from link import Reading
 from stamps import Window, moments_of
 
+TELEGRAMS_A_TURN = 256  # whose records are in memory at once: a page may have 3,200, of 120 records each
 STATUS_BYTE = 9  # of a telegram: after identification number, manufacturer, version, medium, access number
 PERMANENT, APPLICATION, APPLICATION_ERROR = 8, 3, 2  # in it (EN 13757-3)
 READINGS = "readings (box, serial, identity, flat, heard, at, bodies)"
@@ -43,6 +45,15 @@ def stored(cursor: Cursor, box: str, first: int, last: int) -> Dict[int, Reading
 def store_readings(cursor: Cursor, box: str, readings: List[Reading], window: Window) -> None:
     """Stores readings, in the order of their serials. The database refuses a second one of the same box and serial."""
     moments = stamped(cursor, box, readings, window)
+    counts = list(itertools.accumulate(len(reading.bodies) for reading in readings))
+    turns = itertools.groupby(zip(readings, moments, counts), lambda it: it[2] // TELEGRAMS_A_TURN)
+    for _, turn in turns:
+        of_turn = list(turn)
+        store_turn(cursor, box, [it[0] for it in of_turn], [it[1] for it in of_turn])
+
+
+def store_turn(cursor: Cursor, box: str, readings: List[Reading], moments: List[Optional[datetime.datetime]]) -> None:
+    """Stores some readings of a page."""
     parts = iter(points_of([body for reading in readings for body in reading.bodies]))
     points = [(reading, *row) for reading in readings
               for row in numbered_points([next(parts) for _ in reading.bodies])]
@@ -54,10 +65,9 @@ def store_readings(cursor: Cursor, box: str, readings: List[Reading], window: Wi
            if day and not has_error(reading.bodies[part - 1])}
     insert(cursor, DUE_READINGS, [(*key, last) for key, last in due.items()], LATER_DUE)
     last_of = {reading.identity: (reading, moment) for reading, moment in zip(readings, moments)}
-    if last_of:
-        psycopg2.extras.execute_values(cursor, LAST_READINGS, [
-            (box, identity, reading.serial, reading.heard[-1], moment, status_of(reading.bodies[-1]))
-            for identity, (reading, moment) in last_of.items()], template=LAST_READING)
+    psycopg2.extras.execute_values(cursor, LAST_READINGS, [
+        (box, identity, reading.serial, reading.heard[-1], moment, status_of(reading.bodies[-1]))
+        for identity, (reading, moment) in last_of.items()], template=LAST_READING)
 
 
 def stamped(cursor: Cursor, box: str, readings: List[Reading], window: Window) -> List[Optional[datetime.datetime]]:

@@ -19,6 +19,7 @@ from conftest import FITS, OFFICE, Box, Office, telegram
 import database
 import decoding
 import link
+import storing
 import visit
 
 
@@ -182,6 +183,29 @@ def test_processes_are_killed_again_and_again(office: Office) -> None:
     assert ended.status == 0, ended.printed
     assert office.sql("SELECT count(*), count(DISTINCT (box, serial)) FROM readings") == [(720, 720)]
     assert [box.state()["confirmed"] for box in boxes] == [120] * 6
+
+
+def test_few_records_are_in_memory_at_once(office: Office, box: Box, monkeypatch: pytest.MonkeyPatch) -> None:
+    """A page of large readings is decoded and stored in turns, each meter's last reading with the last one."""
+    counts: List[int] = []
+
+    def points_of(bodies: List[bytes]) -> Any:
+        counts.append(len(bodies))
+        return decoding.points_of(bodies)
+    box.hears(9)
+    state = box.state()
+    for reading in state["readings"]:
+        reading[3] *= 3
+    box.write(state)
+    monkeypatch.setattr(decoding, "MBDC", office.environment["MBDC"])
+    monkeypatch.setattr(storing, "points_of", points_of)
+    monkeypatch.setattr(storing, "TELEGRAMS_A_TURN", 10)
+    reached = visit.Visit(database.Database(office.name, 10), "house-1", 10)
+    assert reached.collect() == 9
+    reached.database.close()
+    assert counts == [9, 9, 9]
+    assert office.sql("SELECT count(*), count(DISTINCT serial) FROM points") == [(27, 9)]
+    assert office.sql("SELECT max(serial), min(serial) FROM meters") == [(9, 8)]
 
 
 def test_two_boxes_exchange_their_addresses_within_a_visit(office: Office, monkeypatch: pytest.MonkeyPatch) -> None:
