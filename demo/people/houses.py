@@ -8,7 +8,6 @@ import bisect
 import dataclasses
 import datetime
 import random
-import statistics
 import zoneinfo
 from typing import Dict, Iterator, List, NamedTuple, Optional, Tuple
 
@@ -41,6 +40,7 @@ KINDS = {
 }
 SHOWN_DIGIT = {0x03: ("Wh", 1, 0), 0x0E: ("J", 1_000_000, 0), 0x13: ("m3", 1, 3), 0x6E: ("HCA", 1, 0)}
 GAP_DAYS = 6
+LEAP = 53_000_000  # millilitres
 WRONG = datetime.datetime(2000, 1, 1, 0, 7, tzinfo=UTC)  # of a clock that began anew
 COMPANY = bytes([0x24, 0x40])
 STATUS = bytes([0, 0, 0, 0])  # access number, status, configuration
@@ -186,18 +186,33 @@ class Place:
         room = MOST[self.use] * (seconds(other.at - one.at) // 3600 + 2)
         return one.meter == other.meter and not 0 <= other.amount - one.amount <= room
 
-    def is_held(self, entries: List["Entry"], begins: Moment, ends: Moment) -> bool:
-        """Whether a step of a period is ten times the median day around it, or five times at an exchange."""
-        before = sorted({entry.at for entry in entries if entry.at <= begins})[-3:]
-        after = sorted({entry.at for entry in entries if entry.at >= ends})[:2]
-        around = [entry for entry in entries if (not before or entry.at >= before[0]) and (not after or entry.at <= after[-1])]
-        steps = [(one, other, max(other.amount - one.amount, 0) * 86400 / max(seconds(other.at - one.at), 43200))
-                 for one, other in zip(around, around[1:]) if one.meter == other.meter and one.at < other.at]
-        median = statistics.median(use for _, _, use in steps) if len(steps) >= 10 else 0
-        return median > 0 and any(
-            begins < other.at and one.at < ends and (use >= 10 * median and use > LITTLE[self.use]
-                                                     or use >= 5 * median and (one.is_put or other.is_put))
-            for one, other, use in steps)
+    def is_held(self, entries: List["Entry"], begins: Moment, ends: Moment, elsewhere: float) -> bool:
+        """Whether a step of a period is ten times the median day around its month, or five times at an exchange; where there is no such
+        day, ten times one elsewhere, or more than needs no look."""
+        steps = steps_around(entries, begins, ends)
+        days = sorted((use, length) for _, _, use, length in steps)
+        total, passed, median = sum(length for _, length in days), 0.0, 0.0
+        for use, length in days if len(days) >= 3 and total >= 10 else ():
+            passed += length
+            if passed >= total / 2:
+                median = use
+                break
+        touching = [step for step in steps if begins < step[1].at and step[0].at < ends]
+        little = LITTLE[self.use]
+        if not median:
+            return any(use > little / 10 and use >= 10 * elsewhere if elsewhere else use > little for _, _, use, _ in touching)
+        return any(use >= 10 * median and use > little or use >= 5 * median and (one.is_put or other.is_put) for one, other, use, _ in touching)
+
+
+def steps_around(entries: List["Entry"], begins: Moment, ends: Moment) -> List[Tuple["Entry", "Entry", float, float]]:
+    """The steps of the month of a period and around it: what was used a day in each, and how many days it has."""
+    month = begins.astimezone(BERLIN).date().replace(day=1)
+    first, after = begin_of(month), max(begin_of(next_month(month)), ends)
+    before = sorted({entry.at for entry in entries if entry.at <= first})[-3:]
+    later = sorted({entry.at for entry in entries if entry.at >= after})[:2]
+    around = [entry for entry in entries if (not before or entry.at >= before[0]) and (not later or entry.at <= later[-1])]
+    return [(one, other, max(other.amount - one.amount, 0) * 86400 / max(seconds(other.at - one.at), 43200), seconds(other.at - one.at) / 86400)
+            for one, other in zip(around, around[1:]) if one.meter == other.meter and one.at < other.at]
 
 
 class Entry(NamedTuple):
@@ -251,6 +266,8 @@ class Plan(NamedTuple):
     false_on: Optional[datetime.date]
     is_high: bool = False  # what is told then is too high
     unstamped: Tuple[datetime.date, ...] = ()  # days on which the box's clock is wrong
+    is_empty: bool = False  # nothing is used
+    leaps_on: Optional[datetime.date] = None  # the meter counts LEAP more than was used
 
 
 def fill(place: Place, plan: Plan, first: datetime.date, after: datetime.date, hour: datetime.time, rng: random.Random
@@ -262,7 +279,10 @@ def fill(place: Place, plan: Plan, first: datetime.date, after: datetime.date, h
     for moment in moments:
         days = (moment - last).total_seconds() / 86400
         season = 1 + (0.9 if place.kind.is_seasonal else 0.1) * (1 if moment.month in (1, 2, 3, 11, 12) else -0.8)
-        amount += max(0, round(days * place.kind.a_day * season * rng.uniform(0.5, 1.5))) * place.kind.digit
+        if not plan.is_empty:
+            amount += max(0, round(days * place.kind.a_day * season * rng.uniform(0.5, 1.5))) * place.kind.digit
+        if plan.leaps_on is not None and last < begin_of(plan.leaps_on) <= moment:
+            amount += LEAP
         knots.append((moment, amount))
         digits_of[moment], last = amount, moment
     exchange(place, plan, digits_of, rng)

@@ -10,6 +10,7 @@ from people.houses import (BERLIN, GAP_DAYS, KINDS, UTC, Device, House, Kind, Mo
 
 HOSTILE = ("Zoë \"Q\" O'Neill <b>&amp;</b>", "محمد علي", "'; DROP TABLE readings; --", "{{ 7 * 7 }} {% raw %}", "\u202eevil")
 NAMES = ("Weber", "Yılmaz", "Nowak", "Smith", "Đorđević", "Lindqvist")
+ODD = (1, 2)  # flats of the first house
 WRONG_DAYS = (10, 11, 12)  # of a month, from 0
 FEW_DIGITS = (20_000, 90_000)  # of a meter's first value, which is false at a tenth
 
@@ -32,9 +33,18 @@ def house_of(number: int, flats: int, first: datetime.date, after: datetime.date
             weight = str(rng.choice(("0.75", "1", "1.5"))) if kind.use == "allocator" else "1"
             made = Place(house.name, flat, kind, index, weight, [device])
             plan = with_wrong_clock(plan_of(kind, len(house.places), first, after, hour, rng), number, first)
+            if number == 1 and kind.use == "cold water" and place in ODD:
+                plan = odd(place, plan, first, after)
             fill(made, plan, first, after, hour, rng)
             house.places.append(made)
     return house
+
+
+def odd(place: int, plan: Plan, first: datetime.date, after: datetime.date) -> Plan:
+    """Of the first house a flat is empty, and another is heard weekly alone; the meters of both leap in the third month."""
+    weekly = [day for number in range((after - first).days) if (day := first + datetime.timedelta(days=number)).weekday() > 0]
+    leaps_on = next_month(next_month(first)).replace(day=15)
+    return Plan(True, [] if place == ODD[0] else weekly, None, None, None, is_empty=place == ODD[0], leaps_on=leaps_on)
 
 
 def with_wrong_clock(plan: Plan, house: int, first: datetime.date) -> Plan:

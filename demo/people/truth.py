@@ -2,10 +2,11 @@
 
 import datetime
 import decimal
+import statistics
 from fractions import Fraction
 from typing import Dict, Iterable, List, NamedTuple, Optional, Set, Tuple
 
-from people.houses import Entry, House, Moment, Place, User, begin_of, next_month
+from people.houses import BERLIN, Entry, House, Moment, Place, User, begin_of, next_month, steps_around
 
 VALUE, MISSING, DISTURBED, HELD = "value", "missing", "disturbed", "held"
 WORST = (VALUE, HELD, DISTURBED, MISSING)
@@ -57,12 +58,28 @@ class Truth:
         if first is None or last is None:
             is_estimated = any(place is of and ends <= begin_of(next_month(month)) for of, month in self.estimated_places())
             return Number(VALUE if is_estimated else MISSING, None, ESTIMATED if is_estimated else "", begins, ends)
-        if place.is_held(entries, begins, ends):
+        if place.is_held(entries, begins, ends, self.elsewhere(place, begins, ends)):
             return Number(HELD, None, "", begins, ends)
         is_near = first.is_near and last.is_near and not any(
             device.is_estimated and device.ends is not None and begins < device.ends <= ends for device in place.devices)
         value = self.scaled(place, last.amount - first.amount, unit or self.unit(place.house, place.use))
         return Number(VALUE, value, mark_of(entries, begins, ends) if is_near else ESTIMATED, begins, ends)
+
+    def elsewhere(self, place: Place, begins: Moment, ends: Moment) -> float:
+        """A day of the place in the same month of the year before, else the median one of the others of its house and use."""
+        month = begins.astimezone(BERLIN).date().replace(day=1)
+        year_before = month.replace(year=month.year - 1)
+        if begin_of(year_before) >= place.devices[0].begins:
+            first, after = begin_of(year_before), begin_of(next_month(year_before))
+            then = self.of_place(place, first, after)
+            one, other = place.consumed(first, self.now), place.consumed(after, self.now)
+            if then.state == VALUE and then.mark in ("", HAND) and one and other and other.amount > one.amount:
+                return (other.amount - one.amount) * 86400 / (after - first).total_seconds()
+        days = []
+        for it in (it for house in self.houses for it in house.places if it is not place and (it.house, it.use) == (place.house, place.use)):
+            steps = steps_around(it.entries(self.now), begins, ends)
+            days.append(sum(use * length for _, _, use, length in steps) / (sum(length for *_, length in steps) or 1))
+        return statistics.median([day for day in days if day > 0] or [0])
 
     def estimated_places(self) -> Iterable[Tuple[Place, datetime.date]]:
         names = {name_of(place): place for house in self.houses for place in house.places}

@@ -224,14 +224,16 @@ def test_a_leap_in_an_empty_flat_is_held(office: Office, elm: Supplied) -> None:
 
 
 def test_a_leap_in_a_house_that_is_read_weekly_is_held(office: Office, elm: Supplied) -> None:
-    meter, weeks = elm.meter(1, COLD, "A1"), ("2024-12-09", "2024-12-16", "2024-12-23", "2024-12-30", "2025-01-06", "2025-01-13", "2025-01-20",
-                                              "2025-01-27", "2025-02-03", "2025-02-10")
+    """And not what is much, and usual there."""
+    meter, large = elm.meter(1, COLD, "A1"), elm.meter(2, COLD, "A2")
+    weeks = [str(datetime.date(2024, 12, 9) + datetime.timedelta(7 * week)) for week in range(10)]
     elm.values(meter, {day: f"{100 + week * 0.7:.3f}" for week, day in enumerate(weeks)}, "m3")
+    elm.values(large, {day: 14 * week for week, day in enumerate(weeks)}, "m3")
     elm.month("2025-01")
-    assert office.sql("SELECT grade FROM month_kwh") == [("estimated",)]
+    assert office.sql("SELECT grade FROM month_kwh") == [("estimated",)] * 2
     elm.tells(meter, {day: f"{150 + week * 0.7:.3f}" for week, day in enumerate(weeks) if day >= "2025-01-20"}, "m3")
     elm.month("2025-01")
-    assert office.sql("SELECT grade FROM month_kwh") == [("held",)]
+    assert office.sql("SELECT flat, grade FROM month_kwh ORDER BY 1") == [("A1", "held"), ("A2", "estimated")]
 
 
 def test_a_typing_error_at_an_exchange_is_held(office: Office, elm: Supplied) -> None:
