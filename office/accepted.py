@@ -1,4 +1,4 @@
-"""What may be printed of a month: what was published of it, as far as the audit files of it and of earlier months have it too."""
+"""What may be printed of a month: what was published of it, and is in the audit files of it and of earlier months."""
 
 import datetime
 import re
@@ -11,11 +11,14 @@ from published import NONE, Printed, Published, reading_key
 
 CHARTED = 13  # months
 # Of these houses the audit of a month
-AUDITS = "SELECT n.house, n.id, a.says FROM audits_now n JOIN audits a ON a.id = n.id WHERE n.house = ANY (%s) AND n.month = %s"
-# What was published of a month, and of earlier ones and their users: for charts and where a month has no evidence any more
+AUDITS = """
+SELECT n.house, n.id, a.says FROM audits_now n JOIN audits a ON a.id = n.id WHERE n.house = ANY (%s) AND n.month = %s"""
+# What was published of a month, and of earlier ones and their users: for charts and where a month has no evidence any
+# more
 NUMBERS = """
 SELECT p.audit, p.tenancy, p.key, p.text, p.mark FROM published p JOIN audits_now a ON a.id = p.audit
-WHERE a.house = %s AND (a.month = %s OR a.month >= %s AND a.month < %s AND p.tenancy IS NOT NULL AND p.key LIKE '%% ' || to_char(a.month, 'YYYY-MM') || ' %%')
+WHERE a.house = %s AND (a.month = %s OR a.month >= %s AND a.month < %s AND p.tenancy IS NOT NULL
+                        AND p.key LIKE '%% ' || to_char(a.month, 'YYYY-MM') || ' %%')
 ORDER BY a.month, p.id"""
 FILE = "SELECT file FROM audits WHERE id = %s AND file IS NOT NULL"
 # What only the database knows: which meter a reading is of, and which place of a flat's use
@@ -43,8 +46,8 @@ class Facts(Reader):
 def neutral(key: str) -> str:
     """A key without what only the database knows.
 
-    >>> neutral("reading 170000 1738364400"), neutral("A1 warm water 2 1735686000 1738364400 m3"), neutral("A1 heat 2025-01 kWh")
-    ('reading 0 1738364400', 'A1 warm water 0 1735686000 1738364400 m3', 'A1 heat 2025-01 kWh')
+    >>> neutral("reading 170000 1738364400"), neutral("A1 warm water 2 1735686000 1738364400 m3")
+    ('reading 0 1738364400', 'A1 warm water 0 1735686000 1738364400 m3')
     """
     for pattern, form in ((READING, r"reading 0 \1"), (PLACE, r"\1 0 \2")):
         found = pattern.fullmatch(key)
@@ -68,13 +71,16 @@ def unknown(cursor: Cursor, audit: Optional[int], numbers: Iterable[Number]) -> 
     facts = Facts()
     facts.read(lines)
     nobodys = {it[1:] for it in facts.all}
-    return next((f"{key} {text}" for tenancy, key, text, mark in numbers
-                 if not ((tenancy, neutral(key), text, mark) in facts.all or tenancy is None and (neutral(key), text, mark) in nobodys)), None)
+    for tenancy, key, text, mark in numbers:
+        number = (neutral(key), text, mark)
+        if (tenancy, *number) not in facts.all and (tenancy is not None or number not in nobodys):
+            return f"{key} {text}"
+    return None
 
 
 def published_of(cursor: Cursor, houses: List[str], month: datetime.date) -> Tuple[Dict[str, Published], List[str]]:
-    """What may be printed of a month of these houses, and which houses have a number that its audit file doesn't have; of a house
-    without an audit nothing."""
+    """What may be printed of a month of these houses, and which have a number that its audit file doesn't have; nothing of
+    a house without an audit."""
     cursor.execute(AUDITS, (houses, month))
     found = {house: Published(audit, {}, {}, says) for house, audit, says in cursor}
     refused = []

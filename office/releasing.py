@@ -1,4 +1,4 @@
-"""Where sheets lie: those that aren't out in DIR/ready, which no web server shows, and the others where their links lead."""
+"""Where sheets lie: those that aren't out in DIR/ready, beyond users' reach, the others where their links lead."""
 
 import datetime
 import hashlib
@@ -12,8 +12,8 @@ OUT = "SELECT path, sha256 FROM sheets WHERE month = %s AND form = 'html' AND ou
 
 
 def move_out(cursor: Cursor, out: pathlib.Path, month: datetime.date) -> None:
-    """Moves the sheets of a month that are out from DIR/ready, each with its files, the page last. It follows the commit of their release;
-    where that was cut off, the next office/sheets or office/send does it.
+    """Moves the sheets of a month that are out from DIR/ready, each with its files, the page last. It follows the
+    release's commit; where that was cut off, the next office/sheets or office/send does it.
 
     Raises OSError."""
     cursor.execute(OUT, (month,))

@@ -2,7 +2,7 @@
 
 import pathlib
 import subprocess
-from typing import Iterator, Tuple
+from typing import Any, Iterator, Tuple
 
 import psycopg2
 import pytest
@@ -10,38 +10,54 @@ from conftest import OFFICE, Office, Server
 from supplied import HEAT, Supplied, at
 
 LOGINS = OFFICE.parent / "packaging/office/logins.sql"
-BY_HAND = "INSERT INTO day_values (fitting, day, at, value, unit, source) VALUES (1, '2025-01-02', now(), 1, 'Wh', 'by hand')"
+BY_HAND = ("INSERT INTO day_values (fitting, day, at, value, unit, source)"
+           " VALUES (1, '2025-01-02', now(), 1, 'Wh', 'by hand')")
 OPTION = "INSERT INTO jobs (what, words) VALUES ('collect', '--database=host=elsewhere.example')"
+BY = ("permission denied", "must be", "must have", "words_of_its_kind")  # what a refusal says
 # What no login may
 NOBODY = (
     'CREATE ROLE another', 'GRANT pg_execute_server_program TO "{login}"', 'GRANT pg_read_server_files TO "{login}"',
-    'ALTER ROLE "{login}" CREATEROLE', 'ALTER ROLE "{login}" SUPERUSER', "COPY people FROM PROGRAM 'id'", "COPY people FROM '/etc/passwd'",
-    "COPY people TO PROGRAM 'cat'", "SET ROLE office", "SET SESSION AUTHORIZATION office", OPTION)
+    'ALTER ROLE "{login}" CREATEROLE', 'ALTER ROLE "{login}" SUPERUSER', "COPY people FROM PROGRAM 'id'",
+    "COPY people FROM '/etc/passwd'", "COPY people TO PROGRAM 'cat'", "SET ROLE office",
+    "SET SESSION AUTHORIZATION office", OPTION)
 # What only the owner may
-OWNER = ("INSERT INTO boxes (name, command) VALUES ('x', 'id')", "UPDATE boxes SET command = 'id'", "INSERT INTO people VALUES ('x', 'publisher', 'de')",
-         "UPDATE people SET role = 'publisher'", BY_HAND, "UPDATE day_values SET value = 1", "DELETE FROM day_values", "UPDATE month_use SET amount = 1",
-         "UPDATE published SET text = '4444.4'", "DELETE FROM published", "UPDATE audits SET says = 'x'", "DELETE FROM audits",
-         "INSERT INTO log DEFAULT VALUES", "INSERT INTO jobs (what, words) VALUES ('collect', 'x')", "DELETE FROM readings",
-         "DELETE FROM tenancies", "SELECT ask('collect', 'x')", "UPDATE schema_versions SET version = 1", "CREATE FUNCTION f() RETURNS int LANGUAGE sql AS 'SELECT 1'",
-         "CREATE TABLE houses_too (house text)", "SELECT end_fitting('elm-1', 'elm-1', 'x')", "UPDATE tenancies SET token = 'x'",
-         "UPDATE day_values SET struck_by = 'another'", "UPDATE boxes SET house = NULL", "DELETE FROM sheets")
+OWNER = (
+    "INSERT INTO boxes (name, command) VALUES ('x', 'id')", "UPDATE boxes SET command = 'id'",
+    "INSERT INTO people VALUES ('x', 'publisher', 'de')", "UPDATE people SET role = 'publisher'", BY_HAND,
+    "UPDATE day_values SET value = 1", "DELETE FROM day_values", "UPDATE month_use SET amount = 1",
+    "UPDATE published SET text = '4444.4'", "DELETE FROM published", "UPDATE audits SET says = 'x'",
+    "DELETE FROM audits", "INSERT INTO log DEFAULT VALUES", "INSERT INTO jobs (what, words) VALUES ('collect', 'x')",
+    "DELETE FROM readings", "DELETE FROM tenancies", "SELECT ask('collect', 'x')",
+    "UPDATE schema_versions SET version = 1", "CREATE FUNCTION f() RETURNS int LANGUAGE sql AS 'SELECT 1'",
+    "CREATE TABLE houses_too (house text)", "SELECT end_fitting('elm-1', 'elm-1', 'x')",
+    "UPDATE tenancies SET token = 'x'", "UPDATE day_values SET struck_by = 'another'", "UPDATE boxes SET house = NULL",
+    "DELETE FROM sheets")
 # What a publisher may beside
-PUBLISHER = ("SELECT release_month('elm-1', '2025-01-01')", "SELECT correct_month('elm-1', '2025-01-01', 'x')",
-             "SELECT release_bill('elm-1', '[2025-01-01,2025-02-01)')", "SELECT correct_bill('elm-1', '[2025-01-01,2025-02-01)', 'x')",
-             "SELECT ask_to_send('2025-01-01')", "UPDATE sheets SET path = 'x'", "UPDATE sheets SET sent_at = now()",
-             "INSERT INTO sheets (tenancy, month, form, path, sha256) VALUES (1, '2025-01-01', 'html', 'x', 'x')",
-             "INSERT INTO audits (house, month, version, sha256, program, program_sha256, says) VALUES ('elm-1', '2025-01-01', 1, 'x', 'x', 'x', 'x')",
-             "INSERT INTO published (house, key, text, mark) VALUES ('elm-1', 'x', '4444.4', 'x')", "SELECT desk.release('2025-01-01', 'x')",
-             "SELECT desk.send('2025-01-01', 'x')", "SELECT desk.correct_month('elm-1', '2025-01-01', 'x')", "UPDATE jobs SET status = 0")
+PUBLISHER = (
+    "SELECT release_month('elm-1', '2025-01-01')", "SELECT correct_month('elm-1', '2025-01-01', 'x')",
+    "SELECT release_bill('elm-1', '[2025-01-01,2025-02-01)')",
+    "SELECT correct_bill('elm-1', '[2025-01-01,2025-02-01)', 'x')", "SELECT ask_to_send('2025-01-01')",
+    "UPDATE sheets SET path = 'x'", "UPDATE sheets SET sent_at = now()",
+    "INSERT INTO sheets (tenancy, month, form, path, sha256) VALUES (1, '2025-01-01', 'html', 'x', 'x')",
+    "INSERT INTO audits (house, month, version, sha256, program, program_sha256, says) VALUES ('elm-1', "
+    "'2025-01-01', 1, 'x', 'x', 'x', 'x')",
+    "INSERT INTO published (house, key, text, mark) VALUES ('elm-1', 'x', '4444.4', 'x')",
+    "SELECT desk.release('2025-01-01', 'x')", "SELECT desk.send('2025-01-01', 'x')",
+    "SELECT desk.correct_month('elm-1', '2025-01-01', 'x')", "UPDATE jobs SET status = 0")
 # What a clerk may beside
-CLERK = ("SELECT person FROM tenancies", "SELECT token FROM tenancies", "UPDATE tenancies SET days = days", "SELECT strike(1, 'x')",
-         "SELECT put_value(1, '2025-01-31', 1, 'Wh', 'x')", "SELECT desk.strike(1, 'x')", "SELECT see_number('2025-01-01', 1, 'x')",
-         "UPDATE fittings SET vib = '06'", "SELECT file FROM audits",
-         "UPDATE houses SET address = 'x'", "UPDATE places SET weight = 2", "SELECT path FROM sheets", "SELECT * FROM log")
-COLLECTOR = ("INSERT INTO orders (box, line, confirms) VALUES ('elm-1', 'CONFIRM 1', 1)", "INSERT INTO readings DEFAULT VALUES", "UPDATE orders SET state = 'queued'", "INSERT INTO meters DEFAULT VALUES",
-             "INSERT INTO points DEFAULT VALUES", "UPDATE boxes SET number = 1", "UPDATE boxes SET fault = NULL", "SELECT make_months('2026-01-01', 1)")
-CLOSER = ("SELECT close_houses('{elm-1}')", "INSERT INTO month_use DEFAULT VALUES", "DELETE FROM month_use", "DELETE FROM frozen_values",
-          "SELECT put_estimate(1, '2025-01-31', now(), 1, 'Wh', 'x')", "INSERT INTO alarms DEFAULT VALUES", "UPDATE alarms SET ended_at = now()")
+CLERK = (
+    "SELECT person FROM tenancies", "SELECT token FROM tenancies", "UPDATE tenancies SET days = days",
+    "SELECT strike(1, 'x')", "SELECT put_value(1, '2025-01-31', 1, 'Wh', 'x')", "SELECT desk.strike(1, 'x')",
+    "SELECT see_number('2025-01-01', 1, 'x')", "UPDATE fittings SET vib = '06'", "SELECT file FROM audits",
+    "UPDATE houses SET address = 'x'", "UPDATE places SET weight = 2", "SELECT path FROM sheets", "SELECT * FROM log")
+COLLECTOR = (
+    "INSERT INTO orders (box, line, confirms) VALUES ('elm-1', 'CONFIRM 1', 1)", "INSERT INTO readings DEFAULT VALUES",
+    "UPDATE orders SET state = 'queued'", "INSERT INTO meters DEFAULT VALUES", "INSERT INTO points DEFAULT VALUES",
+    "UPDATE boxes SET number = 1", "UPDATE boxes SET fault = NULL", "SELECT make_months('2026-01-01', 1)")
+CLOSER = (
+    "SELECT close_houses('{elm-1}')", "INSERT INTO month_use DEFAULT VALUES", "DELETE FROM month_use",
+    "DELETE FROM frozen_values", "SELECT put_estimate(1, '2025-01-31', now(), 1, 'Wh', 'x')",
+    "INSERT INTO alarms DEFAULT VALUES", "UPDATE alarms SET ended_at = now()")
 REFUSED = {
     ("mbdc-billing", ""): NOBODY,
     ("mbdc-collect", ""): (*NOBODY, *OWNER, *PUBLISHER[:-1], *CLERK, *CLOSER),
@@ -54,11 +70,15 @@ REFUSED = {
 }
 
 
+def as_postgres(server: Server, *words: Any) -> None:
+    subprocess.run(["psql", "-qX", "-v", "ON_ERROR_STOP=1", "-d", server.name("postgres"), *words], check=True)
+
+
 @pytest.fixture(scope="module")
 def packaged(server: Server) -> Iterator[str]:
     """A database as the package's postinst makes it: by its owner, who may make no role."""
-    subprocess.run(["psql", "-qX", "-v", "ON_ERROR_STOP=1", "-d", server.name("postgres"), "-f", OFFICE / "schema/roles.sql", "-f", LOGINS, "-f", LOGINS,
-                    "-c", 'CREATE DATABASE packaged OWNER "mbdc-billing"'], check=True)
+    as_postgres(server, "-f", OFFICE / "schema/roles.sql", "-f", LOGINS, "-f", LOGINS,
+                "-c", 'CREATE DATABASE packaged OWNER "mbdc-billing"')
     name = server.name("packaged").replace("user=office", "user=mbdc-billing")
     done = subprocess.run([OFFICE / "migrate", "--database", name], capture_output=True, text=True, check=False)
     assert done.returncode == 0, done.stderr
@@ -81,7 +101,7 @@ def test_each_login_is_refused(server: Server, packaged: str, who: Tuple[str, st
                 cursor.execute(query.format(login=login) if "{login}" in query else query)
                 wrong.append((query, "was done"))
             except psycopg2.Error as fault:
-                if not any(it in str(fault) for it in ("permission denied", "must be", "must have", "words_of_its_kind")):
+                if not any(it in str(fault) for it in BY):
                     wrong.append((query, str(fault)))
     connection.close()
     assert wrong == []
@@ -89,7 +109,7 @@ def test_each_login_is_refused(server: Server, packaged: str, who: Tuple[str, st
 
 def test_each_login_does_its_work(server: Server, office: Office, tmp_path: pathlib.Path) -> None:
     """From readings to a sheet that is sent: close, month, estimate and alarms; publish, sheets, bill, correct, work."""
-    subprocess.run(["psql", "-qX", "-v", "ON_ERROR_STOP=1", "-d", server.name("postgres"), "-f", LOGINS], check=True)
+    as_postgres(server, "-f", LOGINS)
     elm = Supplied(office)
     meter, other = elm.meter(1, HEAT, "A1"), elm.meter(2, HEAT, "A2")
     for one in (meter, other):
@@ -98,12 +118,15 @@ def test_each_login_does_its_work(server: Server, office: Office, tmp_path: path
     tenancy = elm.tenancy("A1", "2024-01-01", None)
     office.sql("UPDATE tenancies SET wants = 'link', mail = 'a@example.org' WHERE id = %s", tenancy)
     box = office.box("house-1")
-    out = ("--out", str(tmp_path / "out"), "--link", "https://office.example/sheets", "--sendmail", "/bin/true", "--pdf", "none")
+    out = ("--out", str(tmp_path / "out"), "--link", "https://office.example/sheets", "--sendmail", "/bin/true",
+           "--pdf", "none")
     steps = (("collect", ["order", "house-1", "FIT 11111111.PAD.01.07 1 1 A1"]), ("collect", ["collect", "house-1"]),
-             ("close", ["close"]), ("close", ["close", "--all", "--since", "2025-01-01"]), ("close", ["month", "2025-01"]), ("close", ["estimate", "2025-01"]),
-             ("close", ["alarms"]), ("close", ["watch"]), ("close", ["desk", "--static", str(tmp_path / "today.html")]),
-             ("publish", ["publish", "elm-1", "2025-01"]), ("publish", ["publish", "elm-1", "2025-01", "--bill"]),
-             ("publish", ["sheets", "2025-01", *out[:2], "--pdf", "none"]), ("publish", ["bill", "elm-1", "2025-01", "--release"]),
+             ("close", ["close"]), ("close", ["close", "--all", "--since", "2025-01-01"]), ("close", ["month", "2025-01"]),
+             ("close", ["estimate", "2025-01"]), ("close", ["alarms"]), ("close", ["watch"]),
+             ("close", ["desk", "--static", str(tmp_path / "today.html")]), ("publish", ["publish", "elm-1", "2025-01"]),
+             ("publish", ["publish", "elm-1", "2025-01", "--bill"]),
+             ("publish", ["sheets", "2025-01", *out[:2], "--pdf", "none"]),
+             ("publish", ["bill", "elm-1", "2025-01", "--release"]),
              ("close", ["close"]))  # which looks at the bill that is out
     box.hears(0)
     for login, words in steps:
@@ -111,7 +134,8 @@ def test_each_login_does_its_work(server: Server, office: Office, tmp_path: path
         assert ended[0] in (0, 1), (login, words, ended[1])
     office.sql("SELECT desk.release('2025-01-01', 'all is there'), desk.collect('house-1', 'now')")
     assert run_as(office, "publish", "work", "--only", "release", "--only", "send", *out) == (
-        0, "release 2025-01: 0 2025-01: 1 houses, 1 sheets, 0 PDFs\nsend 2025-01: 0 2025-01: 1 by mail, 0 to print, 0 failed\n")
+        0, "release 2025-01: 0 2025-01: 1 houses, 1 sheets, 0 PDFs\n"
+           "send 2025-01: 0 2025-01: 1 by mail, 0 to print, 0 failed\n")
     assert run_as(office, "collect", "work", "--only", "collect", *out)[0] == 0
     assert office.sql("SELECT count(*) FROM jobs WHERE ended_at IS NULL OR status <> 0") == [(0,)]
     assert run_as(office, "publish", "correct", "elm-1", "2025-01", "--why", "a second look")[0] == 0
