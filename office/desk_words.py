@@ -6,6 +6,9 @@ from typing import Dict, Tuple
 ITEMS: Dict[str, Tuple[str, str, str, str]] = {  # German title, English title, German, English
     "collector": ("Die Abholung lief nicht durch", "No collection came to its end",
                   "Zuletzt endete eine Abholung aller Boxen {since}.", "The last collection of all boxes ended {since}."),
+    "collector.boxes": ("Die Abholung lief nicht durch", "No collection came to its end",
+                        "Zuletzt endete eine Abholung aller Boxen {since}; seitdem fehlen {boxes} Boxen mit {meters} stummen Zählern.",
+                        "The last collection of all boxes ended {since}; {boxes} boxes with {meters} silent meters are behind since."),
     "box.never collected": ("Box wurde noch nie abgeholt", "Box was never collected",
                             "{meters} Zähler ohne Werte. {fault}", "{meters} meters without values. {fault}"),
     "box.not collected": ("Box antwortet nicht", "Box doesn't answer",

@@ -17,6 +17,9 @@ WAITING_DAYS = 95  # sheets of older months aren't waited for
 STEP_DAYS = 5  # after a month until a person is asked for a step after its end
 MANY = 3  # places of a house without a value in a month are one item
 Facts = Dict[str, Any]
+Key = Tuple[str, str]  # kind and subject
+COLLECTORS = ("collector", "office/collect")
+LONGEST_COLLECTION = datetime.timedelta(hours=4)
 
 COLLECTOR = """
 SELECT 'collector', NULL, 'office/collect', jsonb_build_object('since', max(ended_at))
@@ -170,9 +173,10 @@ def seen_at(cursor: Cursor, moment: datetime.datetime) -> Iterator[Seen]:
 
 def folded(causes: Iterable[Seen], numberless: List[Seen]) -> List[Seen]:
     """A month without a number is counted at its cause. A leap is the held number that it makes."""
-    items = {(one.kind, one.subject): one for one in causes}
+    items: Dict[Key, Seen] = {(one.kind, one.subject): one for one in causes}
     by_meter = {(one.house, one.facts["identity"], one.kind): key for key, one in items.items() if "identity" in one.facts}
     boxes = {one.house: key for key, one in items.items() if one.kind == "box" and one.facts["meters"]}
+    boxes.update(dict.fromkeys(of_the_collector(items), COLLECTORS))
     missing = collections.Counter((one.house, one.facts["month"]) for one in numberless if one.facts["grade"] == "missing")
     first: Dict[Tuple[object, str], Seen] = {}
     for one in numberless:
@@ -189,6 +193,21 @@ def folded(causes: Iterable[Seen], numberless: List[Seen]) -> List[Seen]:
         for meter in meters if grade == "held" else ():
             items.pop(by_meter.pop((one.house, meter, "leap"), ("", "")), None)
     return list(items.values())
+
+
+def of_the_collector(items: Dict[Key, Seen]) -> List[Optional[str]]:
+    """Where no collection ends, the boxes that the last one reached are counted at that, and are no items; their houses."""
+    collector = items.get(COLLECTORS)
+    if collector is None or collector.facts["since"] is None:
+        return []
+    first = datetime.datetime.fromisoformat(collector.facts["since"]) - LONGEST_COLLECTION
+    behind = [key for key, one in items.items() if one.kind == "box" and one.facts["why"] == "not collected"
+              and datetime.datetime.fromisoformat(one.facts["since"]) >= first]
+    gone = [items.pop(key) for key in behind]
+    if gone:
+        facts = {"why": "boxes", "boxes": len(gone), "meters": sum(one.facts["meters"] for one in gone)}
+        items[COLLECTORS] = collector._replace(facts={**collector.facts, **facts})
+    return [one.house for one in gone]
 
 
 def of_house(one: Seen, missing: "collections.Counter[Tuple[Optional[str], str]]") -> Seen:

@@ -140,6 +140,18 @@ def test_one_alarm_a_cause(office: Office, elm: Supplied) -> None:
     assert "END box elm-1" in printed and printed.count("NEW silent") == 2
 
 
+def test_an_office_that_was_down_is_one_item(office: Office) -> None:
+    """The boxes that the last collection reached are behind by one cause; one that it didn't reach has its own."""
+    office.sql("INSERT INTO collections (boxes, begun_at, ended_at, failed, readings) VALUES (4, '2025-01-23 06:30Z', '2025-01-23 06:40Z', 1, 0)")
+    for number in range(4):
+        Supplied(office, f"elm-{number}").meter(number, HEAT, "A1")
+    office.sql("UPDATE boxes SET collected_at = CASE name WHEN 'elm-3' THEN timestamptz '2025-01-15 06:35Z' ELSE '2025-01-23 06:35Z' END")
+    office.sql("UPDATE meters SET since = '2024-01-01', heard = '2025-01-20', stored_at = '2025-01-20'")
+    printed = office.run("alarms", "--at", "2025-01-25T12:00+00:00").printed.splitlines()
+    assert [line.partition(":")[0] for line in printed] == ["NEW collector office/collect", "NEW box elm-3"], printed
+    assert "3 boxes with 3 silent meters are behind since." in printed[0]
+
+
 def test_a_leap_is_divided_by_its_days(office: Office, elm: Supplied) -> None:
     """Twenty days without a value, and then what was used in them, is no leap."""
     meter, leaping = elm.meter(1, HEAT, "A1"), elm.meter(2, HEAT, "A2")
