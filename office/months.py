@@ -165,8 +165,9 @@ def write_month(cursor: Cursor, month: datetime.date, houses: List[str]) -> "col
         counts[found.grade] += period.part == 0
         now[one.place.house].append((one.place.id, *period, found.amount, found.grade))
         if not is_out:
+            held = is_held(one.place, one.entries, period, elsewhere.get(one.place.id, 0))
             rows.append((month, one.place.id, period.part, period.begins, period.ends, period.tenancy, found.amount,
-                         found.grade, is_held(one.place, one.entries, period, elsewhere.get(one.place.id, 0)), psycopg2.extras.Json(basis_of(one.entries, period)), version))
+                         found.grade, held, psycopg2.extras.Json(basis_of(one.entries, period)), version))
     for table in ("frozen_values", "month_use"):
         cursor.execute(OPEN_ROWS.format(table), (month, month, open_houses))
     insert(cursor, MONTH_USE, rows)
