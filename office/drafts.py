@@ -44,7 +44,7 @@ def of_sheet(sheet: Sheet, spans: Spans) -> Iterator[Asked]:
     for use in sheet.uses:
         name, shown = f"{user.id},{use.use},{AUDIT_UNITS[use.unit]}", asked(DECIMALS[use.unit])
         if use.is_charted and not use.months[sheet.month].why:
-            yield from (Asked(f"of_user,{now},{name},{asked(decimals)},?") for decimals in (0, 1))
+            yield from (Asked(f"of_user,{now},{name},{asked(decimals)},?") for decimals in (1, 0))
         for month, span in spans.items():
             if month in use.months and not use.months[month].why:
                 yield Asked(f"of_user,{span},{name},{shown},?")
@@ -170,7 +170,7 @@ class Reader:
         unit, month, decimals = SHOWN_UNITS[of_file], self.months[span], len(text.partition(".")[2])
         if decimals == DECIMALS[unit] or text == NONE:
             self.put(user, use_key(self.flats[user], use, month, unit), text, mark)
-        if span == NOW and (decimals == 1 or text == NONE or decimal.Decimal(text) >= CHARTED_WHOLE):
+        if span == NOW and (text == NONE or decimals == (decimal.Decimal(text) < CHARTED_WHOLE)):  # 99.7 comes before its 100
             self.put(user, use_key(self.flats[user], use, f"{month} chart", unit), text, mark)
         for what in ("factor", "price") if span == NOW else ():
             self.put_of(user, use, what, self.facts.get((what, use, of_file, span), NONE), DECLARED)

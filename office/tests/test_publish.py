@@ -99,6 +99,8 @@ def test_a_key_says_what_its_line_says() -> None:
         (7, "A1 heat change 2024-12", "252", "change"), (7, "A1 heat price", "11.5", "declared"),
         (None, "A1 heat 3 20 30 kWh", "1.0", "hand"), (None, "flat A1 heat", "349.3", "hand"), (None, "house heat", "349.3", "1 2"),
         (None, "reading 9 20", "412", "reading")]
+    edge = [line.replace(",348.3,", ",99.7,").replace(",348,", ",100,") for line in (*lines[:14], lines[15], lines[14], *lines[16:])]
+    assert (7, "A1 heat 2025-01 chart kWh", "99.7", "measured") in Reader([(3, [9])]).read(edge)
     small = [line.replace("348", "9") for line in lines if line != "of_user,1,7,heat,kWh,348,measured"]
     assert (7, "A1 heat 2025-01 chart kWh", "9.3", "measured") in Reader([(3, [9])]).read([*small[:14], "of_user,1,7,heat,kWh,9,measured", *small[14:]])
 
