@@ -10,10 +10,10 @@ class Failed(Exception):
     """What isn't as it should be."""
 
 
-def wants(holds: object, why: str) -> None:
+def wants(holds: object, why: object) -> None:
     """Raises Failed unless it holds."""
     if not holds:
-        raise Failed(why)
+        raise Failed(str(why))
 
 
 def until(holds: Callable[[], object], seconds: float, why: str) -> None:
