@@ -25,6 +25,18 @@ FROM fittings f JOIN places p ON p.id = f.place
 CROSS JOIN LATERAL (SELECT d, row_number() OVER (ORDER BY d) AS n FROM generate_series(%(first)s::date, %(last)s::date, interval '1 day') d) k;
 INSERT INTO to_compute SELECT house, m FROM houses, unnest(ARRAY[%(before)s, %(month)s]::date[]) m;
 INSERT INTO collections (begun_at, ended_at, boxes, failed, readings) VALUES (now() - interval '3 hours', now() - interval '170 minutes', %(houses)s, 0, 1800)"""
+# The telegrams of the values, once the troubles have changed these: of a heat meter in Wh, of a water meter in litres, each with its day
+TELEGRAMS = """
+CREATE FUNCTION pg_temp.turned(digits text) RETURNS text LANGUAGE sql AS
+$$SELECT string_agg(substr(digits, at, 2), '' ORDER BY at DESC) FROM generate_series(1, length(digits), 2) at$$;
+UPDATE day_values SET serial = id WHERE source = 'stored';
+INSERT INTO readings (month, box, serial, identity, flat, heard, bodies, stored_at)
+SELECT d.month, d.box, d.serial, f.identity, 'W1', ARRAY[d.at], ARRAY[decode(pg_temp.turned(left(f.identity, 8)) || '2440'
+           || substr(f.identity, 14, 2) || right(f.identity, 2) || '00000000' || CASE d.unit WHEN 'Wh' THEN '4C03' ELSE '4C13' END
+           || pg_temp.turned(lpad((d.value * CASE d.unit WHEN 'Wh' THEN 1 ELSE 1000 END)::bigint::text, 8, '0')) || '426C' || pg_temp.turned(lpad(to_hex(extract(day FROM d.day)::integer
+           + ((k.year & 7) << 5) + (extract(month FROM d.day)::integer << 8) + ((k.year >> 3) << 12)), 4, '0')), 'hex')], d.at
+FROM day_values d JOIN fittings f ON f.id = d.fitting CROSS JOIN LATERAL (SELECT extract(year FROM d.day)::integer - 2000 AS year) k
+WHERE d.source = 'stored'"""
 HEAT, COLD = "W1 heat", "W1 cold water"
 # The fitting and the meter of a house's place
 FITTING = "(SELECT f.id FROM fittings f JOIN places p ON p.id = f.place WHERE p.house = '{house}' AND p.flat || ' ' || p.use = '{place}' ORDER BY f.id LIMIT 1)"
@@ -75,7 +87,7 @@ def troubles_of(days: Days) -> list[Trouble]:
                 "UPDATE boxes SET clock = NULL, clock_at = NULL WHERE name = '{house}'"),
         Trouble("disturbed", values.format(change="value + 2000", house="{house}", place="{place}") + f" AND day = '{end}'", "strike", {}, place=COLD),
         Trouble("turn", values.format(change=f"(value + {99_200 - turned(days) / 4}) %% 100000", house="{house}", place="{place}") + "; INSERT INTO points (box, serial, part, place, storage,"
-                " function, tariff, subunit, vib, shown, value, unit) VALUES ('{house}', 1, 1, 1, 0, 0, 0, 0, '13', '1', 1, 'm3')",
+                " function, tariff, subunit, vib, shown, value, unit) SELECT '{house}', id, 1, 1, 0, 0, 0, 0, '13', '1', 1, 'm3' FROM day_values WHERE fitting = " + FITTING,
                 "declare_counter", {}, place=COLD),
         Trouble("no number", values.format(change="value + 300000", house="{house}", place="{place}") + f" AND day >= '{end - datetime.timedelta(days=9)}'", "see_number", {}),
         Trouble("no use", "INSERT INTO meters (box, identity, line, address, flat, since, heard, stored_at, at, status) VALUES ('{house}', '99000007.KAM.1B.0F', 1, '99',"
@@ -90,7 +102,8 @@ def troubles_of(days: Days) -> list[Trouble]:
                 "UPDATE meters SET address = '99' WHERE identity = " + METER,
                 "exchange", {"at": noon, "last": str(removed_at(days)), "first": "0", "unit": "Wh"}),
         Trouble("no number", f"DELETE FROM day_values WHERE fitting = {FITTING} AND day > '{end - datetime.timedelta(days=9)}'", "put_value",
-                {"value": "5565000", "unit": "Wh"}),
+                {"value": "5565000", "unit": "Wh"},
+                f"SELECT put_value({FITTING}, '{days.last}', {5_565_000 + 9000 * (days.last - end).days}, 'Wh', 'read at the meter')"),
         Trouble("changed", "", "correct_month", {}),
         Trouble("late", "UPDATE boxes SET late = '12 values of 2 meters, from 2026-01-01 on, came more than three days after the day' WHERE name = '{house}'", "take_over", {},
                 "UPDATE boxes SET late = NULL WHERE name = '{house}'"),
