@@ -76,6 +76,12 @@ def test_a_command_gets_the_bus_lines_that_it_takes(house: House, words: str, wa
     assert house.does(*words.split()).stdout == wanted.replace("IMAGE", str(house.image)) + "\n"
 
 
+def test_a_word_that_is_no_command_is_named(house: House) -> None:
+    done = house.does("mistyped")
+    assert (done.returncode, done.stdout) == (2, "")
+    assert done.stderr == "mbdc-house: mistyped: no command; mbdc-house --help lists them\n"
+
+
 def test_a_check_prints_the_settings_the_image_and_what_a_poll_would_do(house: House) -> None:
     hooks = house.folder / "after-poll.d"
     hooks.mkdir()
