@@ -87,7 +87,7 @@ registered : (line : ℕ) (meter : Identity) (s : State) (found : Option MeterRo
 registered line meter s None e on = absurd (cc on)
 registered line meter s (Some row) e on = record { row = row; found = e; on_line = eqb-true row.line line on; counted = inl refl }
 
-start_split : (a b c d : Bool) (done : Unit {0}) → ◌≡◌ {A = Result (Unit {0}) StartFault} (Ok done) (if not a then Err StartNoLine else if b then Err StartStopped else if not c then Err Unknown else if d then Err Busy else Ok tt) → (a ≡ true) × (c ≡ true)
+pub start_split : (a b c d : Bool) (done : Unit {0}) → ◌≡◌ {A = Result (Unit {0}) StartFault} (Ok done) (if not a then Err StartNoLine else if b then Err StartStopped else if not c then Err Unknown else if d then Err Busy else Ok tt) → (a ≡ true) × (c ≡ true)
 start_split false b c d done e = absurd (cc e)
 start_split true true c d done e = absurd (cc e)
 start_split true false false d done e = absurd (cc e)
@@ -104,7 +104,7 @@ turn_start line meter (Ok done) budget core keeps may =
 -- ---- hear
 
 -- the answer if none of the first faults applies
-asks_split : (a b c : Bool) (f g h : HearFault) (wanted rest : Result LineHeard HearFault) → (wanted ≡ Err f → ⊥) → (wanted ≡ Err g → ⊥) → wanted ≡ (if not a then Err f else if b then Err g else rest) → (a ≡ true) × (wanted ≡ rest)
+pub asks_split : (a b c : Bool) (f g h : HearFault) (wanted rest : Result LineHeard HearFault) → (wanted ≡ Err f → ⊥) → (wanted ≡ Err g → ⊥) → wanted ≡ (if not a then Err f else if b then Err g else rest) → (a ≡ true) × (wanted ≡ rest)
 asks_split false b c f g h wanted rest x y e = absurd (x e)
 asks_split true true c f g h wanted rest x y e = absurd (y e)
 asks_split true false c f g h wanted rest x y e = (refl, e)
@@ -198,7 +198,7 @@ settled_follows : (line : ℕ) (state : State) (session : Option Summary) → Fo
 settled_follows line state None follows = tt
 settled_follows line state (Some s) follows = settled_at_follows line state s.stage s refl follows
 
-get_settled : (lines : List (Option Summary)) (place : ℕ) → get_or (settled_lines lines) place None ≡ settled_on (get_or lines place None)
+pub get_settled : (lines : List (Option Summary)) (place : ℕ) → get_or (settled_lines lines) place None ≡ settled_on (get_or lines place None)
 get_settled [] place = refl
 get_settled (s ∷ lines) zero = refl
 get_settled (s ∷ lines) (suc place) = get_settled lines place
@@ -222,11 +222,11 @@ turn_commit (Err fault) budget core keeps may = failed_keeps core fault keeps
 
 -- ---- a line of the office
 
-nothing_left : (core : Core) (pending : List Change) → core.pending ≡ pending → (settled_core core pending).pending ≡ []
+pub nothing_left : (core : Core) (pending : List Change) → core.pending ≡ pending → (settled_core core pending).pending ≡ []
 nothing_left core [] none = none
 nothing_left core (change ∷ changes) some = refl
 
-length-lines_after : (removed : Option Identity) (lines : List (Option Summary)) → length (lines_after removed lines) ≡ length lines
+pub length-lines_after : (removed : Option Identity) (lines : List (Option Summary)) → length (lines_after removed lines) ≡ length lines
 length-lines_after None lines = refl
 length-lines_after (Some meter) lines = length-map lines (unless_of meter)
 
@@ -297,7 +297,7 @@ along : (budget : ℕ) (core : Core) (turns : List Turn) → Keeps core → IsCh
 along budget core [] keeps chain = keeps
 along budget core (t ∷ turns) keeps chain = along budget (next core t.0 t.1) turns (turn t.0 t.1 budget core keeps chain.0) chain.1
 
-get_nobody : (n place : ℕ) → ◌≡◌ {A = Option Summary} (get_or (replicate n None) place None) None
+pub get_nobody : (n place : ℕ) → ◌≡◌ {A = Option Summary} (get_or (replicate n None) place None) None
 get_nobody zero place = refl
 get_nobody (suc n) zero = refl
 get_nobody (suc n) (suc place) = get_nobody n place

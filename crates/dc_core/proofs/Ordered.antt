@@ -29,10 +29,10 @@ use Rattle.dc_core.proofs.Registered.{IsFollowed, FollowsAt, Follows, row_of_sam
 
 -- ---- another meter's row
 
-abbrev at_meter : Identity → Identity → Bool
+abbrev pub at_meter : Identity → Identity → Bool
 at_meter m = is_at (identity_cmp m)
 
-insert_other : (m meter : Identity) (row : MeterRow) (es : List (Identity × MeterRow)) → at_meter m meter ≡ false → lookup (at_meter m) (insert_entry identity_cmp es meter row) ≡ lookup (at_meter m) es
+pub insert_other : (m meter : Identity) (row : MeterRow) (es : List (Identity × MeterRow)) → at_meter m meter ≡ false → lookup (at_meter m) (insert_entry identity_cmp es meter row) ≡ lookup (at_meter m) es
 insert_other m meter row [] apart = rw apart refl
 insert_other m meter row (e ∷ es) apart = by_order (insert_other m meter row es apart) (identity_cmp meter e.0) refl
   where
@@ -44,7 +44,7 @@ insert_other m meter row (e ∷ es) apart = by_order (insert_other m meter row e
         rw there refl
     by_order rest Greater at = ap (λ (o : Option MeterRow). cond (at_meter m e.0) (Some e.1) o) rest
 
-remove_other : (m meter : Identity) (es : List (Identity × MeterRow)) → at_meter m meter ≡ false → lookup (at_meter m) (remove_entry (at_meter meter) es) ≡ lookup (at_meter m) es
+pub remove_other : (m meter : Identity) (es : List (Identity × MeterRow)) → at_meter m meter ≡ false → lookup (at_meter m) (remove_entry (at_meter meter) es) ≡ lookup (at_meter m) es
 remove_other m meter [] apart = refl
 remove_other m meter (e ∷ es) apart = by_test (remove_other m meter es apart) (at_meter meter e.0) refl
   where
@@ -55,7 +55,7 @@ remove_other m meter (e ∷ es) apart = by_test (remove_other m meter es apart) 
     by_test rest false at = rw at (ap (λ (o : Option MeterRow). cond (at_meter m e.0) (Some e.1) o) rest)
 
 -- a registered meter isn't one that isn't registered
-apart_from_new : (m meter : Identity) (row : MeterRow) (s : State) → row_of m s ≡ Some row → is_some (row_of meter s) ≡ false → at_meter m meter ≡ false
+pub apart_from_new : (m meter : Identity) (row : MeterRow) (s : State) → row_of m s ≡ Some row → is_some (row_of meter s) ≡ false → at_meter m meter ≡ false
 apart_from_new m meter row s found absent = by_test (at_meter m meter) refl
   where
     by_test : (b : Bool) → at_meter m meter ≡ b → b ≡ false
@@ -133,11 +133,11 @@ get_left (Some meter) [] place = refl
 get_left (Some meter) (x ∷ lines) zero = refl
 get_left (Some meter) (x ∷ lines) (suc place) = get_left (Some meter) lines place
 
-own : (m : Identity) → is_meter m m ≡ true
+pub own : (m : Identity) → is_meter m m ≡ true
 own m = and_from _ _ (and_from _ _ (and_from _ _ (eq-eqb m.number m.number refl) (eq-eqb m.maker m.maker refl)) (eq-eqb m.version m.version refl)) (eq-eqb m.kind m.kind refl)
 
 -- a session that another meter's end leaves is of another meter
-other_meter : (meter m : Identity) → is_meter meter m ≡ false → at_meter m meter ≡ false
+pub other_meter : (meter m : Identity) → is_meter meter m ≡ false → at_meter m meter ≡ false
 other_meter meter m other = by_test (at_meter m meter) refl
   where
     by_test : (b : Bool) → at_meter m meter ≡ b → b ≡ false

@@ -95,7 +95,7 @@ told_own line meter count number part s is at =
     record { row = row; found = row_of_same meter is.row row s is.found; on_line = is.on_line; counted = inr (joined_length count number part is.row.parts at is.counted) }
 
 -- of a meter on another line
-apart : (line other : ℕ) (meter m : Identity) (row : MeterRow) (count : ℕ) (s : State) → row_of meter s ≡ Some row → row.line ≡ line → IsFollowed other m count s → other ≢ line → is_at (identity_cmp m) meter ≡ false
+pub apart : (line other : ℕ) (meter m : Identity) (row : MeterRow) (count : ℕ) (s : State) → row_of meter s ≡ Some row → row.line ≡ line → IsFollowed other m count s → other ≢ line → is_at (identity_cmp m) meter ≡ false
 apart line other meter m row count s found on is ne = by_test (is_at (identity_cmp m) meter) refl
   where
     by_test : (b : Bool) → is_at (identity_cmp m) meter ≡ b → b ≡ false

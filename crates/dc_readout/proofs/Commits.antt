@@ -27,7 +27,7 @@ module _ (P : List ℕ → Type 0) where
   all_one_more zero (x ∷ xs) body at all one = let same : x ≡ body = cc in (subst P (sym same) one, tt)
   all_one_more (suc n) (x ∷ xs) body at all one = (all.0, all_one_more n xs body at all.1 one)
 
-all_with : {X : Type 0} (P : X → Type 0) (xs : List X) (x : X) → AllByRecursion P xs → P x → AllByRecursion P (xs ++ x ∷ [])
+pub all_with : {X : Type 0} (P : X → Type 0) (xs : List X) (x : X) → AllByRecursion P xs → P x → AllByRecursion P (xs ++ x ∷ [])
 all_with P [] x all one = (one, tt)
 all_with P (first ∷ xs) x all one = (all.0, all_with P xs x all.1 one)
 
@@ -77,7 +77,7 @@ pends Requests n body bodies waits = absurd cc
 pends (Pending more) n body bodies waits = record { stage_is = ap Pending (sym waits.1); is_next = waits.0 }
 pends Ended n body bodies waits = absurd cc
 
-next_step : (n : ℕ) (p : Position) → HasGoneOn n p → HasNotGoneOn (n + 1) p
+pub next_step : (n : ℕ) (p : Position) → HasGoneOn n p → HasNotGoneOn (n + 1) p
 next_step n p gone = (gone.0, gone.1 ∙ ap bit_before (suc_is n))
 
 alone_requests : (address : Option ℕ) (i : ℕ) (positions : List Position) → IsAlone (Pending true) address i positions → IsAlone Requests address i positions

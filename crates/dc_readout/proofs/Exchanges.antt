@@ -144,7 +144,7 @@ stays AsSent meters stage identity address n i frame one p positions asks at who
 
 -- ---- a command that was acknowledged
 
-to_command_ack : (heard : Option FrameSeen) → to_command heard ≡ acknowledged → heard ≡ Some ack
+pub to_command_ack : (heard : Option FrameSeen) → to_command heard ≡ acknowledged → heard ≡ Some ack
 to_command_ack None e = absurd cc
 to_command_ack (Some ack) e = refl
 to_command_ack (Some (short control sender)) e = absurd cc
@@ -246,11 +246,11 @@ telegram_long meter address part (Some (long control sender ci body)) t e =
     let same : t.body ≡ body = (telegram_takes body t own.1).body in
     record { control = control; sender = sender; ci = ci; is = ap (λ b. Some (long control sender ci b)) (sym same); whole = ap telegram_at same ∙ own.1 }
 
-response_body : (m : Meter) (found : Option (List ℕ)) (control sender ci : ℕ) (body : List ℕ) → response m found ≡ Some (long control sender ci body) → found ≡ Some body
+pub response_body : (m : Meter) (found : Option (List ℕ)) (control sender ci : ℕ) (body : List ℕ) → response m found ≡ Some (long control sender ci body) → found ≡ Some body
 response_body m None control sender ci body e = absurd cc
 response_body m (Some b) control sender ci body e = cc
 
-cond_some : (b : Bool) (o : Option FrameSeen) (f : FrameSeen) → cond b o None ≡ Some f → (b ≡ true) × (o ≡ Some f)
+pub cond_some : (b : Bool) (o : Option FrameSeen) (f : FrameSeen) → cond b o None ≡ Some f → (b ≡ true) × (o ≡ Some f)
 cond_some true o f e = (refl, e)
 cond_some false o f e = absurd cc
 

@@ -60,12 +60,12 @@ no_more k e = omega (arith, e)
 not_zero : (k : ℕ) → 0 ≡ k + 1 → ⊥
 not_zero k e = omega (arith, e)
 
-cond_place : (b : Bool) (q p : Position) → (cond b q p).place ≡ p.place + 1 → (b ≡ true) × (q.place ≡ p.place + 1)
+pub cond_place : (b : Bool) (q p : Position) → (cond b q p).place ≡ p.place + 1 → (b ≡ true) × (q.place ≡ p.place + 1)
 cond_place true q p e = (refl, e)
 cond_place false q p e = absurd (no_more p.place e)
 
 -- a command never makes a meter go on
-reset_stays : (address : Option ℕ) (m : Meter) (p : Position) → (moved_by (reset_of address) m p).place ≡ p.place + 1 → ⊥
+pub reset_stays : (address : Option ℕ) (m : Meter) (p : Position) → (moved_by (reset_of address) m p).place ≡ p.place + 1 → ⊥
 unfolding moved_by
 reset_stays address m p e = go (is_own m.address (link_address address)) (link_address address == selected) e
   where
@@ -74,7 +74,7 @@ reset_stays address m p e = go (is_own m.address (link_address address)) (link_a
     go false true e = no_more p.place e
     go false false e = no_more p.place e
 
-selection_stays : (identity : Identity) (m : Meter) (p : Position) → (moved_by (selection_of identity) m p).place ≡ p.place + 1 → ⊥
+pub selection_stays : (identity : Identity) (m : Meter) (p : Position) → (moved_by (selection_of identity) m p).place ≡ p.place + 1 → ⊥
 unfolding moved_by
 selection_stays identity m p e =
     go (matches (mask_at (mask_wire (mask_of identity))) m.identity) (ap (λ f. (moved_by f m p).place) (sym (selection_is_long identity)) ∙ e)
@@ -83,7 +83,7 @@ selection_stays identity m p e =
     go true e = not_zero p.place e
     go false e = no_more p.place e
 
-not_gone_on : (n : ℕ) (p : Position) → (gone_on (Some (bit_after n)) p).place ≡ p.place + 1 → HasNotGoneOn n p ⊎ HasGoneOn n p → HasNotGoneOn n p
+pub not_gone_on : (n : ℕ) (p : Position) → (gone_on (Some (bit_after n)) p).place ≡ p.place + 1 → HasNotGoneOn n p ⊎ HasGoneOn n p → HasNotGoneOn n p
 not_gone_on n p e (inl not_yet) = not_yet
 not_gone_on n p e (inr gone) = absurd (no_more p.place (sym (ap (λ q. q.place) (repeats n p gone)) ∙ e))
 

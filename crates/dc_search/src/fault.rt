@@ -3,7 +3,7 @@
 use thiserror::Error;
 
 /// Why an answer was rejected; the search is unchanged.
-#[derive(Clone, Copy, Debug, PartialEq, Eq, Error)]
+#[derive(Clone, Copy, Debug, Error)]
 #[error("{} {}", self.number(), self.name())]
 pub enum SearchFault {
     /// No answer was expected: the search is done, or its budget is spent.

@@ -8,7 +8,7 @@ use std::fmt;
 use thiserror::Error;
 
 /// Why an image wasn't opened: the first fault in the order of the steps of opening.
-#[derive(Clone, Copy, Debug, PartialEq, Eq, Error)]
+#[derive(Clone, Copy, Debug, Error)]
 pub enum OpenFault {
     /// The disk has fewer than 131 sectors, or both root slots are readable and neither has a root.
     NotImage,
