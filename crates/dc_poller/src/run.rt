@@ -76,7 +76,8 @@ pub fn run_script_over<
         ImageRan D.Disk (link_of B.lost gateway.old) (R.left reader.old) faulty
         (PutsInto W.Sink writer.old writer.new) (AreCarried B.lost B.asks gateway.old gateway.new) disk result.0) }
     ensures cut { Stands D.Disk disk → IsErrOf result.1 ProgramFault.Write → ImageCut D.Disk
-        (link_of B.lost gateway.old) (R.left reader.old) (AreCarried B.lost B.asks gateway.old gateway.new) disk result.0 }
+        (link_of B.lost gateway.old) (R.left reader.old)
+        (AreCarried B.lost B.asks gateway.old gateway.new) disk result.0 }
     // If memory runs out before the image is opened, or in a search, the image and the text are
     // those of the run up to it.
     ensures starved { Stands D.Disk disk → IsErrOf result.1 ProgramFault.NoMemory

@@ -105,7 +105,8 @@ fn run_line<D: Disk + Drop, A: Allocator + Copy, B: Bus + Drop, W: Sink>(
     out: &mut W,
 ) -> Result<(), Halt>
     ensures ran { AnyRun D.Disk concentrator.old concentrator.new (λ run.
-        OnOk result (RanOver D.Disk run moment.seconds (seen asked.now) B.lost B.asks gateway.old gateway.new (PutsInto W.Sink out.old out.new))) }
+        OnOk result (RanOver D.Disk run moment.seconds (seen asked.now) B.lost B.asks gateway.old gateway.new
+        (PutsInto W.Sink out.old out.new))) }
     ensures cut { AnyRun D.Disk concentrator.old concentrator.new (λ run.
         OnWrite result (CutOver D.Disk run moment.seconds (seen asked.now) B.lost B.asks gateway.old gateway.new)) }
     ensures starved { AnyRun D.Disk concentrator.old concentrator.new (λ run.
@@ -132,7 +133,8 @@ fn run_plain<D: Disk + Drop, A: Allocator + Copy, B: Bus + Drop, W: Sink>(
 ) -> Result<(), IoFault>
     requires { IsPlain (seen asked.now) }
     ensures ran { AnyRun D.Disk concentrator.old concentrator.new (λ run.
-        OnOk result (RanOver D.Disk run moment.seconds (seen asked.now) B.lost B.asks gateway.old gateway.new (PutsInto W.Sink out.old out.new))) }
+        OnOk result (RanOver D.Disk run moment.seconds (seen asked.now) B.lost B.asks gateway.old gateway.new
+        (PutsInto W.Sink out.old out.new))) }
     ensures cut { AnyRun D.Disk concentrator.old concentrator.new (λ run.
         OnErr result (CutOver D.Disk run moment.seconds (seen asked.now) B.lost B.asks gateway.old gateway.new)) }
     ensures counted { CountsPuts W.Sink result out.old out.new }

@@ -151,8 +151,8 @@ fn unit_row(quantity: Quantity) -> &'static ([u8; UNIT_ROOM], u8)
     &UNITS[quantity as usize]
 }
 
-// Writes a space and a unit just before `end`, and returns where they begin. A copy of constant size is cheaper than one
-// of the unit's length.
+// Writes a space and a unit just before `end`, and returns where they begin. A copy of constant size is cheaper than
+// one of the unit's length.
 #[inline(always)]
 fn put_unit_text_before(quantity: Quantity, room: &mut [u8], end: usize) -> usize
     requires { (UNIT_ROOM ≤ end) × (end ≤ length room.old) }

@@ -1,7 +1,8 @@
 //! The forms of data fields, and the types of values in them.
 
 ghost use Rattle.std.specs.Prelude.{◌≡◌, IsTrue};
-ghost use Rattle.mbdc_reading.specs.Form.{form_of, sized, counted, type_of, numeric, digits_type, dated, is_whole, fits};
+ghost use Rattle.mbdc_reading.specs.Form.{form_of, sized, counted, type_of, numeric, digits_type, dated};
+ghost use Rattle.mbdc_reading.specs.Form.{is_whole, fits};
 
 use crate::codes::Kind;
 

@@ -4,7 +4,8 @@ ghost use Rattle.std.specs.Prelude.{◌≡◌, ◌≤◌, length, IsTrue, option
 ghost use Rattle.mbdc_reading.specs.Form.{fits};
 ghost use Rattle.mbdc_reading.specs.Value.{real_in, whole, magnitude, number_in, scaled_by, clock_fault, day_in};
 ghost use Rattle.mbdc_reading.specs.Value.{minute_in};
-ghost use Rattle.mbdc_reading.specs.Value.{second_in, time_in, identity_at, identity_in, letters_in, digits_in, value_of};
+ghost use Rattle.mbdc_reading.specs.Value.{second_in, time_in, identity_at, identity_in, letters_in};
+ghost use Rattle.mbdc_reading.specs.Value.{digits_in, value_of};
 
 use crate::form::{DataType, Form};
 use crate::meaning::fitting;
