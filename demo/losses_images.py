@@ -92,8 +92,7 @@ def an_image_that_is_behind_is_shown_and_not_written(program: Program, folder: p
     bus = TransparentGateway(Bus([], random.Random(1)))
     bus.start()
     for words in (["run", "house.image", "day.txt"], ["fit", "house.image", list_of(folder, 3)],
-                  ["poll", "house.image", "--line", f"1=tcp://{bus.address}"],
-                  ["poll", "house.image", "--line", f"1=tcp://{bus.address}", "--dry-run"]):
+                  ["poll", "house.image", "--line", f"1=tcp://{bus.address}"]):
         wants(program.run(*words) == (3, line), f"{words[0]} isn't refused")
     wants(image.read_bytes() == before, "it was written")
 

@@ -20,9 +20,8 @@ RANGES = {"--patience": (1, 60_000), "--tries": (1, 9), "--budget": (0, 4_294_96
           "NEW": (0, 250), "--csv": (1, 8)}
 GREATEST = 2 ** 63 - 1
 REPEATED = {"--line", "--only"}
-EXCLUSIVE = [{"--json", "--explain"}, {"--primary", "--budget"}, {"--csv", "--json"}, {"--dry-run", "--json"},
-             {"--dry-run", "--trace"}]
-WRITING = {"format", "run", "fit", "swap", "move", "out", "poll"}  # the commands that write to their image; `poll --dry-run` doesn't
+EXCLUSIVE = [{"--json", "--explain"}, {"--primary", "--budget"}, {"--csv", "--json"}]
+WRITING = {"format", "run", "fit", "swap", "move", "out", "poll"}  # the commands that write to their image
 # As crates/mbdc_words/src/near.rt has them
 COMMANDS = ["address", "audit", "copy", "decode", "demo", "fit", "fold", "format", "inspect", "move", "out", "poll", "read", "report",
             "rescue", "run", "scan", "status", "swap", "values"]
@@ -133,8 +132,7 @@ def of_command(command: "packaging.Command", words: list[str]) -> Asked:
     needed += [f"<{name}>" for name, is_required in command.arguments[len(arguments):] if is_required]
     if needed:
         mistaken(f"the following required arguments were not provided: {' '.join(needed)}")
-    writes = command.name in WRITING and "--dry-run" not in options
-    return Asked(command.name, arguments[0] if writes else None)
+    return Asked(command.name, arguments[0] if command.name in WRITING else None)
 
 
 def of_option(command: "packaging.Command", name: str, value: Optional[str], words: list[str]) -> str:

@@ -83,8 +83,7 @@ def test_a_mistake_of_words(words: str, text: str) -> None:
     ("", None), ("decode x", None), ("decode -", None), ("values i", None), ("status i", None),
     ("report i register", None), ("scan tcp://a:1", None), ("read tcp://a:1 3", None), ("address tcp://a:1 1 2", None),
     ("format i 131", "i"), ("fit i l", "i"), ("run i s", "i"), ("poll i --line 1=tcp://a:1", "i"), ("poll --line=1=tcp://a:1 --tries 3 i", "i"),
-    ("--verbose fit i l", "i"), ("fit --verbose i l", "i"), ("fit -- -i l", "-i"), ("fit i -- l", "i"), ("run -- i s", "i"),
-    ("poll i --line 1=tcp://a:1 --dry-run", None), ("poll --dry-run --line 1=tcp://a:1 -- i", "i")])
+    ("--verbose fit i l", "i"), ("fit --verbose i l", "i"), ("fit -- -i l", "-i"), ("fit i -- l", "i"), ("run -- i s", "i")])
 def test_the_image_that_a_command_writes_to(words: str, image: Optional[str]) -> None:
     assert early.judged(shlex.split(words)).image == image
 

@@ -103,8 +103,8 @@ fn look_once<'a, R: AllocGlobal>(
     Ok(None)
 }
 
-/// Scans the halves of an image that is looked at, before the look.
-pub fn scan_file<'a>(file: &LookedAt<'_>, image: &'a str) -> Result<Greatest, Ending<'a>> {
+// Scans the halves of an image that is looked at, before the look.
+fn scan_file<'a>(file: &LookedAt<'_>, image: &'a str) -> Result<Greatest, Ending<'a>> {
     let mut disk = file.disk(image)?;
     match scan(&mut disk) {
         Ok(greatest) => Ok(greatest),

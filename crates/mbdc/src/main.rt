@@ -7,7 +7,6 @@ mod clock;
 mod columns;
 mod connecting;
 mod demo;
-mod dry;
 mod ending;
 mod fit;
 mod inspect;

@@ -2,7 +2,6 @@
 
 use crate::bench::on_bus;
 use crate::demo;
-use crate::dry::dry_run;
 use crate::fit::fit_on_image;
 use crate::inspect::{form_of, look_into, report_on_image, tell_status};
 use crate::order::order_on_image;
@@ -69,7 +68,6 @@ where
         Task::Copy { image, file } => back_up(host, image, file),
         Task::Rescue { image, file } => rescue_image(host, image, file),
         Task::Bus(task) => on_bus(host, task),
-        Task::Poll(task) if task.is_dry => dry_run(host, task),
         Task::Poll(task) => poll_on_image(host, task),
         Task::Demo => demo::play(host),
     }

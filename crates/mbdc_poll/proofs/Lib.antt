@@ -56,9 +56,3 @@ mod EventLines
 mod Objects
 -- events that a teller took, one after the other
 mod Printing
--- of the module `dry`
-
--- the rows of a register, and those of a queue
-pub mod Rows
--- a prefix of one piece of a text
-pub mod Fronts

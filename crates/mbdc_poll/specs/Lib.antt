@@ -56,7 +56,3 @@ pub mod Tally
 pub mod Printed
 -- the lines of an image's journal
 pub mod Note
--- of the module `dry`
-
--- what a poll would do
-pub mod Dry

@@ -11,7 +11,6 @@
 mod brought;
 mod calls;
 mod clock;
-pub mod dry;
 mod end;
 mod event;
 pub mod events;

@@ -2,7 +2,7 @@
 //!
 //! [`put_reported`] writes what one telegram reports as the fields of a reading of `values --json`
 //! (`specs/Reported.antt`); [`Headline`] and [`Listed`] go through the records of these fields.
-//! [`put_room_left`] writes how many more readings an image has room for (`specs/Room.antt`).
+//! [`readings_left`] says how many more readings an image has room for (`specs/Room.antt`).
 //!
 //! Proved: the days of `specs/Utc.antt` are those of the calendar ([`minute`] finds them by the kit's dates).
 #![tactic(auto)]
@@ -13,6 +13,6 @@ mod stand;
 mod utc;
 
 pub use reported::{put_received, put_reported, put_told};
-pub use room::{EMPTY, put_number, put_room_left, readings_left};
+pub use room::{EMPTY, put_number, readings_left};
 pub use stand::{Current, Headline, Listed};
 pub use utc::minute;

@@ -2,7 +2,7 @@
 
 ghost use Rattle.std.specs.Prelude.{◌≡◌};
 ghost use Rattle.mbdc_io.specs.Written.{Wrote};
-ghost use Rattle.mbdc_shown.specs.Room.{bytes_a_reading, number_line, readings_left, room_words};
+ghost use Rattle.mbdc_shown.specs.Room.{bytes_a_reading, number_line, readings_left};
 
 use dc_meters::House;
 use mbdc_decode::tokens::{Piece, put_pieces};
@@ -50,16 +50,4 @@ pub fn put_number<W: Sink>(
         ),
         None => put_pieces(out, &[Piece::Text(name), Piece::Text(b" NONE\n")]),
     }
-}
-
-/// Writes how many more readings the image has room for: the row `ROOM` of `status`.
-#[tactic(auto, unfolding(crate::specs::Room::room_words))]
-pub fn put_room_left<A: Allocator + Copy, W: Sink>(
-    out: &mut W,
-    house: &House<A>,
-) -> Result<(), IoFault>
-    ensures { Wrote W.Sink result out.old out.new
-        (room_words (readings_left house.now.budget house.now.state)) }
-{
-    put_number(out, b"ROOM", readings_left(house))
 }

@@ -315,11 +315,6 @@ With --json an object an event. On a terminal, standard error shows how far it
 is. --trace FILE gets each request and answer, as of scan. Where the clock is
 earlier than a time stamp of the register:
 mbdc: clock: behind the newest reading
---dry-run prints what the poll would do, opens no link and writes nothing:
-  QUEUE n ident            line n reads this meter, in this order
-  MOST n readouts requests line n makes at most as many
-  REFUSED ident n Name     the meter would be refused
-  ROOM readings            the row of status
 Status: 0 every meter was read, 1 one wasn't, 3 the image, 4 a link, a file or
   memory.";
 

@@ -320,13 +320,6 @@ const READING: &[CommandRow] = &[
             },
             STORED_PATIENCE,
             TRACE,
-            Row {
-                id: "DRY",
-                long: Some("dry-run"),
-                others: &["JSON", "TRACE"],
-                help: "Prints what a poll would do; opens no link and writes nothing",
-                ..FLAG
-            },
         ],
     },
     CommandRow {

@@ -127,8 +127,6 @@ pub struct PollTask<'a> {
     pub patience: Option<u16>,
     /// The file of the trace, if one is written; `-` is standard error.
     pub trace: Option<&'a str>,
-    /// Whether it prints what a poll would do, in place of it.
-    pub is_dry: bool,
 }
 
 /// What becomes of a registered meter.

@@ -244,7 +244,6 @@ fn poll_task<'a>(
         is_json: inner.get_flag("JSON"),
         patience: inner.get_one("PATIENCE"),
         trace: inner.get_str("TRACE"),
-        is_dry: inner.get_flag("DRY"),
     }))
 }
 
