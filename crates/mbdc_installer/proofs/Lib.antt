@@ -12,6 +12,8 @@ mod Results
 mod Courses
 -- the tries that find a meter by its number
 mod Numbers
+-- a meter that is confirmed
+mod Confirmings
 -- of the module `bench`
 
 -- a text, and what is printed after it

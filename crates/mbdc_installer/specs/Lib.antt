@@ -12,6 +12,8 @@ pub mod Course
 pub mod Unread
 -- the one meter with a number
 pub mod Number
+-- who answers a wildcard
+pub mod Confirming
 -- of the module `bench`
 
 -- how a command over a bus ends

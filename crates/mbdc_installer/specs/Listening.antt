@@ -1,6 +1,7 @@
 -- A bus on which a search is given up that hears noise alone (this product).
 use Rattle.std.specs.Prelude.{◌≡◌, ◌-◌, ◌==◌, ◌||◌, ℕ, Bool, true, false, List, [], ◌∷◌, Option, None, Some}
 use Rattle.std.specs.Prelude.{if◌then◌else◌}
+use Rattle.mbdc_installer.specs.Confirming
 use Rattle.mbdc_installer.specs.declared.bench.listening.Listening.{Listening}
 use Rattle.dc_linkframe.specs.Frame.{FrameSeen}
 use Rattle.dc_linkframe.specs.Reading.{frame_of}
@@ -27,10 +28,23 @@ heard_as left answer = if is_given_up left then [] else answer
 abbrev pub IsSilent : Bool → List ℕ → Type 0
 IsSilent is_lost answer = is_lost ≡ true → answer ≡ []
 
+-- a request goes to the bus
+pub record Passed {B : Type 0} (asks : B → List ℕ → List ℕ → B → Type 0) (old : Listening B)
+    (request heard : List ℕ) (new : Listening B) : Type 0 where
+  pub asked : asks old.bus request heard new.bus
+  pub same : new.wildcard ≡ old.wildcard
+
+-- a request goes to the bus, and who answers a wildcard is confirmed
+abbrev pub Confirmed : {B : Type 0} → (B → Bool) → (B → List ℕ → List ℕ → B → Type 0)
+    → Listening B → List ℕ → List ℕ → Listening B → Type 0
+Confirmed lost asks_all old request heard new =
+    Confirming.Hears lost asks_all request old.bus old.wildcard heard new.bus new.wildcard
+
 -- A REQUEST AND ITS ANSWER: what the bus does, until the search is given up; then nothing goes out.
-pub record Hears {B : Type 0} (lost : B → Bool) (asks : B → List ℕ → List ℕ → B → Type 0)
+pub record Hears {B : Type 0} (lost : B → Bool)
+    (asks : Listening B → List ℕ → List ℕ → Listening B → Type 0)
     (old : Listening B) (request answer : List ℕ) (new : Listening B) : Type 0 where
   pub untouched : is_given_up old.left ≡ true → new ≡ old
   pub silence : IsSilent (is_given_up new.left || lost new.bus) answer
-  pub asked : is_given_up old.left ≡ false → (heard : List ℕ) × asks old.bus request heard new.bus
+  pub asked : is_given_up old.left ≡ false → (heard : List ℕ) × asks old request heard new
       × (new.left ≡ left_after heard old.left) × (answer ≡ heard_as new.left heard)

@@ -10,6 +10,7 @@
 
 mod address;
 pub mod bench;
+mod confirming;
 mod course;
 mod laws;
 mod number;
@@ -20,7 +21,7 @@ mod wildcards;
 
 pub use address::{Addressing, Target, put_addressing, set_address};
 pub use course::Course;
-pub use laws::a_course_counts_the_answers;
+pub use laws::{a_confirmed_meter_is_known, a_course_counts_the_answers};
 pub use number::{Numbered, find_number, put_unfound};
 pub use primary::{Asked, GREATEST, ask_address, identify, is_there, scan_primary, sender_at};
 pub use reading::{Readout, read};

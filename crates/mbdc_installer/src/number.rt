@@ -75,7 +75,8 @@ fn try_on<B: Bus>(
     }
 }
 
-fn is_silent(answer: &AnswerBuf) -> bool
+/// Whether no byte came.
+pub(crate) fn is_silent(answer: &AnswerBuf) -> bool
     ensures { result ≡ is_silent answer.now }
 {
     answer.as_slice().is_empty()
@@ -135,8 +136,8 @@ fn fix(branch: Branch, codes: &[u8]) -> Branch
     }
 }
 
-// The digit of its code.
-fn digit_of(code: u8) -> u8
+/// The digit of its code.
+pub(crate) fn digit_of(code: u8) -> u8
     ensures exact { result ≡ digit_of code }
     ensures digit { result ≤ 9 }
 {

@@ -11,6 +11,7 @@ use crate::bench::listing::list_over;
 use crate::bench::printer::Printer;
 use crate::bench::progress::{Cleared, Progress};
 use crate::bench::reading::read_named;
+use crate::confirming::Wildcard;
 use crate::{
     Addressing, Count, Readout, ScanFault, Target, put_addressing, scan, scan_primary, set_address,
 };
@@ -77,6 +78,11 @@ where
             Some(MOST_NOISE)
         } else {
             None
+        },
+        wildcard: Wildcard {
+            confirms: matches!(work, Work::Search(_)),
+            wire: None,
+            last: None,
         },
         is_hushed: &progress.is_hushed,
     };

@@ -1,8 +1,9 @@
-//! A bus on which a search is given up that hears noise alone.
+//! A bus on which a search is given up that hears noise alone, and on which it believes who is confirmed.
 
 ghost use Rattle.std.specs.Prelude.{◌≡◌};
 ghost use Rattle.mbdc_installer.specs.Listening.{heard_as, is_given_up, left_after};
 
+use crate::confirming::{self, Wildcard};
 use dc_linkframe::{FrameBuf, parse};
 use mbdc_bus::{AnswerBuf, Bus};
 use std::cell::Cell;
@@ -17,6 +18,8 @@ pub(crate) struct Listening<'c, B: Bus + Drop> {
     pub bus: B,
     /// Number of answers that may still be noise; none once a frame came, or where nothing is given up.
     pub left: Option<u8>,
+    /// The wildcard that a search selected by last.
+    pub wildcard: Wildcard,
     /// Set once it is given up: what noise alone said isn't printed.
     pub is_hushed: &'c Cell<bool>,
 }
@@ -34,6 +37,7 @@ impl<B: Bus + Drop> Listening<'_, B> {
         ensures bus { self.new.bus ≡ self.old.bus }
         ensures left { self.new.left ≡ left_after answer self.old.left }
         ensures answer { result ≡ heard_as self.new.left answer }
+        ensures wildcard { self.new.wildcard ≡ self.old.wildcard }
         ensures hushed { self.new.is_hushed ≡ self.old.is_hushed }
     {
         self.left = left_after(&answer, self.left);
@@ -62,7 +66,7 @@ fn left_after(answer: &AnswerBuf, left: Option<u8>) -> Option<u8>
 
 impl<B: Bus + Drop> Bus for Listening<'_, B> {
     ghost use Rattle.std.specs.Prelude.{None, [], false, ◌||◌};
-    ghost use Rattle.mbdc_installer.specs.Listening.{Hears, is_given_up};
+    ghost use Rattle.mbdc_installer.specs.Listening.{Confirmed, Hears, Passed, is_given_up};
 
     // The meters on it aren't known to contracts.
     ghost meters = { λ _. None };
@@ -71,9 +75,9 @@ impl<B: Bus + Drop> Bus for Listening<'_, B> {
 
     ghost lost = { λ listening. is_given_up listening.left || B.lost listening.bus };
 
-    ghost asks = { Hears B.lost B.asks };
+    ghost asks = { Hears B.lost (Passed B.asks) };
 
-    ghost asks_all = { Hears (λ _. false) B.asks_all };
+    ghost asks_all = { Hears (λ _. false) (Confirmed B.lost B.asks_all) };
 
     ghost late = { λ listening. B.late listening.bus };
 
@@ -95,7 +99,7 @@ impl<B: Bus + Drop> Bus for Listening<'_, B> {
         if self.is_given_up() {
             return AnswerBuf::new();
         }
-        let answer = self.bus.ask_all(request);
+        let answer = confirming::ask(&mut self.bus, &mut self.wildcard, request);
         self.heard(answer)
     }
 

@@ -1,0 +1,277 @@
+//! Who answers a wildcard, where several meters may answer in step.
+//!
+//! Meters of one type that were fitted together answer a wildcard at the same moment, bit by bit. The line then shows
+//! the AND of what they send, since the current of a space wins (EN 13757-2), and that may be a whole frame: of a number
+//! that nobody has, or of one of the meters, behind which the others hide. So a meter that answered a wildcard is
+//! selected by its whole identity, and of each digit that the wildcard leaves open those digits are selected that have
+//! its bits, and more: only meters with such a digit can hide behind it.
+
+ghost use Rattle.std.specs.Prelude.{◌≡◌, ◌≤◌, ◌<◌, [], length, true};
+ghost use Rattle.dc_linkframe.specs.Reading.{frame_of};
+ghost use Rattle.mbdc_bus.specs.Limits.{most_request};
+ghost use Rattle.mbdc_bus.specs.Windows.{noise};
+ghost use Rattle.mbdc_installer.specs.Confirming.{AsksDigit, AsksDigits, AsksHidden, AsksPlace, AsksPlaces, Confirms};
+ghost use Rattle.mbdc_installer.specs.Confirming.{Hears, can_hide, could_be_in_step};
+ghost use Rattle.mbdc_installer.specs.Confirming.{differing, is_open, is_of_type, selection_in};
+ghost use Rattle.mbdc_installer.specs.Confirming.{selection_of, selection_with, wire_if};
+ghost use Rattle.mbdc_bus.specs.Windows.{Insists, most_tries};
+
+use crate::number::{digit_of, is_silent};
+use crate::primary::is_ack;
+use dc_address::{Identity, Mask};
+use dc_linkframe::control::{SELECTION, write_selection};
+use dc_linkframe::{Frame, FrameBuf, parse};
+use dc_search::meter_of;
+use mbdc_bus::{AnswerBuf, Bus, TRIES, insist};
+
+// Number of digits of an identification number.
+const DIGITS: usize = 8;
+
+// In so many bytes two telegrams of one type differ whose meters aren't in step: more than the number, the answer's
+// number, the checksum and a clock have.
+const MANY: usize = 16;
+
+/// A telegram that was confirmed, and its meter.
+#[derive(Drop)]
+pub(crate) struct Confirmed {
+    /// The meter.
+    pub meter: Identity,
+    /// The bytes of its telegram.
+    pub telegram: AnswerBuf,
+}
+
+/// What a search knows of the wildcard that it selected by last.
+#[derive(Drop)]
+pub(crate) struct Wildcard {
+    /// Whether answers are confirmed: only those of a search are.
+    pub confirms: bool,
+    /// The eight bytes of the last selection, until somebody's answer to it is confirmed.
+    pub wire: Option<[u8; 8]>,
+    /// The last telegram that was confirmed.
+    pub last: Option<Confirmed>,
+}
+
+/// Sends a request that several meters may answer. The first telegram after a selection is returned only where the
+/// meter that it names answers its whole identity, and nobody can hide behind it; otherwise noise is, as of meters that
+/// answer out of step.
+pub(crate) fn ask<B: Bus>(bus: &mut B, wildcard: &mut Wildcard, request: &FrameBuf) -> AnswerBuf
+    requires { length request.now ≤ most_request }
+    ensures heard { Hears B.lost B.asks_all request.now bus.old wildcard.old result bus.new wildcard.new }
+    // A lost bus is silent, and nothing is touched.
+    ensures silence { B.lost bus.old ≡ true → result ≡ [] }
+    ensures untouched { B.lost bus.old ≡ true → bus.new ≡ bus.old }
+    ensures same { B.lost bus.old ≡ true → wildcard.new ≡ wildcard.old }
+{
+    if bus.is_lost() {
+        return AnswerBuf::new();
+    }
+    if let Some(wire) = selection_in(request) {
+        wildcard.wire = wire_if(wildcard.confirms, wire);
+        return bus.ask_all(request);
+    }
+    let answer = bus.ask_all(request);
+    let Some(wire) = wildcard.wire else {
+        return answer;
+    };
+    let Some(meter) = meter_of(answer.as_slice()) else {
+        return answer;
+    };
+    wildcard.wire = None;
+    let is_due = could_be_in_step(&wildcard.last, &meter, &answer);
+    if !is_confirmed(bus, &wire, &meter, is_due) {
+        return bytes_of_noise();
+    }
+    wildcard.last = Some(Confirmed {
+        meter,
+        telegram: copy_of(&answer),
+    });
+    answer
+}
+
+// Whether a meter answers its whole identity, and nobody answers who could hide behind it.
+fn is_confirmed<B: Bus>(bus: &mut B, wire: &[u8; 8], meter: &Identity, is_due: bool) -> bool
+    ensures { Confirms B.asks_all wire.now meter.now is_due bus.old result bus.new }
+{
+    if !is_nobody_hidden(bus, wire, meter, is_due) {
+        return false;
+    }
+    is_ack(&ask_identity(bus, meter))
+}
+
+fn ask_identity<B: Bus>(bus: &mut B, meter: &Identity) -> AnswerBuf
+    ensures { Insists B.asks_all (selection_of meter.now) most_tries bus.old result bus.new }
+{
+    let mut request = FrameBuf::new();
+    write_selection(&Mask::of(meter).wire(), &mut request);
+    insist(bus, &request, TRIES)
+}
+
+// Whether nobody answers who could hide behind a meter, if that is due.
+fn is_nobody_hidden<B: Bus>(bus: &mut B, wire: &[u8; 8], meter: &Identity, is_due: bool) -> bool
+    ensures { AsksHidden B.asks_all wire.now meter.now is_due bus.old result bus.new }
+{
+    if !is_due {
+        return true;
+    }
+    match Mask::from_wire(wire) {
+        Some(mask) => is_nobody_from(bus, wire, &mask, &meter.text(), 0),
+        None => true,
+    }
+}
+
+// The same of the places from this one on.
+fn is_nobody_from<B: Bus>(
+    bus: &mut B,
+    wire: &[u8; 8],
+    mask: &Mask,
+    text: &[u8; 18],
+    place: usize,
+) -> bool
+    requires { place ≤ 8 }
+    ensures { AsksPlaces B.asks_all wire.now mask.now text.now place bus.old result bus.new }
+{
+    if place == DIGITS {
+        return true;
+    }
+    is_nobody_at(bus, wire, mask, text, place) && is_nobody_from(bus, wire, mask, text, place + 1)
+}
+
+// The same of one place.
+fn is_nobody_at<B: Bus>(
+    bus: &mut B,
+    wire: &[u8; 8],
+    mask: &Mask,
+    text: &[u8; 18],
+    place: usize,
+) -> bool
+    requires { place < 8 }
+    ensures { AsksPlace B.asks_all wire.now mask.now text.now place bus.old result bus.new }
+{
+    if is_open(wire, place) {
+        has_no_digit_from(bus, mask, place, digit_of(text[place]), 0)
+    } else {
+        true
+    }
+}
+
+// The same of the digits of a place from this one on.
+fn has_no_digit_from<B: Bus>(bus: &mut B, mask: &Mask, place: usize, own: u8, digit: u8) -> bool
+    requires place { place < 8 }
+    requires digit { digit ≤ 10 }
+    ensures { AsksDigits B.asks_all mask.now place own digit bus.old result bus.new }
+{
+    if digit == 10 {
+        return true;
+    }
+    has_no_digit(bus, mask, place, own, digit)
+        && has_no_digit_from(bus, mask, place, own, digit + 1)
+}
+
+// The same of one digit.
+fn has_no_digit<B: Bus>(bus: &mut B, mask: &Mask, place: usize, own: u8, digit: u8) -> bool
+    requires place { place < 8 }
+    requires digit { digit < 10 }
+    ensures { AsksDigit B.asks_all mask.now place own digit bus.old result bus.new }
+{
+    if !can_hide(own, digit) {
+        return true;
+    }
+    is_silent(&ask_digit(bus, mask, place, digit))
+}
+
+fn ask_digit<B: Bus>(bus: &mut B, mask: &Mask, place: usize, digit: u8) -> AnswerBuf
+    requires place { place < 8 }
+    requires digit { digit < 10 }
+    ensures { B.asks_all bus.old (selection_with mask.now place digit) result bus.new }
+{
+    let mut request = FrameBuf::new();
+    write_selection(&mask.with_digit(place, digit).wire(), &mut request);
+    bus.ask_all(&request)
+}
+
+// Whether a meter with this digit can hide behind one with its own: it has all its bits, and more.
+fn can_hide(own: u8, digit: u8) -> bool
+    ensures { result ≡ can_hide own digit }
+{
+    digit != own && digit & own == own
+}
+
+// Whether a digit of a selection is open.
+fn is_open(wire: &[u8; 8], place: usize) -> bool
+    requires { place < 8 }
+    ensures { result ≡ is_open wire.now place }
+{
+    let byte = wire[3 - place / 2];
+    if place % 2 == 0 {
+        byte / 16 == 15
+    } else {
+        byte % 16 == 15
+    }
+}
+
+// Whether a meter could be in step with others of its type. The telegram before shows that it can't where its meter is
+// of that type and has data of its own.
+fn could_be_in_step(last: &Option<Confirmed>, meter: &Identity, telegram: &AnswerBuf) -> bool
+    ensures { result ≡ could_be_in_step last.now meter.now telegram.now }
+{
+    match last {
+        Some(last) => {
+            !is_of_type(&last.meter, meter)
+                || differing(telegram.as_slice(), last.telegram.as_slice()) < MANY
+        }
+        None => true,
+    }
+}
+
+fn is_of_type(meter: &Identity, other: &Identity) -> bool
+    ensures { result ≡ is_of_type meter.now other.now }
+{
+    meter.maker == other.maker && meter.version == other.version && meter.kind == other.kind
+}
+
+// In how many bytes the first has a bit that the other one lacks.
+fn differing(bytes: &[u8], other: &[u8]) -> usize
+    ensures { result ≡ differing bytes.now other.now }
+{
+    bytes
+        .iter()
+        .zip(other)
+        .filter(|(own, its)| **own & **its != **own)
+        .count()
+}
+
+// The eight bytes of a selection.
+fn selection_in(request: &FrameBuf) -> Option<[u8; 8]>
+    ensures { result ≡ selection_in (frame_of request.now) }
+{
+    match parse(request.as_slice()) {
+        Ok(Frame::Long { ci, body, .. }) if ci == SELECTION => {
+            let (wire, _) = body.split_first_chunk::<8>()?;
+            Some(*wire)
+        }
+        _ => None,
+    }
+}
+
+// A selection whose answer is to be confirmed.
+fn wire_if(confirms: bool, wire: [u8; 8]) -> Option<[u8; 8]>
+    ensures { result ≡ wire_if confirms wire }
+{
+    if confirms { Some(wire) } else { None }
+}
+
+fn bytes_of_noise() -> AnswerBuf
+    ensures { result ≡ noise }
+{
+    let mut answer = AnswerBuf::new();
+    answer.append(&[0]);
+    answer
+}
+
+fn copy_of(answer: &AnswerBuf) -> AnswerBuf
+    ensures { result ≡ answer.now }
+{
+    let mut copy = AnswerBuf::new();
+    copy.append(answer.as_slice());
+    copy
+}
