@@ -1,4 +1,4 @@
-"""bench/measured.csv can be read: what docs/MEASURED.md says of today has its runs there."""
+"""bench/measured.csv can be read: what docs/TESTING.md says of today has its runs there."""
 
 import csv
 import datetime
