@@ -77,10 +77,16 @@ def test_definitions_that_a_clause_reaches(headline: types.ModuleType) -> None:
     assert second == [("Holds", 2), ("Event", 2)] and disk == [("unread", 2)]
 
 
+def test_definitions_on_a_page_have_their_comments_and_links(headline: types.ModuleType) -> None:
+    page = headline.shown_page()
+    assert '<h3 id="dc_x/Headline/IsKept">IsKept <small>dc_x Headline, named by the_headline</small></h3>\n<p>kept</p>' in page
+    assert '<pre><a href="#dc_x/Headline/IsKept">IsKept</a> state</pre>' in page
+    assert '  pub held : <a href="#dc_y/State/after">later</a> state\n' in page and "<p>A root.</p>" in page
+
+
 def test_its_table_takes_the_place_of_the_old_one(headline: types.ModuleType) -> None:
     rows = headline.table()
-    assert rows[2:] == ["| first | dc_x Headline; dc_y State | 11 |", "| second | dc_y Lower | 4 |", "| disk | dc_x Headline | 2 |",
-                        "| to be read | 6 definitions | 15 |"]
+    assert rows[2:] == ["| first | 4 | 11 |", "| second | 2 | 4 |", "| disk | 1 | 2 |", "| to be read | 6 | 15 |"]
     page = f"# P\n\n{headline.ROWS}\n|---|---|---|\n| old | x | 1 |\n\nAfter it.\n"
     made = headline.replaced(page, rows)
-    assert made.startswith("# P\n\n") and made.endswith("| 6 definitions | 15 |\n\nAfter it.\n") and headline.replaced(made, rows) == made
+    assert made.startswith("# P\n\n") and made.endswith("| 6 | 15 |\n\nAfter it.\n") and headline.replaced(made, rows) == made
