@@ -26,6 +26,18 @@ pub mod Own
 pub mod Beside
 -- each session is on the line of its meter's row, so no meter is read on two lines (for the theorem of specs/Beside)
 pub mod Rows
+-- of the module `house`
+
+-- what an exchange on a bus line does to the meters that hear a session
+pub mod Wires
+-- what is true of each session, its meter and the register, and what keeps it true
+pub mod Sessions
+-- every house that may be reached
+pub mod Houses
+-- a house in which a meter is read
+pub mod HouseLife
+-- a lossy line is a bus line
+pub mod Outcomes
 -- of the module `script`
 
 -- an answer without a telegram leaves the pending changes

@@ -10,6 +10,16 @@ pub mod Needs
 pub mod Progress
 -- a readout beside those of other lines
 pub mod Beside
+-- of the module `house`
+
+-- a concentrator and the meters on its bus lines, in all of its lives
+pub mod House
+-- whole readings, and the theorems about them
+pub mod Whole
+-- a house that meets the premises
+pub mod HouseMet
+-- the lossy line of dc_readout as a bus line of a house
+pub mod Outcomes
 -- of the module `script`
 
 -- a poll over a line that loses little, and what it comes to

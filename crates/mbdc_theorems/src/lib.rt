@@ -15,6 +15,7 @@
 #![tactic(auto)]
 
 pub mod counter;
+pub mod house;
 pub mod in_time;
 mod laws;
 pub mod poll;
