@@ -36,7 +36,7 @@ pub mod Sessions
 pub mod Houses
 -- a house in which a meter is read
 pub mod HouseLife
--- a lossy line is a bus line
+-- a lossy line and a line in time are bus lines
 pub mod Outcomes
 -- of the module `script`
 
@@ -104,18 +104,8 @@ pub mod OnePoll
 pub mod Under
 -- a request goes out only where nothing but a copy of the last answer is under way
 pub mod Orderly
--- readouts over a line in time are readouts over the lossy line
-pub mod InTime
--- where the telegrams of each meter stay the same
-pub mod Steady
--- a readout that goes on with other values
-pub mod Splices
--- meters at different moments
-pub mod Moments
--- each reading is a whole readout of one meter
-pub mod Fresh
--- a life in which a reading is held
-pub mod LateLife
+-- a run in which an acknowledgement comes twice and a telegram late
+pub mod LateRun
 -- of the module `searching`
 
 -- what a search makes of the answers of its meters

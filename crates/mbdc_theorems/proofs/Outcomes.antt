@@ -1,5 +1,5 @@
--- A lossy line is a bus line of a house.
-use Rattle.std.proofs.Common.{◌≡◌, inl, inr, ℕ, zero, suc, List, [], ◌∷◌, map, Option, Some, None, refl, sym, ◌∙◌, ap}
+-- A lossy line and a line in time are bus lines of a house.
+use Rattle.std.proofs.Common.{◌≡◌, ◌⊎◌, inl, inr, ℕ, zero, suc, List, [], ◌∷◌, map, Option, Some, None, refl, sym, ◌∙◌, ap, subst}
 use Rattle.std.specs.Prelude.{slice_get}
 use Rattle.dc_linkframe.specs.Frame.{FrameSeen}
 use Rattle.dc_linkframe.specs.Reading.{frame_of}
@@ -63,3 +63,18 @@ module _ (meters : List Meter) (positions : List Position) (waits : Option (List
 
 pub lossy_lines_are_buses : LossyLinesAreBuses
 lossy_lines_are_buses meters positions waits outcome frame bytes heard = exchange meters positions waits frame bytes outcome heard
+
+-- ---- what else may be received
+
+-- a frame that isn't received
+unread : (frame : FrameSeen) (was now : Bus) (bytes : List ℕ) → frame_of bytes ≡ None → IsExchanged frame was now → IsExchanged frame was (record now { answer = Some bytes })
+unread frame was now bytes none (not_seen before unframed is) = not_seen bytes none (ap (λ (b : Bus). record b { answer = Some bytes }) is)
+unread frame was now bytes none (not_heard before unframed is) = not_heard bytes none (ap (λ (b : Bus). record b { answer = Some bytes }) is)
+unread frame was now bytes none (reply_heard before reply framed replies is) = not_heard bytes none (ap (λ (b : Bus). record b { answer = Some bytes }) is)
+
+-- no frame, or the very reply that went on the way
+pub answered_in_time : (frame : FrameSeen) (was now : Bus) (reply : Option (List ℕ)) (answer : List ℕ) → IsExchanged frame was now → (reply ≡ None) ⊎ (reply ≡ now.answer)
+    → (frame_of answer ≡ None) ⊎ (reply ≡ Some answer) → IsExchanged frame was (record now { answer = Some answer })
+answered_in_time frame was now reply answer exchanged on_way (inl none) = unread frame was now answer none exchanged
+answered_in_time frame was now reply answer exchanged (inl lost) (inr is) = absurd (let no : None ≡ Some answer = sym lost ∙ is in cc)
+answered_in_time frame was now reply answer exchanged (inr sent) (inr is) = subst (λ (a : Option (List ℕ)). IsExchanged frame was (record now { answer = a })) (sym sent ∙ is) exchanged

@@ -42,12 +42,8 @@ pub mod Met
 pub mod Way
 -- one request on a line, and its answer
 pub mod Asked
--- readouts over such a line
-pub mod Lives
--- meters whose telegrams have other values at each repeat
-pub mod Fresh
--- the premises can be met at once
-pub mod InTimeMet
+-- such a line as a bus line of a house, and a run of one
+pub mod InTime
 -- of the module `searching`
 
 -- a search whose windows these meters answer
