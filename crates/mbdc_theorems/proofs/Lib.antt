@@ -36,6 +36,8 @@ pub mod Sessions
 pub mod Houses
 -- a house in which a meter is read
 pub mod HouseLife
+-- a poll makes the turns of a house, thing after thing
+pub mod HouseTalks
 -- a lossy line and a line in time are bus lines
 pub mod Outcomes
 -- of the module `script`

@@ -20,6 +20,8 @@ pub mod Whole
 pub mod HouseMet
 -- the lossy line of dc_readout as a bus line of a house
 pub mod Outcomes
+-- a poll as turns of a house
+pub mod HouseTalks
 -- of the module `script`
 
 -- a poll over a line that loses little, and what it comes to

@@ -8,10 +8,12 @@ ghost use Rattle.dc_core.specs.PendingImages.{Reads};
 ghost use Rattle.dc_core.specs.Transcript.{Turn};
 ghost use Rattle.mbdc_theorems.specs.House.{Buses, House, Sends};
 ghost use Rattle.mbdc_theorems.specs.HouseMet.{PremisesAreMet};
+ghost use Rattle.mbdc_theorems.specs.HouseTalks.{PollsAreWhole};
 ghost use Rattle.mbdc_theorems.specs.Outcomes.{LossyLinesAreBuses};
 ghost use Rattle.mbdc_theorems.specs.Whole.{AreWhole, EachReadingIsWhole, MetersGoOnFromCommitted, SpeakForThemselves};
 
 use dc_sectors::Disk;
+use mbdc_bus::HalfBus;
 
 /// Each reading of a house is one whole readout of the meter that it names: each body is one that this meter may send
 /// in that place, from the first to the first after which no more follow, in order, each once.
@@ -37,6 +39,14 @@ pub fn what_is_read_after_a_crash_is_whole<E: Disk + Drop>()
 /// committed.
 pub fn meters_go_on_from_what_is_committed()
     ensures { MetersGoOnFromCommitted }
+{}
+
+/// A house on whose lines a poll talks with the meters goes on as a house, so each reading of it is whole.
+///
+/// What happened on each line is a talk on its bus (mbdc_poll), in which each request is exchanged with the meters of
+/// the line, and the bus gives what was received. The bus may be lost.
+pub fn what_a_poll_reads_is_whole<B: HalfBus>()
+    ensures { PollsAreWhole B.HalfBus }
 {}
 
 /// A house exists for any meter of two telegrams: it is registered and read, though a reply is lost, and the house
