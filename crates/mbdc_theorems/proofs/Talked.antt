@@ -1,8 +1,6 @@
 -- A talk that is served, thing after thing (for the theorem of specs/Talked).
-use Rattle.std.proofs.Common.{◌≡◌, ℕ, ◌<◌, Bool, true, false, Some, None, Result, Ok, Err, List, [], ◌∷◌, ◌++◌, refl, sym, ◌∙◌, ap, subst}
-use Rattle.std.specs.Prelude.{if◌then◌else◌, ◌==◌}
+use Rattle.std.proofs.Common.{◌≡◌, ℕ, ◌<◌, Some, None, Result, Ok, Err, List, [], ◌∷◌, ◌++◌, refl, sym, ◌∙◌, ap, subst}
 use Rattle.std.specs.List.{AllByRecursion}
-use Rattle.std.proofs.lemmas.Bool.{eq-eqb}
 use Rattle.dc_linkframe.specs.Frame.{FrameSeen}
 use Rattle.dc_linkframe.specs.Reading.{frame_of}
 use Rattle.dc_readout.specs.declared.world.event.Outcome.{Outcome}
@@ -10,75 +8,29 @@ use Rattle.dc_readout.specs.Meter.{Meter}
 use Rattle.dc_core.specs.declared.line_heard.LineHeard.{LineHeard}
 use Rattle.dc_core.specs.declared.fault.HearFault.{HearFault}
 use Rattle.dc_core.specs.declared.fault.CommitFault.{CommitFault}
-use Rattle.dc_core.specs.Event.{starts, asks, hears, commits, offices, asked, heard, committed}
+use Rattle.dc_core.specs.Event.{asks, hears, commits, asked, heard, committed}
 use Rattle.dc_core.specs.Transcript.{Turn}
-use Rattle.mbdc_theorems.specs.Beside.{Bus as Line, bus_at_first, bus_after, IsElsewhere, IsOfLines, Serves, rests as none_more, asks_it, has_none as asks_none, gives_it, commits_it, goes_by}
+use Rattle.mbdc_theorems.specs.Beside.{Bus as Line, bus_at_first, bus_after, IsElsewhere, Serves, rests as none_more, asks_it, has_none as asks_none, gives_it, commits_it, goes_by}
 use Rattle.mbdc_theorems.specs.Rounds.{IsHeard, row_after}
+use Rattle.mbdc_theorems.proofs.Lists.{AreOfLines, Split, none_on, split_at}
 use Rattle.mbdc_theorems.proofs.Rows.{readouts_of_a_run_end}
 use Rattle.mbdc_poll.specs.Bus.{Bus}
-use Rattle.mbdc_poll.specs.Happening.{Happening, does, tells, is_on, happened_on, happened_turns, turns_of}
+use Rattle.mbdc_poll.specs.Happening.{Happening, does, tells, happened_on, happened_turns, turns_of}
 use Rattle.mbdc_poll.specs.Talking.{Talk, Talks, rests, begins, has_none, sends_it, waits_it, takes_it, hears_it, stands_by, tells_it, loses_it}
 use Rattle.mbdc_poll.specs.declared.phase.Request.{Request}
 use Rattle.mbdc_poll.specs.declared.phase.Request.TheVariants.{Quiet, Sent, Answered}
 use Rattle.mbdc_theorems.specs.Talked.{IsDone, IsServed, ReadoutsOfAPollEnd}
 
--- ---- what happens on other lines
-
--- an event of a line that isn't on this line
-away : (line : ℕ) (turn : Turn) → IsOfLines turn → is_on line turn.0 ≡ false → IsElsewhere line turn.0
-away line (starts other meter, answer) of off = λ e. (let on = eq-eqb other line e in let bad : true ≡ false = sym on ∙ off in cc)
-away line (asks other, answer) of off = λ e. (let on = eq-eqb other line e in let bad : true ≡ false = sym on ∙ off in cc)
-away line (hears other moment bytes, answer) of off = λ e. (let on = eq-eqb other line e in let bad : true ≡ false = sym on ∙ off in cc)
-away line (commits, answer) of off = absurd cc
-away line (offices text, answer) of off = absurd of
-
 module _ (line : ℕ) (meters : List Meter) where
-  abbrev AreOfLines : List Happening → Type 0
-  AreOfLines happened = AllByRecursion IsOfLines (happened_turns happened)
+  -- ---- what happens on other lines
 
-  -- the first thing on the line, and what happens after it
-  record Peeled (x : Happening) (more full : List Happening) : Type 0 where
-    rest : List Happening
-    more_is : more ≡ happened_on line rest
-    of : AreOfLines rest
-    serves : (start last : Line) → Serves line meters start (turns_of x ++ happened_turns rest) last → Serves line meters start (happened_turns full) last
+  passes : (away rest : List Turn) (start last : Line) → AllByRecursion (λ (turn : Turn). IsElsewhere line turn.0) away → Serves line meters start rest last → Serves line meters start (away ++ rest) last
+  passes [] rest start last all s = s
+  passes (turn ∷ away) rest start last all s = goes_by all.0 (passes away rest start last all.1 s)
 
-  peel : (x : Happening) (more full : List Happening) → x ∷ more ≡ happened_on line full → AreOfLines full → Peeled x more full
-  peel x more [] is of = absurd cc
-  peel x more (does turn ∷ full) is of = by (is_on line turn.0) refl (λ e. peel x more full e of.1) is
-    where
-      by : (b : Bool) → is_on line turn.0 ≡ b → (x ∷ more ≡ happened_on line full → Peeled x more full) → x ∷ more ≡ (if b then does turn ∷ [] else []) ++ happened_on line full → Peeled x more (does turn ∷ full)
-      by true on again e =
-          let same : does turn ≡ x = cc in
-          let rest : more ≡ happened_on line full = cc in
-          record { rest = full; more_is = rest; of = of.1; serves = λ start last s. subst (λ (y : Happening). Serves line meters start (turns_of y ++ happened_turns full) last) (sym same) s }
-      by false off again e =
-          let p = again e in
-          record { rest = p.rest; more_is = p.more_is; of = p.of; serves = λ start last s. goes_by (away line turn of.0 off) (p.serves start last s) }
-  peel x more (tells other told ∷ full) is of = by (other == line) refl (λ e. peel x more full e of) is
-    where
-      by : (b : Bool) → (other == line) ≡ b → (x ∷ more ≡ happened_on line full → Peeled x more full) → x ∷ more ≡ (if b then tells other told ∷ [] else []) ++ happened_on line full → Peeled x more (tells other told ∷ full)
-      by true on again e =
-          let same : tells other told ≡ x = cc in
-          let rest : more ≡ happened_on line full = cc in
-          record { rest = full; more_is = rest; of = of; serves = λ start last s. subst (λ (y : Happening). Serves line meters start (turns_of y ++ happened_turns full) last) (sym same) s }
-      by false off again e =
-          let p = again e in
-          record { rest = p.rest; more_is = p.more_is; of = p.of; serves = λ start last s. p.serves start last s }
-
-  -- nothing happens on the line
-  all_away : (full : List Happening) (now : Line) → [] ≡ happened_on line full → AreOfLines full → Serves line meters now (happened_turns full) now
-  all_away [] now is of = none_more
-  all_away (does turn ∷ full) now is of = by (is_on line turn.0) refl (λ e. all_away full now e of.1) is
-    where
-      by : (b : Bool) → is_on line turn.0 ≡ b → ([] ≡ happened_on line full → Serves line meters now (happened_turns full) now) → [] ≡ (if b then does turn ∷ [] else []) ++ happened_on line full → Serves line meters now (happened_turns (does turn ∷ full)) now
-      by true on again e = absurd cc
-      by false off again e = goes_by (away line turn of.0 off) (again e)
-  all_away (tells other told ∷ full) now is of = by (other == line) refl (λ e. all_away full now e of) is
-    where
-      by : (b : Bool) → (other == line) ≡ b → ([] ≡ happened_on line full → Serves line meters now (happened_turns full) now) → [] ≡ (if b then tells other told ∷ [] else []) ++ happened_on line full → Serves line meters now (happened_turns full) now
-      by true on again e = absurd cc
-      by false off again e = again e
+  all_away : (turns : List Turn) (now : Line) → AllByRecursion (λ (turn : Turn). IsElsewhere line turn.0) turns → Serves line meters now turns now
+  all_away [] now all = none_more
+  all_away (turn ∷ turns) now all = goes_by all.0 (all_away turns now all.1)
 
   -- ---- the talk
 
@@ -100,31 +52,35 @@ module _ (line : ℕ) (meters : List Meter) where
     last : Line
     serves : Serves line meters start turns last
 
-  over : (x : Happening) (more full : List Happening) (start next : Line) (p : Peeled x more full) → Left next (happened_turns p.rest)
+  over : (x : Happening) (more full : List Happening) (start next : Line) (p : Split line x more full) → Left next (happened_turns p.rest)
       → ((last : Line) → Serves line meters next (happened_turns p.rest) last → Serves line meters start (turns_of x ++ happened_turns p.rest) last) → Left start (happened_turns full)
-  over x more full start next p left step = record { last = left.last; serves = p.serves start left.last (step left.last left.serves) }
+  over x more full start next p left step = record {
+    last = left.last;
+    serves = subst (λ (turns : List Turn). Serves line meters start turns left.last) (sym p.turns_are)
+        (passes p.away (turns_of x ++ happened_turns p.rest) start left.last p.elsewhere (step left.last left.serves));
+  }
 
   hears_one : (start now : Line) (moment : ℕ) (bytes : List ℕ) (answer : Result LineHeard HearFault) (more full : List Happening) → Given bytes now start → IsDone answer
-      → (p : Peeled (does (hears line moment bytes, heard answer)) more full) → Left now (happened_turns p.rest) → Left start (happened_turns full)
+      → (p : Split line (does (hears line moment bytes, heard answer)) more full) → Left now (happened_turns p.rest) → Left start (happened_turns full)
   hears_one start now moment bytes (Err fault) more full given done p left = absurd done
   hears_one start now moment bytes (Ok answer) more full given done p left =
       over (does (hears line moment bytes, heard (Ok answer))) more full start now p left
       (λ last s. gives_it given.outcome given.frame given.waited given.bytes_are given.few (subst (λ (l : Line). Serves line meters l (happened_turns p.rest) last) given.now_is s))
 
-  commits_one : (start : Line) (stored : Result ℕ CommitFault) (more full : List Happening) → IsDone stored → (p : Peeled (does (commits, committed stored)) more full) → Left start (happened_turns p.rest) → Left start (happened_turns full)
+  commits_one : (start : Line) (stored : Result ℕ CommitFault) (more full : List Happening) → IsDone stored → (p : Split line (does (commits, committed stored)) more full) → Left start (happened_turns p.rest) → Left start (happened_turns full)
   commits_one start (Err fault) more full done p left = absurd done
   commits_one start (Ok count) more full done p left = over (does (commits, committed (Ok count))) more full start start p left (λ last s. commits_it s)
 
   module _ {B : Type 0} {g : Bus B} where
     served : {first last : Talk B} {on : List Happening} (talk : Talks g line first on last) (full : List Happening) (now start : Line) → on ≡ happened_on line full → AreOfLines full
         → Stands first.request now start → IsServed meters now talk → Left start (happened_turns full)
-    served rests full now start is of at serves = record { last = start; serves = all_away full start is of }
+    served rests full now start is of at serves = record { last = start; serves = all_away (happened_turns full) start (none_on line full is of) }
     served (begins more) full now start is of at serves = absurd serves
     served (has_none {more = later} more) full now start is of at serves =
-        let p = peel (does (asks line, asked None)) later full is of in
+        let p = split_at line (does (asks line, asked None)) later full is of in
         over (does (asks line, asked None)) later full start start p (served more p.rest now start p.more_is p.of at serves) (λ last s. asks_none s)
     served (sends_it {request = request} {more = later} sends more) full now start is of at serves =
-        let p = peel (does (asks line, asked (Some request))) later full is of in
+        let p = split_at line (does (asks line, asked (Some request))) later full is of in
         let next : Line = record start { waits = frame_of request } in
         over (does (asks line, asked (Some request))) later full start next p
         (served more p.rest (record now { waits = frame_of request }) next p.more_is p.of (ap (λ (l : Line). record l { waits = frame_of request }) at) serves) (λ last s. asks_it s)
@@ -141,13 +97,13 @@ module _ (line : ℕ) (meters : List Meter) where
           now_is = ap (bus_after meters serves.outcome serves.frame) at;
         }) serves.then_on
     served (hears_it {moment = moment} {bytes = bytes} {answer = answer} {more = later} more) full now start is of at serves =
-        let p = peel (does (hears line moment bytes, heard answer)) later full is of in
+        let p = split_at line (does (hears line moment bytes, heard answer)) later full is of in
         hears_one start now moment bytes answer later full at serves.0 p (served more p.rest now now p.more_is p.of refl serves.1)
     served (stands_by {stored = stored} {more = later} more) full now start is of at serves =
-        let p = peel (does (commits, committed stored)) later full is of in
+        let p = split_at line (does (commits, committed stored)) later full is of in
         commits_one start stored later full serves.0 p (served more p.rest now start p.more_is p.of at serves.1)
     served (tells_it {told = told} {more = later} other more) full now start is of at serves =
-        let p = peel (tells line told) later full is of in
+        let p = split_at line (tells line told) later full is of in
         over (tells line told) later full start start p (served more p.rest now start p.more_is p.of at serves) (λ last s. s)
     served (loses_it lost more) full now start is of at serves = absurd serves
 
