@@ -51,7 +51,7 @@ use Rattle.dc_core.proofs.Ordered.{own}
 use Rattle.mbdc_theorems.specs.House.{Bus, Buses, House, formatted, goes_on, opens_again, HaveBodies, IsOnBuses, IsExchanged, not_heard, reply_heard, put_bus}
 use Rattle.mbdc_theorems.specs.Whole.{SpeakForThemselves}
 use Rattle.mbdc_theorems.specs.HouseMet.{bare_body, first_body, last_body, sends_two, IsRead, PremisesAreMet}
-use Rattle.mbdc_theorems.proofs.Houses.{leads_more, accepted_more}
+use Rattle.dc_core.proofs.Going.{accepted_push, leads_push}
 
 drop_past : (xs ys : List ℕ) (k : ℕ) → drop (length xs + k) (xs ++ ys) ≡ drop k ys
 drop_past [] ys k = let e : 0 + k ≡ k = omega arith in ap (λ (n : ℕ). drop n ys) e
@@ -329,8 +329,8 @@ module _ (identity : Identity) (of_bytes : IsOfBytes identity) where
       → Reached state (turns ++ (event, answer) ∷ []) later buses (changes ++ more_changes)
   onward state turns core later old buses changes more_changes event answer r may is took on = record {
     house = goes_on event answer r.house (subst (λ c. May 1000 c event answer) (sym r.leads_to) may) on refl;
-    leads_to = leads_more (opened state) turns event answer ∙ ap (λ c. next c event answer) r.leads_to ∙ is;
-    took = accepted_more (opened state) turns event answer ∙ ap (λ cs. cs ++ accepted_by (leads (opened state) turns) event answer) r.took
+    leads_to = leads_push (opened state) turns (event, answer) ∙ ap (λ c. next c event answer) r.leads_to ∙ is;
+    took = accepted_push (opened state) turns (event, answer) ∙ ap (λ cs. cs ++ accepted_by (leads (opened state) turns) event answer) r.took
         ∙ ap (λ c. changes ++ accepted_by c event answer) r.leads_to ∙ ap (λ cs. changes ++ cs) took;
   }
 

@@ -9,10 +9,11 @@ use Rattle.dc_address.specs.declared.identity.Identity.{Identity}
 use Rattle.dc_core.specs.Core.{Core, opened}
 use Rattle.dc_core.specs.Event.{Event, Answer, starts, asks, hears, commits, offices, started, asked, heard, committed, replied}
 use Rattle.dc_core.specs.Transcript.{Turn, leads, IsChain}
+use Rattle.dc_core.proofs.Going.{leads_push}
 use Rattle.mbdc_theorems.specs.Beside.{IsOfLines}
 use Rattle.mbdc_theorems.specs.House.{Sends, Bus, Buses, House, goes_on, time_passes, IsOnBuses, IsSent, put_bus, quiet}
 use Rattle.mbdc_theorems.specs.HouseTalks.{quiet_once, IsAsked, IsOfMeters, TalksOn, PollsAreWhole}
-use Rattle.mbdc_theorems.proofs.Houses.{each_reading_is_whole, leads_more, put_there, put_elsewhere}
+use Rattle.mbdc_theorems.proofs.Houses.{each_reading_is_whole, put_there, put_elsewhere}
 use Rattle.mbdc_poll.specs.Bus.{Bus as Link}
 use Rattle.mbdc_poll.specs.Happening.{Happening, does, tells, happened_on, happened_turns}
 use Rattle.mbdc_poll.specs.Talking.{Talk, Talks, rests, begins, has_none, sends_it, waits_it, takes_it, hears_it, stands_by, tells_it, loses_it}
@@ -196,7 +197,7 @@ module _ {B : Type 0} (g : Link B) (sends : Sends) where
       let m = begins_on line meter answer buses s.new s.done in
       more_turns budget state before (starts line meter, answer) (happened_turns more)
       (along budget state (before ++ (starts line meter, answer) ∷ []) more m.later (goes_on (starts line meter) answer (m.passes budget state before house) chain.0 m.on refl)
-      (subst (λ (c : Core). IsChain budget c (happened_turns more)) (sym (leads_more (opened state) before (starts line meter) answer)) chain.1) of.1
+      (subst (λ (c : Core). IsChain budget c (happened_turns more)) (sym (leads_push (opened state) before (starts line meter, answer))) chain.1) of.1
       (talks_after line thing more buses m.later s m.there m.elsewhere each))
   along budget state before (does (asks line, answer) ∷ more) buses house chain of each =
       let thing : Happening = does (asks line, answer) in
@@ -204,7 +205,7 @@ module _ {B : Type 0} (g : Link B) (sends : Sends) where
       let m = asks_on line answer buses s.new s.done in
       more_turns budget state before (asks line, answer) (happened_turns more)
       (along budget state (before ++ (asks line, answer) ∷ []) more m.later (goes_on (asks line) answer (m.passes budget state before house) chain.0 m.on refl)
-      (subst (λ (c : Core). IsChain budget c (happened_turns more)) (sym (leads_more (opened state) before (asks line) answer)) chain.1) of.1
+      (subst (λ (c : Core). IsChain budget c (happened_turns more)) (sym (leads_push (opened state) before (asks line, answer))) chain.1) of.1
       (talks_after line thing more buses m.later s m.there m.elsewhere each))
   along budget state before (does (hears line moment bytes, answer) ∷ more) buses house chain of each =
       let thing : Happening = does (hears line moment bytes, answer) in
@@ -212,12 +213,12 @@ module _ {B : Type 0} (g : Link B) (sends : Sends) where
       let m = hears_on line moment bytes answer buses s.new s.done in
       more_turns budget state before (hears line moment bytes, answer) (happened_turns more)
       (along budget state (before ++ (hears line moment bytes, answer) ∷ []) more m.later (goes_on (hears line moment bytes) answer (m.passes budget state before house) chain.0 m.on refl)
-      (subst (λ (c : Core). IsChain budget c (happened_turns more)) (sym (leads_more (opened state) before (hears line moment bytes) answer)) chain.1) of.1
+      (subst (λ (c : Core). IsChain budget c (happened_turns more)) (sym (leads_push (opened state) before (hears line moment bytes, answer))) chain.1) of.1
       (talks_after line thing more buses m.later s m.there m.elsewhere each))
   along budget state before (does (commits, answer) ∷ more) buses house chain of each =
       more_turns budget state before (commits, answer) (happened_turns more)
       (along budget state (before ++ (commits, answer) ∷ []) more buses (goes_on commits answer house chain.0 refl refl)
-      (subst (λ (c : Core). IsChain budget c (happened_turns more)) (sym (leads_more (opened state) before commits answer)) chain.1) of.1
+      (subst (λ (c : Core). IsChain budget c (happened_turns more)) (sym (leads_push (opened state) before (commits, answer))) chain.1) of.1
       (λ (line : ℕ).
       let s = here line (does (commits, answer)) more (buses line) (each line) in
       subst (λ (b : Bus). On line (happened_on line more) b) s.done s.then_on))

@@ -1,5 +1,5 @@
 -- Every house that may be reached holds what is said of its sessions and readings.
-use Rattle.std.proofs.Common.{◌≡◌, ◌≢◌, ℕ, ◌+◌, ◌-◌, ◌<◌, ◌≤◌, ◌⊎◌, ⊎_elim, inl, inr, Bool, true, false, not, List, [], ◌∷◌, ◌++◌, length, get_or, Option, Some, None, Result, Ok, Err, arith, refl, sym, ◌∙◌, ap, subst, append_assoc, get_or-set_other, get_or-set_same}
+use Rattle.std.proofs.Common.{◌≡◌, ◌≢◌, ℕ, ◌+◌, ◌-◌, ◌<◌, ◌≤◌, ◌⊎◌, ⊎_elim, inl, inr, Bool, true, false, not, List, [], ◌∷◌, ◌++◌, length, get_or, Option, Some, None, Result, Ok, Err, arith, refl, sym, ◌∙◌, ap, subst, take, get_or-set_other, get_or-set_same}
 use Rattle.std.specs.Prelude.{slice_get, is_some, option_map, nat_lt, filter, ◌||◌, if◌then◌else◌}
 use Rattle.std.specs.List.{AllByRecursion}
 use Rattle.std.specs.BTreeMap.{insert_entry}
@@ -49,8 +49,10 @@ use Rattle.dc_core.specs.declared.fault.CommitFault.TheVariants.{Device, Worn, S
 use Rattle.dc_core.specs.declared.line_heard.LineHeard.{LineHeard}
 use Rattle.dc_core.specs.Taking.{change_of}
 use Rattle.dc_core.specs.Step.{May, next, is_on, address_in, answer_on, hear_answer, judged, heard_on, and_pending, asked_on, settled_core, settled, held, removed_by, ordered, after_commit}
-use Rattle.dc_core.specs.Transcript.{Turn, leads, accepted_in, accepted_by, taken_from}
+use Rattle.dc_core.specs.Transcript.{Turn, leads, IsChain, accepted_by, taken_from}
 use Rattle.dc_core.specs.Headline.{IsPrefix, accepted}
+use Rattle.dc_core.proofs.Fronts.{promised_is_committed}
+use Rattle.dc_core.proofs.Going.{accepted_push, chain_push, leads_push}
 use Rattle.dc_core.proofs.Registered.{row_of_same, row_of_other}
 use Rattle.dc_core.proofs.Ordered.{at_meter, insert_other, remove_other, apart_from_new, left_on, get_left, other_meter, accepted_new}
 use Rattle.dc_core.proofs.Followed.{start_split, asks_split, get_settled, get_nobody, nothing_left, length-lines_after}
@@ -130,7 +132,6 @@ AreFew (change ∷ other ∷ more) = ⊥
 
 pub record Goes (sends : Sends) (core : Core) (event : Event) (answer : Answer) (buses : Buses) : Type 0 where
   pub keeps : Keeps sends (next core event answer) buses
-  pub now : present (next core event answer) ≡ after (present core) (accepted_by core event answer)
   pub few : AreFew (accepted_by core event answer)
 
 abbrev OneTurn : Sends → Event → Answer → Type 0
@@ -147,7 +148,7 @@ on_row line None e = absurd cc
 on_row line (Some row) e = (row, refl, eqb-true row.line line e)
 
 turn_start : (sends : Sends) (line : ℕ) (meter : Identity) (answer : Result (Unit {0}) StartFault) → OneTurn sends (starts line meter) (started answer)
-turn_start sends line meter (Err fault) budget core old buses sound keeps may on = record { keeps = stays sends core old buses keeps on; now = refl; few = tt }
+turn_start sends line meter (Err fault) budget core old buses sound keeps may on = record { keeps = stays sends core old buses keeps on; few = tt }
 turn_start sends line meter (Ok done) budget core old buses sound keeps may on =
     let found = row_of meter (present core) in
     let ok = start_split (is_line line) core.stopped (is_on line found) (is_some (session_of core line)) done may in
@@ -161,7 +162,6 @@ turn_start sends line meter (Ok done) budget core old buses sound keeps may on =
         whole = keeps.whole;
         bodies = put_bodies sends line (quiet (old line)) old (keeps.bodies line) keeps.bodies;
       });
-      now = refl;
       few = tt;
     }
 
@@ -190,7 +190,7 @@ ask_split true true rest request e = absurd cc
 ask_split true false rest request e = (refl, e)
 
 turn_ask : (sends : Sends) (line : ℕ) (answer : Option (List ℕ)) → OneTurn sends (asks line) (asked answer)
-turn_ask sends line None budget core old buses sound keeps may on = record { keeps = stays sends core old buses keeps on; now = refl; few = tt }
+turn_ask sends line None budget core old buses sound keeps may on = record { keeps = stays sends core old buses keeps on; few = tt }
 turn_ask sends line (Some request) budget core old buses sound keeps may on =
     let ok = ask_split (is_line line) core.stopped (asked_on (session_of core line)) request may in
     let x = asked_session core line request (session_of core line) refl ok.1 in
@@ -209,7 +209,6 @@ turn_ask sends line (Some request) budget core old buses sound keeps may on =
         whole = keeps.whole;
         bodies = put_bodies sends line bus old (exchanged_bodies sends sent.request (old line) bus sent.exchanged (keeps.bodies line)) keeps.bodies;
       });
-      now = refl;
       few = tt;
     }
 
@@ -276,16 +275,6 @@ hear_session sends budget core old line moment bytes answer sound is keeps recei
 hear_session sends budget core old line moment bytes answer sound is keeps received (Some s) a e =
     hear_verdict sends budget core old line moment bytes s sound is keeps received a (verdict_by s bytes) refl
 
-pending_after : (state : State) (pending : List Change) (moment : ℕ) (v : Verdict) → after state (and_pending moment pending v) ≡ after (after state pending) (and_pending moment [] v)
-pending_after state pending moment again = refl
-pending_after state pending moment ready = refl
-pending_after state pending moment (new part t) = after_of_append state pending (change_of moment part t ∷ [])
-pending_after state pending moment (failed why) = refl
-
-heard_after : (core : Core) (line moment : ℕ) (bytes : List ℕ) (session : Option Summary) → present (heard_on core line moment bytes session) ≡ after (present core) (taken_from moment bytes session)
-heard_after core line moment bytes None = refl
-heard_after core line moment bytes (Some s) = pending_after core.committed core.pending moment (verdict_by s bytes)
-
 few_pending : (moment : ℕ) (v : Verdict) → AreFew (and_pending moment [] v)
 few_pending moment again = tt
 few_pending moment ready = tt
@@ -297,14 +286,13 @@ few_taken moment bytes None = tt
 few_taken moment bytes (Some s) = few_pending moment (verdict_by s bytes)
 
 turn_hear : (sends : Sends) (line moment : ℕ) (bytes : List ℕ) (answer : Result LineHeard HearFault) → OneTurn sends (hears line moment bytes) (heard answer)
-turn_hear sends line moment bytes (Err fault) budget core old buses sound keeps may on = record { keeps = stays sends core old buses keeps on; now = refl; few = tt }
+turn_hear sends line moment bytes (Err fault) budget core old buses sound keeps may on = record { keeps = stays sends core old buses keeps on; few = tt }
 turn_hear sends line moment bytes (Ok answer) budget core old buses sound keeps may on =
     let right : Ok answer ≡ hear_answer budget core line moment bytes = ⊎_elim (λ e. e) (λ bad. absurd (cc bad.0)) may in
     let ok = asks_split (is_line line) core.stopped true NoLine Stopped Idle (Ok answer) (answer_on budget core moment bytes (session_of core line)) (λ bad. cc bad) (λ bad. cc bad) right in
     record {
       keeps = subst (λ b. Keeps sends (heard_on core line moment bytes (session_of core line)) b) (sym on.1)
           (hear_session sends budget core old line moment bytes answer sound ok.0 keeps on.0 (session_of core line) (on_bus sends core old line ok.0 keeps) ok.1);
-      now = heard_after core line moment bytes (session_of core line);
       few = few_taken moment bytes (session_of core line);
     }
 
@@ -320,25 +308,16 @@ settled_keeps sends core (change ∷ changes) buses keeps = record {
   bodies = keeps.bodies;
 }
 
-settled_now : (core : Core) (pending : List Change) → present (settled_core core pending) ≡ present core
-settled_now core [] = refl
-settled_now core (change ∷ changes) = refl
-
 failed_keeps : (sends : Sends) (core : Core) (fault : CommitFault) (buses : Buses) → Keeps sends core buses → Keeps sends (after_commit core (Err fault)) buses
 failed_keeps sends core Device buses keeps = record { eight = keeps.eight; each = keeps.each; whole = keeps.whole; bodies = keeps.bodies }
 failed_keeps sends core Worn buses keeps = keeps
 failed_keeps sends core CommitStopped buses keeps = keeps
 
-failed_now : (core : Core) (fault : CommitFault) → present (after_commit core (Err fault)) ≡ present core
-failed_now core Device = refl
-failed_now core Worn = refl
-failed_now core CommitStopped = refl
-
 turn_commit : (sends : Sends) (answer : Result ℕ CommitFault) → OneTurn sends commits (committed answer)
 turn_commit sends (Ok count) budget core old buses sound keeps may on =
-    record { keeps = stays sends _ old buses (settled_keeps sends core core.pending old keeps) on; now = settled_now core core.pending; few = tt }
+    record { keeps = stays sends _ old buses (settled_keeps sends core core.pending old keeps) on; few = tt }
 turn_commit sends (Err fault) budget core old buses sound keeps may on =
-    record { keeps = stays sends _ old buses (failed_keeps sends core fault old keeps) on; now = failed_now core fault; few = tt }
+    record { keeps = stays sends _ old buses (failed_keeps sends core fault old keeps) on; few = tt }
 
 -- ---- a line of the office
 
@@ -444,29 +423,24 @@ ordered_keeps sends budget core change buses none order keeps =
       bodies = keeps.bodies;
     }
 
-ordered_now : (core : Core) (change : Change) → (settled core).pending ≡ [] → present (ordered change (settled core)) ≡ applied change (present core)
-ordered_now core change none =
-    ap (applied change) (sym (ap (after (settled core).committed) none) ∙ settled_now core core.pending)
-
 turn_office : (sends : Sends) (text : List ℕ) (reply : Reply) → OneTurn sends (offices text) (replied reply)
-turn_office sends text unread budget core old buses sound keeps may on = record { keeps = stays sends core old buses keeps on; now = refl; few = tt }
+turn_office sends text unread budget core old buses sound keeps may on = record { keeps = stays sends core old buses keeps on; few = tt }
 turn_office sends text (unstored fault) budget core old buses sound keeps may on =
-    record { keeps = stays sends _ old buses (failed_keeps sends core fault old keeps) on; now = failed_now core fault; few = tt }
+    record { keeps = stays sends _ old buses (failed_keeps sends core fault old keeps) on; few = tt }
 turn_office sends text (repeated number) budget core old buses sound keeps may on =
-    record { keeps = stays sends _ old buses (settled_keeps sends core core.pending old keeps) on; now = settled_now core core.pending; few = tt }
+    record { keeps = stays sends _ old buses (settled_keeps sends core core.pending old keeps) on; few = tt }
 turn_office sends text (refused code) budget core old buses sound keeps may on =
-    record { keeps = stays sends _ old buses (settled_keeps sends core core.pending old keeps) on; now = settled_now core core.pending; few = tt }
+    record { keeps = stays sends _ old buses (settled_keeps sends core core.pending old keeps) on; few = tt }
 turn_office sends text (shown bytes) budget core old buses sound keeps may on =
-    record { keeps = stays sends _ old buses (settled_keeps sends core core.pending old keeps) on; now = settled_now core core.pending; few = tt }
+    record { keeps = stays sends _ old buses (settled_keeps sends core core.pending old keeps) on; few = tt }
 turn_office sends text out_of_memory budget core old buses sound keeps may on =
-    record { keeps = stays sends _ old buses (settled_keeps sends core core.pending old keeps) on; now = settled_now core core.pending; few = tt }
+    record { keeps = stays sends _ old buses (settled_keeps sends core core.pending old keeps) on; few = tt }
 turn_office sends text (obeyed number change) budget core old buses sound keeps may on =
     let order = order_of (held budget (settled core)) may.line change may.answer.0 in
     let none = nothing_left core core.pending refl in
     record {
       keeps = stays sends _ old buses (settled_keeps sends (ordered change (settled core)) (change ∷ []) old
           (ordered_keeps sends budget (settled core) change old none order (settled_keeps sends core core.pending old keeps))) on;
-      now = ordered_now core change none;
       few = tt;
     }
 turn_office sends text (uncommitted change fault) budget core old buses sound keeps may on =
@@ -475,7 +449,6 @@ turn_office sends text (uncommitted change fault) budget core old buses sound ke
     record {
       keeps = stays sends _ old buses (failed_keeps sends (ordered change (settled core)) fault old
           (ordered_keeps sends budget (settled core) change old none order (settled_keeps sends core core.pending old keeps))) on;
-      now = failed_now (ordered change (settled core)) fault ∙ ordered_now core change none;
       few = tt;
     }
 
@@ -510,16 +483,6 @@ turn sends (offices text) (committed answer) = λ budget core old buses sound ke
 
 -- ---- a life
 
-pub leads_more : (core : Core) (turns : List Turn) (event : Event) (answer : Answer) → leads core (turns ++ (event, answer) ∷ []) ≡ next (leads core turns) event answer
-leads_more core [] event answer = refl
-leads_more core (t ∷ turns) event answer = leads_more (next core t.0 t.1) turns event answer
-
-pub accepted_more : (core : Core) (turns : List Turn) (event : Event) (answer : Answer) → accepted_in core (turns ++ (event, answer) ∷ []) ≡ accepted_in core turns ++ accepted_by (leads core turns) event answer
-accepted_more core [] event answer = append-nil (accepted_by core event answer)
-accepted_more core (t ∷ turns) event answer =
-    ap (λ rest. accepted_by core t.0 t.1 ++ rest) (accepted_more (next core t.0 t.1) turns event answer)
-    ∙ sym (append_assoc (accepted_by core t.0 t.1) (accepted_in (next core t.0 t.1) turns) (accepted_by (leads (next core t.0 t.1) turns) event answer))
-
 -- a prefix of one change more is one of those before, or all
 one_more : (prefix changes : List Change) (change : Change) → IsPrefix prefix (changes ++ change ∷ []) → IsPrefix prefix changes ⊎ (prefix ≡ changes ++ change ∷ [])
 one_more [] changes change is = inl (changes, refl)
@@ -540,9 +503,9 @@ few_more prefix changes (change ∷ []) few is = one_more prefix changes change 
 few_more prefix changes (change ∷ other ∷ more) few is = absurd few
 
 -- WHAT HOLDS along all lives
-pub record Holds (sends : Sends) (state : State) (turns : List Turn) (buses : Buses) : Type 0 where
+pub record Holds (budget : ℕ) (sends : Sends) (state : State) (turns : List Turn) (buses : Buses) : Type 0 where
   pub keeps : Keeps sends (leads (opened state) turns) buses
-  pub now : present (leads (opened state) turns) ≡ after state (accepted state turns)
+  pub chain : IsChain budget (opened state) turns
   pub whole : (prefix : List Change) → IsPrefix prefix (accepted state turns) → AreWhole sends (after state prefix)
 
 opened_keeps : (sends : Sends) (state : State) (buses : Buses) → AreWhole sends state → ((line : ℕ) → HaveBodies sends (buses line).meters) → Keeps sends (opened state) buses
@@ -553,10 +516,10 @@ opened_keeps sends state buses whole bodies = record {
   bodies = bodies;
 }
 
-opened_holds : (sends : Sends) (state : State) (buses : Buses) → AreWhole sends state → ((line : ℕ) → HaveBodies sends (buses line).meters) → Holds sends state [] buses
-opened_holds sends state buses whole bodies = record {
+opened_holds : (budget : ℕ) (sends : Sends) (state : State) (buses : Buses) → AreWhole sends state → ((line : ℕ) → HaveBodies sends (buses line).meters) → Holds budget sends state [] buses
+opened_holds budget sends state buses whole bodies = record {
   keeps = opened_keeps sends state buses whole bodies;
-  now = refl;
+  chain = tt;
   whole = λ prefix is. by prefix is.0 is.1;
 }
   where
@@ -564,22 +527,28 @@ opened_holds sends state buses whole bodies = record {
     by [] rest e = whole
     by (p ∷ prefix) rest e = absurd cc
 
-goes_holds : (sends : Sends) (budget : ℕ) (state : State) (turns : List Turn) (old buses : Buses) (event : Event) (answer : Answer) → SpeakForThemselves sends → Holds sends state turns old
-    → May budget (leads (opened state) turns) event answer → IsOnBuses event answer old buses → Holds sends state (turns ++ (event, answer) ∷ []) buses
+-- the register with what is pending is that after all that was accepted
+chain_now : (budget : ℕ) (state : State) (turns : List Turn) → IsChain budget (opened state) turns → present (leads (opened state) turns) ≡ after state (accepted state turns)
+chain_now budget state turns chain =
+    let holds = promised_is_committed budget state turns chain in
+    let pending = (leads (opened state) turns).pending in
+    ap (λ (s : State). after s pending) holds.committed ∙ sym (after_of_append state (take holds.count (accepted state turns)) pending) ∙ ap (after state) (sym holds.pending)
+
+goes_holds : (sends : Sends) (budget : ℕ) (state : State) (turns : List Turn) (old buses : Buses) (event : Event) (answer : Answer) → SpeakForThemselves sends → Holds budget sends state turns old
+    → May budget (leads (opened state) turns) event answer → IsOnBuses event answer old buses → Holds budget sends state (turns ++ (event, answer) ∷ []) buses
 goes_holds sends budget state turns old buses event answer sound holds may on =
     let core = leads (opened state) turns in
     let g = turn sends event answer budget core old buses sound holds.keeps may on in
-    let leads_to = leads_more (opened state) turns event answer in
-    let taken_in = accepted_more (opened state) turns event answer in
-    let now : present (next core event answer) ≡ after state (accepted state turns ++ accepted_by core event answer) =
-    g.now ∙ ap (λ (s : State). after s (accepted_by core event answer)) holds.now ∙ sym (after_of_append state (accepted state turns) (accepted_by core event answer)) in
+    let keeps = subst (λ c. Keeps sends c buses) (sym (leads_push (opened state) turns (event, answer))) g.keeps in
+    let chain = chain_push budget (opened state) turns (event, answer) holds.chain may in
+    let taken_in = accepted_push (opened state) turns (event, answer) in
     record {
-      keeps = subst (λ c. Keeps sends c buses) (sym leads_to) g.keeps;
-      now = ap present leads_to ∙ now ∙ ap (after state) (sym taken_in);
+      keeps = keeps;
+      chain = chain;
       whole = λ prefix is. ⊎_elim
           (λ (within : IsPrefix prefix (accepted state turns)). holds.whole prefix within)
           (λ (all : prefix ≡ accepted state turns ++ accepted_by core event answer).
-          subst (λ p. AreWhole sends (after state p)) (sym all) (subst (AreWhole sends) now g.keeps.whole))
+          subst (λ p. AreWhole sends (after state p)) (taken_in ∙ sym all) (subst (AreWhole sends) (chain_now budget state (turns ++ (event, answer) ∷ []) chain) keeps.whole))
           (few_more prefix (accepted state turns) (accepted_by core event answer) g.few (is.0, sym taken_in ∙ is.1));
     }
 
@@ -615,22 +584,22 @@ changed_keeps sends core old line meters keeps nobody have =
     let at : place ≡ line - 1 = omega (arith, e) in
     subst (λ x. AgreesOn sends line (record (old line) { meters = meters }) core.committed (present core) x) (sym (ap (λ k. get_or core.lines k None) at ∙ nobody)) tt)
 
-every_house : (budget : ℕ) (sends : Sends) (state : State) (turns : List Turn) (buses : Buses) → SpeakForThemselves sends → House budget sends state turns buses → Holds sends state turns buses
+every_house : (budget : ℕ) (sends : Sends) (state : State) (turns : List Turn) (buses : Buses) → SpeakForThemselves sends → House budget sends state turns buses → Holds budget sends state turns buses
 every_house budget sends state turns buses sound (formatted first none have) =
-    subst (λ ts. Holds sends state ts buses) (sym none) (opened_holds sends state buses (subst (AreWhole sends) (sym first) tt) have)
+    subst (λ ts. Holds budget sends state ts buses) (sym none) (opened_holds budget sends state buses (subst (AreWhole sends) (sym first) tt) have)
 every_house budget sends state turns buses sound (goes_on {turns = before} {old = old} event answer house may on all) =
-    subst (λ ts. Holds sends state ts buses) (sym all)
+    subst (λ ts. Holds budget sends state ts buses) (sym all)
     (goes_holds sends budget state before old buses event answer sound (every_house budget sends state before old sound house) may on)
 every_house budget sends state turns buses sound (opens_again {state = first} {turns = before} prefix house is found none) =
     let holds = every_house budget sends first before buses sound house in
-    subst (λ ts. Holds sends state ts buses) (sym none)
-    (opened_holds sends state buses (subst (AreWhole sends) (sym found) (holds.whole prefix is)) holds.keeps.bodies)
+    subst (λ ts. Holds budget sends state ts buses) (sym none)
+    (opened_holds budget sends state buses (subst (AreWhole sends) (sym found) (holds.whole prefix is)) holds.keeps.bodies)
 every_house budget sends state turns buses sound (time_passes {old = old} line meters house renewed have is) =
     let holds = every_house budget sends state turns old sound house in
-    record { keeps = subst (Keeps sends (leads (opened state) turns)) (sym is) (renewed_keeps sends (leads (opened state) turns) old line meters holds.keeps renewed have); now = holds.now; whole = holds.whole }
+    record { keeps = subst (Keeps sends (leads (opened state) turns)) (sym is) (renewed_keeps sends (leads (opened state) turns) old line meters holds.keeps renewed have); chain = holds.chain; whole = holds.whole }
 every_house budget sends state turns buses sound (meters_change {old = old} line meters house nobody have is) =
     let holds = every_house budget sends state turns old sound house in
-    record { keeps = subst (Keeps sends (leads (opened state) turns)) (sym is) (changed_keeps sends (leads (opened state) turns) old line meters holds.keeps nobody have); now = holds.now; whole = holds.whole }
+    record { keeps = subst (Keeps sends (leads (opened state) turns)) (sym is) (changed_keeps sends (leads (opened state) turns) old line meters holds.keeps nobody have); chain = holds.chain; whole = holds.whole }
 
 pub each_reading_is_whole : EachReadingIsWhole
 each_reading_is_whole budget sends state turns buses prefix sound house is = (every_house budget sends state turns buses sound house).whole prefix is
