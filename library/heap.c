@@ -24,6 +24,12 @@ extern unsigned char __heap_base;
 static u64 top;
 static Block *given[MOST];
 
+/* (a grown memory is seen by its size: a refusal is another number once the module is lowered to 32 bits) */
+static u64 bytes(void)
+{
+    return __builtin_wasm_memory_size(0) * PAGE;
+}
+
 __attribute__((export_name("mbdc_take"))) void *mbdc_take(u64 size)
 {
     u64 power = LEAST;
@@ -37,8 +43,10 @@ __attribute__((export_name("mbdc_take"))) void *mbdc_take(u64 size)
     } else {
         if (!top)
             top = ((u64)&__heap_base + sizeof(Block) - 1) / sizeof(Block) * sizeof(Block);
-        u64 end = top + (1UL << power), present = __builtin_wasm_memory_size(0) * PAGE;
-        if (end > present && __builtin_wasm_memory_grow(0, (end - present + PAGE - 1) / PAGE) == -1UL)
+        u64 end = top + (1UL << power), present = bytes();
+        if (end > present)
+            __builtin_wasm_memory_grow(0, (end - present + PAGE - 1) / PAGE);
+        if (end > bytes())
             return 0;
         block = (Block *)top;
         top = end;

@@ -5,10 +5,15 @@ const SHOWN = 200; // frames; more would make the page slow
 const MOST_LINE = 4096; // characters of a line that the decoder takes
 const MOST_MARKS = 10; // characters that are named where they are left out
 const PAGE = 65536; // bytes of a page of the module's memory
-const CI_VARIABLE = 0x72;
 const TRUNCATED = 3; // the fault of a frame that goes on
-const HEADER = 12; // bytes of a telegram's header
-const TOO_LONG = 0xFFFFFFFFFFFFFFFFn;
+const BODY = 7; // the place of a long frame's body, which two bytes follow
+const [CI_FIXED, FILLER] = [0x73, 0x2F];
+const PLAIN_TEXT = 0xFC; // the VIF of a unit in plain text with VIFEs
+const PLAIN_TEXT_EXTENSION = 8; // what the register says of it, though its records are read
+// library/mbdc.h: results, the numbers of mbdc_frame, mbdc_head and mbdc_record, and the places of some
+const [DONE, ENCRYPTED] = [0, 19];
+const [FRAME, HEAD, RECORD] = [7, 12, 36];
+const [NEXT_FRAME, FIRST, VIB, DATA, NEXT] = [6, 11, 7, 9, 17];
 
 const WORDS = {
   en: {
@@ -16,12 +21,12 @@ const WORDS = {
     input: "Hex digits, one or more frames a line", joined: "The lines belong together", decode: "Decode",
     csv: "Copy as CSV", json: "Copy as JSON", link: "Copy link", other: "Deutsch",
     proved: "The decoder in this page is proved: it prints what the definitions of mbdc say for each input, byte for byte. "
-      + "This page's own words, and where it marks bytes, are not.",
-    refused: "This page needs a browser with 64-bit WebAssembly memory: Chrome or Edge 133, Firefox 134, or later.",
+      + "This page's own words, and the module's translation, are not.",
+    refused: "This page needs Chrome or Edge 93, Firefox 92, Safari 15.4, or later.",
     frames: (n, bad) => `${n} ${n === 1 ? "frame" : "frames"}, ${bad} with a fault.`, nothing: "There are no digits.",
     cleaned: (what) => `Left out: ${what}.`, more: (n) => `${n} more are not shown; the copies have them.`, copied: "Copied.",
     notCopied: "The browser doesn't allow copying.", line: "Line", control: "Control field", address: "Address", ci: "CI field",
-    meter: "Meter", medium: "Medium", access: "Access number", status: "Status", more_follow: "More records follow in the next telegram",
+    access: "Access number", status: "Status", more_follow: "More records follow in the next telegram",
     maker: "Manufacturer's data", makerBytes: "manufacturer's", records: "Records", name: "Name", value: "Value", unit: "Unit", storage: "Storage", tariff: "Tariff",
     subunit: "Subunit", function: "Function", body: "Body", bytes: "Bytes", fault: "Fault", place: "Place", byte: (n) => `byte ${n}`,
     expected: "Expected", structure: "Structure", security: "Security mode", reason: "Reason",
@@ -42,12 +47,12 @@ const WORDS = {
     input: "Hexziffern, je Zeile ein Rahmen oder mehrere", joined: "Die Zeilen gehören zusammen", decode: "Dekodieren",
     csv: "Als CSV kopieren", json: "Als JSON kopieren", link: "Link kopieren", other: "English",
     proved: "Der Decoder dieser Seite ist bewiesen: Er schreibt zu jeder Eingabe Byte für Byte, was die Definitionen von mbdc sagen. "
-      + "Die Wörter dieser Seite, und wo sie Bytes markiert, sind es nicht. Die Namen der Codes sind englisch, wie in mbdc.",
-    refused: "Diese Seite braucht einen Browser mit 64-Bit-Speicher für WebAssembly: Chrome oder Edge 133, Firefox 134 oder neuer.",
+      + "Die Wörter dieser Seite und die Übersetzung des Moduls sind es nicht. Die Namen der Codes sind englisch, wie in mbdc.",
+    refused: "Diese Seite braucht Chrome oder Edge 93, Firefox 92, Safari 15.4 oder neuer.",
     frames: (n, bad) => `${n} Rahmen, davon ${bad} mit Fehler.`, nothing: "Es gibt keine Ziffern.",
     cleaned: (what) => `Weggelassen: ${what}.`, more: (n) => `${n} weitere werden nicht gezeigt; die Kopien enthalten sie.`, copied: "Kopiert.",
     notCopied: "Der Browser erlaubt das Kopieren nicht.", line: "Zeile", control: "C-Feld", address: "Adresse", ci: "CI-Feld",
-    meter: "Zähler", medium: "Medium", access: "Zugriffsnummer", status: "Status", more_follow: "Weitere Datensätze folgen im nächsten Telegramm",
+    access: "Zugriffsnummer", status: "Status", more_follow: "Weitere Datensätze folgen im nächsten Telegramm",
     maker: "Herstellerdaten", makerBytes: "des Herstellers", records: "Datensätze", name: "Name", value: "Wert", unit: "Einheit", storage: "Speicher", tariff: "Tarif",
     subunit: "Untereinheit", function: "Funktion", body: "Nutzdaten", bytes: "Bytes", fault: "Fehler", place: "Stelle", byte: (n) => `Byte ${n}`,
     expected: "Erwartet", structure: "Struktur", security: "Sicherheitsmodus", reason: "Grund",
@@ -72,32 +77,37 @@ let base = 0;
 
 async function start() {
   const bytes = Uint8Array.from(atob(MODULE), (letter) => letter.charCodeAt(0));
-  const made = await WebAssembly.instantiate(bytes, {});
-  exported = made.instance.exports;
+  exported = (await WebAssembly.instantiate(bytes, {})).instance.exports;
   base = exported.memory.buffer.byteLength;
-  exported.memory.grow(4n);
 }
 
-// Makes the memory after the module's own so large.
-function makeRoom(size) {
-  const missing = base + size - exported.memory.buffer.byteLength;
-  if (missing > 0) exported.memory.grow(BigInt(Math.ceil(missing / PAGE)));
+// Puts an input after the module's own memory, and returns the place after it, from which on there is so much room.
+function putInput(input, room) {
+  const after = base + Math.ceil(input.length / 8) * 8;
+  const missing = after + room - exported.memory.buffer.byteLength;
+  if (missing > 0) exported.memory.grow(Math.ceil(missing / PAGE));
+  new Uint8Array(exported.memory.buffer, base, input.length).set(input);
+  return after;
+}
+
+const call = (name, ...given) => Number(BigInt.asUintN(64, exported[`mbdc_${name}`](...given.map(BigInt))));
+
+function numbersAt(place, count) {
+  return Array.from(new BigUint64Array(exported.memory.buffer.slice(place, place + 8 * count)), Number);
 }
 
 // What a call of the decoder writes for an input of bytes.
-function writtenBy(call, input) {
+function writtenBy(name, input) {
   for (let room = PAGE; ; room *= 4) {
-    makeRoom(input.length + room);
-    const at = base + input.length;
-    new Uint8Array(exported.memory.buffer, base, input.length).set(input);
-    const count = BigInt.asUintN(64, call(BigInt(base), BigInt(input.length), BigInt(at), BigInt(room)));
-    if (count !== TOO_LONG) return new TextDecoder().decode(new Uint8Array(exported.memory.buffer, at, Number(count)));
+    const after = putInput(input, room);
+    const count = call(name, base, input.length, after, room);
+    if (count <= room) return new TextDecoder().decode(new Uint8Array(exported.memory.buffer, after, count));
   }
 }
 
 // The lines of `mbdc decode` and of `mbdc decode --json`.
-const textOf = (input) => writtenBy(exported.mbdc_decode_text, input);
-const jsonOf = (input) => writtenBy(exported.mbdc_decode_json, input);
+const textOf = (input) => writtenBy("decode_text", input);
+const jsonOf = (input) => writtenBy("decode_json", input);
 
 const encoder = new TextEncoder();
 const hexOf = (bytes) => Array.from(bytes, (byte) => byte.toString(16).toUpperCase().padStart(2, "0")).join("");
@@ -105,15 +115,15 @@ const bytesOf = (digits) => Uint8Array.from(digits.match(/../g) ?? [], (pair) =>
 
 // ---- the objects of `mbdc decode --json`, and the bytes of each
 
-// The texts of the frames in a line's bytes: each has its length in it, or is all that is left.
+// The texts that the decoder reads as frames in a line's bytes.
 function splitFrames(bytes) {
   const texts = [];
+  const out = putInput(bytes, 8 * FRAME);
   for (let at = 0; at < bytes.length;) {
-    const [first, length, again] = [bytes[at], bytes[at + 1], bytes[at + 2]];
-    const isLong = first === 0x68 && at + 3 < bytes.length && length === again && length >= 3 && bytes[at + 3] === 0x68;
-    const size = first === 0xE5 ? 1 : first === 0x10 ? 5 : isLong ? length + 6 : bytes.length - at;
-    texts.push(bytes.slice(at, at + size));
-    at += texts[texts.length - 1].length;
+    call("next_frame", base, bytes.length, at, out);
+    const next = numbersAt(out, FRAME)[NEXT_FRAME];
+    texts.push(bytes.slice(at, next));
+    at = next;
   }
   return texts;
 }
@@ -172,46 +182,31 @@ function clean(text) {
 
 // ---- the places of fields and faults
 
-// Number of bytes of the longest beginning of a body that is a telegram.
-function wholeItems(body) {
-  let whole = 0;
-  for (let end = HEADER; end < body.length; end++) {
-    const content = [8, 0, CI_VARIABLE, ...body.slice(0, end)];
-    const sum = content.reduce((total, byte) => total + byte, 0) % 256;
-    const frame = hexOf([0x68, content.length, content.length, 0x68, ...content, sum, 0x16]);
-    if (!textOf(encoder.encode(frame)).includes("FAULT")) whole = end;
+// First byte and end of each record in a long frame, the byte at which they end, and the first record with such a unit.
+function walked(text) {
+  const [ci, body] = [text[BODY - 1], text.slice(BODY, -2)];
+  const out = putInput(body, 8 * RECORD);
+  const found = { spans: [], end: BODY, plain: null };
+  if (call("header", ci, base, body.length, out) !== DONE) return found;
+  for (let at = numbersAt(out, HEAD)[FIRST]; ;) {
+    const result = call("next_record", ci, base, body.length, at, out);
+    while (body[at] === FILLER && ci !== CI_FIXED && result !== ENCRYPTED) at++;
+    found.end = BODY + Math.min(at, body.length);
+    if (result !== DONE) return found;
+    const record = numbersAt(out, RECORD);
+    if (body[record[VIB]] === PLAIN_TEXT) found.plain ??= found.end;
+    found.spans.push([BODY + (ci === CI_FIXED ? record[DATA] : at), BODY + record[NEXT]]);
+    at = record[NEXT];
   }
-  return whole;
 }
+
+const faultOf = (object) => object.fault ?? object.content?.fault ?? null;
 
 // Where a fault lies, in bytes from the frame's first; null of a line that isn't hex.
-function placeOf(object, text) {
-  const { kind, number } = object.fault;
+function placeOf({ kind, number }, text, { end, plain }) {
   const last = Math.max(text.length - 1, 0);
-  if (kind === "hex") return null;
-  if (kind === "frame") return [0, 0, 0, text.length, 1, last, last, Math.max(last - 1, 0)][number];
-  const body = bytesOf(object.body);
-  return 7 + (number === 1 ? body.length : number === 2 ? 0 : number === 3 ? 11 : wholeItems(body));
-}
-
-// First byte and end of each record in the frame; null where a record isn't found at its place.
-function spansOf(object, text) {
-  const spans = [];
-  let at = 7 + HEADER;
-  for (const record of object.records) {
-    while (text[at] === 0x2F) at++;
-    const begin = at;
-    const isVariable = (text[at] & 15) === 13;
-    while (text[at++] & 128);
-    const vib = record.vib.length / 2;
-    const data = record.data.length / 2;
-    if (hexOf(text.slice(at, at + vib)) !== record.vib) return null;
-    at += vib + (isVariable ? 1 : 0);
-    if (hexOf(text.slice(at, at + data)) !== record.data) return null;
-    at += data;
-    spans.push([begin, at]);
-  }
-  return spans;
+  const body = number === PLAIN_TEXT_EXTENSION ? plain : end;
+  return { hex: null, body, frame: [0, 0, 0, text.length, 1, last, last, Math.max(last - 1, 0)][number] }[kind];
 }
 
 // ---- what is shown
@@ -299,50 +294,48 @@ function recordTable(records, parts) {
   return table;
 }
 
-// A telegram, or what another body says: fixed data have a number for an identity, and a header may lack a meter.
+// A telegram, or what another body says that the register refuses: a header may lack a meter.
 function putTelegram(list, object) {
   const words = WORDS[language];
-  if (object.meter) put(list, words.meter, object.meter.id ?? object.meter.number);
-  if (object.meter) put(list, words.medium, object.meter.medium);
+  if (object.structure) put(list, words.structure, object.structure);
+  if (object.security) put(list, words.security, `${object.security.mode} ${object.security.name}`);
   if (object.access !== null) put(list, words.access, object.access);
   if (object.status) put(list, words.status, statusWords(object.status), object.status.code ? "bad" : "");
   if (object.more) put(list, words.status, words.more_follow);
   if (object.manufacturer_data !== null) put(list, words.maker, object.manufacturer_data || "-");
+  if (object.reason) put(list, words.reason, object.reason);
 }
 
-function putFault(list, object, place) {
+function faultShown(fault, place) {
   const words = WORDS[language];
-  put(list, words.fault, `${object.fault.number} ${object.fault.name}`, "bad");
+  const list = element("dl", null);
+  put(list, words.fault, `${fault.number} ${fault.name}`, "bad");
   if (place !== null) put(list, words.place, words.byte(place));
-  put(list, words.expected, words.want[object.fault.kind + object.fault.number] ?? "");
+  put(list, words.expected, words.want[fault.kind + fault.number] ?? "");
+  return list;
 }
 
-// What a body says that the register refuses.
-function putContent(list, content) {
-  const words = WORDS[language];
-  put(list, words.structure, content.structure);
-  if (content.security) put(list, words.security, `${content.security.mode} ${content.security.name}`);
-  putTelegram(list, content);
-  if (content.reason) put(list, words.reason, content.reason);
-}
-
+// A frame: whose it is and what is wrong, its records and their bytes, and the rest.
 function frameShown({ object, text }) {
   const words = WORDS[language];
   const article = element("article", null);
   const list = element("dl", null);
-  const place = object.fault ? placeOf(object, text) : null;
-  article.append(element("h2", `${words.line} ${object.line}: ${words[object.frame]}`));
+  const content = object.content ?? object;
+  const { id, number, medium } = content.meter ?? {};
+  const walk = object.frame === "long" ? walked(text) : { spans: [] };
+  const fault = faultOf(object);
+  const place = fault && placeOf(fault, text, walk);
+  const [bytes, parts] = bytesShown(text, walk.spans, place);
+  const meter = content.meter ? `, ${id ?? number}, ${medium}` : "";
+  article.append(element("h2", `${words.line} ${object.line}: ${words[object.frame]}${meter}`));
+  if (fault) article.append(faultShown(fault, place));
+  if (content.records?.length) article.append(recordTable(content.records, parts));
+  if (text.length) article.append(bytes);
   if (object.control_name) put(list, words.control, `${hexOf([object.control])} ${object.control_name}`);
   if (object.control_name) put(list, words.address, object.address);
   if (object.ci_name) put(list, words.ci, `${hexOf([object.ci])} ${object.ci_name}`);
-  if (object.meter) putTelegram(list, object);
-  if (object.fault) putFault(list, object, place);
-  if (object.content) putContent(list, object.content);
-  const records = object.records ?? object.content?.records ?? [];
-  const [bytes, parts] = bytesShown(text, (object.records && spansOf(object, text)) || [], place);
+  if ("records" in content) putTelegram(list, content);
   article.append(list);
-  if (records.length) article.append(recordTable(records, parts));
-  if (text.length) article.append(bytes);
   return article;
 }
 
@@ -355,7 +348,7 @@ function decodeAll(input) {
 function show() {
   const words = WORDS[language];
   const { found, left, count } = decodeAll($("input").value);
-  const bad = found.filter((one) => one.object.fault).length;
+  const bad = found.filter((one) => faultOf(one.object)).length;
   const said = [found.length ? words.frames(found.length, bad) : words.nothing];
   if (left.length) said.push(words.cleaned(left.join(", ")));
   if (found.length > SHOWN) said.push(words.more(found.length - SHOWN));
@@ -382,7 +375,8 @@ function csv() {
       rows.push([one.line, id ?? number, medium, name, r.value ?? "", r.unit ?? "", r.storage, r.tariff, r.subunit, r.function, r.vib, r.data, "",
         ...READ.map((field) => r[field] ?? "")]);
     }
-    if (one.fault) rows.push([one.line, ...Array(11).fill(""), `${one.fault.kind} ${one.fault.number} ${one.fault.name}`, ...READ.map(() => "")]);
+    const fault = faultOf(one);
+    if (fault) rows.push([one.line, ...Array(11).fill(""), `${fault.kind} ${fault.number} ${fault.name}`, ...READ.map(() => "")]);
   }
   return rows.map((row) => row.map((value) => cell(String(value))).join(",") + "\r\n").join("");
 }

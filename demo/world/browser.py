@@ -11,7 +11,7 @@ from typing import Any
 
 from world.cases import wants
 
-WIDTHS, SCHEMES, LANGUAGES = (1280, 360), ("light", "dark"), ("en", "de")
+WIDTHS, SCHEMES, LANGUAGES = (1280, 390), ("light", "dark"), ("en", "de")
 LEAST_CONTRAST = 4.5  # WCAG 2.1, 1.4.3, of text
 MOST_SECONDS = 60  # of one input of 1 MiB, on a slow machine
 PYTHON = "/usr/bin/python3"  # Debian's

@@ -10,11 +10,13 @@ from typing import Any
 
 from world.browser import LANGUAGES, MOST_SECONDS, WIDTHS, Browser, each_look
 from world.cases import wants
-from world.frames import Identity, answer, digits, header
+from world.frames import RSP_UD, Identity, answer, digits, header, long_frame
 
 TELEGRAM = "68 1F 1F 68 08 02 72 78 56 34 12 24 40 01 07 55 00 00 00 03 13 15 31 00 DA 02 3B 13 01 8B 60 04 37 18 02 18 16"
 SHORT, WRONG_SUM = "10 5B 01 5C 16", "10 40 05 46 16"
 CUT = digits(answer(2, header(Identity(12345678), access=0) + bytes.fromhex("0313")))
+CUT_UNNAMED = digits(long_frame(RSP_UD, 2, 0x78, bytes.fromhex("0313")))
+PLAIN = digits(answer(2, header(Identity(12345678), access=0) + bytes.fromhex("0313153100 02FC03485225F400440D")))
 MIB = 1024 * 1024
 COLUMNS = 20  # of the CSV
 
@@ -50,8 +52,10 @@ def telegram(browser: Browser) -> None:
     browser.decode(WRONG_SUM)
     wants(browser.run("return document.querySelector('.here').textContent;") == "46", "the wrong sum isn't marked")
     wants("byte 3" in browser.shown() and "the sum of the bytes before it" in browser.shown(), browser.shown())
-    browser.decode(CUT)
-    wants("a whole record" in browser.shown(), browser.shown())
+    for text, place, word in ((CUT, 19, "a whole record"), (CUT_UNNAMED, 7, "a whole record"),
+                              (PLAIN, 24, "a record whose VIF isn't FC")):
+        wants(browser.decode(text).startswith("1 frame, 1 with a fault."), browser.said())
+        wants(word in browser.shown() and f"byte {place}" in browser.shown(), browser.shown())
 
 
 def links(browser: Browser) -> None:
@@ -121,7 +125,7 @@ def screen_reader(browser: Browser) -> None:
         nodes = browser.tell("Accessibility.getFullAXTree")["nodes"]
         known = [(one.get("role", {}).get("value"), one.get("name", {}).get("value", "")) for one in nodes if not one.get("ignored")]
         for role, name in (("textbox", "Hex digits"), ("checkbox", "The lines belong"), ("button", "Decode"), ("button", "Deutsch"),
-                           ("button", "Copy as CSV"), ("heading", "M-Bus decoder"), ("heading", "Line 1: Long frame"), ("table", "Records")):
+                           ("button", "Copy as CSV"), ("heading", "M-Bus decoder"), ("heading", "Line 1: Long frame, 12345678.PAD.01.07, water"), ("table", "Records")):
             wants(any(it[0] == role and it[1].startswith(name) for it in known), f"{width}: no {role} {name}")
         wants(sum(role == "row" for role, _ in known) == 4, f"{width}: rows of the table")
         wants(sum(role == "columnheader" for role, _ in known) == 7, f"{width}: heads of the table")
@@ -208,10 +212,10 @@ setTimeout(() => done(violated), 1000);
 
 
 def old_browser(browser: Browser) -> None:
-    """A browser without 64-bit memory gets one sentence."""
+    """A browser without WebAssembly gets one sentence."""
     script = browser.tell("Page.addScriptToEvaluateOnNewDocument", source="WebAssembly.instantiate = async () => { throw new Error('no'); };")
     try:
-        for language, word in zip(LANGUAGES, ("needs a browser", "braucht einen Browser")):
+        for language, word in zip(LANGUAGES, ("needs Chrome", "braucht Chrome")):
             browser.open("", language)
             seen = browser.run("return [document.getElementById('refused').innerText, document.getElementById('form').offsetParent !== null];")
             wants(word in seen[0] and not seen[1], f"{seen}")
