@@ -4,29 +4,44 @@
 const GROWTH = 8; // bytes printed for a byte of a file, at most
 const LEAST = 65536; // bytes of the room for what is printed
 const SHOWN = 2000; // rows; more would make the page slow
+const NAMED = 3; // wrong numbers
 const VERDICTS = ["right", "wrong", "noMemory", "tooLong"];
 const HASH = /^[0-9a-f]{64}$/;
-// The fields of the lines that have a number, and of those that are declared
+// The fields of the lines that have a number, and of those that are declared, as the table has them
 const NUMBERS = {
-  of_user: "span user use unit text mark", of_flat: "span flat use unit text mark", of_house: "span use unit text", shown: "span from to unit text mark",
-  mean: "span user use unit text", change: "span then user use unit text", weather: "span then user use text", carbon: "span user use text",
-  cost: "span user use unit text", value: "run moment text unit",
+  of_user: "span user use unit text mark", cost: "span user use unit text", change: "span then user use unit text",
+  weather: "span then user use text", mean: "span user use unit text", carbon: "span user use text",
+  of_flat: "span flat use unit text mark", of_house: "span use unit text", shown: "span from to unit text mark",
+  value: "run moment text unit",
 };
-const DECLARED = { factor: "use span text", co2: "use span text", degrees: "of span text", price: "use unit span text", average: "use unit span text", user: "user flat text", place: "place flat use text" };
+const DECLARED = {
+  price: "use unit span text", average: "use unit span text", factor: "use span text", co2: "use span text",
+  degrees: "of span text", user: "user flat text", place: "place flat use text",
+};
+const FIELDS = { ...NUMBERS, ...DECLARED };
+const KINDS = Object.keys(FIELDS);
 const UNITS = { change: () => "%", weather: () => "kWh", carbon: () => "kg", cost: () => "€", factor: () => "kWh", co2: () => "g/kWh", degrees: () => "",
   price: (unit) => `ct/${unit}`, average: (unit) => `${unit}/m²`, user: () => "m²", place: () => "" };
+const MINUTE = 60_000; // milliseconds
+const DAY = 1440 * MINUTE;
+const ZONES = [Intl.DateTimeFormat().resolvedOptions().timeZone, "Europe/Berlin"];
 
 const WORDS = {
   en: {
     title: "Audit a sheet", about: "Computes the numbers of a sheet again, from the telegrams in its audit file. Nothing leaves this page.",
     file: "The audit file: choose it, or drop it on this page", input: "Or its text", audit: "Audit", other: "Deutsch", program: "What mbdc audit prints",
     proved: "The audit is the module of mbdc audit. It is proved that it says that all holds only of a file in which all holds. This page's own words, the "
-      + "table of what is in the file, and the module's heap are not proved.",
-    refused: "This page needs a browser with 64-bit WebAssembly memory: Chrome or Edge 133, Firefox 134, or later.",
-    right: "Each number in this file is what its telegrams and what is declared give.", wrong: "Not everything in this file holds.",
+      + "table of what is in the file, and the module's heap and translation are not proved.",
+    refused: "This page needs Chrome or Edge 93, Firefox 92, Safari 15.4, or later.",
+    right: (n) => (n === 1 ? "The number is right." : `All ${n} numbers are right.`),
+    wrong: (n, all, which) => `${n} of ${all} numbers ${n === 1 ? "is" : "are"} wrong: ${which}.`,
+    unproved: (n) => `${n} ${n === 1 ? "reading has" : "readings have"} no evidence.`,
+    unreadable: (line, fault) => `Line ${line} can't be audited (${fault}), and nothing after it.`,
     noMemory: "The browser has no memory for this file.", tooLong: "Too much is printed of this file.", unread: "The file can't be read.",
     hash: (text) => `SHA-256 of the file: ${text}.`, same: "It is the file that the sheet names.", another: "It is not the file that the sheet names.",
-    noHash: "not computed by this browser here", waiting: "Choose the file that the sheet names.", caption: "What is in the file: compare it with the sheet",
+    noHash: "not computed by this browser here", waiting: "Choose the file that the sheet names.",
+    caption: (zone) => `What is in the file: compare it with the sheet. Times are those of ${zone}.`,
+    computed: (text) => `computed: ${text}`,
     of: "Number", use: "Use", period: "Period", number: "Published", mark: "Mark", declared: "declared, not audited",
     more: (n) => `${n} more are not shown.`,
     kinds: { of_user: "consumption", of_flat: "flat", of_house: "house", shown: "place", mean: "average", change: "change", weather: "by the weather",
@@ -38,12 +53,17 @@ const WORDS = {
     title: "Ein Blatt prüfen", about: "Rechnet die Zahlen eines Blatts aus den Telegrammen in seiner Prüfdatei nach. Nichts verlässt diese Seite.",
     file: "Die Prüfdatei: wählen, oder auf diese Seite ziehen", input: "Oder ihr Text", audit: "Prüfen", other: "English", program: "Was mbdc audit druckt",
     proved: "Die Prüfung ist das Modul von mbdc audit. Bewiesen ist, dass es nur von einer Datei sagt, alles stimme, in der alles stimmt. Die Wörter dieser "
-      + "Seite, die Tabelle dessen, was in der Datei steht, und der Speicher des Moduls sind nicht bewiesen.",
-    refused: "Diese Seite braucht einen Browser mit 64-Bit-Speicher für WebAssembly: Chrome oder Edge 133, Firefox 134 oder neuer.",
-    right: "Jede Zahl in dieser Datei ist, was ihre Telegramme und das Angegebene ergeben.", wrong: "Nicht alles in dieser Datei stimmt.",
+      + "Seite, die Tabelle dessen, was in der Datei steht, Speicher und Übersetzung des Moduls sind nicht bewiesen.",
+    refused: "Diese Seite braucht Chrome oder Edge 93, Firefox 92, Safari 15.4 oder neuer.",
+    right: (n) => (n === 1 ? "Die Zahl stimmt." : `Alle ${n} Zahlen stimmen.`),
+    wrong: (n, all, which) => `${n} von ${all} Zahlen ${n === 1 ? "ist" : "sind"} falsch: ${which}.`,
+    unproved: (n) => `${n} ${n === 1 ? "Ablesung ist" : "Ablesungen sind"} nicht belegt.`,
+    unreadable: (line, fault) => `Zeile ${line} ist nicht prüfbar (${fault}), und nichts danach.`,
     noMemory: "Der Browser hat keinen Speicher für diese Datei.", tooLong: "Zu dieser Datei wird zu viel gedruckt.", unread: "Die Datei ist nicht lesbar.",
     hash: (text) => `SHA-256 der Datei: ${text}.`, same: "Es ist die Datei, die das Blatt nennt.", another: "Es ist nicht die Datei, die das Blatt nennt.",
-    noHash: "von diesem Browser hier nicht berechnet", waiting: "Wählen Sie die Datei, die das Blatt nennt.", caption: "Was in der Datei steht: mit dem Blatt vergleichen",
+    noHash: "von diesem Browser hier nicht berechnet", waiting: "Wählen Sie die Datei, die das Blatt nennt.",
+    caption: (zone) => `Was in der Datei steht: mit dem Blatt vergleichen. Zeiten sind die von ${zone}.`,
+    computed: (text) => `berechnet: ${text}`,
     of: "Zahl", use: "Nutzung", period: "Zeitraum", number: "Veröffentlicht", mark: "Merkmal", declared: "angegeben, nicht geprüft",
     more: (n) => `${n} weitere werden nicht gezeigt.`,
     kinds: { of_user: "Verbrauch", of_flat: "Wohnung", of_house: "Haus", shown: "Messstelle", mean: "Durchschnitt", change: "Änderung", weather: "nach dem Wetter",
@@ -95,56 +115,76 @@ function element(tag, text, attributes = {}) {
   return made;
 }
 
-const dayShown = (day) => (Number.isNaN(day.getTime()) ? "" : day.toLocaleDateString(language, { dateStyle: "medium", timeZone: "UTC" }));
-
-function momentShown(seconds) {
-  const moment = new Date(Number(seconds) * 1000);
-  return Number.isNaN(moment.getTime()) ? seconds : moment.toLocaleString(language, { dateStyle: "medium", timeStyle: "short" });
+// By how much a time zone is ahead of UTC at a moment.
+function aheadOf(zone, moment) {
+  const local = new Date(moment).toLocaleString("sv", { timeZone: zone });
+  return Date.parse(`${local.replace(" ", "T")}Z`) - moment;
 }
 
-// From the day after the end of one to the other: the days of a span.
-function spanShown(from, to) {
-  const first = new Date(`${from}T00:00Z`);
-  first.setUTCDate(first.getUTCDate() + 1);
-  return `${dayShown(first)} – ${dayShown(new Date(`${to}T00:00Z`))}`;
+// The end of a day, by a clock of UTC.
+const endOf = (day) => Date.parse(`${day}T00:00Z`) + DAY;
+
+// The time zone of the house: one in which the days of the file's spans end when they say, else UTC.
+function zoneOf(lines) {
+  const ends = lines.filter((line) => line.startsWith("span,")).flatMap((line) => {
+    const [, , from, ahead, to, then] = line.split(",");
+    return [[endOf(from), ahead * MINUTE], [endOf(to), then * MINUTE]];
+  });
+  return ZONES.find((zone) => ends.every(([end, ahead]) => aheadOf(zone, end - ahead) === ahead)) ?? "UTC";
+}
+
+const shown = (moment, form) => (Number.isNaN(moment) ? "" : new Date(moment).toLocaleString(language, { dateStyle: "medium", ...form }));
+const daysShown = (begin, end) => [begin, end - DAY].map((day) => shown(day, { timeZone: "UTC" })).join(" – ");
+const momentShown = (seconds, zone) => shown(seconds * 1000, { timeStyle: "short", timeZone: zone });
+
+// Days, where it begins and ends at midnight.
+function periodShown(from, to, zone) {
+  const [begin, end] = [from, to].map((seconds) => seconds * 1000 + aheadOf(zone, seconds * 1000));
+  return begin % DAY || end % DAY ? `${momentShown(from, zone)} – ${momentShown(to, zone)}` : daysShown(begin, end);
 }
 
 // The numbers of a file, and what is declared there, a row for each.
-function rowsOf(text) {
+function rowsOf(lines, zone) {
   const spans = new Map();
   const flats = new Map();
   const units = new Map(); // what each use counts
   const rows = [];
   let place = ["", ""];
-  for (const line of text.split("\n")) {
+  for (const [at, line] of lines.entries()) {
     const [kind, ...fields] = line.split(",");
-    if (kind === "span") spans.set(fields[0], spanShown(fields[1], fields[3]));
+    if (kind === "span") spans.set(fields[0], daysShown(endOf(fields[1]), endOf(fields[3])));
     if (kind === "user") flats.set(fields[0], fields[1]);
     if (kind === "place") place = fields.slice(1, 3);
-    const names = NUMBERS[kind] ?? DECLARED[kind];
     if (kind === "use") units.set(fields[0], fields[1]);
-    const isNothing = (kind === "user" && fields[2] === "-") || (kind === "place" && units.get(fields[2]) !== "units"); // (heat cost allocators alone have a weight)
-    if (!Object.hasOwn({ ...NUMBERS, ...DECLARED }, kind) || isNothing) continue;
-    const one = Object.fromEntries(names.split(" ").map((name, n) => [name, fields[n] ?? ""]));
-    const isOfPlace = kind === "shown" || kind === "value";
-    const period = kind === "shown" ? `${momentShown(one.from)} – ${momentShown(one.to)}` : kind === "value" ? momentShown(one.moment) : spans.get(one.span) ?? "";
-    rows.push({ kind, of: one.flat ?? (isOfPlace ? place[0] : flats.get(one.user) ?? ""), use: one.use ?? (isOfPlace ? place[1] : ""), period,
-      number: one.text, unit: UNITS[kind] ? UNITS[kind](one.unit) : one.unit, mark: Object.hasOwn(DECLARED, kind) ? "declared" : one.mark ?? "" });
+    // (only heat cost allocators have a weight)
+    const isNothing = (kind === "user" && fields[2] === "-") || (kind === "place" && units.get(fields[2]) !== "units");
+    if (!Object.hasOwn(FIELDS, kind) || isNothing) continue;
+    const one = Object.fromEntries(FIELDS[kind].split(" ").map((name, n) => [name, fields[n] ?? ""]));
+    const [flat, use] = kind === "shown" || kind === "value" ? place : [flats.get(one.user) ?? "", ""];
+    const period = { shown: () => periodShown(one.from, one.to, zone), value: () => momentShown(one.moment, zone) }[kind];
+    rows.push({
+      line: at + 1, kind, of: one.flat ?? flat, use: one.use ?? use, period: period?.() ?? spans.get(one.span) ?? "", number: one.text,
+      unit: (UNITS[kind]?.(one.unit) ?? one.unit).replace("m3", "m³"), mark: Object.hasOwn(DECLARED, kind) ? "declared" : one.mark ?? "",
+    });
   }
-  return rows;
+  return rows.sort((one, other) => KINDS.indexOf(one.kind) - KINDS.indexOf(other.kind));
 }
 
-function rowShown(row) {
+// A row, and by the audit what its number isn't.
+function rowShown(row, wrong) {
   const words = WORDS[language];
+  const [number, mark] = wrong.get(row.line)?.split(" ") ?? [];
+  const marks = [row.mark === "declared" ? words.declared : words.marks[row.mark] ?? row.mark];
+  if (number) marks.push(words.computed([local(number), words.marks[mark] ?? mark].join(" ")));
   const cells = [[words.of, `${words.kinds[row.kind]} ${row.of}`, "place"], [words.use, row.use, "whole"], [words.period, row.period, "whole"],
     [words.number, row.number === "-" ? "–" : `${local(row.number)} ${row.unit}`, "number"],
-    [words.mark, row.mark === "declared" ? words.declared : words.marks[row.mark] ?? row.mark, "whole"]];
-  const made = element("tr", null, { role: "row", tabindex: "0" });
+    [words.mark, marks.filter(Boolean).join("; "), "whole"]];
+  const made = element("tr", null, { role: "row", tabindex: "0", class: number ? "bad" : "" });
   for (const [label, text, kind] of cells) made.append(element("td", text, { role: "cell", "data-label": label, class: kind }));
   return made;
 }
 
-function tableShown(rows) {
+function tableShown(rows, zone, wrong) {
   const words = WORDS[language];
   // (roles, since a narrow page lays out the cells one below the other)
   const table = element("table", null, { role: "table" });
@@ -153,26 +193,41 @@ function tableShown(rows) {
   const head = element("thead", null, { role: "rowgroup" });
   const body = element("tbody", null, { role: "rowgroup" });
   head.append(heads);
-  body.append(...rows.slice(0, SHOWN).map(rowShown));
-  table.append(element("caption", words.caption), head, body);
+  body.append(...rows.slice(0, SHOWN).map((row) => rowShown(row, wrong)));
+  table.append(element("caption", words.caption(zone)), head, body);
   return table;
 }
 
-function hashShown(hash) {
+// What the audit found, in a sentence or two: the rows with a wrong number by name.
+function found({ verdict, printed }, wrong) {
   const words = WORDS[language];
-  const said = words.hash(hash ?? words.noHash);
-  return named && hash ? `${said} ${hash === named ? words.same : words.another}` : said;
+  const [, line, fault] = /^LINE (\d+) FAULT \d+ (\w+)$/m.exec(printed) ?? [];
+  const counts = /^numbers (\d+), differ (\d+), readings \d+, refused (\d+)/m.exec(printed);
+  if (line) return words.unreadable(line, fault);
+  if (!counts) return words[verdict];
+  const [all, differ, refused] = counts.slice(1).map(Number);
+  if (verdict === "right") return words.right(all);
+  const names = wrong.slice(0, NAMED).map((row) => `${words.kinds[row.kind]} ${row.of} ${row.use}`.trim());
+  const which = [...names, ...(wrong.length > NAMED ? [".."] : [])].join(", ");
+  return [...(differ ? [words.wrong(differ, all, which)] : []), ...(refused ? [words.unproved(refused)] : [])].join(" ");
 }
 
 function show() {
   const words = WORDS[language];
-  const rows = rowsOf(last.text);
-  $("said").textContent = words[last.verdict] + (rows.length > SHOWN ? ` ${words.more(rows.length - SHOWN)}` : "");
-  $("said").className = last.verdict === "right" ? "" : "bad";
+  const lines = last.text.split("\n");
+  const zone = zoneOf(lines);
+  const rows = rowsOf(lines, zone);
+  const differs = last.printed.matchAll(/^DIFFERS line (\d+): .*, computed (.*)$/gm);
+  const wrong = new Map(Array.from(differs, ([, line, computed]) => [Number(line), computed]));
+  const isAnother = named && last.hash && last.hash !== named;
+  const said = [isAnother ? words.another : "", found(last, rows.filter((row) => wrong.has(row.line))),
+    rows.length > SHOWN ? words.more(rows.length - SHOWN) : ""];
+  $("said").textContent = said.filter(Boolean).join(" ");
+  $("said").className = last.verdict === "right" && !isAnother ? "good" : "bad";
   $("printed").textContent = last.printed;
-  $("hash").textContent = hashShown(last.hash);
-  $("hash").className = named && last.hash && last.hash !== named ? "bad" : "";
-  $("table").replaceChildren(tableShown(rows));
+  $("program").open = last.verdict !== "right";
+  $("hash").textContent = words.hash(last.hash ?? words.noHash) + (last.hash && last.hash === named ? ` ${words.same}` : "");
+  $("table").replaceChildren(tableShown(rows, zone, wrong));
   $("found").hidden = false;
 }
 

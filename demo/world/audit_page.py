@@ -102,8 +102,10 @@ def links(browser: Browser) -> None:
     wants(audited(browser, content, True)[0] == "right", browser.said())
     wants("It is the file that the sheet names." in browser.run("return document.getElementById('hash').textContent;"), "another file")
     wants(audited(browser, content.replace(b"9.31", b"9.32", 1), True)[0] == "wrong", browser.said())
-    wants("It is not the file" in browser.run("return document.getElementById('hash').textContent;"), "the same file")
-    wants(browser.said() == "Not everything in this file holds.", browser.said())
+    wants(browser.said() == "It is not the file that the sheet names. 1 of 5 numbers is wrong: place A1 cold water.", browser.said())
+    wants(browser.run("return document.getElementById('said').className;") == "bad", "it isn't red")
+    row = browser.run("return document.querySelector('tr.bad').textContent;")
+    wants("9.32 m³" in row and "computed: 9.31 measured" in row, row)
 
 
 def numbers(browser: Browser) -> None:
@@ -111,12 +113,16 @@ def numbers(browser: Browser) -> None:
     browser.open()
     audited(browser, EXAMPLE.encode())
     rows = browser.run("return Array.from(document.querySelectorAll('tbody tr'), (row) => Array.from(row.cells, (it) => it.textContent));")
-    wants([row[3] for row in rows] == ["215 ct/m3", "62.5 m²", "9.31 m3", "412.07 m3", "421.38 m3", "9.31 m3", "20.02 €"], f"{rows}")
-    wants([row[4] for row in rows] == ["declared, not audited"] * 2 + ["measured", "", "", "measured", ""], f"{rows}")
-    wants(all(row[1] in ("cold water", "") for row in rows) and rows[5][2].startswith("Oct 1, 2026"), f"{rows}")
+    wants((browser.said(), browser.run("return document.getElementById('said').className;")) == ("All 5 numbers are right.", "good"), browser.said())
+    wants([row[3] for row in rows] == ["9.31 m³", "20.02 €", "9.31 m³", "412.07 m³", "421.38 m³", "215 ct/m³", "62.5 m²"], f"{rows}")
+    wants([row[4] for row in rows] == ["measured", "", "measured", "", ""] + ["declared, not audited"] * 2, f"{rows}")
+    wants(all(row[1] in ("cold water", "") for row in rows), f"{rows}")
+    # (by the house's clock, wherever the browser is)
+    times = [row[2].replace("\u202f", " ") for row in rows[:4]]
+    wants(times == ["Oct 1, 2026 – Oct 31, 2026"] * 3 + ["Oct 1, 2026, 12:00 AM"], f"{times}")
     allocator = EXAMPLE.replace("cold water,volume", "cold water,units").replace("A1,cold water,1\n", "A1,cold water,1.75\n")
     audited(browser, allocator.encode())
-    row = browser.run("return Array.from(document.querySelectorAll('tbody tr')[2].cells, (it) => it.textContent);")
+    row = browser.run("return Array.from(document.querySelectorAll('tbody tr')[7].cells, (it) => it.textContent);")
     wants(row == ["weight A1", "cold water", "", "1.75 ", "declared, not audited"], f"{row}")
 
 
@@ -143,10 +149,10 @@ def keyboard(browser: Browser) -> None:
     from selenium.webdriver.common.keys import Keys
     browser.open()
     order = []
-    for _ in range(4):
-        browser.press(Keys.TAB)
+    for key in (Keys.TAB, Keys.TAB, Keys.TAB, Keys.ENTER, Keys.TAB, Keys.TAB):
+        browser.press(key)
         order.append(browser.focus())
-    wants(order == ["language", "file", "input", "BUTTON"], f"order of the keyboard: {order}")
+    wants(order == ["language", "file", "input-name", "input-name", "input", "BUTTON"], f"order of the keyboard: {order}")
     keys = "const deep = (one) => Object.entries(one).map(([k, v]) => [k, typeof v === 'object' ? deep(v) : typeof v]); "
     english, german = json.loads(browser.run(f"{keys} return JSON.stringify([deep(WORDS.en), deep(WORDS.de)]);"))
     wants(english == german, "the languages have other words")
