@@ -33,7 +33,7 @@ extern "C" {
 size_t mbdc_decode_text(const uint8_t *input, size_t input_size, uint8_t *out, size_t out_size);
 
 /* The same with the text that `mbdc decode --json` prints: JSON Lines (RFC 8259), an object for each
- * frame and for each fault, in ASCII. Their fields are in docs/JSON.md of the project.
+ * frame and for each fault, in UTF-8. Their fields are in docs/JSON.md of the project.
  */
 size_t mbdc_decode_json(const uint8_t *input, size_t input_size, uint8_t *out, size_t out_size);
 

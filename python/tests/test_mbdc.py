@@ -86,6 +86,16 @@ def test_a_fault_has_its_byte_number_and_name(data: bytes, at: int, place: str, 
     assert str(raised.value) == f"byte {at}: {place} fault {number} {name}"
 
 
+def test_c_says_the_same_of_faults(tmp_path: pathlib.Path) -> None:
+    library, program = pathlib.Path(mbdc._library._path()), tmp_path / "readings"
+    if not library.exists() or not shutil.which("gcc"):
+        pytest.skip("gcc, and a library that tools/library makes")
+    subprocess.run(["gcc", f"-I{ROOT}/library", ROOT / "library/readings.c", library, f"-Wl,-rpath,{library.parent}", "-o", program], check=True)
+    for data, _, place, number, name in FAULTS[1:]:  # (of no byte C says that nothing comes)
+        said = subprocess.run([program], input=data.hex(), capture_output=True, text=True, check=True).stdout.splitlines()
+        assert (f"none\t{name}" if place == "frame" else str(16 + number)) in said
+
+
 def test_javascript_says_the_same_of_faults() -> None:
     module = pathlib.Path(mbdc._library._path()).with_name("npm") / "mbdc.mjs"
     if not module.exists() or not shutil.which("node"):
