@@ -1,4 +1,4 @@
-"""Audit files by chance, right and wrong, for demo/audit: houses whose meters are exchanged, turn over and begin anew, whose
+"""Audit files by chance, right and wrong, for demo/same and demo/page: houses whose meters are exchanged, turn over and begin anew, whose
 readings are late, struck, put by hand and estimated; and edits that each make a file wrong, or may.
 
 A right file is one whose numbers the reference of the office's tests computed; wrong ones are edits of its lines.
@@ -6,7 +6,7 @@ A right file is one whose numbers the reference of the office's tests computed; 
 
 import datetime
 import random
-from typing import Any, Callable, Dict, List, NamedTuple, Optional, Tuple
+from typing import Any, Callable, Dict, Iterator, List, NamedTuple, Optional, Tuple
 
 from audit_reference import SMALLEST, Audit
 from world.frames import bcd, type_g
@@ -471,3 +471,14 @@ EDITS: Dict[str, Edit] = {
     "a field more": with_field(-1, lambda text: f"{text},1", "place", "part", "shown", "user", "zero", "end", "span"),
     "another version": with_field(1, lambda _: "2", "audit"), "a long ratio": with_field(-1, lambda _: "1.0000001", "price", "factor", "co2"),
     "no hex": with_field(-1, lambda text: f"{text[:-1]}G", "read"), "a blank": with_field(-1, lambda text: f"{text} ", "user", "price", "part")}
+
+
+def files(rng: random.Random, count: int) -> Iterator[Tuple[str, List[str]]]:
+    """So many files, each with its kind: every third one is right, the others are edits of the right one before."""
+    made = Files(rng)
+    lines: List[str] = []
+    for number in range(count):
+        lines = lines if number % 3 else made.file()
+        kind = rng.choice(list(EDITS)) if number % 3 else "right"
+        edited = EDITS[kind](rng, lines) if number % 3 else None
+        yield (kind, edited) if edited is not None else ("right", lines)

@@ -64,23 +64,19 @@ def printed(program: str, content: bytes) -> tuple[str, str]:
     return ("right", "wrong")[done.returncode], done.stdout.decode("utf-8", "replace")
 
 
-def equal(browser: Browser, program: str, files: int, seed: int) -> None:
+def equal(browser: Browser, program: str, count: int, seed: int) -> None:
     """The page prints what the program prints."""
     sys.path.insert(0, str(ROOT / "office/tests"))
-    from people.audited import EDITS, Files
-    rng, found = random.Random(seed), {"right": 0, "wrong": 0}
-    lines: list[str] = []
-    made = Files(rng)
+    from people.audited import files
+    found = {"right": 0, "wrong": 0}
     browser.open()
-    for number in range(files):
-        lines = made.file() if number % 3 == 0 else lines
-        edited = lines if number % 3 == 0 else EDITS[rng.choice(list(EDITS))](rng, lines) or lines
-        content = "".join(f"{line}\n" for line in edited).encode()
+    for number, (_, lines) in enumerate(files(random.Random(seed), count)):
+        content = "".join(f"{line}\n" for line in lines).encode()
         wanted = printed(program, content)
         wants(audited(browser, content, number % 2 == 0) == wanted, f"file {number}: {browser.run('return last.printed;')[:200]!r} and not {wanted}")
         found[wanted[0]] += 1
     print(f"    {found['right']} right and {found['wrong']} wrong files", flush=True)
-    wants(min(found.values()) > 0 or files < 10, "files of one kind alone")
+    wants(min(found.values()) > 0 or count < 10, "files of one kind alone")
 
 
 def sheets(browser: Browser, program: str, folder: pathlib.Path) -> None:

@@ -1,5 +1,5 @@
 """Judges and fills an audit file as `mbdc audit` has to (docs/COMMANDS.md): by the definitions alone, with a decoder of its own
-and exact ratios. fake_mbdc answers by it, or compares a program with it; so does demo/audit.
+and exact ratios. fake_mbdc answers by it, or compares a program with it; so does demo/same.
 """
 
 import datetime
