@@ -8,6 +8,8 @@ const [DONE, FAULT, FRAME_FAULTS] = [0, 16, 14];
 const [FRAME, HEAD, RECORD] = [56, 96, 288];
 const [FIRST, NEXT] = [11, 17];
 const EMPTY = 1; // the fault of no byte
+const ENCRYPTED = FAULT + 3;
+const FILLER = 0x2F;
 
 const url = new URL("./mbdc.wasm", import.meta.url);
 const source = url.protocol === "file:" ? (await import("node:fs/promises")).readFile(url) : fetch(url).then((it) => it.arrayBuffer());
@@ -57,7 +59,9 @@ function endOf(ci, body) {
   room(record + RECORD - after).set(body);
   call("header", ci, after, body.length, head);
   let at = numbers(head, HEAD)[FIRST];
-  while (call("next_record", ci, after, body.length, at, record) === DONE) at = numbers(record, RECORD)[NEXT];
+  let result;
+  while ((result = call("next_record", ci, after, body.length, at, record)) === DONE) at = numbers(record, RECORD)[NEXT];
+  while (result !== ENCRYPTED && body[at] === FILLER) at++;
   return Math.min(at, body.length);
 }
 

@@ -29,6 +29,7 @@ _FUNCTIONS, _READINGS, _TYPES, _ERRORS, _QUANTITY_NAMES, _UNITS, _VIFES, _VIFE_T
 _NO_UNIT = 0xFFFF
 _DONE, _END, _MORE, _OTHER = range(4)
 _FAULT = 16  # this and the number of a fault
+_ENCRYPTED = _FAULT + 3
 _EMPTY = 1  # the fault of a frame of no bytes
 _VARIABLE_DATA, _FIXED_DATA = 0x72, 0x73
 _FILLER = b"\x2f"
@@ -312,11 +313,13 @@ def _telegram(body: bytes, ci: int, begins: int) -> Optional[Telegram]:
         return None
     is_named, number, manufacturer, version, medium, is_headed, access, status, _, _, _, first = _HEAD.unpack_from(space.head)
     records, at, result = _walk(body, ci, first)
-    rest = body[at:].lstrip(_FILLER) if result in (_END, _MORE) and ci != _FIXED_DATA else b""
+    # (fillers are of no record)
+    rest = body[at:] if ci == _FIXED_DATA or result == _ENCRYPTED else body[at:].lstrip(_FILLER)
     meter = _meter(number, manufacturer, version, medium, ci == _FIXED_DATA) if is_named else None
-    fault = None if result < _FAULT else TelegramFault(begins + min(at, len(body)), "body", result - _FAULT)
-    return Telegram(meter, access if is_headed else None, status if is_headed else None, tuple(records), result == _MORE,
-                    rest[1:] if rest else None, fault)
+    fault = None if result < _FAULT else TelegramFault(begins + len(body) - len(rest), "body", result - _FAULT)
+    data = rest[1:] if rest and not fault and ci != _FIXED_DATA else None
+    return Telegram(meter, access if is_headed else None, status if is_headed else None, tuple(records),
+                    result == _MORE, data, fault)
 
 
 def _frame(data: bytes, at: int) -> Frame:
