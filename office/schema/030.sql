@@ -1,7 +1,8 @@
 -- A mail address is one address: x,all@b was two, and at _@[a office/send stopped.
 CREATE FUNCTION is_an_address(mail text) RETURNS boolean LANGUAGE sql IMMUTABLE AS $$
-    SELECT length(mail) <= 200 AND mail ~ ('^[A-Za-z0-9!#$%&''*+/=?^_`{|}~-]+(\.[A-Za-z0-9!#$%&''*+/=?^_`{|}~-]+)*'
-                                           '@([A-Za-z0-9]([A-Za-z0-9-]*[A-Za-z0-9])?\.)*[A-Za-z0-9]([A-Za-z0-9-]*[A-Za-z0-9])?$')
+    SELECT length(mail) <= 200
+       AND mail ~ ('^[A-Za-z0-9!#$%&''*+/=?^_`{|}~-]+(\.[A-Za-z0-9!#$%&''*+/=?^_`{|}~-]+)*'
+                   '@([A-Za-z0-9]([A-Za-z0-9-]*[A-Za-z0-9])?\.)*[A-Za-z0-9]([A-Za-z0-9-]*[A-Za-z0-9])?$')
 $$;
 DO $$
 DECLARE

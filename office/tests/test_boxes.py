@@ -1,10 +1,7 @@
 """A meter keeps its place: under a box with a new name, and where two boxes hear it."""
 
-import pathlib
-from typing import Any, List, Tuple
-
 import pytest
-from conftest import FITS, Box, Office, Server
+from conftest import FITS, Box, Office
 from supplied import HEAT, Supplied, at
 from test_fittings import fitted, housed
 
@@ -93,43 +90,3 @@ def test_readings_before_a_box_came_to_the_house(office: Office, elm: Supplied) 
     elm.reads(meter, at("2025-01-31T06:00"), 1010)
     assert office.run("close", "--house", "elm-1").status == 0
     assert office.sql("SELECT count(*) FROM day_values") == [(0,)]
-
-
-RENAMED = """
-INSERT INTO houses (house, address) VALUES ('elm', 'Elm Street 1');
-INSERT INTO boxes (name, command, house) VALUES ('old', 'false', 'elm');
-INSERT INTO flats (house, flat) VALUES ('elm', 'A1');
-INSERT INTO places (house, flat, use, number) VALUES ('elm', 'A1', 'heat', 1), ('elm', 'A1', 'heat', 2), ('elm', 'A1', 'heat', 3);
-UPDATE boxes SET active = false;
-INSERT INTO boxes (name, command, house) VALUES ('new', 'false', 'elm');
-INSERT INTO fittings (place, box, identity, during) SELECT p.id, k.box, k.identity, k.during::tstzrange FROM places p JOIN (VALUES
-    (1, 'old', 'twice', '[2024-01-01,)'), (2, 'new', 'twice', '[2024-06-01,)'),
-    (3, 'old', 'ended', '[2024-01-01,2024-06-01)'), (3, 'new', 'ended', '[2024-06-01,)')) AS k (place, box, identity, during)
-    ON k.place = p.number;
-INSERT INTO day_values (fitting, day, at, value, unit, source, month, serial, part)
-SELECT f.id, k.day::date, k.day::timestamptz, k.value, 'Wh', 'stored', '2024-05-01', 1, 1 FROM fittings f JOIN (VALUES
-    ('old', '2024-05-30', 10), ('old', '2024-06-02', 12), ('new', '2024-06-02', 13), ('new', '2024-06-03', 14)) AS k (box, day, value)
-    USING (box);
-INSERT INTO month_use (month, place, part, begins, ends, grade, is_leap, basis)
-SELECT '2024-06-01', id, 0, '2024-06-01', '2024-07-01', 'missing', false, '[]' FROM places;
-"""
-
-
-def test_a_migration_joins_what_names_of_boxes_took_apart(server: Server, tmp_path: pathlib.Path) -> None:
-    """A meter that stood under two names at two places, and one that ended with the old name."""
-    older = Office(server, server.make(), tmp_path)
-    assert older.run("migrate", "--to", "12").status == 0
-    older.sql(RENAMED)
-    ended = older.run("migrate", "--to", "13")
-    assert ended.status == 0, ended.printed
-    assert "look: meter twice of house elm stood at the places 1 and 2 under two boxes; its values count at 1 now" in (
-        ended.printed), ended.printed
-    rows: List[Tuple[Any, ...]] = older.sql("SELECT identity, place, lower(during)::date::text, upper_inf(during) FROM fittings"
-                                            " ORDER BY place")
-    assert rows == [("twice", 1, "2024-01-01", True), ("ended", 3, "2024-01-01", True)]
-    assert older.sql("SELECT f.identity, d.day::text, d.value::float, d.box FROM day_values d JOIN fittings f ON f.id = d.fitting"
-                     " ORDER BY 1 DESC, 2") == [
-        (identity, day, value, name) for identity in ("twice", "ended") for day, value, name in (
-            ("2024-05-30", 10.0, "old"), ("2024-06-02", 12.0, "old"), ("2024-06-03", 14.0, "new"))]
-    assert older.sql("SELECT place FROM month_use ORDER BY place") == [(1,), (3,)]
-    assert older.run("migrate").status == 0

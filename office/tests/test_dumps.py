@@ -12,14 +12,11 @@ from test_migrate import shape
 HEAT_METER = "33333333.PAD.01.04"
 MOVED = "MOVE 22222222.PAD.01.07 B7"
 FILLED = ("boxes", "box_commands", "day_values", "fittings", "meters", "orders", "places", "points", "readings")
-# What OFFICE does with a dump of an older office
-OLD_PATH, PATH = "'search_path', ''", "'search_path', 'public'"
 
 
 def dumped(server: Server, office: Office) -> str:
     done = subprocess.run([PROGRAMS[-1].parent / "pg_dump", "-h", server.folder, "-U", OWNER,
                            office.connection.info.dbname], capture_output=True, text=True, check=True)
-    assert OLD_PATH in done.stdout
     return done.stdout
 
 
@@ -59,14 +56,3 @@ def test_a_dump_is_restored(server: Server, office: Office, box: Box, tmp_path: 
     ended = again.collect("house-1")
     assert ended.status == 0, ended.printed
     assert box.numbers()[-1] == (6, "CONFIRM 5")
-
-
-def test_a_dump_of_an_older_office(server: Server, tmp_path: pathlib.Path) -> None:
-    """Up to version 9 its restore needs a search path."""
-    older = Office(server, server.make(), tmp_path)
-    assert older.run("migrate", "--to", "9").status == 0
-    older.sql("INSERT INTO day_values (fitting, day, at, value, unit, source) VALUES (%s, '2024-01-31', now(), 1, 'Wh', 'by hand')",
-              Supplied(older).meter(1, HEAT, "A1"))
-    again = restored(server, dumped(server, older).replace(OLD_PATH, PATH), tmp_path)
-    assert counts(again) == counts(older)
-    assert again.run("migrate").status == 0

@@ -1,132 +1,120 @@
-"""office/migrate: a filled database of version 1 comes to the present one, also where it is killed on the way."""
+"""office/migrate: a filled database of 0.2.0 comes to what a new one is, also where it is killed on the way."""
 
-import datetime
 import pathlib
 import subprocess
-from typing import List
+from typing import Any, Set, Tuple
 
 import pytest
-from conftest import OFFICE, Office, Server
+from conftest import OFFICE, Ended, Office, Server
 from test_schema import refused
 
 from box_commands import BOX_COMMANDS
 
-LAST = max(int(path.stem) for path in (OFFICE / "schema").glob("[0-9]*.sql"))
-HAS_COMMANDS = 9  # the first version with the table of commands
-TOLD = {number: f"version {number}\n" for number in range(2, LAST + 1)}
-TOLD[HAS_COMMANDS] += "".join(f"command {verb}\n" for verb in BOX_COMMANDS)
-HEADER = "785634122440010701040000"
-FILLED = f"""
-INSERT INTO boxes (name, command, number, confirmed) VALUES ('house-1', 'x', 3, 1), ('house-2', 'x', NULL, NULL);
-INSERT INTO meters (box, identity, line, address, flat) VALUES ('house-1', 'm1', 1, '1', 'A1'),
-    ('house-1', 'm2', 1, '2', 'A2');
-INSERT INTO readings (box, serial, identity, flat, heard, bodies, stored_at) VALUES
-    ('house-1', 1, 'm1', 'A1', '{{2026-01-02Z}}', '{{"\\\\x{HEADER}"}}', '2026-01-31 23:59:59Z'),
-    ('house-1', 2, 'm1', 'A1', '{{2026-02-02Z}}', '{{"\\\\x{HEADER}"}}', '2026-02-01 00:00:00Z');
-INSERT INTO points (box, serial, part, place, storage, function, tariff, subunit, vib, shown, value, unit, due) VALUES
-    ('house-1', 1, 1, 1, 1, 0, 0, 0, '6D', '2026-01-01T00:00', NULL, NULL, NULL),
-    ('house-1', 1, 1, 2, 1, 0, 0, 0, '06', '1000', 1000, 'Wh', '2026-01-01'),
-    ('house-1', 2, 1, 1, 1, 0, 0, 0, '6C', '2026-01-01', NULL, NULL, NULL),
-    ('house-1', 2, 1, 2, 1, 0, 0, 0, '0E', '7200000', 7200000, 'J', '2026-01-01'),
-    ('house-1', 2, 1, 3, 2, 0, 0, 0, '6D', '2026-02-01T12:00', NULL, NULL, NULL),
-    ('house-1', 2, 1, 4, 2, 0, 0, 0, '06', '5000', 5000, 'Wh', '2026-02-01');
-INSERT INTO due_readings VALUES ('house-1', 'm1', '2026-01-01', 2), ('house-1', 'm1', '2026-02-01', 2);
-INSERT INTO orders (box, key, line) VALUES ('house-1', 'k', 'FIT m3 1 3 A3');
-INSERT INTO orders (box, key, line, number, state, answer) VALUES ('house-1', 'l', 'OUT m3 A3', 3, 'refused', 'ERR SYNTAX');
-INSERT INTO orders (box, line, confirms, number, state, answer) VALUES ('house-1', 'CONFIRM 1', 1, 3, 'done', 'OK 3');
+FIRST, LAST = 25, max(int(path.stem) for path in (OFFICE / "schema").glob("[0-9]*.sql"))
+HEADING = "## 0.2.0, "  # of CHANGELOG: the commit that wrote it is the version's
+VERSIONS = """CREATE TABLE schema_versions (version integer PRIMARY KEY, applied_at timestamptz NOT NULL DEFAULT now(),
+    applied_by text NOT NULL DEFAULT session_user)"""
+FILLED = """
+INSERT INTO houses (house, address) VALUES ('elm', 'Elm Street 1');
+INSERT INTO flats (house, flat) VALUES ('elm', 'A1');
+INSERT INTO tenancies (house, flat, days, person, mail) VALUES ('elm', 'A1', '[2025-01-01,)', 'A. Person', 'x,all@b');
+INSERT INTO boxes (name, command, house) VALUES ('elm', 'false', 'elm');
+INSERT INTO meters (box, identity, line, address, flat) VALUES ('elm', '11111111.PAD.01.04', 1, '1', 'A1');
+INSERT INTO sheets (tenancy, month, form, path, sha256, is_before_audits)
+SELECT id, '2025-01-01', 'html', 'x', repeat('0', 64), true FROM tenancies;
+INSERT INTO versions (house, month, version, why, out_at, is_before_audits) VALUES ('elm', '2025-01-01', 1, 'first', now(), true);
+INSERT INTO versions (house, month, version, why) VALUES ('elm', '2025-01-01', 2, 'late');
+INSERT INTO jobs (what, words) VALUES ('release', '2025-01');
 """
+OURS = "IN ('public'::regnamespace, 'desk'::regnamespace)"
+FUNCTIONS = f"FROM pg_proc p JOIN pg_language l ON l.oid = prolang WHERE pronamespace {OURS} AND lanname IN ('sql', 'plpgsql')"
+CATALOGUE = (
+    f"""SELECT 'column', attrelid::regclass::text, attname, format_type(atttypid, atttypmod), attnotnull, attgenerated::text,
+        pg_get_expr(adbin, adrelid) FROM pg_attribute JOIN pg_class c ON c.oid = attrelid
+        LEFT JOIN pg_attrdef ON (adrelid, adnum) = (attrelid, attnum)
+        WHERE relnamespace {OURS} AND relkind IN ('r', 'p', 'v') AND attnum > 0 AND NOT attisdropped""",
+    f"""SELECT 'constraint', conrelid::regclass::text, conname, pg_get_constraintdef(oid), convalidated FROM pg_constraint
+        WHERE connamespace {OURS}""",
+    f"SELECT 'index', pg_get_indexdef(indexrelid) FROM pg_index JOIN pg_class c ON c.oid = indexrelid WHERE relnamespace {OURS}",
+    f"SELECT 'view', oid::regclass::text, pg_get_viewdef(oid) FROM pg_class WHERE relkind = 'v' AND relnamespace {OURS}",
+    f"SELECT 'function', pg_get_functiondef(p.oid) {FUNCTIONS}",
+    "SELECT 'trigger', pg_get_triggerdef(oid) FROM pg_trigger WHERE NOT tgisinternal",
+    f"""SELECT 'right', k.what, a.grantee::regrole::text, a.privilege_type FROM (
+        SELECT oid::regclass::text, coalesce(relacl, acldefault('r', relowner)) FROM pg_class WHERE relnamespace {OURS}
+        UNION ALL SELECT attrelid::regclass || '.' || attname, attacl FROM pg_attribute JOIN pg_class c ON c.oid = attrelid
+        WHERE relnamespace {OURS} UNION ALL SELECT nspname, nspacl FROM pg_namespace WHERE nspname = 'desk'
+        UNION ALL SELECT p.oid::regprocedure::text, coalesce(proacl, acldefault('f', proowner)) {FUNCTIONS}
+        ) AS k (what, acl), aclexplode(k.acl) a""",
+    *(f"SELECT '{table}', to_jsonb(k)::text FROM {table} k" for table in ("uses", "units", "device_types", "limits", "box_commands")))
 
 
 @pytest.fixture
 def older(server: Server, tmp_path: pathlib.Path) -> Office:
-    """A filled database of version 1, which had no table of versions."""
+    """A filled database of 0.2.0."""
+    def git(*words: str) -> str:
+        done = subprocess.run(["git", "-C", OFFICE, *words], capture_output=True, text=True, check=False)
+        return done.stdout if done.returncode == 0 else pytest.skip("the history of 0.2.0 isn't here")
+    root = git("rev-parse", "--show-toplevel").strip()
+    commit = git("-C", root, "log", "--reverse", "--format=%H", f"-S{HEADING}", "--", "CHANGELOG.md").split()[0]
     made = Office(server, server.make(), tmp_path)
-    made.sql((OFFICE / "schema/001.sql").read_text(encoding="utf-8"))
+    made.sql(VERSIONS)
+    for version in range(1, FIRST + 1):
+        made.sql(git("-C", root, "show", f"{commit}:office/schema/{version:03}.sql"))
+        made.sql("INSERT INTO schema_versions (version) VALUES (%s)", version)
+    for verb, command in BOX_COMMANDS.items():
+        made.sql("INSERT INTO box_commands VALUES (%s, %s)", verb, len(command.words))
     made.sql(FILLED)
     return made
 
 
-def migrate(office: Office, *words: str) -> "subprocess.CompletedProcess[str]":
-    return subprocess.run([OFFICE / "migrate", "--database", office.name, *words], capture_output=True, text=True,
-                          check=False)
+def shape(office: Office) -> Set[Tuple[Any, ...]]:
+    """Tables, views, functions, triggers and rights, and the rows of every database."""
+    return {row for query in CATALOGUE for row in office.sql(query)}
 
 
-def shape(office: Office) -> List[object]:
-    """Columns, constraints and indexes of all tables but the months."""
-    return [office.sql(query) for query in (
-        "SELECT table_name, column_name, data_type, is_nullable, coalesce(column_default, '') FROM"
-        " information_schema.columns WHERE table_schema = 'public' AND table_name !~ '_\\d{4}_\\d\\d$' ORDER BY 1, 2",
-        "SELECT conrelid::regclass::text, conname, pg_get_constraintdef(oid) FROM pg_constraint WHERE connamespace ="
-        " 'public'::regnamespace AND conrelid::regclass::text !~ '_\\d{4}_\\d\\d$' ORDER BY 1, 2, 3")]
-
-
-def test_a_filled_database_of_version_1(older: Office, office: Office) -> None:
-    done = migrate(older)
-    assert done.returncode == 0, done.stderr
-    assert done.stdout == "".join(TOLD.values())
-    assert older.sql("SELECT month, serial FROM readings ORDER BY serial") == [
-        (datetime.date(2026, 1, 1), 1), (datetime.date(2026, 2, 1), 2)]
-    assert older.sql("SELECT due, serial, shown, kwh::float FROM due_values ORDER BY due") == [
-        (datetime.date(2025, 12, 31), 1, "1000", 1.0), (datetime.date(2026, 1, 1), 2, "7200000", 2.0),
-        (datetime.date(2026, 2, 1), 2, "5000", 5.0)]
-    assert older.sql("SELECT name, stored FROM boxes ORDER BY name") == [("house-1", 2), ("house-2", 0)]
-    assert older.sql("SELECT identity, serial, says FROM meter_states ORDER BY 1") == [
-        ("m1", 2, "power low"), ("m2", None, "")]
-    assert older.sql("SELECT count(*) FROM orders") == [(3,)] and older.sql("SELECT count(*) FROM points") == [(6,)]
-    assert shape(older) == shape(office)
-
-
-def test_a_migrated_database_is_collected(older: Office) -> None:
-    older.sql("DELETE FROM orders")
-    assert migrate(older).returncode == 0
+def test_a_filled_database_of_0_2_0(older: Office, office: Office) -> None:
+    """It comes to what a new one is; what went out before there were audits stays, and what goes out since has its audit."""
+    ended = older.run("migrate")
+    assert ended == Ended(0, "look: flat A1 of elm had the address x,all@b, which is none\n" + "".join(
+        f"version {path.stem.lstrip('0')}\n" for path in sorted((OFFICE / "schema").glob("0*.sql"))))
+    assert shape(older) ^ shape(office) == set()
+    assert older.sql("SELECT version, is_before_audits FROM versions ORDER BY 1") == [(1, True), (2, False)]
+    assert older.sql("SELECT flat, mail FROM tenancies") == [("A1", None)]
+    assert older.sql("UPDATE sheets SET sent_at = now() RETURNING is_before_audits") == [(True,)]
+    for query in ("UPDATE versions SET out_at = now() WHERE version = 2", "UPDATE sheets SET is_before_audits = false",
+                  "INSERT INTO sheets (tenancy, month, form, path, sha256) SELECT id, '2025-01-01', 'pdf', 'x', repeat('0', 64)"
+                  " FROM tenancies",
+                  "INSERT INTO bills (house, days, version, why, out_at) VALUES ('elm', '[2025-01-01,2025-02-01)', 1, 'a', now())"):
+        assert '"has_an_audit"' in refused(older, query), query
+    assert "permission denied" in refused(older, "UPDATE sheets SET is_before_audits = true", role="clerk")
     box = older.box("house-3")
     assert older.order("house-3", "FIT 11111111.PAD.01.07 1 1 A1").status == 0
     box.hears(3)
     assert older.collect("house-3").status == 0
-    assert older.sql("SELECT count(*) FROM readings") == [(5,)]
+    assert older.sql("SELECT count(*) FROM readings") == [(3,)]
+
+
+def test_each_function_is_whole(office: Office) -> None:
+    """They are laid in any order, unread; here the database reads each."""
+    for language, validator in (("sql", "fmgr_sql_validator"), ("plpgsql", "plpgsql_validator")):
+        assert office.sql(f"SELECT count({validator}(p.oid)) > 40 {FUNCTIONS} AND lanname = %s", language) == [(True,)]
 
 
 def test_a_second_call_does_nothing(office: Office) -> None:
-    done = migrate(office)
-    assert (done.returncode, done.stdout) == (0, "")
-
-
-def test_step_by_step(older: Office) -> None:
-    for version, told in TOLD.items():
-        assert migrate(older, "--to", str(version)).stdout == told
-
-
-def test_what_went_out_before_there_were_audits(older: Office) -> None:
-    """It stays, and is still sent; what goes out since has its audit."""
-    assert migrate(older, "--to", "23").returncode == 0
-    older.sql("INSERT INTO houses (house, address) VALUES ('elm', 'Elm Street 1')")
-    older.sql("INSERT INTO flats (house, flat) VALUES ('elm', 'A1')")
-    older.sql("INSERT INTO tenancies (house, flat, days, person) VALUES ('elm', 'A1', '[2025-01-01,)', 'A. Person')")
-    older.sql("INSERT INTO sheets (tenancy, month, form, path, sha256) SELECT id, '2025-01-01', 'html', 'x', repeat('0', 64) FROM tenancies")
-    older.sql("INSERT INTO versions (house, month, version, why, out_at) VALUES ('elm', '2025-01-01', 1, 'first', now())")
-    older.sql("INSERT INTO versions (house, month, version, why) VALUES ('elm', '2025-01-01', 2, 'late')")
-    older.sql("INSERT INTO bills (house, days, version, why, out_at) VALUES ('elm', '[2025-01-01,2025-02-01)', 1, 'first', now())")
-    assert migrate(older).returncode == 0
-    assert older.sql("UPDATE sheets SET sent_at = now() RETURNING is_before_audits") == [(True,)]
-    assert older.sql("SELECT version, is_before_audits FROM versions ORDER BY 1") == [(1, True), (2, False)]
-    for query in ("UPDATE versions SET out_at = now() WHERE version = 2", "UPDATE sheets SET is_before_audits = false",
-                  "INSERT INTO sheets (tenancy, month, form, path, sha256) SELECT id, '2025-01-01', 'pdf', 'x', repeat('0', 64) FROM tenancies",
-                  "INSERT INTO bills (house, days, version, why, out_at) VALUES ('elm', '[2025-01-01,2025-02-01)', 2, 'late', now())"):
-        assert '"has_an_audit"' in refused(older, query), query
-    assert "permission denied" in refused(older, "UPDATE sheets SET is_before_audits = true", role="clerk")
+    assert office.run("migrate") == Ended(0, "")
 
 
 def test_a_migration_that_fails_leaves_the_version_before_it(older: Office) -> None:
-    older.sql("INSERT INTO orders (box, line) VALUES ('house-1', 'CONFIRM 9')")
-    done = migrate(older)
-    assert done.returncode == 4 and "is_a_command" in done.stderr
-    assert older.sql("SELECT max(version) FROM schema_versions") == [(2,)]
-    assert older.sql("SELECT count(*) FROM readings") == [(2,)]
-    older.sql("DELETE FROM orders WHERE line = 'CONFIRM 9'")
-    assert migrate(older).returncode == 0
+    older.sql("INSERT INTO jobs (what, words) VALUES ('collect', '--database=x')")
+    before, ended = shape(older), older.run("migrate")
+    assert ended.status == 4 and "words_of_its_kind" in ended.printed
+    assert older.sql("SELECT max(version) FROM schema_versions") == [(FIRST,)] and shape(older) == before
+    older.sql("DELETE FROM jobs")
+    assert older.run("migrate").status == 0
 
 
-def test_a_newer_database(office: Office) -> None:
-    office.sql("INSERT INTO schema_versions (version) VALUES (999)")
-    done = migrate(office)
-    assert done.returncode == 5 and "the database has version 999" in done.stderr
+@pytest.mark.parametrize("version", (FIRST - 1, LAST + 1))
+def test_a_version_that_is_not_known(office: Office, version: int) -> None:
+    office.sql("UPDATE schema_versions SET version = %s", version)
+    ended = office.run("migrate")
+    assert ended.status == 5 and f"the database has version {version}" in ended.printed
