@@ -8,7 +8,7 @@ import datetime
 import random
 from typing import Any, Callable, Dict, Iterator, List, NamedTuple, Optional, Tuple
 
-from audit_reference import SMALLEST, Audit
+from people.audit_reference import SMALLEST, Audit
 from world.frames import bcd, type_g
 
 DAY = datetime.timedelta(days=1)

@@ -17,6 +17,12 @@ import pytest
 OFFICE = pathlib.Path(__file__).resolve().parent.parent
 TESTS = OFFICE / "tests"
 sys.path.insert(0, str(OFFICE))
+ROOT = OFFICE.parent
+# The program that decodes and audits: MBDC names it, else ./mbdc builds it once, without a proof where none is proved
+BUILT = ("./mbdc decode /dev/null >/dev/null && root=$PWD && . tools/built.sh"
+         " && { is_built && echo $built/mbdc || echo $built/unproved/mbdc; }")
+MBDC = os.environ.get("MBDC") or subprocess.check_output(["bash", "-euc", BUILT], cwd=ROOT, text=True).strip()
+os.environ["MBDC"] = MBDC  # of the modules that a test calls
 PROGRAMS = sorted(pathlib.Path("/usr/lib/postgresql").glob("*/bin/pg_ctl"), key=lambda path: int(path.parts[4]))
 OWNER, TEMPLATE = "office", "migrated"
 MOMENT = 1_735_689_600  # 2025-01-01, UTC
@@ -84,7 +90,7 @@ class Office:
         (folder / "bin").mkdir(exist_ok=True)
         if not (folder / "bin/mbdc").exists():
             (folder / "bin/mbdc").symlink_to(TESTS / "fake_mbdc")
-        self.environment = {**os.environ, "MBDC": str(TESTS / "fake_mbdc"), "PYTHONPATH": ""}
+        self.environment = {**os.environ, "PYTHONPATH": ""}
 
     def sql(self, query: str, *values: Any) -> List[Tuple[Any, ...]]:
         with self.connection.cursor() as cursor:
@@ -96,8 +102,8 @@ class Office:
         return Box(self.folder, name, room)
 
     def run(self, program: str, *words: str, **environment: str) -> Ended:
-        done = subprocess.run([self.programs / program, "--database", self.name, *words], capture_output=True, text=True,
-                              check=False, env={**self.environment, **environment}, timeout=SECONDS)
+        done = subprocess.run([self.programs / program, "--database", self.name, *words], capture_output=True,
+                              text=True, check=False, env={**self.environment, **environment}, timeout=SECONDS)
         assert "Traceback" not in done.stderr, done.stderr
         return Ended(done.returncode, done.stdout + done.stderr)
 

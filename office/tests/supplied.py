@@ -7,6 +7,8 @@ from typing import Any, Dict, List, Optional, Tuple
 
 from conftest import Office
 
+import months
+
 BERLIN = zoneinfo.ZoneInfo("Europe/Berlin")
 FITTED = datetime.datetime(2024, 1, 1, tzinfo=BERLIN)
 HEAT, WATER, COLD, ALLOCATOR = "04", "06", "07", "08"
@@ -72,13 +74,15 @@ class Supplied:
         month = moment.astimezone(datetime.timezone.utc).date().replace(day=1)
         self.office.sql("SELECT make_months(%s, 1)", month)
         self.office.sql("INSERT INTO readings (month, box, serial, identity, flat, heard, at, bodies)"
-                        " VALUES (%s, %s, %s, %s, 'x', %s, %s, %s)", month, box, self.serial, identity, [moment], moment,
-                        [header(identity, status) + record(unit, value) + (dated(due[0]) + record(unit, due[1], 1) if due else b"")])
+                        " VALUES (%s, %s, %s, %s, 'x', %s, %s, %s)", month, box, self.serial, identity, [moment],
+                        moment, [header(identity, status) + record(unit, value)
+                                 + (dated(due[0]) + record(unit, due[1], 1) if due else b"")])
         points = [(1, 0, value, None), *([(2, 1, due[1], due[0])] if due else [])]
         for place, storage, number, day in points:
-            self.office.sql("INSERT INTO points (month, box, serial, part, place, storage, function, tariff, subunit, vib,"
-                            " shown, value, unit, due) VALUES (%s, %s, %s, 1, %s, %s, 0, 0, 0, %s, %s, %s, %s, %s)",
-                            month, box, self.serial, place, storage, VIBS[unit], str(number), number, unit, day)
+            self.office.sql(
+                "INSERT INTO points (month, box, serial, part, place, storage, function, tariff, subunit, vib,"
+                " shown, value, unit, due) VALUES (%s, %s, %s, 1, %s, %s, 0, 0, 0, %s, %s, %s, %s, %s)", month, box,
+                self.serial, place, storage, VIBS[unit], str(number), number, unit, day)
         if due:
             self.office.sql("INSERT INTO due_readings (box, identity, due, serial, month) VALUES (%s, %s, %s, %s, %s)"
                             " ON CONFLICT (box, identity, due) DO UPDATE SET serial = excluded.serial,"
@@ -91,12 +95,13 @@ class Supplied:
         first, self.serial = self.serial + 1, self.serial + len(values)
         serials = list(range(first, first + len(values)))
         self.office.sql("INSERT INTO readings (month, box, serial, identity, flat, heard, at, bodies)"
-                        " SELECT '2025-01-01', %s, serial, %s, 'x', ARRAY[day_begins(day + 1, 'Europe/Berlin')], NULL, ARRAY[body]"
-                        " FROM unnest(%s::bigint[], %s::date[], %s::bytea[]) AS k (serial, day, body)", self.box, identity, serials, list(values),
+                        " SELECT '2025-01-01', %s, serial, %s, 'x', ARRAY[day_begins(day + 1, 'Europe/Berlin')], NULL,"
+                        " ARRAY[body] FROM unnest(%s::bigint[], %s::date[], %s::bytea[]) AS k (serial, day, body)",
+                        self.box, identity, serials, list(values),
                         [header(identity) + dated(day) + record(unit, value, 1) for day, value in values.items()])
         self.office.sql("INSERT INTO day_values (fitting, day, at, value, unit, source, month, box, serial, part)"
-                        " SELECT %s, day, day_begins(day + 1, 'Europe/Berlin'), value, %s, 'stored', '2025-01-01', %s, serial, 1"
-                        " FROM unnest(%s::bigint[], %s::date[], %s::numeric[]) AS k (serial, day, value)",
+                        " SELECT %s, day, day_begins(day + 1, 'Europe/Berlin'), value, %s, 'stored', '2025-01-01', %s,"
+                        " serial, 1 FROM unnest(%s::bigint[], %s::date[], %s::numeric[]) AS k (serial, day, value)",
                         fitting, unit, self.box, serials, list(values), [str(value) for value in values.values()])
 
     def days(self, fitting: int, first: str, count: int, begin: int, step: int, unit: str = "Wh") -> None:
@@ -110,14 +115,15 @@ class Supplied:
         identity = self.office.sql("SELECT identity FROM fittings WHERE id = %s", fitting)[0][0]
         for day, value in values.items():
             body = header(identity) + record(unit, value) + dated(day) + record(unit, value, 1)
-            self.office.sql("WITH d AS (UPDATE day_values SET value = %s WHERE (fitting, day) = (%s, %s) RETURNING month, box, serial)"
-                            " UPDATE readings r SET bodies = ARRAY[%s::bytea] FROM d WHERE (r.month, r.box, r.serial) = (d.month, d.box, d.serial)",
+            self.office.sql("WITH d AS (UPDATE day_values SET value = %s WHERE (fitting, day) = (%s, %s)"
+                            " RETURNING month, box, serial) UPDATE readings r SET bodies = ARRAY[%s::bytea] FROM d"
+                            " WHERE (r.month, r.box, r.serial) = (d.month, d.box, d.serial)",
                             value, fitting, day, body)
 
-    def month(self, month: str, *words: str) -> List[Tuple[Any, ...]]:
-        """Computes a month; its rows: flat, part, amount, grade, in order."""
-        ended = self.office.run("month", month, *words)
-        assert ended.status == 0, ended.printed
+    def month(self, month: str) -> List[Tuple[Any, ...]]:
+        """Computes a month, and no other; its rows: flat, part, amount, grade, in order."""
+        houses = [row[0] for row in self.office.sql("SELECT house FROM houses ORDER BY house")]
+        months.work((self.office.name, datetime.date.fromisoformat(f"{month}-01"), houses))
         return self.office.sql(
             "SELECT p.flat, u.part, u.amount, u.grade FROM month_use u JOIN places p ON p.id = u.place"
             " WHERE u.month = %s AND p.house = %s ORDER BY p.flat, p.use, p.number, u.part", f"{month}-01", self.house)

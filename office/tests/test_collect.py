@@ -100,7 +100,8 @@ def test_processes_that_are_killed(office: Office, box: Box) -> None:
         office.box(f"other-{place}")
     process = started(office, "--workers", "3")
     end, asleep = time.monotonic() + 60, []  # type: float, List[int]
-    while not asleep or office.sql("SELECT count(*) FROM boxes WHERE collected_at IS NOT NULL AND confirmed = stored") != [(5,)]:
+    while not asleep or office.sql(
+            "SELECT count(*) FROM boxes WHERE collected_at IS NOT NULL AND confirmed = stored") != [(5,)]:
         assert time.monotonic() < end
         time.sleep(0.1)
         asleep = [pid for pid in workers_of(process) if is_asleep(pid)]
@@ -124,8 +125,8 @@ def test_idle_processes_that_are_killed_before_their_first_box(office: Office, b
     program: Any = types.ModuleType("collect")
     monkeypatch.setitem(sys.modules, "collect", program)
     loader.exec_module(program)
-    given = argparse.Namespace(database=office.name, boxes=["house-1", "none"], workers=2, tries=1, pause=0.0, timeout=10.0,
-                               longest=60.0)
+    given = argparse.Namespace(database=office.name, boxes=["house-1", "none"], workers=2, tries=1, pause=0.0,
+                               timeout=10.0, longest=60.0)
     pool = program.Pool(given)
     for worker in pool.workers:
         os.kill(worker.process.pid, signal.SIGKILL)
@@ -197,7 +198,6 @@ def test_few_records_are_in_memory_at_once(office: Office, box: Box, monkeypatch
     for reading in state["readings"]:
         reading[3] *= 3
     box.write(state)
-    monkeypatch.setattr(decoding, "MBDC", office.environment["MBDC"])
     monkeypatch.setattr(storing, "points_of", points_of)
     monkeypatch.setattr(storing, "TELEGRAMS_A_TURN", 10)
     reached = visit.Visit(database.Database(office.name, 10), "house-1", 10)
@@ -214,7 +214,6 @@ def test_two_boxes_exchange_their_addresses_within_a_visit(office: Office, monke
     for box in boxes:
         assert office.order(box.name, *FITS).status == 0
         box.hears(3, first=10 * int(box.name[-1]))
-    monkeypatch.setattr(decoding, "MBDC", office.environment["MBDC"])
     reached = visit.Visit(database.Database(office.name, 10), "house-1", 10)
     reached.settle()
     assert reached.take_page() == (3, True)
@@ -279,20 +278,23 @@ for office, *words in (line.split() for line in sys.stdin if line.startswith("OF
 file.write_text(f"{number} {confirmed} ")
 """
 # Runs a program, and prints the most memory that a process below it has taken, in KB
-MEASURED = "import resource, subprocess, sys; subprocess.run(sys.argv[1:]); print(resource.getrusage(resource.RUSAGE_CHILDREN).ru_maxrss)"
+MEASURED = ("import resource, subprocess, sys; subprocess.run(sys.argv[1:]);"
+            " print(resource.getrusage(resource.RUSAGE_CHILDREN).ru_maxrss)")
 
 
 def test_boxes_that_say_too_much(office: Office, box: Box) -> None:
-    """Endlessly many lines, a line without an end, complaints without an end, a million readings: each fails for itself, or is taken in
-    parts, and none takes memory."""
+    """Endlessly many lines, a line without an end, complaints without an end, a million readings: each fails for
+    itself, or is taken in parts, and none takes memory."""
     box.hears(150)
     endless = office.folder / "endless"
     endless.write_text(ENDLESS.replace("TELEGRAM", telegram(1)), encoding="ascii")
     endless.chmod(0o755)
-    for name, command in (("yes", "yes READING"), ("zeros", "cat /dev/zero"), ("errs", "sh -c 'yes error >&2'"), ("endless", str(endless))):
+    for name, command in (("yes", "yes READING"), ("zeros", "cat /dev/zero"), ("errs", "sh -c 'yes error >&2'"),
+                          ("endless", str(endless))):
         office.sql("INSERT INTO boxes (name, command) VALUES (%s, %s)", name, command)
-    done = subprocess.run([sys.executable, "-c", MEASURED, OFFICE / "collect", "--database", office.name, "--tries", "2", "--pause", "0.01",
-                           "--timeout", "3", "--pages", "3"], env=office.environment, capture_output=True, text=True, check=True)
+    done = subprocess.run([sys.executable, "-c", MEASURED, OFFICE / "collect", "--database", office.name, "--tries",
+                           "2", "--pause", "0.01", "--timeout", "3", "--pages", "3"], env=office.environment,
+                          capture_output=True, text=True, check=True)
     *lines, summary, most = done.stdout.splitlines()
     assert int(most) < 100_000, done.stdout
     assert summary.startswith("5 boxes, 450 readings, 3 failed")
@@ -302,10 +304,12 @@ def test_boxes_that_say_too_much(office: Office, box: Box) -> None:
     assert said["errs"] == "FAILED: no answer within 3 s"
     assert said["endless"].startswith("300 readings, confirmed up to 300")
     assert said["house-1"].startswith("150 readings, confirmed up to 150")
-    assert "NEW talks endless: A box says too much: it has more than 300 readings, and the rest waits for the next collection." in (
-        told := office.run("alarms").printed.splitlines())
-    assert {"NEW box errs", "NEW box yes", "NEW talks yes"} & {line.split(":")[0] for line in told} == {"NEW box errs", "NEW talks yes"}
-    endless.write_text(ENDLESS.replace("TELEGRAM", telegram(1)).replace("int(words[2])", "30").replace('"END", words[2]', '"END", min(30, int(words[2]))'),
-                       encoding="ascii")
+    told = office.run("alarms").printed.splitlines()
+    assert ("NEW talks endless: A box says too much: it has more than 300 readings, and the rest waits for the next"
+            " collection.") in told
+    assert {"NEW box errs", "NEW box yes", "NEW talks yes"} & {line.split(":")[0] for line in told} == {
+        "NEW box errs", "NEW talks yes"}
+    endless.write_text(ENDLESS.replace("TELEGRAM", telegram(1)).replace("int(words[2])", "30").replace(
+        '"END", words[2]', '"END", min(30, int(words[2]))'), encoding="ascii")
     assert office.collect("endless").status == 0
     assert office.sql("SELECT talks, collected_at IS NULL FROM boxes WHERE name = 'endless'") == [(None, False)]

@@ -46,7 +46,7 @@ def test_a_later_reading_puts_it_out_of_force(office: Office, elm: Supplied) -> 
     assert "by flats of the house" in office.run("estimate", "2025-01").printed
     assert elm.month("2025-01")[0] == ("A1", 0, 31_000_000, "estimated")
     elm.values(dead, {"2025-02-28": 60}, "m3")
-    assert elm.month("2025-02", "--open")[0] == ("A1", 0, 28_000_000, "estimated")
+    assert elm.month("2025-02")[0] == ("A1", 0, 28_000_000, "estimated")
     assert elm.month("2025-01")[0] == ("A1", 0, 31_000_000, "estimated")
     elm.values(dead, {"2025-02-01": 3}, "m3")
     both = [elm.month(month)[0][2] for month in ("2025-01", "2025-02")]

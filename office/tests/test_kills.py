@@ -13,11 +13,9 @@ import sys
 from types import FrameType
 from typing import Any, Callable, Dict, List, Optional, Tuple
 
-import pytest
 from conftest import FITS, OFFICE, Box, Office
 
 import database
-import decoding
 import visit
 
 READINGS = 3
@@ -120,9 +118,7 @@ class Table:
         assert self.office.sql("SELECT flat FROM meters ORDER BY identity") == [("B1",), ("A2",)], turn
 
 
-def test_a_kill_at_each_line(office: Office, box: Box, monkeypatch: pytest.MonkeyPatch) -> None:
-    monkeypatch.setattr(decoding, "MBDC", office.environment["MBDC"])
-    decoding.has_json.cache_clear()
+def test_a_kill_at_each_line(office: Office, box: Box) -> None:
     box.hears(READINGS)
     table = Table(office, box)
     lines: List[Line] = []

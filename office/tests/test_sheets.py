@@ -9,9 +9,10 @@ import subprocess
 from typing import Any, Dict, List, Optional, Tuple
 
 import pytest
-from audit_reference import judged
 from conftest import OFFICE, Office
 from supplied import ALLOCATOR, COLD, HEAT, WATER, Supplied, at
+
+from program import audited
 
 HOSTILE = ("O'Brien \"<script>alert(1)</script>\" {{ 1000003*7 }} \u202eevil\u202c \u0645\u0631\u062d\u0628\u0627"
            " 'DROP TABLE readings; --")
@@ -250,8 +251,8 @@ def test_a_sheet_has_its_file(office: Office, elm: Supplied, tmp_path: pathlib.P
     for tenancy in (one, other):
         path, file = (sheet_of(office, tmp_path, tenancy, form=form) for form in ("html", "audit"))
         text, content = path.read_text(encoding="utf-8"), file.read_bytes()
-        lines, status = judged(content)
-        assert status == 0 and "differ 0" in lines[-1], lines
+        found = audited(content.decode().splitlines())
+        assert found.holds and "differ 0" in found.lines[-1], found
         hashed = hashlib.sha256(content).hexdigest()
         assert f'href="2025-01.audit" download>2025-01.audit</a> (SHA-256 <code>{hashed}</code>)' in text
         assert f'href="https://example.org/audit.html#{hashed}"' in text and not office.sql("SELECT 1 FROM sheets WHERE form = 'audit'")

@@ -1,9 +1,8 @@
 """Judges and fills an audit file as `mbdc audit` has to (docs/COMMANDS.md): by the definitions alone, with a decoder of its own
-and exact ratios. fake_mbdc answers by it, or compares a program with it; so does demo/same.
+and exact ratios. demo/same compares the program with it.
 """
 
 import datetime
-import pathlib
 import re
 from fractions import Fraction
 from typing import Callable, Dict, Iterator, List, NamedTuple, Optional, Sequence, Tuple
@@ -747,14 +746,3 @@ def filled(content: bytes) -> Tuple[List[str], List[str], int]:
 def lines_of(content: bytes) -> Iterator[str]:
     lines = content.decode("utf-8", "surrogateescape").split("\n")
     yield from lines[:-1] if lines[-1] == "" else lines
-
-
-def answer(*words: str) -> Tuple[bytes, bytes, int]:
-    """What `audit` with these words prints, what it says beside, and its status."""
-    content = pathlib.Path(words[-1]).read_bytes()
-    if words[0] == "--fill":
-        made, said, status = filled(content)
-    else:
-        (made, status), said = judged(content), []
-    printed, beside = ("".join(f"{line}\n" for line in lines).encode("utf-8", "surrogateescape") for lines in (made, said))
-    return printed, beside, status
