@@ -79,8 +79,8 @@ def unknown(cursor: Cursor, audit: Optional[int], numbers: Iterable[Number]) -> 
 
 
 def published_of(cursor: Cursor, houses: List[str], month: datetime.date) -> Tuple[Dict[str, Published], List[str]]:
-    """What may be printed of a month of these houses, and which have a number that isn't in its audit file; nothing of a
-    house without an audit."""
+    """What may be printed of a month of these houses, and which have a number that isn't in its audit file.
+    Nothing of a house without an audit."""
     cursor.execute(AUDITS, (houses, month))
     found = {house: Published(audit, {}, {}, says) for house, audit, says in cursor}
     refused = []

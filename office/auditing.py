@@ -10,11 +10,13 @@ from exporting import File
 from program import LONGEST, AtFault, audited, content_of, filled, program
 
 AUDIT = """
-INSERT INTO audits (house, month, days, version, file, sha256, program, program_sha256, says) VALUES (%s, %s, %s, %s, %s, %s, %s, %s, %s)
+INSERT INTO audits (house, month, days, version, file, sha256, program, program_sha256, says)
+    VALUES (%s, %s, %s, %s, %s, %s, %s, %s, %s)
 RETURNING id"""
 # Whether the present audit is of the very file, by the same program
 HOLDS = """
-SELECT EXISTS (SELECT FROM audits_now n JOIN audits a ON a.id = n.id WHERE n.house = %s AND n.month IS NOT DISTINCT FROM %s
+SELECT EXISTS (SELECT FROM audits_now n JOIN audits a ON a.id = n.id WHERE n.house = %s
+  AND n.month IS NOT DISTINCT FROM %s
                AND n.days IS NOT DISTINCT FROM %s::daterange AND (a.sha256, a.program_sha256) = (%s, %s))"""
 PUBLISHED = "published (audit, house, month, days, version, tenancy, key, text, mark)"
 REFUSAL = """
@@ -32,7 +34,8 @@ class Of(NamedTuple):
 
 
 def publish(cursor: Cursor, of: Of, file: File) -> Optional[str]:
-    """Has a file filled and judged. Where it is accepted it is stored with its numbers; else returns why it isn't, and nothing is.
+    """Has a file filled and judged.
+    Where it is accepted it is stored with its numbers; else returns why it isn't, and nothing is.
 
     Raises NotComputed."""
     try:
@@ -49,8 +52,10 @@ def publish(cursor: Cursor, of: Of, file: File) -> Optional[str]:
     found = audited(made.lines)
     if not found.holds:
         return plain("; ".join(found.lines[:-1] or found.lines), LONGEST)
-    cursor.execute(AUDIT, (of.house, of.month, of.days, of.version, psycopg2.Binary(content), sha256, *program(), found.lines[-1]))
+    cursor.execute(AUDIT, (of.house, of.month, of.days, of.version, psycopg2.Binary(content), sha256, *program(),
+                           found.lines[-1]))
     audit = one(cursor)[0]
-    insert(cursor, PUBLISHED, [(audit, of.house, of.month, of.days, of.version, *row) for row in dict.fromkeys(file.read(made.lines))])
+    insert(cursor, PUBLISHED,
+           [(audit, of.house, of.month, of.days, of.version, *row) for row in dict.fromkeys(file.read(made.lines))])
     cursor.execute("DELETE FROM refusals WHERE (house, period) = (%s, %s)", (of.house, of.period))
     return None

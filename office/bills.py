@@ -4,7 +4,7 @@ import datetime
 import zoneinfo
 from typing import Dict, Iterable, Iterator, List, NamedTuple, Optional, Set, Tuple
 
-from psycopg2.extras import DateRange
+from psycopg2.extras import DateRange, Json
 
 from accepted import file_of
 from database import Cursor, Database, one
@@ -17,17 +17,21 @@ from program import AtFault, NotComputed, filled
 from published import NONE
 from supply import Entry, seconds
 
-HEADER = ("house", "flat", "use", "place", "tenancy", "user", "from", "to", "amount", "smallest_unit", "consumption", "unit",
-          "meter", "first_at", "first_value", "last_at", "last_value", "value_unit", "serials", "grade", "estimated", "weight", "HCA")
+HEADER = ("house", "flat", "use", "place", "tenancy", "user", "from", "to", "amount", "smallest_unit", "consumption",
+          "unit", "meter", "first_at", "first_value", "last_at", "last_value", "value_unit", "serials", "grade",
+          "estimated", "weight", "HCA")
 NAMES = ("flat", "use", "place", "from", "to")  # of a row
 # The smallest unit of a quantity, and the unit that people read
 SHOWN = {"energy": ("mJ", "kWh"), "volume": ("ml", "m3"), "allocation": ("0.001 units", "count")}
+QUANTITIES = {smallest: quantity for quantity, (smallest, _) in SHOWN.items()}
 DECIMALS = 3
 SMALLEST = "smallest"
-COLUMNS = {SMALLEST: "amount", "HCA": "HCA", **{unit: "consumption" for _, unit in SHOWN.values()}}  # by unit of the audit file
+# by unit of the audit file
+COLUMNS = {SMALLEST: "amount", "HCA": "HCA", **{unit: "consumption" for _, unit in SHOWN.values()}}
 HELD = "held"
 PRINTED = """
-SELECT p.tenancy, p.key, p.text FROM published p JOIN bills b ON (b.house, b.days, b.version) = (p.house, p.days, p.version)
+SELECT p.tenancy, p.key, p.text FROM published p JOIN bills b ON (b.house, b.days, b.version) = (p.house, p.days,
+    p.version)
 WHERE (p.house, p.days, p.version) = (%s, %s, %s) AND p.audit IS NOT DISTINCT FROM b.audit ORDER BY p.id"""
 IS_OUT = "SELECT EXISTS (SELECT FROM bills WHERE (house, days, version) = (%s, %s, %s) AND out_at IS NOT NULL)"
 VERSION = "SELECT version, out_at IS NOT NULL FROM bills_now WHERE (house, days) = (%s, %s)"
@@ -60,7 +64,7 @@ class Held(NamedTuple):
 
 
 class Asked(NamedTuple):
-    """A row whose amounts are asked for: its other cells, by column the lines that ask, and the meter's values at its ends."""
+    """A row whose amounts are asked for: its other cells, by column the lines that ask, and the values at its ends."""
     tenancy: Optional[int]
     cells: Dict[str, str]
     lines: Dict[str, str]
@@ -71,7 +75,8 @@ class Asked(NamedTuple):
         """The row as the filled lines say. What is provisional or held is never in a bill."""
         numbers = [line.split(",")[-2:] for line in lines]
         grade = graded(*numbers[0]).grade if numbers else HELD
-        texts = {column: text for column, (text, _) in zip(self.lines, numbers) if text != NONE and grade != PROVISIONAL}
+        texts = {column: text for column, (text, _) in zip(self.lines, numbers) if text != NONE
+                 and grade != PROVISIONAL}
         for name, line in ends.items():
             _, _, moment, texts[f"{name}_value"], _ = line.split(",")
             texts[f"{name}_at"] = local(int(moment), self.zone)
@@ -80,18 +85,20 @@ class Asked(NamedTuple):
 
 
 class Bill(NamedTuple):
-    """An audit file in which the amounts of a bill are asked for, and its rows, each with the places of its first line, and of the values
-    at its ends."""
+    """An audit file in which the amounts of a bill are asked for, and its rows.
+    Each has the places of its first line, and of the values at its ends."""
     lines: List[str]
     rows: List[Tuple[int, Dict[str, int], Asked]]
 
     def filled(self, lines: List[str]) -> List[Row]:
         """The rows as the filled file says."""
-        return [row.row(lines[at:at + len(row.lines)], {name: lines[end] for name, end in ends.items()}) for at, ends, row in self.rows]
+        return [row.row(lines[at:at + len(row.lines)], {name: lines[end] for name, end in ends.items()}) for at, ends,
+                row in self.rows]
 
     def read(self, lines: List[str]) -> List[Published]:
         """What the filled file publishes."""
-        return [(row.tenancy, f"{row.name} {column}", text, row.cells["grade"]) for row in self.filled(lines) for column, text in row.cells.items()]
+        return [(row.tenancy, f"{row.name} {column}", text, row.cells["grade"]) for row in self.filled(lines)
+                for column, text in row.cells.items()]
 
 
 def key_of(entry: Entry) -> Tuple[int, int]:
@@ -112,14 +119,16 @@ def asked_row(one: Split, period: Period, is_held: bool) -> Asked:
     zone = zoneinfo.ZoneInfo(one.place.zone)
     entries, first, last = ends_in(one, period)
     cells = {"house": one.place.house, "flat": one.place.flat, "use": one.place.use, "place": str(one.place.number),
-             "from": f"{period.begins.astimezone(zone):%Y-%m-%dT%H:%M}", "to": f"{period.ends.astimezone(zone):%Y-%m-%dT%H:%M}",
-             "smallest_unit": smallest, "unit": unit,
-             "meter": entries[0].fitting.identity if entries else "", "value_unit": entries[0].value.unit if entries else "",
-             "serials": " ".join(str(it.value.telegram[1]) for it in first + last if it.value.telegram is not None),
-             "weight": f"{one.place.weight:f}"}
-    units = {"amount": (SMALLEST, 0), "consumption": (unit, DECIMALS), **({"HCA": ("HCA", DECIMALS)} if unit == "count" else {})}
+             "from": f"{period.begins.astimezone(zone):%Y-%m-%dT%H:%M}",
+             "to": f"{period.ends.astimezone(zone):%Y-%m-%dT%H:%M}", "smallest_unit": smallest, "unit": unit,
+             "meter": entries[0].fitting.identity if entries else "", "value_unit": entries[0].value.unit if entries
+             else "", "serials": " ".join(str(it.value.telegram[1]) for it in first + last
+                                          if it.value.telegram is not None), "weight": f"{one.place.weight:f}"}
+    units = {"amount": (SMALLEST, 0), "consumption": (unit, DECIMALS),
+             **({"HCA": ("HCA", DECIMALS)} if unit == "count" else {})}
     ends = {name: end[0] for name, end in (("first", first), ("last", last)) if end}
-    return Asked(period.tenancy, cells, {} if is_held else {column: shown_line(period, *of_unit) for column, of_unit in units.items()}, ends, zone)
+    return Asked(period.tenancy, cells, {} if is_held
+                 else {column: shown_line(period, *of_unit) for column, of_unit in units.items()}, ends, zone)
 
 
 def days_of(period: Tuple[datetime.date, datetime.date]) -> DateRange:
@@ -133,7 +142,8 @@ def bill_of(cursor: Cursor, house: str, days: DateRange) -> Bill:
     Raises LookupError where values of its days were dropped."""
     kept = kept_month(cursor)
     if kept is not None and days.lower.replace(day=1) <= kept:
-        raise LookupError(f"the values of days up to {kept:%Y-%m} were dropped: a bill can't be computed from what is left")
+        raise LookupError(
+            f"the values of days up to {kept:%Y-%m} were dropped: a bill can't be computed from what is left")
     splits = sorted(splits_of(cursor, [house], days.lower, days.upper, at_exchanges=True),
                     key=lambda it: (it.place.flat, it.place.use, it.place.number))
     cursor.execute(HELD_MONTHS, (house, days))
@@ -141,14 +151,15 @@ def bill_of(cursor: Cursor, house: str, days: DateRange) -> Bill:
     cursor.execute("SELECT zone FROM houses WHERE house = %s", (house,))
     zone = one(cursor)[0]
     windows = [window_at(it, days.lower, days.upper) for it in splits]
-    writer = Writer(bodies_of(cursor, windows), struck_of(cursor, house, seconds(begin_of(days.lower, zone)), seconds(begin_of(days.upper, zone))))
-    writer.lines += [f"audit,1,{days.lower:%Y-%m}", span_line(1, days.lower, days.upper, zone), *use_lines(cursor, {it.use for it in windows}),
-                     *user_lines(cursor, house, windows, days.lower, days.upper)]
+    writer = Writer(bodies_of(cursor, windows),
+                    struck_of(cursor, house, seconds(begin_of(days.lower, zone)), seconds(begin_of(days.upper, zone))))
+    writer.lines += [f"audit,1,{days.lower:%Y-%m}", span_line(1, days.lower, days.upper, zone), *use_lines(
+        cursor, {it.use for it in windows}), *user_lines(cursor, house, windows, days.lower, days.upper)]
     rows: List[Tuple[int, Dict[str, int], Asked]] = []
     for split, window in zip(splits, windows):
         periods = split.periods[1:] or split.periods
-        asked = [asked_row(split, it, any(month.place == window.place and month.begins < it.ends and it.begins < month.ends for month in held))
-                 for it in periods]
+        asked = [asked_row(split, it, any(month.place == window.place and month.begins < it.ends
+                                          and it.begins < month.ends for month in held)) for it in periods]
         lines, readings = [line for row in asked for line in row.lines.values()], readings_of(split, periods)
         at = writer.window(1, window, lines, readings)
         places = {key: place for place, key in enumerate(readings, at + len(lines))}
@@ -205,8 +216,10 @@ def numbers_of(row: Row) -> Iterator[Tuple[str, ...]]:
     """What a row says that an audit file has to say."""
     cells, place = row.cells, (row.cells["flat"], row.cells["use"])
     period = (cells["from"], cells["to"])
-    yield from ((*place, *period, column, cells[column]) for column in dict.fromkeys(COLUMNS.values()) if column in cells)
-    yield from ((*place, cells[f"{name}_at"], cells[f"{name}_value"]) for name in ("first", "last") if f"{name}_value" in cells)
+    yield from ((*place, *period, column, cells[column]) for column in dict.fromkeys(COLUMNS.values())
+                if column in cells)
+    yield from ((*place, cells[f"{name}_at"], cells[f"{name}_value"]) for name in ("first", "last")
+                if f"{name}_value" in cells)
     if "amount" in cells:
         yield (*place, *period, "grade", cells["grade"])
         if row.tenancy is not None:
@@ -214,7 +227,7 @@ def numbers_of(row: Row) -> Iterator[Tuple[str, ...]]:
 
 
 def facts_of(lines: List[str], zone: zoneinfo.ZoneInfo) -> Set[Tuple[str, ...]]:
-    """What a bill's audit file says of each place's periods and of the meters' values, with moments as a row has them."""
+    """What a bill's audit file says of periods of places and of meters' values, with moments as a row has them."""
     found: Set[Tuple[str, ...]] = set()
     place: Tuple[str, ...] = ()
     for line in lines:
@@ -285,14 +298,17 @@ def check(database: Database, houses: List[str]) -> None:
             cursor.execute(CHECKED, {"house": house, "days": days, "version": version, "says": says})
 
 
-def changed(cursor: Cursor, house: str, days: DateRange, version: int) -> Optional[str]:
-    """How a bill that is out would be another now. A row without a user isn't compared: a user may have been forgotten."""
+def changed(cursor: Cursor, house: str, days: DateRange, version: int) -> Optional[Json]:
+    """How a bill that is out would be another now.
+    A row without a user isn't compared: a user may have been forgotten."""
     kept = kept_month(cursor)
     if kept is not None and days.lower.replace(day=1) <= kept:
         return None
     try:
         bills = printed(cursor, house, days, version), computed(cursor, house, days)
     except AtFault as fault:
-        return str(fault)
-    out, now = ({row.name: (row.cells.get("amount"), row.cells["grade"]) for row in rows if row.tenancy is not None} for rows in bills)
-    return differences(out, now, str)
+        return Json({"text": str(fault)})
+    quantities = {row.name: QUANTITIES[row.cells["smallest_unit"]] for rows in bills for row in rows}
+    out, now = ({row.name: (int(row.cells["amount"]) if "amount" in row.cells else None, row.cells["grade"])
+                 for row in rows if row.tenancy is not None} for rows in bills)
+    return differences(out, now, lambda name: (name, quantities[name]))

@@ -24,7 +24,8 @@ class Database:
         self.name = name
         self.connection: Optional[psycopg2.extensions.connection] = None
         # Compiling a plan (jit) takes seconds, and each of these statements runs for less
-        self.options = f"-c timezone=UTC -c jit=off -c idle_in_transaction_session_timeout={idle}s -c lock_timeout={idle + GRACE}s"
+        self.options = (f"-c timezone=UTC -c jit=off -c idle_in_transaction_session_timeout={idle}s"
+                        f" -c lock_timeout={idle + GRACE}s")
 
     @contextlib.contextmanager
     def transaction(self) -> Iterator[Cursor]:

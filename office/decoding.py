@@ -2,7 +2,6 @@
 
 import datetime
 import decimal
-import functools
 import json
 import os
 import re
@@ -15,7 +14,6 @@ DECODE_SECONDS = 60  # at most, of one run of the decoder
 RSP_UD, CI_VARIABLE = 0x08, 0x72  # EN 13757-2 and -3
 FUNCTIONS = ("instantaneous", "maximum", "minimum", "error")
 TIME_POINT_VIFS = (0x6C, 0x6D)  # a date; a date and time (EN 13757-3)
-RECORD = re.compile(r"RECORD (\d+) (\d+) (\d+) (\d+) ([0-9A-F]+) (?:[0-9A-F]+|-) = (\S+)(?: (\S+))?")
 NUMBER = re.compile(r"-?\d+(\.\d+)?")
 DAY = re.compile(r"(\d{4}-\d\d-\d\d)(T.*)?")
 MIDNIGHT = re.compile(r"T00:00(:00)?")  # which ends the day before
@@ -75,20 +73,12 @@ def frame_of(body: bytes) -> str:
     return bytes([0x68, len(content), len(content), 0x68, *content, sum(content) % 256, 0x16]).hex().upper()
 
 
-@functools.lru_cache(maxsize=None)
-def has_json() -> bool:
-    """Whether the decoder has an output for programs.
-
-    Raises NoDecoder and Undecoded."""
-    return "--json" in decoded("", "--help")
-
-
-def decoded(text: str, *words: str) -> str:
-    """What the decoder prints of a text.
+def decoded(text: str) -> str:
+    """What the decoder prints of a text, as JSON Lines.
 
     Raises NoDecoder and Undecoded."""
     try:
-        done = subprocess.run([MBDC, "decode", *words], input=text, capture_output=True, text=True,
+        done = subprocess.run([MBDC, "decode", "--json"], input=text, capture_output=True, text=True,
                               timeout=DECODE_SECONDS, check=False)
     except (FileNotFoundError, PermissionError) as fault:
         raise NoDecoder(f"no decoder: {MBDC}: {fault.strerror} (the variable MBDC names it)") from fault
@@ -99,27 +89,13 @@ def decoded(text: str, *words: str) -> str:
     return done.stdout
 
 
-def points_of_text(text: str) -> List[List[Point]]:
-    """The records of each frame, from the decoder's lines."""
-    frames: List[List[Point]] = []
-    for line in text.splitlines():
-        if line.startswith("LONG "):
-            frames.append([])
-        found = RECORD.fullmatch(line)
-        if found:
-            storage, tariff, subunit, function, vib, shown, unit = found.groups()
-            frames[-1].append(Point(int(storage), int(function), int(tariff), int(subunit), vib, None, shown, unit,
-                                    shown != OTHER))
-    return frames
-
-
 def points_of_json(text: str) -> List[List[Point]]:
     """The records of each frame, from the decoder's JSON Lines."""
     return [[point_of_object(record) for record in json.loads(line).get("records", [])] for line in text.splitlines()]
 
 
 def is_plain_count(record: Dict[str, Any]) -> bool:
-    """Whether a record's only qualifier says that there is no error, and its value is an energy, a volume or an allocator's."""
+    """Whether a record's only qualifier says that there is no error, and its value is a count."""
     return (record["reading"] == "qualified" and record["qualifiers"] == NO_ERROR and record["value"] is not None
             and record["quantity"] in COUNTED)
 
@@ -155,7 +131,7 @@ def points_of(bodies: Sequence[bytes]) -> List[List[Point]]:
     for begin in range(0, len(bodies), FRAMES_A_RUN):
         text = "".join(f"{frame_of(body)}\n" for body in bodies[begin:begin + FRAMES_A_RUN])
         try:
-            frames += points_of_json(decoded(text, "--json")) if has_json() else points_of_text(decoded(text))
+            frames += points_of_json(decoded(text))
         except (KeyError, IndexError, StopIteration, TypeError, ValueError) as fault:
             raise Undecoded(f"{MBDC} decode printed what can't be read: {fault!r}") from fault
     if len(frames) != len(bodies):

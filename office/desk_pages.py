@@ -8,14 +8,16 @@ from desk_items import ACTIONS, LONGEST, Item, Offer, Reading, Words, body, item
 from rendering import environment, style
 
 ZONE = "SELECT coalesce(mode() WITHIN GROUP (ORDER BY zone), 'UTC') FROM houses"
-COUNTS = "SELECT at, houses, meters, read, month, ready, waiting, released, on_paper FROM mornings ORDER BY at DESC LIMIT 1"
+COUNTS = ("SELECT at, houses, meters, read, month, ready, waiting, released, on_paper FROM mornings"
+          " ORDER BY at DESC LIMIT 1")
 RELEASING = "SELECT EXISTS (SELECT FROM jobs WHERE what IN ('release', 'send') AND ended_at IS NULL)"
 UNITS = ("Wh", "MWh", "J", "GJ", "m3", "HCA")
 # How a field is asked for: the type of an input, or what may be chosen
 INPUTS = {"date": "date", "timestamp": "datetime-local"}
 CHOICES: Dict[str, Tuple[str, ...]] = {"unit": UNITS, "language": ("de", "en"), "wants": ("paper", "link", "nothing")}
 CHOICE_WORDS = {"paper": "post", "link": "link", "nothing": "none_wanted"}
-OPTIONAL = ("vib", "postcode", "zone", "category", "contact", "advice", "complaints", "area", "until", "language", "wants", "mail", "last", "first")
+OPTIONAL = ("vib", "postcode", "zone", "category", "contact", "advice", "complaints", "area", "until", "language",
+            "wants", "mail", "last", "first")
 WIDE = ("address", "contact", "advice", "complaints", "person")
 SECTIONS = ("holds", "new", "open", "known", "done", "ended")
 
@@ -83,8 +85,8 @@ def morning_of(cursor: Cursor, words: Words) -> Morning:
     for item in items:
         own = Words(words.language, item.zone or words.zone)
         shown = readings.get(item.id, [])
-        cards[section_of(item)].append(Card(item, title(item.kind, item.facts, own), body(item.kind, item.facts, own), shown,
-                                            offers_of(item, shown), own))
+        cards[section_of(item)].append(Card(item, title(item.kind, item.facts, own), body(item.kind, item.facts, own),
+                                            shown, offers_of(item, shown), own))
     cursor.execute(COUNTS)
     row = cursor.fetchone()
     cursor.execute(RELEASING)
@@ -121,8 +123,8 @@ def fields_of(action: str, values: Dict[str, str], uses: List[str], words: Words
             choices = [*((use, words.use(use)) for use in uses), ("-", words.page("no_use"))]
         given = values.get(name, "")
         is_hidden = kind == "bigint"
-        found.append(Field(name, words.field(name), "hidden" if is_hidden else "choice" if choices else INPUTS.get(kind, "text"), given, choices,
-                           name not in OPTIONAL, name in WIDE))
+        found.append(Field(name, words.field(name), "hidden" if is_hidden else "choice" if choices
+                           else INPUTS.get(kind, "text"), given, choices, name not in OPTIONAL, name in WIDE))
     return found
 
 

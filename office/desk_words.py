@@ -21,8 +21,11 @@ ITEMS: Dict[str, Tuple[str, str, str, str]] = {  # German title, English title, 
                        "{meters} Zähler, zuletzt {since}: meist die Leitung oder der Pegelwandler.",
                        "{meters} meters, last heard {since}: mostly the line or the level converter."),
     "clock": ("Die Uhr der Box geht falsch", "The box's clock is wrong",
-              "{text}. Es zählt der Zeitpunkt der Abholung.", "{text}. The moment of the collection counts."),
-    "late": ("Ablesungen kamen spät", "Readings came late", "{text}.", "{text}."),
+              "{wrong} von {of} Zeitstempeln können nicht sein, wie {first}. Es zählt der Zeitpunkt der Abholung.",
+              "{wrong} of {of} stamps can't be, as {first}. The moment of the collection counts."),
+    "late": ("Ablesungen kamen spät", "Readings came late",
+             "{values} Werte von {meters} Zählern, ab {first}, kamen mehr als drei Tage nach ihrem Tag.",
+             "{values} values of {meters} meters, from {first} on, came more than three days after the day."),
     "talks": ("Eine Box sagt zu viel", "A box says too much", "{text}.", "{text}."),
     "silent": ("Zähler ist stumm", "A meter is silent", "Letztes Telegramm {heard}.", "The last telegram came {heard}."),
     "error": ("Zähler meldet einen Fehler", "A meter reports an error",
@@ -66,19 +69,16 @@ ITEMS: Dict[str, Tuple[str, str, str, str]] = {  # German title, English title, 
                               "{use}, {month}: die Zahl ist vorläufig. Stimmt sie, sagen Sie, warum.",
                               "{use}, {month}: the number is provisional. If it is right, say why."),
     "changed": ("Ein verschickter Monat wäre heute ein anderer", "A month that went out would be another now", "{change}", "{change}"),
-    "changed.bill": ("Eine verschickte Abrechnung wäre heute eine andere", "A bill that went out would be another now", "{text}", "{text}"),
+    "changed.bill": ("Eine verschickte Abrechnung wäre heute eine andere", "A bill that went out would be another now",
+                     "{change}", "{change}"),
     "audit": ("Die Nachrechnung stimmt nicht", "The audit refused the numbers",
               "{period}: {text}. Bis das geklärt ist, gibt es keine Blätter.", "{period}: {text}. Until this is clear there are no sheets."),
-    "not sent": ("Blätter wurden nicht zugestellt", "Sheets were not delivered", "{month}: {text}", "{month}: {text}"),
+    "not sent": ("Blätter wurden nicht zugestellt", "Sheets were not delivered",
+                 "{month}: {count} × {failed}", "{month}: {count} × {failed}"),
 }
 
-# What the office's programs note in English, in German: a pattern, and the text of its groups
-NOTED: Tuple[Tuple[str, str], ...] = (
-    (r"(\d+) values of (\d+) meters, from (\S+) on, came more than three days after the day",
-     "{} Werte von {} Zählern, ab {}, kamen mehr als drei Tage nach ihrem Tag"),
-    (r"(\d+) of (\d+) stamps can't be, as (\S+ \S+)", "{} von {} Zeitstempeln können nicht sein, wie {}"),
-    (r"no mail address", "keine E-Mail-Adresse"), (r"no PDF", "kein PDF"),
-)
+# Why office/send sent nothing
+FAILURES: Dict[str, Tuple[str, str]] = {"no mail address": ("keine E-Mail-Adresse", "no mail address"), "no PDF": ("kein PDF", "no PDF")}
 
 # What a button says, and what the form asks
 ACTIONS: Dict[str, Tuple[str, str]] = {

@@ -1,7 +1,7 @@
 """The numbers of a month: which lines of an audit file ask `mbdc audit` for them, and what the filled file publishes.
 
-A key says which number it is: of a flat's use, in which month and unit. It is made of the audited lines alone, so that it can't say
-something else than they do; pages print what was published under their keys, and nothing else.
+A key says which number it is: of a flat's use, in which month and unit. It is made of the audited lines alone, so that
+it can't say something else than they do; pages print what was published under their keys, and nothing else.
 """
 
 import datetime
@@ -18,7 +18,8 @@ from supply import seconds
 AUDIT_UNITS = {"kWh": "kWh", "m³": "m3", "HCA": "HCA"}
 SHOWN_UNITS = {of_file: unit for unit, of_file in AUDIT_UNITS.items()}
 NOW = "1"  # the span of the file's month
-BESIDE = {"mean": "average", "change": "change", "carbon": "carbon", "weather": "weather", "cost": "cost"}  # marks of what is said beside amounts
+# marks of what is said beside amounts
+BESIDE = {"mean": "average", "change": "change", "carbon": "carbon", "weather": "weather", "cost": "cost"}
 DECLARED = "declared"  # the mark of what no audit computes
 CHARTED_WHOLE = 100  # from here on a chart's number has no decimals
 Spans = Dict[datetime.date, int]
@@ -51,7 +52,8 @@ def of_sheet(sheet: Sheet, spans: Spans) -> Iterator[Asked]:
         for place in use.places:
             if not place.amount.why:
                 period = f"{seconds(place.amount.begins)},{seconds(place.amount.ends)}"
-                yield Asked(f"shown,{now},{period},{AUDIT_UNITS[use.unit]},{shown},?", f"{user.flat} {use.use} {place.number}")
+                yield Asked(f"shown,{now},{period},{AUDIT_UNITS[use.unit]},{shown},?",
+                            f"{user.flat} {use.use} {place.number}")
         yield from of_use(sheet, use, spans, name)
 
 
@@ -100,10 +102,13 @@ def of_house(page: House, held: Set[str], span: int) -> Iterator[Asked]:
 # ---- what is published
 
 class Reader:
-    """Reads a filled file. places: in its order the number of each among those of its flat and use, and its meters' numbers."""
+    """Reads a filled file.
+    places: in its order the number of each among those of its flat and use, and its meters' numbers."""
 
     def __init__(self, places: List[Tuple[int, List[int]]]) -> None:
-        self.places, self.runs, self.found = iter(places), [], {}  # type: Iterator[Tuple[int, List[int]]], List[int], Dict[Tuple[Optional[int], str], Published]
+        self.places: Iterator[Tuple[int, List[int]]] = iter(places)
+        self.runs: List[int] = []
+        self.found: Dict[Tuple[Optional[int], str], Published] = {}
         self.months: Dict[str, str] = {}  # by span
         self.flats: Dict[str, str] = {}  # by user
         self.facts: Dict[Tuple[str, ...], str] = {}
@@ -135,7 +140,8 @@ class Reader:
         then, user, use = (self.months[fields[0]], *fields[1:3]) if kind in ("change", "weather") else ("", *fields[:2])
         what = {"mean": "average", "change": f"change {then}", "carbon": "co2"}.get(kind, kind)
         is_declared = kind == "mean" and ("average", use, fields[2], NOW) in self.facts
-        self.put_of(user, use, what, fields[-1], DECLARED if is_declared else BESIDE[kind], SHOWN_UNITS[fields[2]] if kind == "mean" else "")
+        self.put_of(user, use, what, fields[-1], DECLARED if is_declared else BESIDE[kind], SHOWN_UNITS[fields[2]]
+                    if kind == "mean" else "")
 
     def take_span(self, span: str, day: str, *_: str) -> None:
         self.months[span] = f"{day_after(datetime.date.fromisoformat(day)):%Y-%m}"
@@ -161,7 +167,8 @@ class Reader:
 
     def take_shown(self, _: str, begins: str, ends: str, unit: str, text: str, mark: str) -> None:
         flat, use, number = self.place
-        self.put(self.parts.get((begins, ends), NONE), use_key(flat, use, f"{number} {begins} {ends}", SHOWN_UNITS[unit]), text, mark)
+        self.put(self.parts.get((begins, ends), NONE),
+                 use_key(flat, use, f"{number} {begins} {ends}", SHOWN_UNITS[unit]), text, mark)
 
     def take_value(self, run: str, moment: str, text: str, _: str) -> None:
         self.put(NONE, reading_key(self.runs[int(run) - 1], int(moment)), text, "reading")
@@ -170,7 +177,8 @@ class Reader:
         unit, month, decimals = SHOWN_UNITS[of_file], self.months[span], len(text.partition(".")[2])
         if decimals == DECIMALS[unit] or text == NONE:
             self.put(user, use_key(self.flats[user], use, month, unit), text, mark)
-        if span == NOW and (text == NONE or decimals == (decimal.Decimal(text) < CHARTED_WHOLE)):  # 99.7 comes before its 100
+        # 99.7 comes before its 100
+        if span == NOW and (text == NONE or decimals == (decimal.Decimal(text) < CHARTED_WHOLE)):
             self.put(user, use_key(self.flats[user], use, f"{month} chart", unit), text, mark)
         for what in ("factor", "price") if span == NOW else ():
             self.put_of(user, use, what, self.facts.get((what, use, of_file, span), NONE), DECLARED)

@@ -1,4 +1,4 @@
-"""What a place will have consumed where its meter gave no value: by its month of the year before, or comparable flats."""
+"""What a place will have consumed where its meter gave no value: by its own past, or comparable flats."""
 
 import datetime
 import decimal
@@ -12,7 +12,8 @@ from supply import Entry, Place
 YEAR_BEFORE, OF_THE_HOUSE, OF_THE_CATEGORY = "year before", "flats of the house", "flats of the category"
 UNITS = "SELECT unit, smallest, step FROM units"
 BEFORE = """
-SELECT amount FROM month_now WHERE place = %s AND part = 0 AND month = %s AND grade IN ('measured', 'zero', 'hand') AND NOT is_held"""
+SELECT amount FROM month_now WHERE place = %s AND part = 0 AND month = %s AND grade IN ('measured', 'zero', 'hand')
+  AND NOT is_held"""
 # Of each house: its category, and of its measured places the sum of their amounts by weight and of their shares of the
 # flats' areas, their count, and how many of them have an area
 COMPARABLE = """
@@ -21,12 +22,14 @@ SELECT house, category, sum(amount), sum(share), count(*), count(share) FROM (
            f.area_m2 / count(*) OVER (PARTITION BY p.house, p.flat) AS share
     FROM month_now u JOIN places p ON p.id = u.place JOIN flats f ON f.house = p.house AND f.flat = p.flat
     JOIN houses h ON h.house = p.house
-    WHERE u.month = %s AND u.part = 0 AND u.grade IN ('measured', 'zero', 'hand') AND NOT u.is_held AND p.use = %s) AS of_each
+    WHERE u.month = %s AND u.part = 0 AND u.grade IN ('measured', 'zero', 'hand') AND NOT u.is_held
+      AND p.use = %s) AS of_each
 GROUP BY house, category"""
 OWN = """
 SELECT f.area_m2 / (SELECT count(*) FROM places o WHERE (o.house, o.flat, o.use) = (p.house, p.flat, p.use)), p.weight,
        h.category
-FROM places p JOIN flats f ON f.house = p.house AND f.flat = p.flat JOIN houses h ON h.house = p.house WHERE p.id = %s"""
+FROM places p JOIN flats f ON f.house = p.house AND f.flat = p.flat JOIN houses h ON h.house = p.house
+WHERE p.id = %s"""
 
 
 class Estimate(NamedTuple):

@@ -1,7 +1,9 @@
-"""Writes audit files (docs/OFFICE.md): the telegrams of a house and its months, what people declared, and a question mark for each
-number that is to be published. `mbdc audit` fills them in, and judges them.
+"""Writes audit files (docs/OFFICE.md): telegrams of a house and its months, what people declared, `?` for each number.
 
-A file lists a place once for each month (span): the meters and what is known of them are those that the month was computed with.
+`mbdc audit` fills them in, and judges them: those are published.
+
+A file lists a place once for each month (span): the meters and what is known of them are those that the month was
+computed with.
 """
 
 import datetime
@@ -14,7 +16,8 @@ from house_data import House, house_of
 from periods import begin_of, later_month, next_month
 from sheet_data import Averages, Sheet, declared_average, sheets_of
 from sheet_facts import facts_of
-from supply import BY_HAND, DUE_DATE, ENDED, ESTIMATED, FITTED, REMOVED, RESTARTED, RUNS, Entry, Place, Run, plain_number, seconds
+from supply import (BY_HAND, DUE_DATE, ENDED, ESTIMATED, FITTED, REMOVED, RESTARTED, RUNS, Entry, Place, Run,
+                    plain_number, seconds)
 
 STORED, READ = "stored", "read"
 NO_TELEGRAM = b"\0"  # in the place of one that isn't there any more: no evidence
@@ -25,9 +28,11 @@ LONGEST_WHY = 60
 FROZEN = """
 SELECT v.month, p.id, p.flat, p.use, p.number, p.weight, h.zone, v.entries, v.evidence, v.meters
 FROM frozen_values v JOIN places p ON p.id = v.place JOIN houses h ON h.house = p.house
-WHERE p.house = %s AND v.month = ANY (%s) AND v.version = version_of(p.house, v.month) ORDER BY v.month DESC, p.flat, p.use, p.number"""
+WHERE p.house = %s AND v.month = ANY (%s) AND v.version = version_of(p.house, v.month)
+ORDER BY v.month DESC, p.flat, p.use, p.number"""
 PARTS = """
-SELECT month, place, begins, ends, tenancy FROM month_parts WHERE house = %s AND month = ANY (%s) ORDER BY month, place, begins"""
+SELECT month, place, begins, ends, tenancy FROM month_parts WHERE house = %s AND month = ANY (%s)
+ORDER BY month, place, begins"""
 USERS = """
 SELECT t.id, t.flat, f.area_m2 FROM tenancies t JOIN flats f ON (f.house, f.flat) = (t.house, t.flat)
 WHERE t.house = %(house)s AND (t.id = ANY (%(users)s) OR t.days && daterange(%(first)s, %(after)s)) ORDER BY t.id"""
@@ -36,11 +41,14 @@ STRUCK = """
 SELECT f.place, f.id, d.at, coalesce(d.struck_why, 'struck') FROM day_values d JOIN fittings f ON f.id = d.fitting
 WHERE f.house = %s AND d.struck_at IS NOT NULL AND d.at BETWEEN %s AND %s ORDER BY d.at, d.id"""
 BODIES = """
-SELECT month::text, box, serial, bodies FROM readings WHERE (month, box, serial) IN (SELECT k.month::date, k.box, k.serial
+SELECT month::text, box, serial, bodies FROM readings WHERE (month, box, serial) IN (
+    SELECT k.month::date, k.box, k.serial
 FROM unnest(%s::text[], %s::text[], %s::bigint[]) AS k (month, box, serial))"""
-USES = "SELECT use, CASE quantity WHEN 'allocation' THEN 'units' ELSE quantity END FROM uses WHERE use = ANY (%s) ORDER BY position, use"
+USES = ("SELECT use, CASE quantity WHEN 'allocation' THEN 'units' ELSE quantity END FROM uses WHERE use = ANY (%s)"
+        " ORDER BY position, use")
 FACTORS = "SELECT use, kwh_per_unit FROM factors WHERE house = %s AND months @> %s ORDER BY use"
-DEGREES = "SELECT d.days FROM degree_days d JOIN houses h ON h.postcode = d.postcode WHERE (h.house, d.month) = (%s, %s)"
+DEGREES = ("SELECT d.days FROM degree_days d JOIN houses h ON h.postcode = d.postcode"
+           " WHERE (h.house, d.month) = (%s, %s)")
 
 
 class NoEvidence(Exception):
@@ -121,25 +129,29 @@ def utc(moment: int) -> datetime.datetime:
 def evidence_of(entries: Sequence[int], sources: List[List[Any]]) -> List[Evidence]:
     """Entries as `frozen_values` has them."""
     fives = [tuple(entries[at:at + 5]) for at in range(0, len(entries), 5)]
-    return [Evidence(meter, moment, amount, source, value, unit, is_estimated, (telegram[0], box, telegram[1], telegram[2]) if telegram else None)
-            for (meter, moment, amount, _, _), (source, value, unit, is_estimated, box, *telegram) in zip(fives, sources)]
+    return [Evidence(meter, moment, amount, source, value, unit, is_estimated,
+                     (telegram[0], box, telegram[1], telegram[2]) if telegram else None) for (
+        meter, moment, amount, _, _), (source, value, unit, is_estimated, box, *telegram) in zip(fives, sources)]
 
 
 def evidence_at(entry: Entry) -> Evidence:
     """An entry of a place."""
     value, line = entry.value, entry.line
-    telegram = None if value.telegram is None or value.box is None else (value.telegram[0], value.box, value.telegram[1], value.telegram[2])
-    return Evidence(line.meter, line.moment, line.value, value.source, value.shown, value.unit, value.is_estimated, telegram)
+    telegram = None if value.telegram is None or value.box is None else (value.telegram[0], value.box,
+                                                                         value.telegram[1], value.telegram[2])
+    return Evidence(line.meter, line.moment, line.value, value.source, value.shown, value.unit, value.is_estimated,
+                    telegram)
 
 
 def window_of(place: Place, entries: Sequence[Entry], parts: List[Part], begins: int, ends: int) -> Window:
     """What decides the periods of a place, as it is known now."""
-    return Window(begins, ends, place.id, place.flat, place.use, place.number, plain_number(place.weight), place.zone,
-                  [run for fitting in place.fittings for run in fitting.runs()], [evidence_at(it) for it in entries], parts)
+    return Window(begins, ends, place.id, place.flat, place.use, place.number, plain_number(place.weight), place.zone, [
+        run for fitting in place.fittings for run in fitting.runs()], [evidence_at(it) for it in entries], parts)
 
 
 def windows_of(cursor: Cursor, house: str, months: List[datetime.date]) -> Dict[datetime.date, List[Window]]:
-    """What the present versions of months were computed from. A month that was computed before there were audits has none."""
+    """What the present versions of months were computed from.
+    A month that was computed before there were audits has none."""
     cursor.execute(PARTS, (house, months))
     parts: Dict[Tuple[datetime.date, int], List[Part]] = {}
     for month, place, begins, ends, tenancy in cursor:
@@ -150,15 +162,16 @@ def windows_of(cursor: Cursor, house: str, months: List[datetime.date]) -> Dict[
     for month, place, flat, use, number, weight, zone, entries, sources, meters in cursor:
         unknown |= {month} if sources is None else set()
         if (month, place) in parts and sources is not None:
-            found.setdefault(month, []).append(Window(
-                seconds(begin_of(month, zone)), seconds(begin_of(next_month(month), zone)), place, flat, use, number, plain_number(weight), zone,
-                [Run(*it) for it in meters], evidence_of(entries, sources), parts[month, place]))
+            found.setdefault(month, []).append(Window(seconds(begin_of(month, zone)), seconds(
+                begin_of(next_month(month), zone)), place, flat, use, number, plain_number(weight), zone, [
+                Run(*it) for it in meters], evidence_of(entries, sources), parts[month, place]))
     return {month: windows for month, windows in found.items() if month not in unknown}
 
 
 def has_evidence(windows: List[Window], bodies: Bodies) -> bool:
     """Whether each telegram is there."""
-    return all(it.telegram is not None and it.telegram[:3] in bodies for window in windows for it in window.values if it.source in (STORED, READ))
+    return all(it.telegram is not None and it.telegram[:3] in bodies for window in windows for it in window.values
+               if it.source in (STORED, READ))
 
 
 def needed_runs(window: Window) -> List[Run]:
@@ -191,19 +204,22 @@ class Writer:
         number = {run.number: at for at, run in enumerate(runs, 1)}
         self.places.append((window.number, list(number)))
         self.lines.append(f"place,{len(self.places)},{window.flat},{window.use},{window.weight}")
-        self.lines += [f"meter,{number[run.number]},{run.identity},{run.begins},{'-' if run.ends is None else run.ends},{run.most},{run.size},"
+        self.lines += [f"meter,{number[run.number]},{run.identity},{run.begins},"
+                       f"{'-' if run.ends is None else run.ends},{run.most},{run.size},"
                        f"{run.vib or '-'}" for run in runs]
         self.lines.append(f"window,{span}")
         for at, value in enumerate(window.values):
             later = window.values[at + 1] if at + 1 < len(window.values) else None
             if later is None or (later.run, later.moment) != (value.run, value.moment):  # else the later one counts
                 self.value(value, number, window.zone, window.values[at - 1] if at else None)
-        self.lines += [f"struck,{number[fitting * RUNS]},{moment},{why}" for fitting, moment, why in self.struck.get(window.place, [])
-                       if window.begins - MARGIN <= moment <= window.ends + MARGIN and fitting * RUNS in number]
-        self.lines += [f"part,{span},{part.begins},{part.ends},{'-' if part.user is None else part.user}" for part in window.parts]
+        self.lines += [f"struck,{number[fitting * RUNS]},{moment},{why}" for fitting, moment, why in self.struck.get(
+            window.place, []) if window.begins - MARGIN <= moment <= window.ends + MARGIN and fitting * RUNS in number]
+        self.lines += [f"part,{span},{part.begins},{part.ends},{'-' if part.user is None else part.user}"
+                       for part in window.parts]
         first = len(self.lines)
         self.lines += numbers
-        self.lines += [f"value,{number[run]},{moment},{text},{unit}" for (run, moment), (text, unit) in readings.items()]
+        self.lines += [f"value,{number[run]},{moment},{text},{unit}" for (run, moment),
+                       (text, unit) in readings.items()]
         return first
 
     def value(self, value: Evidence, number: Dict[int, int], zone: str, before: Optional[Evidence]) -> None:
@@ -215,12 +231,16 @@ class Writer:
         elif value.source == DUE_DATE and before is not None and before.run != value.run:
             line = f"zero,{run}"
         elif value.source == DUE_DATE:
-            is_stored = before is not None and (before.run, before.moment, before.source) == (value.run, value.moment, STORED)
-            line = f"ended,{run},{ends},{self.hex(before)}" if is_stored and before is not None else f"last,{run},{value.value},{value.unit},estimated"
+            is_stored = before is not None and (before.run, before.moment, before.source) == (value.run, value.moment,
+                                                                                              STORED)
+            line = (f"ended,{run},{ends},{self.hex(before)}" if is_stored and before is not None
+                    else f"last,{run},{value.value},{value.unit},estimated")
         elif value.source in (BY_HAND, ESTIMATED):
-            line = f"{'hand' if value.source == BY_HAND else 'estimated'},{run},{value.moment},{value.value},{value.unit}"
+            kind = "hand" if value.source == BY_HAND else "estimated"
+            line = f"{kind},{run},{value.moment},{value.value},{value.unit}"
         else:
-            line = f"stored,{run},{ends},{self.hex(value)}" if value.source == STORED else f"read,{run},{value.moment},{self.hex(value)}"
+            line = (f"stored,{run},{ends},{self.hex(value)}" if value.source == STORED
+                    else f"read,{run},{value.moment},{self.hex(value)}")
         self.lines.append(line)
 
     def hex(self, value: Evidence) -> str:
@@ -243,7 +263,7 @@ def struck_of(cursor: Cursor, house: str, begins: int, ends: int) -> Struck:
 # ---- a month
 
 def month_file(cursor: Cursor, house: str, month: datetime.date, averages: Averages) -> File:
-    """The audit file of a house's month, beside the month before and that of the year before where they have their evidence.
+    """The audit file of a house's month, beside those before it, and of the year before, that have their evidence.
 
     Raises NoEvidence where the month hasn't, and LookupError where it isn't computed."""
     page = house_of(cursor, house, month, next_month(month))
@@ -251,16 +271,20 @@ def month_file(cursor: Cursor, house: str, month: datetime.date, averages: Avera
         raise LookupError(f"{month:%Y-%m} of {house} isn't computed")
     windows = windows_of(cursor, house, [month, later_month(month, -1), later_month(month, -12)])
     bodies = bodies_of(cursor, [it for of_month in windows.values() for it in of_month])
-    spans = {one: number for number, one in enumerate(sorted((it for it in windows if has_evidence(windows[it], bodies)), reverse=True), 1)}
+    spans = {one: number for number,
+             one in enumerate(sorted((it for it in windows if has_evidence(windows[it], bodies)), reverse=True), 1)}
     if month not in spans:
         raise NoEvidence(f"{month:%Y-%m} was computed before there were audits, or a telegram isn't there any more")
     sheets = sheets_of(cursor, [house], month)
     declared, readings = declared_of(cursor, page, spans, sheets, averages), readings_of(sheets, page)
-    writer = Writer(bodies, struck_of(cursor, house, min(it[0].begins for it in windows.values()), max(it[0].ends for it in windows.values())))
-    writer.lines += [f"audit,1,{month:%Y-%m}", *(span_line(number, one, next_month(one), page.zone) for one, number in spans.items()),
-                     *use_lines(cursor, {it.use for one in spans for it in windows[one]} | {key[1] for key in declared})]
+    writer = Writer(bodies, struck_of(cursor, house, min(it[0].begins for it in windows.values()),
+                                      max(it[0].ends for it in windows.values())))
+    writer.lines += [f"audit,1,{month:%Y-%m}",
+                     *(span_line(number, one, next_month(one), page.zone) for one, number in spans.items()), *use_lines(
+        cursor, {it.use for one in spans for it in windows[one]} | {key[1] for key in declared})]
     writer.lines += [f"{','.join(key)},{number}" for key, number in declared.items()]
-    writer.lines += user_lines(cursor, house, [it for one in spans for it in windows[one]], min(spans), next_month(month))
+    writer.lines += user_lines(cursor, house, [it for one in spans for it in windows[one]], min(spans),
+                               next_month(month))
     asked = [it for sheet in sheets for it in of_sheet(sheet, spans)]
     asked += of_house(page, facts_of(cursor, [house], month, [])[house].held, spans[month])
     shown = [(span, window, one == month) for one, span in spans.items() for window in windows[one]]
@@ -311,7 +335,8 @@ def use_lines(cursor: Cursor, uses: Set[str]) -> List[str]:
     return [f"use,{use},{quantity}" for use, quantity in cursor]
 
 
-def user_lines(cursor: Cursor, house: str, windows: List[Window], first: datetime.date, after: datetime.date) -> List[str]:
+def user_lines(cursor: Cursor, house: str, windows: List[Window], first: datetime.date,
+               after: datetime.date) -> List[str]:
     """The users of the parts and the days of a file, and the areas of flats that nobody uses."""
     users = {part.user for window in windows for part in window.parts if part.user is not None}
     cursor.execute(USERS, {"house": house, "users": list(users), "first": first, "after": after})

@@ -10,7 +10,8 @@ from supply import DUE_DATE, ENDED, FITTED, REMOVED, RESTARTED, Entry, Place
 
 LEAP, LEAP_AT_EXCHANGE = 10, 5  # times the usual day
 FEWEST_DAYS, FEWEST_STEPS = 10, 3  # of what is usual at a place
-# A day's use that is never held where it is known what is usual at the place: 100 kWh, a cubic metre, 60 units. By other places, a tenth.
+# A day's use that is never held where it is known what is usual at the place: 100 kWh, a cubic metre, 60 units. By
+# other places, a tenth.
 LITTLE = {"energy": 360_000_000_000, "volume": 1_000_000, "allocation": 60_000}
 MEASURED, ZERO, PROVISIONAL, UNCLEAR = "measured", "zero", "provisional", "unclear"
 AT_EXCHANGES = (FITTED, REMOVED, RESTARTED, ENDED, DUE_DATE)
@@ -74,16 +75,19 @@ def usual_day(steps: List[Step]) -> float:
 
 
 def is_held(place: Place, entries: List[Entry], period: Period, elsewhere: float) -> bool:
-    """Whether a person has to say why a step of the period is right: it is ten times a usual day of the place, per day of its length, or
-    five times at an exchange. Where nothing is usual there, as in an empty flat: ten times a day of the year before or of other flats
-    (`elsewhere`), or more than is never held where that isn't known either."""
+    """Whether a person has to say why a step of the period is right.
+
+    It is ten times a usual day of the place, per day of its length, or five times at an exchange. Where nothing is
+    usual there, as in an empty flat: ten times a day of the year before or of other flats (`elsewhere`), or more than
+    is never held where that isn't known either."""
     steps, little = steps_of(entries), LITTLE[place.quantity]
     usual = usual_day(steps)
     touching = [step for step in steps if period.begins < step.other.value.at and step.one.value.at < period.ends]
     if usual == 0:
-        return any(step.use > little / 10 and step.use >= LEAP * elsewhere if elsewhere > 0 else step.use > little for step in touching)
-    return any(step.use >= LEAP * usual and step.use > little or step.use >= LEAP_AT_EXCHANGE * usual and is_at_exchange(step.one, step.other)
-               for step in touching)
+        return any(step.use > little / 10 and step.use >= LEAP * elsewhere if elsewhere > 0 else step.use > little
+                   for step in touching)
+    return any(step.use >= LEAP * usual and step.use > little or step.use >= LEAP_AT_EXCHANGE * usual
+               and is_at_exchange(step.one, step.other) for step in touching)
 
 
 def a_day(one: Entry, other: Entry) -> float:

@@ -34,7 +34,8 @@ def decoded(content: bytes) -> str:
 
 
 def imported(cursor: Cursor, text: str, why: str) -> List[Line]:
-    """Does each line of the text; those with a fault aren't done. Whoever calls it commits only where no line has one."""
+    """Does each line of the text; those with a fault aren't done.
+    Whoever calls it commits only where no line has one."""
     separator = ";" if text.partition("\n")[0].count(";") > text.partition("\n")[0].count(",") else ","
     cursor.execute("SELECT coalesce(max(id), 0) FROM log")
     last: int = cursor.fetchone()[0]

@@ -12,8 +12,8 @@ import time
 from typing import Iterator, List, NamedTuple, Optional, Tuple
 
 PAGE = 100  # the most readings that one WINDOW shows
-# Bytes of one run at a box, of one of its lines, and of what is kept of its complaints. A page of readings of 32 telegrams has 1.7 MB,
-# and a line of a telegram 540 bytes.
+# Bytes of one run at a box, of one of its lines, and of what is kept of its complaints. A page of readings of 32
+# telegrams has 1.7 MB, and a line of a telegram 540 bytes.
 LONGEST_ANSWER, LONGEST_LINE, LAST_COMPLAINT = 3 << 20, 1024, 4096
 CHUNK = 1 << 16
 # A numbered line that no box accepts, since its number isn't the next one's: it is answered `ERR ORDER last`.
@@ -170,7 +170,8 @@ class Link:
 
         Raises Unreached and Disagreement."""
         rows = [line.split(" ", 2) for line in self.run([f"JOURNAL {first}"])[0][:-1]]
-        found = [Command(int(row[1]), row[2]) for row in rows if row[0] == "COMMAND" and len(row) == 3 and row[1].isdecimal()]
+        found = [Command(int(row[1]), row[2]) for row in rows if row[0] == "COMMAND" and len(row) == 3
+                 and row[1].isdecimal()]
         return [command for command in found if command.number <= last]
 
     def seen_from(self, first: int) -> Seen:

@@ -7,7 +7,7 @@ import multiprocessing
 import statistics
 from typing import Any, Callable, Dict, Iterator, List, Mapping, NamedTuple, Optional, Sequence, Tuple
 
-import psycopg2.extras
+from psycopg2.extras import Json
 
 from command import SECONDS
 from database import Cursor, Database, insert
@@ -24,10 +24,12 @@ FROZEN = "frozen_values (month, place, version, entries, evidence, meters)"
 # Of these houses: the present version of a month, and whether it is out
 VERSIONS = """
 SELECT h.house, version_of(h.house, %(month)s), EXISTS (
-    SELECT FROM versions v WHERE (v.house, v.month, v.version) = (h.house, %(month)s, version_of(h.house, %(month)s)) AND v.out_at IS NOT NULL)
+    SELECT FROM versions v WHERE (v.house, v.month, v.version) = (h.house, %(month)s, version_of(h.house, %(month)s))
+      AND v.out_at IS NOT NULL)
 FROM houses h WHERE h.house = ANY (%(houses)s) ORDER BY h.house"""
-OPEN_ROWS = ("DELETE FROM {} k USING places p WHERE p.id = k.place AND k.month = %s AND k.version = version_of(p.house, %s)"
-             " AND p.house = ANY (%s)")
+OPEN_ROWS = (
+    "DELETE FROM {} k USING places p WHERE p.id = k.place AND k.month = %s AND k.version = version_of(p.house, %s)"
+    " AND p.house = ANY (%s)")
 # What is out
 OUT = """
 SELECT u.place, u.part, u.begins, u.ends, u.tenancy, u.amount, u.grade FROM month_now u JOIN places p ON p.id = u.place
@@ -35,7 +37,8 @@ WHERE u.month = %s AND p.house = %s"""
 # What was used a day in a month at a place
 BEFORE = """
 SELECT place, amount / (extract(epoch FROM ends - begins) / 86400)::float FROM month_now
-WHERE month = %s AND place = ANY (%s) AND part = 0 AND amount > 0 AND ends > begins AND grade IN ('measured', 'hand') AND NOT is_held"""
+WHERE month = %s AND place = ANY (%s) AND part = 0 AND amount > 0 AND ends > begins AND grade IN ('measured', 'hand')
+  AND NOT is_held"""
 CHANGED = """
 INSERT INTO changes AS c (house, month, says) VALUES (%s, %s, %s)
 ON CONFLICT (house, month) DO UPDATE SET says = excluded.says, seen_at = now(), left_why = NULL, left_by = NULL
@@ -62,7 +65,11 @@ WHERE c.house = ANY (%s) AND day_begins((c.month + interval '1 month')::date, h.
 # Whoever adds a row waits for this, or is waited for
 TAKEN = ("SELECT FROM to_compute WHERE month = %s AND house = ANY (%s) ORDER BY house FOR UPDATE",
          "DELETE FROM to_compute WHERE month = %s AND house = ANY (%s)")
+PLACES = """
+SELECT p.id, concat_ws('/', p.house, p.flat, p.use, p.number), u.quantity FROM places p JOIN uses u ON u.use = p.use
+WHERE p.house = %s"""
 Job = Tuple[str, datetime.date, List[str]]
+Number = Tuple[Optional[int], str]  # amount in the smallest unit, and grade
 
 
 class Split(NamedTuple):
@@ -74,8 +81,7 @@ class Split(NamedTuple):
 
 def split(place: Place, first: datetime.date, after: datetime.date, tenancies: List[Tenancy],
           at_exchanges: bool = False) -> Split:
-    """The periods of the days from the first one to the one before `after` in which the place had a meter: by users and,
-    if wanted, by meters."""
+    """The periods of these days in which the place had a meter: by users and, if wanted, by meters."""
     last = place.fittings[-1].ends
     begins = max(begin_of(first, place.zone), place.fittings[0].begins)
     ends = begin_of(after, place.zone)
@@ -106,9 +112,10 @@ def window_at(one: Split, first: datetime.date, after: datetime.date) -> Window:
                      seconds(begin_of(first, zone)), seconds(begin_of(after, zone)))
 
 
-def graded_periods(cursor: Cursor, splits: List[Split], first: datetime.date, after: datetime.date) -> Iterator[Tuple[Split, Period, Graded]]:
-    """Each period of the days from the first one to the one before `after`, with its amount and grade. Where a house's file is at
-    fault, all of it is unclear.
+def graded_periods(cursor: Cursor, splits: List[Split], first: datetime.date,
+                   after: datetime.date) -> Iterator[Tuple[Split, Period, Graded]]:
+    """Each period of the days from the first one to the one before `after`, with its amount and grade.
+    Where a house's file is at fault, all of it is unclear.
 
     Raises NotComputed."""
     windows = {one.place.id: window_at(one, first, after) for one in splits}
@@ -120,7 +127,8 @@ def graded_periods(cursor: Cursor, splits: List[Split], first: datetime.date, af
         writer = Writer(bodies, {})
         writer.lines += [f"audit,1,{first:%Y-%m}", span_line(1, first, after, of_house[0].place.zone),
                          *use_lines(cursor, {it.place.use for it in of_house})]
-        begins = [writer.window(1, nobodys(windows[it.place.id]), [shown_line(period, "smallest", 0) for period in it.periods], {}) for it in of_house]
+        begins = [writer.window(1, nobodys(windows[it.place.id]),
+                                [shown_line(period, "smallest", 0) for period in it.periods], {}) for it in of_house]
         try:
             lines = filled([*writer.lines, "totals", "end"]).lines
         except AtFault:  # office/publish says which one
@@ -149,8 +157,9 @@ def splits_of(cursor: Cursor, houses: List[str], first: datetime.date, after: da
 
 
 def write_month(cursor: Cursor, month: datetime.date, houses: List[str]) -> "collections.Counter[str]":
-    """Computes a month of these houses. Where it is open its rows are written anew; where it is out, and would be another
-    now, that is noted (`changes`). Counts the grades."""
+    """Computes a month of these houses.
+    Where it is open its rows are written anew; where it is out, and would be another now, that is noted (`changes`).
+    Counts the grades."""
     lock(cursor, month, houses)
     cursor.execute(VERSIONS, {"month": month, "houses": houses})
     versions = {house: (version, is_out) for house, version, is_out in cursor}
@@ -167,29 +176,30 @@ def write_month(cursor: Cursor, month: datetime.date, houses: List[str]) -> "col
         if not is_out:
             held = is_held(one.place, one.entries, period, elsewhere.get(one.place.id, 0))
             rows.append((month, one.place.id, period.part, period.begins, period.ends, period.tenancy, found.amount,
-                         found.grade, held, psycopg2.extras.Json(basis_of(one.entries, period)), version))
+                         found.grade, held, Json(basis_of(one.entries, period)), version))
     for table in ("frozen_values", "month_use"):
         cursor.execute(OPEN_ROWS.format(table), (month, month, open_houses))
     insert(cursor, MONTH_USE, rows)
-    insert(cursor, FROZEN, [(month, one.place.id, versions[one.place.house][0], frozen(one), psycopg2.extras.Json(evidence(one)),
-                             psycopg2.extras.Json([run for fitting in one.place.fittings for run in fitting.runs()]))
+    insert(cursor, FROZEN, [(month, one.place.id, versions[one.place.house][0], frozen(one), Json(evidence(one)),
+                             Json([run for fitting in one.place.fittings for run in fitting.runs()]))
                             for one in splits if not versions[one.place.house][1]])
     cursor.execute(VOID, (month, open_houses))
     for house in versions.keys() - set(open_houses):
-        note_change(cursor, month, house, now[house], {one.place.id: one.place.name for one in splits})
+        note_change(cursor, month, house, now[house])
     for query in (BILLS, VOID_BILLS):
         cursor.execute(query, (houses, month, next_month(month)))
     return counts
 
 
 def days_elsewhere(cursor: Cursor, month: datetime.date, splits: List[Split]) -> Dict[int, float]:
-    """A day of each place in the same month of the year before, else the median one of the other flats of its house and use."""
+    """A day of each place in the same month of the year before, else the median one of the other flats of its use."""
     means: Dict[Tuple[str, str], Dict[int, float]] = collections.defaultdict(dict)
     for one in splits:
         steps = steps_of(one.entries)
         mean = sum(step.use * step.days for step in steps) / (sum(step.days for step in steps) or 1)
         means[one.place.house, one.place.use][one.place.id] = mean
-    others = {place: [it for other, it in of_use.items() if other != place and it > 0] for of_use in means.values() for place in of_use}
+    others = {place: [it for other, it in of_use.items() if other != place and it > 0] for of_use in means.values()
+              for place in of_use}
     cursor.execute(BEFORE, (later_month(month, -12), list(others)))
     return {**{place: statistics.median(days) for place, days in others.items() if days}, **dict(cursor.fetchall())}
 
@@ -210,34 +220,33 @@ def evidence(one: Split) -> List[List[Any]]:
     return [[it.source, it.shown, it.unit, it.is_estimated, it.box, *(it.telegram or [])] for it in values]
 
 
-def note_change(cursor: Cursor, month: datetime.date, house: str, rows: List[Tuple[Any, ...]], names: Dict[int, str]) -> None:
+def note_change(cursor: Cursor, month: datetime.date, house: str, rows: List[Tuple[Any, ...]]) -> None:
     """Notes whether a month that is out would be another."""
     cursor.execute(OUT, (month, house))
     out, now = by_period(cursor.fetchall()), by_period(rows)
-    says = differences(out, now, lambda key: f"{names.get(key[0], key[0])} from {key[1]:%Y-%m-%d}")
-    if says is None:
+    cursor.execute(PLACES, (house,))
+    places = {place: (name, quantity) for place, name, quantity in cursor}
+    found = differences(out, now, lambda key: places[key[0]])
+    if found is None:
         cursor.execute("DELETE FROM changes WHERE (house, month) = (%s, %s)", (house, month))
     else:
-        cursor.execute(CHANGED, (house, month, says))
+        cursor.execute(CHANGED, (house, month, found))
 
 
-def differences(out: Mapping[Any, Tuple[Any, ...]], now: Mapping[Any, Tuple[Any, ...]], name: Callable[[Any], str]) -> Optional[str]:
-    """The first amounts and grades that went out and would be others now; None where there is none."""
+def differences(out: Mapping[Any, Number], now: Mapping[Any, Number],
+                named: Callable[[Any], Tuple[str, str]]) -> Optional[Json]:
+    """The first numbers that went out and would be others now, and how many more; None where there is none."""
     wrong = sorted(key for key in now.keys() | out.keys() if now.get(key) != out.get(key))
-    said = [f"{name(key)}: {told(out.get(key))}, now {told(now.get(key))}" for key in wrong[:LONGEST_CHANGE]]
-    more = f"; {len(wrong) - LONGEST_CHANGE} more" if len(wrong) > LONGEST_CHANGE else ""
-    return "; ".join(said) + more if wrong else None
+    first = [{"place": named(key)[0], "quantity": named(key)[1], "out": out.get(key), "now": now.get(key)}
+             for key in wrong[:LONGEST_CHANGE]]
+    return Json({"numbers": first, "more": len(wrong) - len(first)}) if wrong else None
 
 
-def by_period(rows: List[Tuple[Any, ...]]) -> Dict[Any, Tuple[Any, ...]]:
-    """Amount and grade of each place's month and of each user's part, by place, begin and end. (Who was forgotten has none.)"""
+def by_period(rows: List[Tuple[Any, ...]]) -> Dict[Any, Number]:
+    """Amount and grade of each place's month and of each user's part, by place, begin and end.
+    (Who was forgotten has none.)"""
     return {(place, begins, ends): (amount, grade) for place, part, begins, ends, tenancy, amount, grade in rows
             if part == 0 or tenancy is not None}
-
-
-def told(row: Optional[Tuple[Any, ...]]) -> str:
-    """An amount in the smallest unit, or why it is none."""
-    return "nothing" if row is None else str(row[1]) if row[0] is None else f"{row[0]} {row[1]}"
 
 
 def kept_month(cursor: Cursor) -> Optional[datetime.date]:
@@ -305,10 +314,3 @@ def houses_of(database: Database, named: Sequence[str]) -> List[str]:
         if name not in houses:
             raise LookupError(f"no house: {name}")
     return sorted(named) if named else houses
-
-
-def open_months(cursor: Cursor, month: datetime.date) -> List[datetime.date]:
-    """The months before a month that have a row that isn't out, as far as the values of their days are there."""
-    cursor.execute("SELECT DISTINCT month FROM month_now WHERE month < %s AND out_at IS NULL"
-                   " AND month > coalesce((SELECT date_trunc('month', since) FROM kept), '-infinity') ORDER BY month", (month,))
-    return [row[0] for row in cursor]

@@ -1,4 +1,4 @@
-"""Runs `mbdc audit`, the one program that computes a number: what it fills into an audit file, and whether it accepts one."""
+"""Runs `mbdc audit`, the one program that computes a number: what it fills into a file, and whether it accepts one."""
 
 import functools
 import hashlib
@@ -41,7 +41,8 @@ class Audited(NamedTuple):
 def run(*words: str) -> "subprocess.CompletedProcess[str]":
     """Raises NotComputed where the program can't be run."""
     try:
-        return subprocess.run([MBDC, *words], capture_output=True, encoding="utf-8", timeout=SECONDS, check=False, errors="replace")
+        return subprocess.run([MBDC, *words], capture_output=True, encoding="utf-8", timeout=SECONDS, check=False,
+                              errors="replace")
     except (OSError, subprocess.TimeoutExpired) as fault:
         raise NotComputed(f"{MBDC} {words[0]}: {fault} (the variable MBDC names the program)") from fault
 
@@ -68,7 +69,8 @@ def audited(lines: List[str], *words: str) -> Audited:
         path.write_bytes(content_of(lines))
         done = run("audit", *words, str(path))
     if done.returncode not in (HOLDS, DOES_NOT_HOLD) or not done.stdout:
-        raise NotComputed(f"{MBDC} audit ended with status {done.returncode}: {plain(done.stdout + done.stderr, LONGEST)}")
+        raise NotComputed(
+            f"{MBDC} audit ended with status {done.returncode}: {plain(done.stdout + done.stderr, LONGEST)}")
     return Audited(done.stdout.split("\n")[:-1], done.stderr.split("\n")[:-1], done.returncode == HOLDS)
 
 

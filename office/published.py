@@ -1,4 +1,6 @@
-"""What was published of months: the numbers that `mbdc audit` accepted, by their keys. Pages have no other source of numbers."""
+"""What was published of months: the numbers that `mbdc audit` accepted, by their keys.
+
+Pages have no other source of numbers."""
 
 import datetime
 from typing import Any, Dict, Iterable, NamedTuple, Optional, Tuple
@@ -35,7 +37,8 @@ def chart_key(flat: str, use: Any, month: datetime.date) -> str:
 
 
 def place_key(flat: str, use: Any, place: Any) -> str:
-    return use_key(flat, use.use, f"{place.number} {seconds(place.amount.begins)} {seconds(place.amount.ends)}", use.unit)
+    return use_key(flat, use.use, f"{place.number} {seconds(place.amount.begins)} {seconds(place.amount.ends)}",
+                   use.unit)
 
 
 def reading_key(meter: int, moment: int) -> str:

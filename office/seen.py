@@ -25,8 +25,8 @@ COLLECTOR = """
 SELECT 'collector', NULL, 'office/collect', jsonb_build_object('since', max(ended_at))
 FROM collections WHERE begun_at <= %(at)s
 HAVING coalesce(max(ended_at) < %(at)s - make_interval(hours => %(hours)s), true)"""
-CLOCKS = "SELECT 'clock', house, name, jsonb_build_object('box', name, 'text', clock) FROM boxes WHERE active AND clock IS NOT NULL ORDER BY name"
-LATE = "SELECT 'late', house, name, jsonb_build_object('box', name, 'text', late) FROM boxes WHERE active AND late IS NOT NULL ORDER BY name"
+CLOCKS = "SELECT 'clock', house, name, jsonb_build_object('box', name) || clock FROM boxes WHERE active AND clock IS NOT NULL ORDER BY name"
+LATE = "SELECT 'late', house, name, jsonb_build_object('box', name) || late FROM boxes WHERE active AND late IS NOT NULL ORDER BY name"
 TALKS = "SELECT 'talks', house, name, jsonb_build_object('box', name, 'text', talks) FROM boxes WHERE active AND talks IS NOT NULL ORDER BY name"
 # Of a box that isn't collected, and of one without a meter that is heard, one item; its meters are counted there
 BOXES = """
@@ -127,15 +127,14 @@ WHERE u.part = 0 AND u.month >= %(at)s::date - 400
   AND u.month + interval '1 month' <= %(at)s
 ORDER BY u.house, u.place, u.month"""
 CHANGES = """
-SELECT 'changed', house, house || ' ' || to_char(month, 'YYYY-MM') AS subject, jsonb_build_object('month', month, 'text', says,
-    'quantities', (SELECT jsonb_object_agg(use, quantity) FROM uses))
+SELECT 'changed', house, house || ' ' || to_char(month, 'YYYY-MM') AS subject, jsonb_build_object('month', month, 'change', says)
 FROM changes WHERE left_why IS NULL
 UNION ALL
-SELECT 'changed', house, house || ' bill ' || lower(days) || '..' || upper(days) - 1, jsonb_build_object('why', 'bill', 'text', changed)
+SELECT 'changed', house, house || ' bill ' || lower(days) || '..' || upper(days) - 1, jsonb_build_object('why', 'bill', 'change', changed)
 FROM bills_now WHERE changed IS NOT NULL AND left_why IS NULL ORDER BY subject"""
 NOT_SENT = """
 SELECT 'not sent', t.house, t.house || ' ' || to_char(s.month, 'YYYY-MM'), jsonb_build_object(
-    'month', s.month, 'text', count(DISTINCT t.id) || ' × ' || min(s.failed_why), 'flat', min(t.flat))
+    'month', s.month, 'count', count(DISTINCT t.id), 'failed', min(s.failed_why), 'flat', min(t.flat))
 FROM sheets s JOIN tenancies t ON t.id = s.tenancy WHERE s.failed_at IS NOT NULL AND s.month >= %(at)s::date - 400
 GROUP BY t.house, s.month ORDER BY 3"""
 # A month whose numbers `mbdc audit` refused: its sheets wait

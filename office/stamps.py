@@ -11,8 +11,9 @@ EARLIEST = datetime.datetime(2020, 1, 1, tzinfo=datetime.timezone.utc)  # no box
 
 
 class Window(NamedTuple):
-    """The readings of a collection were made after the last one that took all of the box's readings (None: none did), and
-    before this one."""
+    """Between which moments a collection's readings were made.
+
+    after: of the last collection that took all of the box's readings; None where none did."""
     after: Optional[Moment]
     before: Moment
 
@@ -26,8 +27,8 @@ class Window(NamedTuple):
 
 
 def moments_of(stamps: Sequence[Moment], window: Window) -> List[Optional[Moment]]:
-    """The moments of the readings of a collection, in the order of their reading numbers. A stamp outside of the window
-    isn't taken, nor one that isn't of the longest part of them that never falls."""
+    """The moments of the readings of a collection, in the order of their reading numbers.
+    A stamp outside of the window isn't taken, nor one that isn't of the longest part of them that never falls."""
     inside = [place for place, stamp in enumerate(stamps) if window.has(stamp)]
     taken = {inside[number] for number in rising_part([stamps[place] for place in inside])}
     return [stamp if place in taken else window.instead for place, stamp in enumerate(stamps)]

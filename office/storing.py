@@ -20,16 +20,18 @@ POINTS = ("points (box, serial, part, place, storage, function, tariff, subunit,
 DUE_READINGS = "due_readings (box, identity, due, serial)"
 LATER_DUE = ("ON CONFLICT (box, identity, due) DO UPDATE SET serial = excluded.serial, month = excluded.month"
              " WHERE due_readings.serial < excluded.serial")
-LAST_READINGS = ("UPDATE meters m SET serial = v.serial, heard = v.heard, at = v.at, stored_at = now(), status = v.status"
-                 " FROM (VALUES %s) AS v (box, identity, serial, heard, at, status)"
-                 " WHERE m.box = v.box AND m.identity = v.identity")
+LAST_READINGS = (
+    "UPDATE meters m SET serial = v.serial, heard = v.heard, at = v.at, stored_at = now(), status = v.status"
+    " FROM (VALUES %s) AS v (box, identity, serial, heard, at, status)"
+    " WHERE m.box = v.box AND m.identity = v.identity")
 LAST_READING = "(%s, %s, %s::bigint, %s::timestamptz, %s::timestamptz, %s::smallint)"
 # Readings before a page that may be of the same collection, whose stamps are looked at with its own
 LOOKED_BACK = 1000
-EARLIER = ("SELECT serial, heard[1], at FROM readings WHERE box = %s AND serial BETWEEN %s AND %s AND (%s IS NULL OR stored_at > %s)"
-           " ORDER BY serial")
+EARLIER = ("SELECT serial, heard[1], at FROM readings WHERE box = %s AND serial BETWEEN %s AND %s"
+           " AND (%s IS NULL OR stored_at > %s) ORDER BY serial")
 WRONG_CLOCK = "UPDATE boxes SET clock = %s, clock_at = now() WHERE name = %s"
-RIGHT_CLOCK = "UPDATE boxes SET clock = NULL, clock_at = NULL WHERE name = %s AND clock_at <= coalesce(collected_at, now())"
+RIGHT_CLOCK = ("UPDATE boxes SET clock = NULL, clock_at = NULL WHERE name = %s"
+               " AND clock_at <= coalesce(collected_at, now())")
 
 NumberedPoint = Tuple[int, int, Point, Optional[str]]
 
@@ -71,8 +73,8 @@ def store_turn(cursor: Cursor, box: str, readings: List[Reading], moments: List[
 
 
 def stamped(cursor: Cursor, box: str, readings: List[Reading], window: Window) -> List[Optional[datetime.datetime]]:
-    """The moments of readings. Those of the same collection that are stored already get others where these say so. Notes
-    at the box whether its clock is wrong."""
+    """The moments of readings. Those of the same collection that are stored already get others where these say so.
+    Notes at the box whether its clock is wrong."""
     if not readings:
         return []
     first = readings[0].serial
@@ -85,8 +87,8 @@ def stamped(cursor: Cursor, box: str, readings: List[Reading], window: Window) -
             cursor.execute("SELECT move_reading(%s, %s, %s)", (box, serial, moment))
     wrong = [stamp for stamp, moment in zip(stamps, moments) if moment != stamp]
     if wrong:
-        text = f"{len(wrong)} of {len(stamps)} stamps can't be, as {wrong[0]:%Y-%m-%d %H:%M}"
-        cursor.execute(WRONG_CLOCK, (text, box))
+        clock = {"wrong": len(wrong), "of": len(stamps), "first": f"{wrong[0]:%Y-%m-%d %H:%M}"}
+        cursor.execute(WRONG_CLOCK, (psycopg2.extras.Json(clock), box))
     else:
         cursor.execute(RIGHT_CLOCK, (box,))
     return moments[len(earlier):]

@@ -31,8 +31,8 @@ class Value(NamedTuple):
     amount: int  # in the smallest unit
     shown: str  # the value as a decimal number
     unit: str
-    # stored, read, estimated, by hand; fitted and removed: the first and last value of a fitting; ended and restarted: of a
-    # counter that began anew
+    # stored, read, estimated, by hand; fitted and removed: the first and last value of a fitting; ended and restarted:
+    # of a counter that began anew
     source: str
     is_estimated: bool
     id: Optional[int]  # of day_values
@@ -43,7 +43,8 @@ class Value(NamedTuple):
         """As `month_use.basis` keeps it."""
         return {"at": self.at.isoformat(), "value": self.shown, "unit": self.unit, "source": self.source,
                 "estimated": self.is_estimated, "meter": fitting.identity, "box": self.box, "id": self.id,
-                "telegram": self.telegram, "amount": self.amount, "fitting": line.meter, "most": line.most, "size": line.size}
+                "telegram": self.telegram, "amount": self.amount, "fitting": line.meter, "most": line.most,
+                "size": line.size}
 
 
 class Restart(NamedTuple):
@@ -154,8 +155,9 @@ def plain_number(number: Any) -> str:
 
 
 PLACES = """
-SELECT p.id, p.house, p.flat, p.use, p.number, h.zone, u.quantity, p.weight, f.id, f.identity, lower(f.during), upper(f.during), f.unit,
-       f.first_value, f.last_value, f.first_amount, f.last_amount, f.first_is_estimated, f.last_is_estimated,
+SELECT p.id, p.house, p.flat, p.use, p.number, h.zone, u.quantity, p.weight, f.id, f.identity, lower(f.during),
+    upper(f.during), f.unit, f.first_value, f.last_value, f.first_amount, f.last_amount, f.first_is_estimated,
+        f.last_is_estimated,
        coalesce(f.most, l.most), f.size, f.vib
 FROM places p JOIN houses h ON h.house = p.house JOIN uses u ON u.use = p.use JOIN fittings f ON f.place = p.id
 LEFT JOIN limits l ON l.use = p.use
@@ -213,8 +215,8 @@ def read_restarts(cursor: Cursor, places: Iterable[Place]) -> None:
 
 
 def is_covered(place: Place, first: datetime.date, after: datetime.date) -> bool:
-    """Whether the values that were read decide the consumption and the marks of these days, or there are no others. (A
-    later reading may put an estimate out of force: then all values are read.)"""
+    """Whether the values that were read decide the consumption and the marks of these days, or there are no others.
+    (A later reading may put an estimate out of force: then all values are read.)"""
     begins, ends = begin_of(first, place.zone), begin_of(after, place.zone)
     moments = [value.at for fitting in place.fittings for value in fitting.values]
     is_begun = (sum(moment <= begins for moment in moments) >= BEFORE

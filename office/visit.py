@@ -5,6 +5,7 @@ the tables: the next visit goes on from there.
 """
 
 import contextlib
+import enum
 import random
 import re
 import time
@@ -13,7 +14,7 @@ from typing import Callable, Iterator, List, NamedTuple, Optional, Tuple, TypeVa
 import psycopg2
 
 from box_commands import change_of
-from database import Cursor, Database, insert, one
+from database import Cursor, Database, Row, insert, one
 from decoding import Undecoded
 from link import PAGE, Command, Disagreement, Link, Meter, Reading, Seen, Unreached
 from stamps import Window
@@ -23,6 +24,7 @@ LONGEST_PAUSE = 60  # seconds between two tries
 PAGES = 100  # of a collection of a box
 REFUSALS = ("SYNTAX", "KNOWN", "UNKNOWN", "ADDRESS", "FULL")  # of an order; its number is used again
 NO_BOX = "there is no such box in the database"
+QUEUED = "state = 'queued'"
 IS_OPEN = "state IN ('pending', 'queued')"  # in the words of the index open_orders
 TRANSIENT = (Unreached, Undecoded, psycopg2.Error)  # a lost database is any psycopg2.Error
 # What a command that the box can't have done is to the database, which doesn't take it
@@ -33,26 +35,39 @@ LAST_SERIAL = 2**63 - 1
 Result = TypeVar("Result")
 
 
+class State(str, enum.Enum):
+    """Of an order (`order_state` of the database)."""
+    QUEUED = "queued"  # not sent yet
+    PENDING = "pending"  # has its number, and may have been sent
+    DONE = "done"
+    REFUSED = "refused"  # its number is used again
+    GIVEN_UP = "given_up"  # nobody knows whether it was done
+
+
 class Order(NamedTuple):
     """A row of `orders`."""
     id: int
     line: str
     confirms: Optional[int]
     number: Optional[int]
-    state: str
+    state: State
     answer: Optional[str]
 
 
-class Known(NamedTuple):
-    """What the database knows of a box's state; both are None before the first contact."""
-    number: Optional[int]
-    confirmed: Optional[int]
-
-
 class Standing(NamedTuple):
-    """A box's state that is known."""
+    """A box's state: the number of its last command, and the serial up to which it has confirmed."""
     number: int
     confirmed: int
+
+
+class Page(NamedTuple):
+    """A page that was taken: how many readings were new, and whether the box has no more."""
+    new: int
+    is_all: bool
+
+
+def order_of(row: Row) -> Order:
+    return Order(*row)._replace(state=State(row[4]))
 
 
 class Visit:
@@ -69,8 +84,8 @@ class Visit:
         return self.database.transaction()
 
     @contextlib.contextmanager
-    def locked(self) -> Iterator[Tuple[Cursor, Link, Known]]:
-        """A transaction that holds the lock of the box's row: cursor, link, and what is known."""
+    def locked(self) -> Iterator[Tuple[Cursor, Link, Optional[Standing]]]:
+        """A transaction that holds the lock of the box's row: cursor, link, and what is known (None: never reached)."""
         with self.transaction() as cursor:
             cursor.execute("SELECT command, identity, number, confirmed FROM boxes WHERE name = %s FOR NO KEY UPDATE",
                            (self.box,))
@@ -78,7 +93,8 @@ class Visit:
             if row is None:
                 raise Disagreement(NO_BOX)
             command, identity, number, confirmed = row
-            yield cursor, Link(self.box, command, self.timeout, identity), Known(number, confirmed)
+            yield cursor, Link(self.box, command, self.timeout,
+                               identity), None if number is None else Standing(number, confirmed)
 
     def retried(self, work: Callable[[], Result], tries: int, pause: float) -> Result:
         """What `work` returns; after a transient failure it is done again, later and later."""
@@ -123,9 +139,10 @@ class Visit:
 
     def order(self, cursor: Cursor, where: str, *values: object) -> Optional[Order]:
         """The first order of the box of which that is so, or None."""
-        cursor.execute(f"SELECT {COLUMNS} FROM orders WHERE box = %s AND {where} ORDER BY id LIMIT 1", (self.box, *values))
+        cursor.execute(f"SELECT {COLUMNS} FROM orders WHERE box = %s AND {where} ORDER BY id LIMIT 1",
+                       (self.box, *values))
         row = cursor.fetchone()
-        return Order(*row) if row else None
+        return order_of(row) if row else None
 
     def settle(self) -> None:
         """Sends the pending order again, and then one queued order after the other."""
@@ -141,21 +158,16 @@ class Visit:
     def numbered(self) -> Optional[int]:
         """The id of the order to be sent: the pending one, or the first queued one, which gets its number here."""
         with self.locked() as (cursor, link, known):
-            pending = self.order(cursor, "state = 'pending'")
-            if pending is not None:
-                return pending.id
-            queued = self.order(cursor, "state = 'queued'")
-            if queued is None:
-                return None
-            if self.is_checked and known.number is not None:
-                number = known.number
-            else:
-                number = self.look(cursor, link, known)[0].number
-                queued = self.order(cursor, "state = 'queued'")  # (the box may have done it)
-                if queued is None:
+            first = self.order(cursor, "state = 'pending'") or self.order(cursor, QUEUED)
+            if first is None or first.state is State.PENDING:
+                return first.id if first else None
+            if not self.is_checked or known is None:
+                known, _ = self.look(cursor, link, known)
+                first = self.order(cursor, QUEUED)  # (the box may have done it)
+                if first is None:
                     return None
-            self.number(cursor, queued.id, number + 1)
-            return queued.id
+            self.number(cursor, first.id, known.number + 1)
+            return first.id
 
     def number(self, cursor: Cursor, order_id: int, number: int) -> None:
         """Makes an order pending; it is committed before it is sent."""
@@ -173,23 +185,25 @@ class Visit:
             self.own = None
             self.note(cursor, link, order, link.run([f"{order.number} {order.line}"])[0][-1])
 
-    def is_to_be_sent(self, cursor: Cursor, link: Link, known: Known, order: Order) -> bool:
-        """Checks an order that another visit left pending: it was done, or the box is as the database knows it, and
-        still shows what a CONFIRM confirms. False where a refused order took its number.
+    def is_to_be_sent(self, cursor: Cursor, link: Link, known: Optional[Standing], order: Order) -> bool:
+        """Checks an order that another visit left pending.
+
+        It was done, or the box is as the database knows it, and still shows what a CONFIRM confirms. False where a
+        refused order took its number.
 
         Raises Disagreement."""
-        if known.number is None or known.confirmed is None or order.number is None:
+        if known is None or order.number is None:
             raise Disagreement(f"order {order.number} is pending, and the database doesn't know the box's last number")
-        seen, standing = link.look(known.confirmed + 1), Standing(known.number, known.confirmed)
-        if self.caught_up(cursor, link, standing, seen) != standing:
+        seen = link.look(known.confirmed + 1)
+        if self.caught_up(cursor, link, known, seen) != known:
             return False
         if seen.number == order.number and self.took_its_number(cursor, link, order):
             return False
         if seen.number == order.number:  # it was done, if that was its line: the box compares it
-            standing = Standing(order.number, order.confirms or known.confirmed)
-            self.check_state(cursor, standing, seen, order.confirms is not None)
+            self.check_state(cursor, Standing(order.number, order.confirms or known.confirmed), seen,
+                             order.confirms is not None)
             return True
-        self.check_state(cursor, standing, seen)
+        self.check_state(cursor, known, seen)
         if order.confirms is not None:
             shown = {reading.serial: reading for reading in seen.readings if reading.serial <= order.confirms}
             if stored(cursor, self.box, known.confirmed + 1, order.confirms) != shown:
@@ -205,7 +219,7 @@ class Visit:
             self.note_done(cursor, order)
         elif refused and refused[1] in REFUSALS and order.confirms is None:
             self.is_checked = False  # the number is given again only after another look
-            self.end(cursor, order.id, "refused", answer)
+            self.end(cursor, order.id, State.REFUSED, answer)
         elif answer != f"ERR ORDER {order.number}" or not self.took_its_number(cursor, link, order):
             raise Disagreement(f"order {order.number} {order.line} was answered {answer}")
 
@@ -215,17 +229,17 @@ class Visit:
                        (order.number, order.confirms, self.box))
         if order.confirms is None:
             self.change_meters(cursor, order)
-        self.end(cursor, order.id, "done", f"OK {order.number}")
+        self.end(cursor, order.id, State.DONE, f"OK {order.number}")
 
-    def end(self, cursor: Cursor, order_id: int, state: str, answer: str) -> None:
+    def end(self, cursor: Cursor, order_id: int, state: State, answer: str) -> None:
         cursor.execute("UPDATE orders SET state = %s, answer = %s, ended_at = now() WHERE id = %s",
-                       (state, answer, order_id))
+                       (state.value, answer, order_id))
 
     # ---- a refused order that was done later: a copy of it was on its way, and the box could do it then
 
     def took_its_number(self, cursor: Cursor, link: Link, order: Order) -> bool:
-        """Whether the box did a refused order under the number of a pending one. Then the pending one is queued again,
-        or, of a CONFIRM, given up: the next page makes another."""
+        """Whether the box did a refused order under the number of a pending one.
+        Then the pending one is queued again, or, of a CONFIRM, given up: the next page makes another."""
         late = self.done_late(cursor, link, order.number)
         if late is None:
             return False
@@ -239,14 +253,16 @@ class Visit:
         if order.confirms is None:
             cursor.execute("UPDATE orders SET state = 'queued', number = NULL WHERE id = %s", (order.id,))
         else:
-            self.end(cursor, order.id, "given_up", "another order took its number")
+            self.end(cursor, order.id, State.GIVEN_UP, "another order took its number")
 
     def done_late(self, cursor: Cursor, link: Link, number: Optional[int]) -> Optional[Order]:
-        """The refused order that the box did as its last one, of that number, or None. The box says which: it answers
-        the line of its last number OK again, and any other line of that number ERR ORDER."""
-        cursor.execute(f"SELECT {COLUMNS} FROM orders WHERE box = %s AND state = 'refused' AND number = %s ORDER BY id DESC",
-                       (self.box, number))
-        for order in [Order(*row) for row in cursor]:
+        """The refused order that the box did as its last one, of that number, or None.
+        The box says which: it answers the line of its last number OK again, and any other line of that number ERR
+        ORDER."""
+        cursor.execute(
+            f"SELECT {COLUMNS} FROM orders WHERE box = %s AND state = 'refused' AND number = %s ORDER BY id DESC",
+            (self.box, number))
+        for order in map(order_of, cursor.fetchall()):
             if link.run([f"{number} {order.line}"])[0][-1] == f"OK {number}":
                 return order
         return None
@@ -254,13 +270,15 @@ class Visit:
     # ---- what was done at the box itself, as its journal has it
 
     def caught_up(self, cursor: Cursor, link: Link, known: Standing, seen: Seen) -> Standing:
-        """Does the commands that the box has done besides to the register that is known; returns what is known then. It is
-        believed only where they end in the box's number, in its last line, which the box compares, and in its register,
-        equal in each row. Else nothing is changed, and `known` is returned: the caller compares, and stops."""
+        """Does the commands that the box has done besides to the register that is known; returns what is known then.
+        It is believed only where they end in the box's number, in its last line, which the box compares, and in its
+        register, equal in each row. Else nothing is changed, and `known` is returned: the caller compares, and stops.
+        """
         if seen.number <= known.number:
             return known
         commands = link.commands(known.number + 1, seen.number)
-        if len(commands) != seen.number - known.number or any(it.number != number for number, it in enumerate(commands, known.number + 1)):
+        if len(commands) != seen.number - known.number or any(it.number != number for number,
+                                                              it in enumerate(commands, known.number + 1)):
             return known
         cursor.execute("SAVEPOINT journal")
         try:
@@ -283,29 +301,32 @@ class Visit:
         if pending is not None and Command(pending.number or 0, pending.line) not in commands:
             self.give_back(cursor, pending)
         for number, line in commands:
-            order = self.order(cursor, "line = %s AND (state = 'queued' OR state IN ('pending', 'refused') AND number = %s)", line, number)
+            order = self.order(cursor,
+                               "line = %s AND (state = 'queued' OR state IN ('pending', 'refused') AND number = %s)",
+                               line, number)
             if order is not None:
-                cursor.execute("UPDATE orders SET state = 'pending', number = %s, answer = NULL WHERE id = %s", (number, order.id))
+                cursor.execute("UPDATE orders SET state = 'pending', number = %s, answer = NULL WHERE id = %s",
+                               (number, order.id))
             else:
-                cursor.execute("INSERT INTO orders (box, line, number, state) VALUES (%s, %s, %s, 'pending')", (self.box, line, number))
+                cursor.execute("INSERT INTO orders (box, line, number, state) VALUES (%s, %s, %s, 'pending')",
+                               (self.box, line, number))
             done = self.order(cursor, "state = 'pending'")
             assert done is not None
             self.note_done(cursor, done)
 
     # ---- the box's state
 
-    def look(self, cursor: Cursor, link: Link, known: Known) -> Tuple[Standing, Seen]:
+    def look(self, cursor: Cursor, link: Link, known: Optional[Standing]) -> Tuple[Standing, Seen]:
         """What is known, and what the box shows; at the first contact the box says where its numbers go on.
 
         Raises Disagreement where it isn't as the database knows it."""
-        if known.number is None or known.confirmed is None:
+        if known is None:
             return self.first_look(cursor, link)
-        seen, standing = link.look(known.confirmed + 1), Standing(known.number, known.confirmed)
-        if seen.number == standing.number + 1:
-            late = self.done_late(cursor, link, seen.number)
-            if late is not None:
-                self.note_done(cursor, late)
-                standing = Standing(seen.number, known.confirmed)
+        seen, standing = link.look(known.confirmed + 1), known
+        late = self.done_late(cursor, link, seen.number) if seen.number == known.number + 1 else None
+        if late is not None:
+            self.note_done(cursor, late)
+            standing = Standing(seen.number, known.confirmed)
         standing = self.caught_up(cursor, link, standing, seen)
         self.check_state(cursor, standing, seen)
         self.keep_identity(cursor, seen)
@@ -355,12 +376,12 @@ class Visit:
     # ---- readings
 
     def collect(self, pages: int = PAGES) -> int:
-        """Stores what the box shows, page by page and at most so many, and confirms it; returns the serial up to which it has."""
+        """Stores what the box shows, at most so many pages, and confirms it; returns the serial up to which it has."""
         for _ in range(pages):
             self.settle()
-            count, is_all = self.take_page()
-            self.stored_count += count
-            if is_all:
+            page = self.take_page()
+            self.stored_count += page.new
+            if page.is_all:
                 break
         else:
             self.note_talks(f"it has more than {pages * PAGE} readings, and the rest waits for the next collection")
@@ -374,11 +395,11 @@ class Visit:
         with self.transaction() as cursor:
             cursor.execute("UPDATE boxes SET talks = %s WHERE name = %s", (why, self.box))
 
-    def take_page(self) -> Tuple[int, bool]:
-        """Stores a page, and its CONFIRM with it; returns how many readings were new, and whether there are no more."""
+    def take_page(self) -> Page:
+        """Stores a page, and its CONFIRM with it."""
         with self.locked() as (cursor, link, known):
             if self.order(cursor, IS_OPEN):
-                return 0, False  # came from another visit; it goes first
+                return Page(0, False)  # came from another visit; it goes first
             standing, seen = self.look(cursor, link, known)
             new = self.new_readings(cursor, seen, standing.confirmed + 1)
             cursor.execute("SELECT collected_at, now() FROM boxes WHERE name = %s", (self.box,))
@@ -386,8 +407,9 @@ class Visit:
             if seen.readings:
                 self.store_confirm(cursor, standing.number + 1, seen.readings[-1].serial)
             if seen.is_all:
-                cursor.execute("UPDATE boxes SET collected_at = now(), fault = NULL, talks = NULL WHERE name = %s", (self.box,))
-            return len(new), seen.is_all
+                cursor.execute("UPDATE boxes SET collected_at = now(), fault = NULL, talks = NULL WHERE name = %s",
+                               (self.box,))
+            return Page(len(new), seen.is_all)
 
     def store_confirm(self, cursor: Cursor, number: int, serial: int) -> None:
         cursor.execute("INSERT INTO orders (box, line, confirms, number, state)"

@@ -87,8 +87,7 @@ class Cron:
             first = shifted(month, 1 - QUARTER)
             for house in self.office.houses:
                 self.bill(house.name, f"{first}..{present - datetime.timedelta(days=1)}")
-        self.run("close")
-        self.run("month", f"{month:%Y-%m}", "--open")
+        self.run("close", "--month", f"{month:%Y-%m}")
         self.run("alarms", statuses=(0, 1))
         today = datetime.date.today()
         age = (today.year - present.year) * 12 + today.month - present.month + KEPT_MONTHS

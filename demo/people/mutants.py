@@ -31,7 +31,7 @@ REFUSED = re.compile(r"refused: (.*)")
 MONTH = "2025-01"
 # What is done with the house, and whether a person reads what is printed
 STEPS: Tuple[Tuple[Tuple[str, ...], bool], ...] = (
-    (("close",), False), (("month", "2024-01"), False), (("month", "2024-12"), False), (("month", MONTH), False),
+    (("close", *(word for month in ("2024-01", "2024-12", MONTH) for word in ("--month", month))), False),
     (("publish", "-", "2024-01"), False), (("publish", "-", "2024-12"), False), (("estimate", MONTH), False), (("publish", "-", MONTH), False),
     (("publish", "-", MONTH, "--bill"), False), (("publish", "-", "2024-12-01..2025-01-31", "--bill"), False),
     (("bill", "elm-1", MONTH), True), (("bill", "elm-1", "2024-12-01..2025-01-31"), True))

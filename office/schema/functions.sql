@@ -608,8 +608,7 @@ $$;
 
 CREATE OR REPLACE FUNCTION note_late(changed to_close[]) RETURNS void LANGUAGE sql AS $$
     UPDATE boxes b SET late = CASE WHEN k.late > 0
-        THEN format('%s values of %s meters, from %s on, came more than three days after the day', k.late, k.meters,
-            k.first) END
+        THEN jsonb_build_object('values', k.late, 'meters', k.meters, 'first', k.first) END
     FROM (SELECT d.box, count(*) FILTER (WHERE d.is_late) AS late,
         count(DISTINCT d.fitting) FILTER (WHERE d.is_late) AS meters, min(d.day) FILTER (WHERE d.is_late) AS first
           FROM (SELECT v.box, v.fitting, v.day, v.made_at > day_begins(v.day + 4, h.zone) AS is_late
@@ -1206,12 +1205,12 @@ END $$;
 -- The corrected month goes out once it is computed (office/work).
 CREATE OR REPLACE FUNCTION desk.correct_month(house text, month date, why text) RETURNS void LANGUAGE plpgsql AS $$
 DECLARE
-    says text := (SELECT c.says FROM changes c WHERE (c.house, c.month) = (correct_month.house, correct_month.month));
+    says jsonb := (SELECT c.says FROM changes c WHERE (c.house, c.month) = (correct_month.house, correct_month.month));
     of_version smallint;
 BEGIN
     of_version := public.correct_month(correct_month.house, correct_month.month, correct_month.why);
     PERFORM ask('release', concat_ws(' ', to_char(correct_month.month, 'YYYY-MM'), correct_month.house));
-    PERFORM write_log('correct_month', correct_month.house, to_char(correct_month.month, 'YYYY-MM'), to_jsonb(says),
+    PERFORM write_log('correct_month', correct_month.house, to_char(correct_month.month, 'YYYY-MM'), says,
         to_jsonb(of_version), correct_month.why);
 END $$;
 

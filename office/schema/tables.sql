@@ -108,9 +108,9 @@ CREATE TABLE boxes (
     made_at timestamptz NOT NULL DEFAULT now(),
     made_by text DEFAULT session_user,
     house text REFERENCES houses,
-    clock text,                             -- which stamps weren't taken of the last collection that had some
+    clock jsonb,                            -- of the last collection with wrong stamps: wrong, of, first
     clock_at timestamptz,
-    late text,                              -- days that the last close closed more than three days after their end
+    late jsonb,                             -- of the last close, values after three days: values, meters, first
     talks text,                             -- it said more than a box can, or too much; until it is collected whole
     CHECK ((number IS NULL) = (confirmed IS NULL)),
     CHECK ((clock IS NULL) = (clock_at IS NULL)),
@@ -614,7 +614,7 @@ CREATE TABLE bills (
     made_by text NOT NULL DEFAULT session_user,
     out_at timestamptz,
     is_to_check boolean NOT NULL DEFAULT false,
-    changed text CHECK (changed <> ''),
+    changed jsonb,
     left_why text CHECK (left_why <> ''),
     left_by text,
     audit bigint REFERENCES audits,
@@ -644,12 +644,12 @@ CREATE INDEX published_of_a_tenancy ON published (tenancy);
 CREATE UNIQUE INDEX one_number_a_key ON published (audit, key, coalesce(tenancy, 0)) WHERE audit IS NOT NULL;
 CREATE INDEX published_of_an_audit ON published (audit);
 
--- A month that is out, and would be another by what is known now. left_why: a person left it as it is, of that
--- difference.
+-- A month that is out, and would be another by what is known now. says: the first numbers that would be others, and how
+-- many more (office/months.py). left_why: a person left it as it is, of that difference.
 CREATE TABLE changes (
     house text NOT NULL REFERENCES houses,
     month date NOT NULL,
-    says text NOT NULL,
+    says jsonb NOT NULL,
     seen_at timestamptz NOT NULL DEFAULT now(),
     left_why text CHECK (left_why <> ''),
     left_by text,

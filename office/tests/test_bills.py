@@ -35,9 +35,11 @@ def test_a_bill(office: Office, elm: Supplied) -> None:
     office.sql("UPDATE meters SET identity = '00000002.PAD.01.04' WHERE box = 'elm-1'")
     new = office.sql("SELECT max(id) FROM fittings")[0][0]
     moment = at("2024-04-08T12:00")
-    office.sql("UPDATE fittings SET during = tstzrange(lower(during), %s), unit = 'Wh', last_value = 1997 WHERE id = %s",
-               moment, old)
-    office.sql("UPDATE fittings SET during = tstzrange(%s, NULL), unit = 'Wh', first_value = 2 WHERE id = %s", moment, new)
+    office.sql(
+        "UPDATE fittings SET during = tstzrange(lower(during), %s), unit = 'Wh', last_value = 1997 WHERE id = %s",
+        moment, old)
+    office.sql("UPDATE fittings SET during = tstzrange(%s, NULL), unit = 'Wh', first_value = 2 WHERE id = %s", moment,
+               new)
     elm.days(new, "2024-04-08", 300, 10, 10)
     one, other = elm.tenancy("A1", "2023-05-01", "2024-03-01", "=cmd()"), elm.tenancy("A1", "2024-03-01", None)
     rows = billed(office, "elm-1", "2024")
@@ -93,7 +95,8 @@ def test_alarms_are_told_once_until_they_end(office: Office, elm: Supplied, tmp_
     office.sql("SELECT strike(id, 'disturbed') FROM day_values WHERE value = 5")
     office.sql("UPDATE meters SET status = 0 WHERE identity LIKE '%%1.PAD%%'")
     ended = office.run("alarms", *words, str(mail))
-    assert (ended.status, ended.printed) == (0, "END disturbed elm-1 00000001.PAD.01.04\nEND power elm-1 00000001.PAD.01.04\n")
+    assert (ended.status,
+            ended.printed) == (0, "END disturbed elm-1 00000001.PAD.01.04\nEND power elm-1 00000001.PAD.01.04\n")
     silent = office.run("alarms", "--at", "2025-01-24T12:00+00:00")
     assert "silent" not in silent.printed  # what is to be seen to is the box, which has its alarm
     office.sql("UPDATE boxes SET collected_at = '2025-01-24'")
@@ -134,7 +137,8 @@ def test_one_alarm_a_cause(office: Office, elm: Supplied) -> None:
     office.sql("UPDATE meters SET heard = '2025-01-20', stored_at = '2025-01-20'")
     office.sql("UPDATE boxes SET collected_at = '2025-01-25'")
     assert office.run(*words).printed == ""  # the cause is another, and the box the same
-    assert office.sql("SELECT kind, subject FROM alarms WHERE ended_at IS NULL AND kind <> 'collector'") == [("box", "elm-1")]
+    assert office.sql("SELECT kind, subject FROM alarms WHERE ended_at IS NULL AND kind <> 'collector'") == [("box",
+                                                                                                              "elm-1")]
     office.sql("UPDATE meters SET heard = '2025-01-25', stored_at = '2025-01-25' WHERE identity LIKE '%%1.PAD%%'")
     printed = office.run(*words).printed
     assert "END box elm-1" in printed and printed.count("NEW silent") == 2
@@ -188,7 +192,8 @@ def test_a_user_is_forgotten(office: Office, elm: Supplied, tmp_path: pathlib.Pa
     assert office.run("forget", str(other)).status == 3
     ended = office.run("forget", str(one))
     assert ended.status == 0 and "2 sheets" in ended.printed, ended.printed
-    assert office.run("work", "--only", "erase", "--out", str(tmp_path), "--link", "https://office.example").printed.endswith(": 0 no sheets are left\n")
+    assert office.run("work", "--only", "erase", "--out", str(tmp_path), "--link",
+                      "https://office.example").printed.endswith(": 0 no sheets are left\n")
     assert len(list(tmp_path.glob("**/sheets/*/*.html"))) == 1
     assert office.sql("SELECT count(*) FROM tenancies WHERE person LIKE 'S%%'") == [(0,)]
     assert office.sql("SELECT amount, basis FROM month_use WHERE month = '2025-01-01'") == [(310 * WH, [])]
@@ -210,7 +215,7 @@ def test_what_is_kept(office: Office, elm: Supplied) -> None:
     assert office.sql("SELECT day FROM day_values ORDER BY day") == [
         (datetime.date(2020, 12, 31),), (datetime.date(2021, 1, 31),)]
     assert office.sql("SELECT amount, basis FROM month_use") == [(310 * WH, [])]
-    assert office.run("month", "2021-01").status == 2
+    assert office.run("close", "--month", "2021-01").status == 2
     assert office.sql("SELECT amount, grade FROM month_use") == [(310 * WH, "measured")]
     assert office.run("retain", "--days", "3").status == 2
 

@@ -67,7 +67,8 @@ def test_two_boxes_hear_one_meter(office: Office, elm: Supplied) -> None:
     """Its readings are merged by their moments; it keeps its place until both have let it go."""
     meter = elm.meter(1, HEAT, "A1")
     office.sql("INSERT INTO boxes (name, command, house) VALUES ('attic', 'false', 'elm-1')")
-    office.sql("INSERT INTO meters (box, identity, line, address, flat) VALUES ('attic', '00000001.PAD.01.04', 1, '1', 'A1')")
+    office.sql(
+        "INSERT INTO meters (box, identity, line, address, flat) VALUES ('attic', '00000001.PAD.01.04', 1, '1', 'A1')")
     elm.reads(meter, at("2025-01-30T06:00"), 1000)
     elm.reads(meter, at("2025-01-31T06:00"), 1010)
     elm.box, elm.serial = "attic", 0

@@ -5,8 +5,9 @@ from typing import Any, Dict, List
 
 import decoding
 
-ENERGY: Dict[str, Any] = {"storage": 0, "tariff": 0, "subunit": 0, "function": "instantaneous", "vib": "8400", "data": "", "quantity": "energy",
-                          "qualifiers": ["no error"], "reading": "qualified", "value": "1480", "unit": "Wh"}
+ENERGY: Dict[str, Any] = {"storage": 0, "tariff": 0, "subunit": 0, "function": "instantaneous", "vib": "8400",
+                          "data": "", "quantity": "energy", "qualifiers": ["no error"], "reading": "qualified",
+                          "value": "1480", "unit": "Wh"}
 
 
 def test_an_energy_without_error_is_the_meters_value() -> None:
@@ -28,6 +29,7 @@ def test_other_qualifiers_quantities_and_errors_do_not_count() -> None:
 
 
 def test_a_stored_energy_without_error_has_its_due_date() -> None:
-    date = {**ENERGY, "storage": 1, "vib": "6C", "quantity": "date", "qualifiers": [], "reading": "point", "value": "2024-12-31", "unit": None}
+    date = {**ENERGY, "storage": 1, "vib": "6C", "quantity": "date", "qualifiers": [], "reading": "point",
+            "value": "2024-12-31", "unit": None}
     points = [decoding.point_of_object(date), decoding.point_of_object({**ENERGY, "storage": 1})]
     assert decoding.due_days(points) == [None, "2024-12-31"]

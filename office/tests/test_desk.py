@@ -245,11 +245,20 @@ def test_the_mail_has_the_same_items(office: Office, elm: Supplied, tmp_path: pa
 
 
 def test_what_programs_note_is_german_too() -> None:
-    words = Words("de", "UTC")
-    for english, german in (("1 of 3 stamps can't be, as 2000-01-01 00:00", "1 von 3 Zeitstempeln können nicht sein, wie 2000-01-01 00:00."),
-                            ("12 values of 2 meters, from 2025-01-01 on, came more than three days after the day",
-                             "12 Werte von 2 Zählern, ab 2025-01-01, kamen mehr als drei Tage nach ihrem Tag.")):
-        assert german in body("clock", {"text": english}, words) and english in body("clock", {"text": english}, Words("en", "UTC"))
+    cases: Tuple[Tuple[str, Dict[str, Any], str, str], ...] = (
+        ("clock", {"wrong": 1, "of": 3, "first": "2000-01-01 00:00"}, "1 of 3 stamps can't be, as 2000-01-01 00:00.",
+         "1 von 3 Zeitstempeln können nicht sein, wie 2000-01-01 00:00."),
+        ("late", {"values": 12, "meters": 2, "first": "2025-01-01"},
+         "12 values of 2 meters, from 2025-01-01 on, came more than three days after the day.",
+         "12 Werte von 2 Zählern, ab 2025-01-01, kamen mehr als drei Tage nach ihrem Tag."),
+        ("not sent", {"month": "2025-01-01", "count": 2, "failed": "no PDF"}, "January 2025: 2 × no PDF", "Januar 2025: 2 × kein PDF"),
+        ("changed", {"change": {"numbers": [{"place": "elm-1/A1/heat/1", "quantity": "energy", "out": [3_600_000_000, "measured"],
+                                             "now": [None, "missing"]}], "more": 2}},
+         "elm-1/A1/heat/1: 1.0 kWh (measured) went out, now no number. And 2 more.",
+         "elm-1/A1/heat/1: bisher 1,0 kWh (gemessen), jetzt keine Zahl. Und 2 mehr."))
+    for kind, facts, english, german in cases:
+        said = [body(kind, facts, Words(language, "UTC")) for language in ("en", "de")]
+        assert english in said[0] and german in said[1], said
 
 
 def test_each_kind_has_words(office: Office) -> None:

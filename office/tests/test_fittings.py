@@ -35,16 +35,18 @@ def test_orders(office: Office, box: Box) -> None:
     housed(office)
     office.sql("ALTER ROLE office SET role = 'collector'")
     try:
-        for line in (f"FIT {HEAT} 1 3 A1", f"SWAP {HEAT} {HOT} 4", "MOVE 11111111.PAD.01.07 B7", "OUT 22222222.PAD.01.07",
-                     "FIT 55555555.PAD.01.07 1 9 A2", "FIT 66666666.PAD.01.07 1 8 A2", "FIT 77777777.PAD.01.0E 1 7 A2"):
+        for line in (f"FIT {HEAT} 1 3 A1", f"SWAP {HEAT} {HOT} 4", "MOVE 11111111.PAD.01.07 B7",
+                     "OUT 22222222.PAD.01.07", "FIT 55555555.PAD.01.07 1 9 A2", "FIT 66666666.PAD.01.07 1 8 A2",
+                     "FIT 77777777.PAD.01.0E 1 7 A2"):
             ended = office.order("house-1", line)
             assert ended.status == 0, ended.printed
     finally:
         office.sql("ALTER ROLE office RESET role")
-    assert fitted(office) == [
-        ("A1", "cold water", 1, "11111111", False), ("A2", "cold water", 1, "22222222", False),
-        ("A1", "heat", 1, "33333333", False), ("A1", "heat", 1, "44444444", True), ("B7", "cold water", 1, "11111111", True),
-        ("A2", "cold water", 1, "55555555", True), ("A2", "cold water", 2, "66666666", True)]  # a bus system has no place
+    # a bus system has no place
+    assert fitted(office) == [("A1", "cold water", 1, "11111111", False), ("A2", "cold water", 1, "22222222", False), (
+        "A1", "heat", 1, "33333333", False), ("A1", "heat", 1, "44444444", True),
+                              ("B7", "cold water", 1, "11111111", True), ("A2", "cold water", 1, "55555555", True),
+                              ("A2", "cold water", 2, "66666666", True)]
 
 
 def test_a_new_contact_ends_no_fitting(office: Office, box: Box) -> None:

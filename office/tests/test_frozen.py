@@ -29,7 +29,8 @@ def released(office: Office, out: pathlib.Path, month: str) -> None:
 
 def closed(office: Office, *months: str) -> str:
     """Closes, with these months to be computed again."""
-    office.sql("INSERT INTO to_compute SELECT 'elm-1', m FROM unnest(%s::date[]) m", [f"{month}-01" for month in months])
+    office.sql("INSERT INTO to_compute SELECT 'elm-1', m FROM unnest(%s::date[]) m",
+               [f"{month}-01" for month in months])
     ended = office.run("close")
     assert ended.status == 0, ended.printed
     return ended.printed
@@ -55,7 +56,8 @@ def test_what_is_out_is_frozen(office: Office, elm: Supplied, tmp_path: pathlib.
     text = sheet_of(office, tmp_path, tenancy).read_text(encoding="utf-8")
     numbers = office.sql("SELECT text, mark, version FROM published WHERE tenancy = %s", tenancy)
     assert ("310.0", "measured", 1) in numbers and all(row[0].replace(".", ",") in text for row in numbers)
-    assert office.sql("SELECT house, version, why, made_by FROM versions WHERE out_at IS NOT NULL") == [("elm-1", 1, "first", "office")]
+    assert office.sql("SELECT house, version, why, made_by FROM versions WHERE out_at IS NOT NULL") == [
+        ("elm-1", 1, "first", "office")]
     released(office, tmp_path, "2025-01")
     assert rows(office) == before and office.sql("SELECT count(*) FROM versions") == [(1,)]
     assert office.sql("SELECT count(*) FROM published WHERE key LIKE '%% 2025-01 kWh'") == [(1,)]
@@ -77,7 +79,7 @@ def test_another_number_is_another_version(office: Office, elm: Supplied, tmp_pa
     assert said == ["NEW changed elm-1 2025-01: A month that went out would be another now: elm-1/A1/heat/1: 310.0 kWh (measured) went out,"
                     " now 315.0 kWh (read by a person)."]
     assert office.sql("SELECT amount FROM month_kwh WHERE part = 0 AND month = '2025-01-01'") == [(310_000 * WH,)]
-    assert office.run("month", "2025-01").status == 0 and rows(office) == before
+    assert office.run("close", "--month", "2025-01").status == 0 and rows(office) == before
     corrected = office.run("correct", "elm-1", "2025-01", "--why", "read at the meter")
     assert (corrected.status, corrected.printed) == (0, "2025-01: 1 places: 1 hand; version 2 of elm-1\n")
     assert rows(office) == before
@@ -86,7 +88,8 @@ def test_another_number_is_another_version(office: Office, elm: Supplied, tmp_pa
     cell = checked(sheet_of(office, tmp_path, tenancy).read_text(encoding="utf-8")).cells["heat", "2025-01-01"]
     assert cell.split()[0] == "315,0"
     assert office.sql("SELECT version, why FROM versions ORDER BY 1") == [(1, "first"), (2, "read at the meter")]
-    assert office.sql("SELECT version, text FROM published WHERE key LIKE '%% 2025-01 kWh' ORDER BY 1") == [(1, "310.0"), (2, "315.0")]
+    assert office.sql("SELECT version, text FROM published WHERE key LIKE '%% 2025-01 kWh' ORDER BY 1") == [
+        (1, "310.0"), (2, "315.0")]
     assert "END changed" in office.run("alarms").printed
     assert office.run("correct", "elm-1", "2025-02", "--why", "x").status == 4
 
@@ -132,14 +135,14 @@ def test_neither_retain_nor_forget_changes_a_number(office: Office, elm: Supplie
     forgotten = office.run("forget", str(one))
     assert forgotten.status == 0, forgotten.printed
     closed(office, "2021-01", "2021-02", "2021-03")
-    assert office.run("month", "2021-01", "--open").status == 0
+    assert office.run("close", "--month", "2021-01").status == 0
     assert rows(office) == before and office.sql("SELECT count(*) FROM changes") == [(0,)]
     assert office.sql("SELECT count(tenancy) FROM published") != office.sql("SELECT count(*) FROM published")
     assert computed_again(frozen, int(before[0][6].timestamp()), int(before[0][7].timestamp())) == before[0][4]
     assert office.run("retain").status == 0
     assert office.sql("SELECT count(*) FROM frozen_values WHERE month < '2022-01-01'") == [(0,)]
     assert rows(office) == before
-    refusal = office.run("month", "2021-01")
+    refusal = office.run("close", "--month", "2021-01")
     assert refusal.status == 2 and "were dropped" in refusal.printed
     assert "2021" not in closed(office, "2021-01", "2021-02", "2021-03")
     assert rows(office) == before and office.sql("SELECT count(*) FROM changes") == [(0,)]
@@ -161,7 +164,7 @@ def test_a_cron_changes_nothing_that_was_out(office: Office, elm: Supplied, tmp_
         elm.reads(meter, at(f"2025-0{number + 1}-02T08:00"), 1_000_000 * (number + 1) + 6_000)
         month = f"2025-0{number}"
         assert office.run("close").status == 0
-        assert office.run("month", month, "--open").status == 0
+        assert office.run("close", "--month", month).status == 0
         assert office.run("estimate", month).status == 0
         released(office, tmp_path, month)
         assert rows(office)[:len(out)] == out
@@ -193,7 +196,8 @@ def test_a_bill_that_is_out(office: Office, elm: Supplied) -> None:
     draft = bill(office, "2025-01-01..2025-02-28")
     before = bill(office, "2025-01-01..2025-02-28", "--release")
     assert before == draft and bill(office, "2025-01-01..2025-02-28", "--release") == before
-    assert cells(before, "user", "consumption", "HCA") == [("'=x", "170.000", ""), ("B. Smith", "420.000", ""), ("", "118.000", "200.600")]
+    assert cells(before, "user", "consumption", "HCA") == [("'=x", "170.000", ""), ("B. Smith", "420.000", ""),
+                                                           ("", "118.000", "200.600")]
     assert office.sql("SELECT text, mark FROM published WHERE tenancy = %s AND key LIKE '%% consumption'", tenancy) == [
         ("420.000", "measured")]
     for query in ("UPDATE bills SET out_at = NULL", "DELETE FROM bills", "UPDATE bills SET why = 'x'"):
@@ -204,8 +208,8 @@ def test_a_bill_that_is_out(office: Office, elm: Supplied) -> None:
     assert office.run("close").status == 0
     assert bill(office, "2025-01-01..2025-02-28") == before
     name = "A1 heat 1 2025-01-18T00:00 2025-03-01T00:00"
-    assert (f"NEW changed elm-1 bill 2025-01-01..2025-02-28: A bill that went out would be another now: {name}: {420_000 * WH} measured, now {415_000 * WH} hand\n"
-            in office.run("alarms").printed)
+    assert (f"NEW changed elm-1 bill 2025-01-01..2025-02-28: A bill that went out would be another now: {name}: 420.0 kWh (measured)"
+            " went out, now 415.0 kWh (read by a person).\n" in office.run("alarms").printed)
     left = office.run("correct", "elm-1", "2025-01-01..2025-02-28", "--bill", "--leave", "--why", "5 kWh")
     assert left.status == 0 and "END changed elm-1 bill" in office.run("alarms").printed
     closed(office, "2025-01", "2025-02")
@@ -214,7 +218,8 @@ def test_a_bill_that_is_out(office: Office, elm: Supplied) -> None:
     assert (corrected.status, corrected.printed) == (0, "a bill; version 2 of elm-1\n")
     again = bill(office, "2025-01-01..2025-02-28", "--release")
     assert cells(again, "consumption", "grade")[1] == ("415.000", "hand")
-    assert bill(office, "2025-01-01..2025-02-28") == again and bill(office, "2025-01-01..2025-02-28", "--version", "1") == before
+    assert bill(office, "2025-01-01..2025-02-28") == again and bill(office, "2025-01-01..2025-02-28", "--version",
+                                                                    "1") == before
     assert office.sql("SELECT version, why FROM bills ORDER BY 1") == [(1, "first"), (2, "read at the meter")]
     assert bill(office, "2025-01-01..2025-02-28", "--version", "3", status=2) != ""
     assert office.run("correct", "elm-1", "2025-01", "--bill", "--why", "x").status == 4
@@ -271,6 +276,7 @@ def test_who_may(office: Office, elm: Supplied) -> None:
                       "SELECT correct_bill('elm-1', '[2025-01-01,2026-01-01)', 'x')",
                       "SELECT leave_bill('elm-1', '[2025-01-01,2026-01-01)', 'x')"):
             assert "permission denied" in refused(office, query, role=role), (role, query)
-    for query in ("UPDATE versions SET out_at = NULL", "DELETE FROM published", "UPDATE published SET text = '1'", "DELETE FROM versions",
-                  "UPDATE month_use SET out_at = now()", "DELETE FROM changes", "UPDATE bills SET out_at = NULL", "DELETE FROM bills"):
+    for query in ("UPDATE versions SET out_at = NULL", "DELETE FROM published", "UPDATE published SET text = '1'",
+                  "DELETE FROM versions", "UPDATE month_use SET out_at = now()", "DELETE FROM changes",
+                  "UPDATE bills SET out_at = NULL", "DELETE FROM bills"):
         assert "permission denied" in refused(office, query, role="clerk"), query

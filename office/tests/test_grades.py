@@ -32,7 +32,8 @@ def grades(elm: Supplied, *months: str) -> List[str]:
     ("2025-02-01", 10, ["disturbed", "disturbed", "measured"]),
     ("2025-02-02", 10, ["measured", "disturbed", "measured"]),
     ("2025-02-28", 5000, ["measured", "disturbed", "disturbed"])])
-def test_a_false_value_marks_both_its_steps(office: Office, elm: Supplied, day: str, value: int, wanted: List[str]) -> None:
+def test_a_false_value_marks_both_its_steps(office: Office, elm: Supplied, day: str, value: int,
+                                            wanted: List[str]) -> None:
     """Too high or too low, the months that it decides have no number, until it is struck; then they are right."""
     meter = elm.meter(1, HEAT, "A1")
     elm.days(meter, "2024-12-20", 110, 1000, 10)
@@ -133,8 +134,10 @@ def test_an_allocator_begins_its_year(office: Office, elm: Supplied) -> None:
     read_daily(elm, meter, "2025-02-01", [221, 228])
     assert office.run("close").status == 0
     assert office.sql("SELECT last, first, why, at FROM restarts") == [(930, 0, "due date", at("2025-01-01T00:00"))]
-    rows: List[Tuple[Any, ...]] = office.sql("SELECT month::text, amount, grade FROM month_use WHERE month BETWEEN '2024-12-01' AND"
-                                             " '2025-01-01' ORDER BY 1")
+    rows: List[Tuple[Any,
+                     ...]] = office.sql(
+        "SELECT month::text, amount, grade FROM month_use WHERE month BETWEEN '2024-12-01' AND"
+        " '2025-01-01' ORDER BY 1")
     assert [row[2] for row in rows] == ["measured", "measured"]
     assert rows[1][1] == 214_000 + 7_000 * 4 // 24 and 930_000 - 721_000 < rows[0][1] < 930_000 - 707_000
     elm.reads(meter, at("2025-02-03T20:00"), 235, ("2024-12-31", 930))
@@ -149,13 +152,15 @@ def test_a_restart_that_a_person_declares(office: Office, elm: Supplied) -> None
     elm.days(meter, "2025-01-14", 40, 5, 10)
     assert grades(elm, "2025-01") == ["disturbed"]
     office.sql("SET ROLE clerk")
-    office.sql("SELECT restart('elm-1', '00000001.PAD.01.04', %s, 1195, 0, 'Wh', 'a new board')", at("2025-01-14T12:00"))
+    office.sql("SELECT restart('elm-1', '00000001.PAD.01.04', %s, 1195, 0, 'Wh', 'a new board')",
+               at("2025-01-14T12:00"))
     office.sql("RESET ROLE")
     assert elm.month("2025-01") == [("A1", 0, (1195 - 1060 + 175) * WH, "hand")]
     office.sql("UPDATE restarts SET last = 1100")  # below the value before it
     assert grades(elm, "2025-01") == ["disturbed"]
     office.sql("DELETE FROM restarts")
-    office.sql("SELECT restart('elm-1', '00000001.PAD.01.04', %s, NULL, 0, 'Wh', 'a new board')", at("2025-01-14T12:00"))
+    office.sql("SELECT restart('elm-1', '00000001.PAD.01.04', %s, NULL, 0, 'Wh', 'a new board')",
+               at("2025-01-14T12:00"))
     assert elm.month("2025-01") == [("A1", 0, (1190 - 1060 + 175) * WH, "estimated")]
     assert "no meter" in refused(office, "SELECT restart('elm-1', '00000001.PAD.01.04', now(), 1, 0, 'm3', 'x')")
 
@@ -178,8 +183,10 @@ def test_a_number_is_held_until_a_person_says_why(office: Office, elm: Supplied,
     office.sql("RESET ROLE")
     assert office.sql("SELECT why, made_by FROM seen") == [("a burst pipe", "office")]
     written(office, tmp_path, "--pdf", "none")
-    assert checked(sheet_of(office, tmp_path, tenancy).read_text(encoding="utf-8")).cells["cold water", "2025-01-01"].split() == ["51,00"]
-    elm.tells(meter, {str(day): value + 1 for day, value in office.sql("SELECT day, value FROM day_values WHERE day >= '2025-01-19'")}, "m3")
+    assert checked(sheet_of(office, tmp_path, tenancy).read_text(encoding="utf-8")).cells[
+        "cold water", "2025-01-01"].split() == ["51,00"]
+    elm.tells(meter, {str(day): value + 1 for day,
+                      value in office.sql("SELECT day, value FROM day_values WHERE day >= '2025-01-19'")}, "m3")
     elm.month("2025-01")
     assert office.sql("SELECT grade FROM month_kwh") == [("held",)]
 
@@ -193,10 +200,12 @@ def test_a_provisional_number_is_not_released(office: Office, elm: Supplied, tmp
     words = ("sheets", "2025-01", "--out", str(tmp_path), "--pdf", "none", "--release")
     ended = office.run(*words)
     assert ended.status == 5 and "2025-01 waits for readings after its end: elm-1" in ended.printed
-    assert office.sql("SELECT ready_houses('2025-01-01')") == [] and "waits for readings" in refused(office, "SELECT release_month('elm-1', '2025-01-01')")
+    assert office.sql("SELECT ready_houses('2025-01-01')") == [] and "waits for readings" in refused(
+        office, "SELECT release_month('elm-1', '2025-01-01')")
     assert not (tmp_path / "sheets").exists() and sheet_of(office, tmp_path, tenancy).exists()
     assert "no number elm-1" not in office.run("alarms", "--at", "2025-02-03T12:00+00:00").printed
-    assert "NEW no number elm-1/A1/heat/1 2025-01: No reading came after the month" in office.run("alarms", "--at", "2025-02-07T12:00+00:00").printed
+    assert "NEW no number elm-1/A1/heat/1 2025-01: No reading came after the month" in office.run(
+        "alarms", "--at", "2025-02-07T12:00+00:00").printed
     office.sql("SELECT desk.see_number(place, '2025-01-01', 'the meter was removed') FROM fittings")
     assert office.sql("SELECT ready_houses('2025-01-01')") == [("elm-1",)]
     assert office.run(*words).status == 0 and (tmp_path / "sheets").exists()
@@ -214,11 +223,13 @@ def test_a_leap_in_an_empty_flat_is_held(office: Office, elm: Supplied) -> None:
     elm.month("2025-01")
     assert office.sql("SELECT grade FROM month_kwh") == [("measured",)]
     for number in (2, 3, 4):
-        elm.values(elm.meter(number, COLD, f"A{number}"), {
-            str(datetime.date(2024, 12, 20) + datetime.timedelta(day)): f"{7 + 0.05 * day:.2f}" for day in range(60)}, "m3")
+        elm.values(elm.meter(number, COLD, f"A{number}"), {str(
+            datetime.date(2024, 12, 20) + datetime.timedelta(day)): f"{7 + 0.05 * day:.2f}" for day in range(60)}, "m3")
     elm.month("2025-01")
-    assert office.sql("SELECT flat, grade FROM month_kwh ORDER BY 1") == [("A1", "held"), ("A2", "measured"), ("A3", "measured"), ("A4", "measured")]
-    elm.tells(empty, {day: f"{7.15 + number * 0.15:.2f}" for number, day in enumerate(later)}, "m3")  # somebody moves in
+    assert office.sql("SELECT flat, grade FROM month_kwh ORDER BY 1") == [("A1", "held"), ("A2", "measured"),
+                                                                          ("A3", "measured"), ("A4", "measured")]
+    # somebody moves in
+    elm.tells(empty, {day: f"{7.15 + number * 0.15:.2f}" for number, day in enumerate(later)}, "m3")
     elm.month("2025-01")
     assert office.sql("SELECT grade FROM month_kwh WHERE flat = 'A1'") == [("measured",)]
 
@@ -241,8 +252,11 @@ def test_a_typing_error_at_an_exchange_is_held(office: Office, elm: Supplied) ->
     elm.days(old, "2024-12-20", 25, 1000, 10)
     office.sql("UPDATE meters SET identity = '00000002.PAD.01.04' WHERE box = 'elm-1'")
     new, moment = office.sql("SELECT max(id) FROM fittings")[0][0], at("2025-01-14T12:00")
-    office.sql("UPDATE fittings SET during = tstzrange(lower(during), %s), unit = 'Wh', last_value = 1345 WHERE id = %s", moment, old)
-    office.sql("UPDATE fittings SET during = tstzrange(%s, NULL), unit = 'Wh', first_value = 0 WHERE id = %s", moment, new)
+    office.sql(
+        "UPDATE fittings SET during = tstzrange(lower(during), %s), unit = 'Wh', last_value = 1345 WHERE id = %s",
+        moment, old)
+    office.sql("UPDATE fittings SET during = tstzrange(%s, NULL), unit = 'Wh', first_value = 0 WHERE id = %s", moment,
+               new)
     elm.days(new, "2025-01-14", 30, 5, 10)
     elm.month("2025-01")
     assert office.sql("SELECT is_held FROM month_use") == [(True,)]

@@ -24,7 +24,8 @@ def test_a_swap_at_the_box(office: Office, box: Box) -> None:
     assert office.sql("SELECT identity, line, address, flat FROM meters ORDER BY identity") == [
         ("22222222.PAD.01.07", 1, "2", "B2"), ("55555555.PAD.01.07", 1, "S", "A1")]
     assert ("A1", "cold water", 1, "55555555", True) in fitted(office)
-    assert office.sql("SELECT number, line, state::text, answer FROM orders WHERE number BETWEEN 4 AND 5 ORDER BY number") == [
+    assert office.sql(
+        "SELECT number, line, state::text, answer FROM orders WHERE number BETWEEN 4 AND 5 ORDER BY number") == [
         (4, SWAPPED, "done", "OK 4"), (5, "MOVE 22222222.PAD.01.07 B2", "done", "OK 5")]
 
 
@@ -88,7 +89,8 @@ def test_a_lie_of_the_journal(office: Office, box: Box, lie: str) -> None:
     """The office stops as without a journal, and nothing is changed."""
     assert box.says(f"3 {SWAPPED}", f"4 {MOVED_ON}") == ["OK 3", "OK 4"]
     rows = [json.loads(line) for line in box.journal.read_text(encoding="ascii").splitlines()]
-    box.journal.write_text("".join(json.dumps(row, separators=(",", ":")) + "\n" for row in LIES[lie](rows)), encoding="ascii")
+    box.journal.write_text("".join(json.dumps(row, separators=(",", ":")) + "\n" for row in LIES[lie](rows)),
+                           encoding="ascii")
     before = [office.sql(f"SELECT * FROM {table} ORDER BY 1, 2") for table in ("orders", "meters")]
     ended = office.collect("--tries", "1")
     assert ended.status == 1 and STOP in ended.printed, ended.printed

@@ -1,4 +1,4 @@
-"""office/close and office/month: the values of days, and the consumption of months with its grades."""
+"""office/close: the values of days, and the consumption of months with its grades."""
 
 import datetime
 
@@ -166,11 +166,11 @@ def test_a_meter_that_is_fitted_or_removed_in_a_month(office: Office, elm: Suppl
 def test_words(office: Office, elm: Supplied) -> None:
     this = datetime.date.today()
     for words, said in (("2025-13", "no month"), (f"{this:%Y-%m}", "isn't over"), ("x", "no month")):
-        ended = office.run("month", words)
+        ended = office.run("close", "--month", words)
         assert ended.status == 2 and said in ended.printed, ended.printed
-    assert office.run("month", "2025-01", "--house", "nowhere").status == 2
+    assert office.run("close", "--month", "2025-01", "--house", "nowhere").status == 2
     elm.days(elm.meter(1, HEAT, "A1"), "2024-12-25", 45, 1000, 10)
-    failed = office.run("month", "2025-01", MBDC="/bin/false")
+    failed = office.run("close", "--month", "2025-01", MBDC="/bin/false")
     assert failed.status == 3 and "audit ended with status 1" in failed.printed
     assert office.sql("SELECT count(*) FROM month_use") == [(0,)]
 

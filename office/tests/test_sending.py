@@ -48,7 +48,7 @@ def test_a_month_goes_out(office: Office, elm: Supplied, tmp_path: pathlib.Path)
     for number, person, wants, mail in ((1, "A. Weber", "link", "weber@example.org"), (2, HOSTILE, "paper", None), (3, "C. Roth", "link", None)):
         tenancy = elm.tenancy(f"A{number}", "2024-01-01", None, person)
         office.sql("UPDATE tenancies SET wants = %s, mail = %s WHERE id = %s", wants, mail, tenancy)
-    office.run("month", "2025-01")
+    elm.month("2025-01")
     program, out = sendmail(tmp_path), tmp_path / "out"
     assert office.run("act", "release", "2025-01-01", "--why", "all is there").status == 0
     assert office.run("act", "release", "2025-01-01", "--why", "again").status == 0  # one job
@@ -62,7 +62,8 @@ def test_a_month_goes_out(office: Office, elm: Supplied, tmp_path: pathlib.Path)
     pages = text.split("\f")
     assert "Druck Januar 2025: 1" in pages[0] and "Elm Street 1" in pages[1] and "310,0" in text
     office.run("alarms", "--at", "2025-02-27T12:00+00:00")
-    assert office.sql("SELECT facts->>'text', facts->>'flat' FROM morning WHERE kind = 'not sent'") == [("1 × no mail address", "A3")]
+    assert office.sql("SELECT facts - 'month' FROM morning WHERE kind = 'not sent'") == [
+        ({"count": 1, "failed": "no mail address", "flat": "A3"},)]
     for mail, told in (("refused@example.org", "sendmail: no such user"), ("roth@example.org", "sent roth@example.org")):
         assert office.run("act", "address", "elm-1", "A3", "link", mail, "--why", "asked").status == 0
         assert office.run("act", "send", "2025-01-01", "--why", "again").status == 0
@@ -80,7 +81,7 @@ def test_a_corrected_sheet_says_what_changed_and_why(office: Office, elm: Suppli
     """Version 2 begins with both numbers and the reason, and version 1 stays beside it, marked as replaced."""
     tenancy = elm.tenancy("A1", "2024-01-01", None, language="en")
     office.sql("UPDATE tenancies SET wants = 'link', mail = 'weber@example.org'")
-    office.run("month", "2025-01")
+    elm.month("2025-01")
     program, out = sendmail(tmp_path), tmp_path / "out"
     office.run("act", "release", "2025-01-01", "--why", "all is there")
     worked(office, out, program)
@@ -107,7 +108,7 @@ def test_a_house_that_is_not_ready_waits(office: Office, elm: Supplied, tmp_path
     elm.tells(office.sql("SELECT id FROM fittings WHERE house = 'elm-1'")[0][0], {"2025-01-31": 5})
     for house in (elm, oak):
         house.tenancy("A1" if house is elm else "B1", "2024-01-01", None)
-    office.run("month", "2025-01")
+    elm.month("2025-01")
     assert office.sql("SELECT ready_houses('2025-01-01')") == [("oak-2",)]
     office.run("act", "release", "2025-01-01", "--why", "all that is there")
     worked(office, tmp_path / "out", sendmail(tmp_path))
@@ -125,7 +126,7 @@ def test_one_bad_address_stops_no_other(office: Office, elm: Supplied, tmp_path:
     office.sql("UPDATE tenancies SET mail = %s WHERE flat = 'A2'", "o'neill+meters@mail.example-1.org")
     office.sql("ALTER TABLE tenancies DROP CONSTRAINT is_an_address")
     office.sql("UPDATE tenancies SET mail = '_@[a' WHERE flat = 'A1'")
-    office.run("month", "2025-01")
+    elm.month("2025-01")
     assert office.run("act", "release", "2025-01-01", "--why", "all is there").status == 0
     assert "1 by mail, 0 to print, 1 failed" in worked(office, tmp_path / "out", sendmail(tmp_path), 1)
     assert len(list(tmp_path.glob("mail.*"))) == 1 and "A2 1 sent o'neill" in sent(office)
