@@ -1,6 +1,7 @@
 """What the office's commands have in common: the words that each takes, and how each ends."""
 
 import argparse
+import os
 import sys
 from typing import Callable, NoReturn, Optional
 
@@ -19,6 +20,16 @@ def words_of(doc: Optional[str]) -> argparse.ArgumentParser:
     words = argparse.ArgumentParser(description=(doc or "").splitlines()[0])
     words.add_argument("--database", default="", metavar="DSN", help="of libpq, as 'host=db.example dbname=office'")
     return words
+
+
+def add_workers(words: argparse.ArgumentParser) -> None:
+    words.add_argument("--workers", type=count_word, default=os.cpu_count() or 1, metavar="N", help="processes (as many as processors)")
+
+
+def count_word(text: str) -> int:
+    if not text.isdecimal() or int(text) < 1:
+        raise argparse.ArgumentTypeError("at least 1")
+    return int(text)
 
 
 def ended(name: str, given: argparse.Namespace, work: Callable[[Database, argparse.Namespace], int]) -> NoReturn:
