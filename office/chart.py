@@ -3,11 +3,10 @@
 import decimal
 from typing import List, NamedTuple, Optional
 
-WIDTH, HEIGHT = 650, 200  # user units
+WIDTH, HEIGHT = 650, 130  # pixels: letters of 11 have 8 points
 TOP, BOTTOM, LEFT = 24, 36, 8
 GAP = 8
 PLACES = 13
-LETTER, LETTER_WIDTH = 11, 0.68  # the largest, and its width by its size
 
 
 class Bar(NamedTuple):
@@ -31,16 +30,14 @@ class Shape(NamedTuple):
 
 
 class Chart(NamedTuple):
-    width: int
+    width: float
     height: int
-    letter: float  # the size of letters, so that no number reaches the next one
     base: int  # where the bars stand
-    end: float  # of the line below them
     shapes: List[Shape]
 
 
 def chart_of(bars: List[Bar]) -> Chart:
-    """The bars from the left, the highest as high as the chart, which is as wide as for thirteen of them."""
+    """The bars from the left, the highest as high as the chart; thirteen of them are WIDTH."""
     most = max((bar.value for bar in bars if bar.value is not None), default=decimal.Decimal())
     step = (WIDTH - 2 * LEFT) / PLACES
     room = HEIGHT - TOP - BOTTOM
@@ -50,5 +47,4 @@ def chart_of(bars: List[Bar]) -> Chart:
         x = LEFT + place * step
         shapes.append(Shape(round(x + GAP / 2, 1), round(HEIGHT - BOTTOM - height, 1), round(step - GAP, 1),
                             round(height, 1), round(x + step / 2, 1), bar))
-    longest = max((len(bar.shown) for bar in bars if bar.value is not None), default=0)
-    return Chart(WIDTH, HEIGHT, round(min(LETTER, step / (LETTER_WIDTH * max(longest, 1))), 1), HEIGHT - BOTTOM, round(2 * LEFT + len(bars) * step, 1), shapes)
+    return Chart(round(2 * LEFT + len(bars) * step, 1), HEIGHT, HEIGHT - BOTTOM, shapes)

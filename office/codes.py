@@ -1,32 +1,29 @@
 """QR codes as SVG paths, by Debian's python3-qrcode; none where it isn't installed."""
 
-import datetime
 import importlib
 import importlib.util
 from typing import Any, List, NamedTuple, Optional
 
 QUIET = 4  # modules around a code
-MOST = 1400  # characters of a link; a longer one gives a code too fine for paper
 
 
 class Code(NamedTuple):
-    """A code, and what it leads to."""
+    """A code, and the link that it leads to."""
     path: str
     size: int
-    meter: str
-    at: datetime.datetime
+    link: str
 
 
-def code_of(link: str, meter: str, at: datetime.datetime) -> Optional[Code]:
-    """The code of a link; None where there is no library or the link is too long."""
-    if len(link) > MOST or importlib.util.find_spec("qrcode") is None:
+def code_of(link: str) -> Optional[Code]:
+    """The code of a link; None where there is no library."""
+    if importlib.util.find_spec("qrcode") is None:
         return None
     qrcode: Any = importlib.import_module("qrcode")
     made = qrcode.QRCode(error_correction=qrcode.constants.ERROR_CORRECT_L, border=0)
     made.add_data(link)
     made.make(fit=True)
     rows: List[List[bool]] = made.get_matrix()
-    return Code(path_of(rows), len(rows) + 2 * QUIET, meter, at)
+    return Code(path_of(rows), len(rows) + 2 * QUIET, link)
 
 
 def path_of(rows: List[List[bool]]) -> str:

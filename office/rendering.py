@@ -15,7 +15,7 @@ import markupsafe
 
 from catalogue import Catalogue
 from chart import Bar, Chart, chart_of
-from codes import Code, code_of
+from codes import code_of
 from database import plain
 from periods import day_before, later_month, next_month
 from drafts import DECLARED, is_whole
@@ -31,9 +31,10 @@ FACTS = {"changes": comparisons, "weather": weather, "carbon": carbon, "costs": 
 
 class Options(NamedTuple):
     """How sheets are made: the pages that decode a telegram, and that audit a sheet's file (a relative or an absolute link; none: no
-    links)."""
+    links), and where the sheets are on the web (none: no code on paper)."""
     decoder: str
     auditor: str
+    link: str
 
 
 class Evidence(NamedTuple):
@@ -73,8 +74,8 @@ def printed_in(numbers: Numbers, words: Catalogue) -> Callable[[str], Optional[P
     return number
 
 
-def sheet_html(sheet: Sheet, published: Published, options: Options, evidence: Optional[Evidence], with_codes: bool = False) -> str:
-    """A sheet; with the codes of its telegrams for paper."""
+def sheet_html(sheet: Sheet, published: Published, options: Options, evidence: Optional[Evidence], is_paper: bool = False) -> str:
+    """A sheet; on paper with a code that leads to it on the web."""
     user, words, numbers = sheet.user, Catalogue(sheet.user.language, sheet.user.zone), published.of(sheet.user.id)
     months = [use.months[sheet.month] for use in sheet.uses]
     number, flat = printed_in(numbers, words), user.flat
@@ -90,7 +91,7 @@ def sheet_html(sheet: Sheet, published: Published, options: Options, evidence: O
                    is_estimated=any(is_estimated(numbers, month_key(flat, use, sheet.month)) for use in sheet.uses),
                    said=said_of(sheet, words, numbers), corrected=corrected(sheet, words, numbers),
                    part=lambda month, of: part_of(month, of, words), decoder=options.decoder,
-                   is_paper=with_codes, codes=codes_of(sheet, options) if with_codes else [])
+                   is_paper=is_paper, code=code_of(f"{options.link}/{user.token}/{sheet.month:%Y-%m}.html") if is_paper and options.link else None)
 
 
 def audited_of(audit: Optional[int], says: str, words: Catalogue) -> str:
@@ -150,17 +151,6 @@ def bar_of(printed: Optional[Printed], month: datetime.date, words: Catalogue) -
     value = decimal.Decimal(printed.text) if printed is not None and printed.is_number else None
     said = words.word("none") if printed is None or value is None else words.printed(printed.text)
     return Bar(words.short_month(month), str(month.year), value, said, printed is not None and printed.mark == "estimated", month.month == 1)
-
-
-def codes_of(sheet: Sheet, options: Options) -> List[Code]:
-    """A code for each telegram, once; only where the link works from paper."""
-    if not options.decoder.startswith(("https://", "http://")):
-        return []
-    found = {}
-    for reading in (it for use in sheet.uses for place in use.places for it in place.readings):
-        if reading.frame and reading.frame not in found:
-            found[reading.frame] = code_of(f"{options.decoder}#{reading.frame}", reading.meter, reading.at)
-    return [code for code in found.values() if code is not None]
 
 
 def refuse(url: str) -> Any:

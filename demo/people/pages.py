@@ -10,10 +10,10 @@ from typing import Any, Dict, Iterator, List, Optional, Tuple
 from people.houses import BERLIN, House, Place, User, begin_of, next_month
 from people.truth import DECIMALS, DISTURBED, ESTIMATED, HAND, HELD, MISSING, PROVISIONAL, Number, Truth, places_of, written
 
-WORDS = {"de": {ESTIMATED: "geschätzt", HAND: "abgelesen", PROVISIONAL: "vorläufig:", MISSING: "fehlt",
+WORDS = {"de": {ESTIMATED: "geschätzt", HAND: "abgelesen", PROVISIONAL: "vorläufig:", MISSING: "nicht gelesen",
                 DISTURBED: "ein Zählerstand wird geprüft", HELD: "auffällig hoch", "before": "eingezogen", "none": "kein Wert",
                 "only": "Tagen,"},
-         "en": {ESTIMATED: "estimated", HAND: "person", PROVISIONAL: "provisional:", MISSING: "missing",
+         "en": {ESTIMATED: "estimated", HAND: "person", PROVISIONAL: "provisional:", MISSING: "wasn't read",
                 DISTURBED: "a reading is being checked", HELD: "unusually high", "before": "moved in", "none": "no value",
                 "only": "days,"}}
 MONTHS = {"de": "Jan Feb Mär Apr Mai Jun Jul Aug Sep Okt Nov Dez".split(),
@@ -112,7 +112,7 @@ class Checker:
                 number = self.truth.of_user(house, flat, use, user, shown) if shown >= self.first_month else None
                 self.cell(f"{where} {use} {shown}", page.cells.get((use, str(shown)), ""), number, unit, user, shown)
             average = self.truth.average(house, use, unit, month)
-            self.same(f"{where} {use} average", page.cells.get((use, "average"), ""), "–" if average is None else written(
+            self.same(f"{where} {use} average", page.cells.get((use, "average"), "").partition(" ")[0], "–" if average is None else written(
                 average * house.flats[flat], DECIMALS[unit], user.language))
         self.charts(page, where, house, flat, user, month)
         self.readings(page, where, house, flat, user.language)

@@ -244,7 +244,7 @@ def test_an_average_over_several_houses(office: Office, elm: Supplied, tmp_path:
         "average,allocator,HCA,1,2.822632", "average,heat,kWh,1,12.629074"]  # (3 * 93 * 1.7 + 62) / 190, (6 * 31 * 11.234 + 310) / 190
     assert office.sql("SELECT mark, count(*) FROM published WHERE key LIKE '%% average%%' GROUP BY mark") == [("declared", 2)]
     assert office.run("sheets", "2025-01", "--out", str(tmp_path), "--pdf", "none").status == 0
-    assert "It is of several houses: declared, and computed by no audit." in sheet_of(office, tmp_path, tenancy).read_text(encoding="utf-8")
+    assert "It covers several houses. Your property manager states it;" in sheet_of(office, tmp_path, tenancy).read_text(encoding="utf-8")
 
 
 def test_nothing_goes_out_without_an_audit(office: Office, elm: Supplied) -> None:

@@ -137,7 +137,7 @@ def test_a_sheet(office: Office, elm: Supplied, tmp_path: pathlib.Path) -> None:
     assert page.cells["warm water", "2025-01-01"].split() == ["437,5"]
     assert page.cells["warm water", "2024-01-01"].split() == ["250,0"]
     assert page.cells["cold water", "2025-01-01"].split() == ["31,00"]
-    assert "fehlt" in page.cells["cold water", "2024-01-01"]
+    assert "nicht gelesen" in page.cells["cold water", "2024-01-01"]
     noted = office.sql("SELECT form, path, sha256, made_by FROM sheets")
     assert noted == [("html", str(path.relative_to(tmp_path / "ready")), hashlib.sha256(path.read_bytes()).hexdigest(), "office")]
     written(office, tmp_path, "--pdf", "none")
@@ -146,14 +146,17 @@ def test_a_sheet(office: Office, elm: Supplied, tmp_path: pathlib.Path) -> None:
 
 def test_an_english_sheet_and_its_pdf(office: Office, elm: Supplied, tmp_path: pathlib.Path) -> None:
     tenancy = elm.tenancy("A4", "2023-01-01", None, "A. Reader", "en")
+    office.sql("UPDATE houses SET contact = 'Elm Office, 030 1234'")
     elm.month("2025-01")
-    written(office, tmp_path, "--decoder", "https://example.org/decode.html")
+    written(office, tmp_path, "--link", "https://example.org/sheets")
     page = checked(sheet_of(office, tmp_path, tenancy).read_text(encoding="utf-8"))
     assert page.cells["heat", "2025-01-01"].split() == ["1,240.0"]
     pdf = sheet_of(office, tmp_path, tenancy, form="pdf")
     text = subprocess.run(["pdftotext", "-layout", pdf, "-"], capture_output=True, text=True, check=True).stdout
-    assert "1,240.0" in text and "Consumption information January 2025" in text
-    written(office, tmp_path, "--decoder", "https://example.org/decode.html")
+    first, *others = text.split("\f")
+    assert all(it in first for it in ("1,240.0", "Consumption information January 2025", "Elm Office, 030 1234")) and len(others) <= 2
+    assert "This sheet on the web" in " ".join(text.split())
+    written(office, tmp_path, "--link", "https://example.org/sheets")
     assert office.sql("SELECT form FROM sheets ORDER BY form") == [("html",), ("pdf",)]  # the same bytes, noted once
 
 
@@ -180,10 +183,10 @@ def test_what_is_no_number_and_what_is_estimated(office: Office, elm: Supplied, 
     elm.month("2025-01")
     written(office, tmp_path, "--pdf", "none")
     cells = [checked(sheet_of(office, tmp_path, it).read_text(encoding="utf-8")).cells for it in tenancies]
-    assert "fehlt" in cells[0]["heat", "2025-01-01"] and "geprüft" in cells[1]["heat", "2025-01-01"]
+    assert "nicht gelesen" in cells[0]["heat", "2025-01-01"] and "geprüft" in cells[1]["heat", "2025-01-01"]
     assert not re.search(r"\d", cells[0]["heat", "2025-01-01"] + cells[1]["heat", "2025-01-01"])
     assert cells[2]["heat", "2025-01-01"].split() == ["930,0"]
-    assert cells[2]["heat", "average"].strip() == "–"  # of two flats: too few to tell
+    assert cells[2]["heat", "average"].strip() == "– zu wenige vergleichbare Wohnungen"
     assert office.run("estimate", "2025-01").status == 0
     written(office, tmp_path, "--pdf", "none")
     text = sheet_of(office, tmp_path, tenancies[0]).read_text(encoding="utf-8")
