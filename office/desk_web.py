@@ -24,7 +24,7 @@ from werkzeug.exceptions import HTTPException, RequestEntityTooLarge
 
 from database import Cursor, Database
 from desk_items import ACTIONS, LINES, Words, act, title
-from desk_lists import house_list, houses_list, log_list, meter_list, months_list
+from desk_lists import Asked, house_list, houses_list, log_list, meter_list, months_list
 from desk_pages import Viewer, fields_of, morning_of, morning_page, page, words_for
 from importing import decoded, fault_of, imported
 
@@ -240,7 +240,8 @@ def listed(database: Database, function: Any) -> Any:
     """A list as an answer."""
     def shown(**words: str) -> str:
         with desk(database) as it:
-            return str(function(it.cursor, it.words, it.viewer, flask.request.args.get("q", ""), **words))
+            asked = Asked(flask.request.args.get("q", ""), flask.request.args.get("from", 0, int))
+            return str(function(it.cursor, it.words, it.viewer, asked, **words))
     return shown
 
 

@@ -211,6 +211,15 @@ def test_lists_are_taken_as_a_whole_or_not(office: Office, elm: Supplied, desk: 
     assert office.sql("SELECT area_m2::text FROM flats WHERE flat = 'A3'") == [("60",)]
 
 
+def test_a_list_goes_on(office: Office, elm: Supplied, desk: Desk) -> None:
+    office.sql("INSERT INTO houses (house, address) SELECT 'h-' || n, 'x' FROM generate_series(1, 700) n")
+    first = desk.get("/houses?q=h-")[1]
+    after = re.findall(r'rel="next" href="([^"]+)"', first)[0].replace("&amp;", "&")
+    second = desk.get(f"/houses{after}")[1]
+    one, other = (set(re.findall(r"h-\d+", page.partition("<tbody>")[2])) for page in (first, second))
+    assert len(one) == 500 and len(one | other) == 700 and 'rel="next"' not in second
+
+
 def test_an_exchange_before_and_after_the_box_knows_it(office: Office, elm: Supplied) -> None:
     """Entered before, the box is ordered to swap, and the readings wait for it; entered after, they are set at once."""
     old = elm.meter(1, HEAT, "A1")
