@@ -7,6 +7,7 @@ grows evenly. A meter that dies tells nothing; one that is disturbed tells a val
 import bisect
 import dataclasses
 import datetime
+import functools
 import random
 import zoneinfo
 from typing import Dict, Iterator, List, NamedTuple, Optional, Tuple
@@ -41,6 +42,7 @@ KINDS = {
 SHOWN_DIGIT = {0x03: ("Wh", 1, 0), 0x0E: ("J", 1_000_000, 0), 0x13: ("m3", 1, 3), 0x6E: ("HCA", 1, 0)}
 GAP_DAYS = 6
 LEAP = 53_000_000  # millilitres
+KEPT = 4096  # places of which a moment's values are kept
 WRONG = datetime.datetime(2000, 1, 1, 0, 7, tzinfo=UTC)  # of a clock that began anew
 COMPANY = bytes([0x24, 0x40])
 STATUS = bytes([0, 0, 0, 0])  # access number, status, configuration
@@ -116,7 +118,7 @@ class Consumed(NamedTuple):
 LONGEST_GAP = datetime.timedelta(hours=48)
 
 
-@dataclasses.dataclass
+@dataclasses.dataclass(eq=False)
 class Place:
     """A supply point, its meters, and what was consumed there."""
     house: str
@@ -130,6 +132,7 @@ class Place:
     struck: List[False_] = dataclasses.field(default_factory=list)
     is_dead_since: Optional[Moment] = None
     outage: Optional[Tuple[Moment, Moment]] = None  # of the way to the house's box
+    jump: Optional[Tuple[Moment, Moment]] = None  # between these two the meter counted more than was used
 
     def comes(self, at: Moment) -> Moment:
         """When the office gets what is known at a moment."""
@@ -139,6 +142,7 @@ class Place:
     def use(self) -> str:
         return self.kind.use
 
+    @functools.lru_cache(maxsize=KEPT)
     def known(self, now: Moment) -> List[Knot]:
         """The knots that the office knows. At an exchange a person notes both values, whether the box is in reach or not."""
         noted = {device.begins for device in self.devices}
@@ -157,6 +161,7 @@ class Place:
         share = (after.amount - before.amount) * seconds(moment - before.at) // seconds(after.at - before.at)
         return Consumed(before.amount + share, after.at - before.at <= LONGEST_GAP)
 
+    @functools.lru_cache(maxsize=KEPT)  # until one is struck
     def entries(self, now: Moment) -> List["Entry"]:
         """What the office has of the place: what was told, also what is false and not struck, and what people noted."""
         known = {knot.at: knot.amount for knot in self.known(now)}
@@ -267,7 +272,8 @@ class Plan(NamedTuple):
     is_high: bool = False  # what is told then is too high
     unstamped: Tuple[datetime.date, ...] = ()  # days on which the box's clock is wrong
     is_empty: bool = False  # nothing is used
-    leaps_on: Optional[datetime.date] = None  # the meter counts LEAP more than was used
+    leaps_on: Optional[datetime.date] = None  # the meter counts more than was used
+    leap: int = LEAP
 
 
 def fill(place: Place, plan: Plan, first: datetime.date, after: datetime.date, hour: datetime.time, rng: random.Random
@@ -282,7 +288,8 @@ def fill(place: Place, plan: Plan, first: datetime.date, after: datetime.date, h
         if not plan.is_empty:
             amount += max(0, round(days * place.kind.a_day * season * rng.uniform(0.5, 1.5))) * place.kind.digit
         if plan.leaps_on is not None and last < begin_of(plan.leaps_on) <= moment:
-            amount += LEAP
+            amount += plan.leap
+            place.jump = last, moment
         knots.append((moment, amount))
         digits_of[moment], last = amount, moment
     exchange(place, plan, digits_of, rng)

@@ -11,6 +11,7 @@ from people.houses import (BERLIN, GAP_DAYS, KINDS, UTC, Device, House, Kind, Mo
 HOSTILE = ("Zoë \"Q\" O'Neill <b>&amp;</b>", "محمد علي", "'; DROP TABLE readings; --", "{{ 7 * 7 }} {% raw %}", "\u202eevil")
 NAMES = ("Weber", "Yılmaz", "Nowak", "Smith", "Đorđević", "Lindqvist")
 ODD = (1, 2)  # flats of the first house
+PLAIN = 3  # houses without jumps
 WRONG_DAYS = (10, 11, 12)  # of a month, from 0
 FEW_DIGITS = (20_000, 90_000)  # of a meter's first value, which is false at a tenth
 
@@ -34,17 +35,30 @@ def house_of(number: int, flats: int, first: datetime.date, after: datetime.date
             made = Place(house.name, flat, kind, index, weight, [device])
             plan = with_wrong_clock(plan_of(kind, len(house.places), first, after, hour, rng), number, first)
             if number == 1 and kind.use == "cold water" and place in ODD:
-                plan = odd(place, plan, first, after)
+                plan = odd(place, first, after)
+            plan = with_jump(plan, number, place, kind, first, after, random.Random(serial)) if number > PLAIN else plan
             fill(made, plan, first, after, hour, rng)
             house.places.append(made)
     return house
 
 
-def odd(place: int, plan: Plan, first: datetime.date, after: datetime.date) -> Plan:
-    """Of the first house a flat is empty, and another is heard weekly alone; the meters of both leap in the third month."""
-    weekly = [day for number in range((after - first).days) if (day := first + datetime.timedelta(days=number)).weekday() > 0]
+def but_mondays(first: datetime.date, after: datetime.date) -> List[datetime.date]:
+    return [day for number in range((after - first).days) if (day := first + datetime.timedelta(days=number)).weekday() > 0]
+
+
+def with_jump(plan: Plan, house: int, flat: int, kind: Kind, first: datetime.date, after: datetime.date, rng: random.Random) -> Plan:
+    """Of each fourth house a flat is empty, and each fifth is heard weekly. Of five meters one jumps, by up to thirty usual days."""
+    day = first + datetime.timedelta(days=rng.randrange(45, max((after - first).days - 15, 46)))
+    jumps = plan._replace(leaps_on=day, leap=round(kind.a_day * rng.uniform(2, 30)) * kind.digit) if rng.random() < 0.2 else plan
+    jumps = jumps._replace(is_empty=True) if house % 4 == 0 and flat == 0 else jumps
+    return jumps._replace(lost=but_mondays(first, after)) if house % 5 == 0 else jumps
+
+
+def odd(place: int, first: datetime.date, after: datetime.date) -> Plan:
+    """Of the first house a flat is empty, and another is heard weekly; the meters of both leap in the third month."""
     leaps_on = next_month(next_month(first)).replace(day=15)
-    return Plan(True, [] if place == ODD[0] else weekly, None, None, None, is_empty=place == ODD[0], leaps_on=leaps_on)
+    is_empty = place == ODD[0]
+    return Plan(True, [] if is_empty else but_mondays(first, after), None, None, None, is_empty=is_empty, leaps_on=leaps_on)
 
 
 def with_wrong_clock(plan: Plan, house: int, first: datetime.date) -> Plan:

@@ -5,10 +5,10 @@ import html.parser
 import pathlib
 import re
 from fractions import Fraction
-from typing import Any, Dict, Iterator, List, Optional, Tuple
+from typing import Any, Dict, Iterator, List, Optional, Set, Tuple
 
 from people.houses import BERLIN, House, Place, User, begin_of, next_month
-from people.truth import DECIMALS, DISTURBED, ESTIMATED, HAND, HELD, MISSING, PROVISIONAL, Number, Truth, places_of, written
+from people.truth import DECIMALS, DISTURBED, ESTIMATED, HAND, HELD, MISSING, PROVISIONAL, VALUE, Number, Truth, places_of, written
 
 WORDS = {"de": {ESTIMATED: "geschätzt", HAND: "abgelesen", PROVISIONAL: "vorläufig:", MISSING: "nicht gelesen",
                 DISTURBED: "ein Zählerstand wird geprüft", HELD: "auffällig hoch", "before": "eingezogen", "none": "kein Wert",
@@ -71,6 +71,7 @@ class Checker:
 
     def __init__(self, truth: Truth) -> None:
         self.truth, self.count, self.problems = truth, 0, []  # type: Truth, int, List[str]
+        self.jumps: Set[str] = set()  # measured numbers with a jump that no rule over one meter can tell
         self.told: Dict[Tuple[str, str, str], Dict[Tuple[str, str], str]] = {}  # by house, flat and language
 
     def same(self, where: str, found: str, wanted: str) -> None:
@@ -111,6 +112,8 @@ class Checker:
             for shown in (month, shifted(month, -1), shifted(month, -12)):
                 number = self.truth.of_user(house, flat, use, user, shown) if shown >= self.first_month else None
                 self.cell(f"{where} {use} {shown}", page.cells.get((use, str(shown)), ""), number, unit, user, shown)
+                if number is not None and number.jumps and number.state == VALUE and not number.mark:
+                    self.jumps.add(f"{house.name} {flat} {use} {number.begins}")
             average = self.truth.average(house, use, unit, month)
             self.same(f"{where} {use} average", page.cells.get((use, "average"), "").partition(" ")[0], "–" if average is None else written(
                 average * house.flats[flat], DECIMALS[unit], user.language))

@@ -26,6 +26,7 @@ class Number(NamedTuple):
     mark: str  # beside it
     begins: Moment
     ends: Moment
+    jumps: int = 0  # of the meters, that are in it
 
 
 class Truth:
@@ -63,7 +64,8 @@ class Truth:
         is_near = first.is_near and last.is_near and not any(
             device.is_estimated and device.ends is not None and begins < device.ends <= ends for device in place.devices)
         value = self.scaled(place, last.amount - first.amount, unit or self.unit(place.house, place.use))
-        return Number(VALUE, value, mark_of(entries, begins, ends) if is_near else ESTIMATED, begins, ends)
+        jumps = int(place.jump is not None and place.jump[0] < ends and begins < place.jump[1])
+        return Number(VALUE, value, mark_of(entries, begins, ends) if is_near else ESTIMATED, begins, ends, jumps)
 
     def elsewhere(self, place: Place, begins: Moment, ends: Moment) -> float:
         """A day of the place in the same month of the year before, else the median one of the others of its house and use."""
@@ -91,7 +93,7 @@ class Truth:
         state = max((number.state for number in numbers), key=WORST.index)
         values = [number.value for number in numbers if number.value is not None]
         total = sum(values, Fraction()) if len(values) == len(numbers) else None
-        return Number(state, total, max((number.mark for number in numbers), key=MARKS.index), begins, ends)
+        return Number(state, total, max((number.mark for number in numbers), key=MARKS.index), begins, ends, sum(it.jumps for it in numbers))
 
     def of_user(self, house: House, flat: str, use: str, user: User, month: datetime.date) -> Optional[Number]:
         """What a user used in a month; None where it wasn't the user's."""
