@@ -2,7 +2,8 @@
 
 ghost use Rattle.std.specs.Prelude.{◌≡◌, is_some};
 ghost use Rattle.mbdc_ending.specs.Unopened.{Stands};
-ghost use Rattle.mbdc_commands.specs.FitOver.{FitEnds, FitsOver, commit_fault};
+ghost use Rattle.mbdc_io.specs.Written.{Wrote};
+ghost use Rattle.mbdc_commands.specs.FitOver.{FitEnds, FitsOver, commit_fault, outcome_text};
 ghost use Rattle.mbdc_commands.specs.Guard.{Guards};
 
 use crate::guard::guarded;
@@ -15,14 +16,15 @@ use mbdc_change::Command;
 use mbdc_ending::{Ending, STREAM};
 use mbdc_fit::list::{Plan, Wish};
 use mbdc_fit::{FitFault, fit_on};
+use mbdc_io::{IoFault, Sink};
 use mbdc_log::{OpenFault, StoreFault};
 use std::alloc::Global;
 use std::io::{LineWriter, Write};
 use std::marker::Brand;
 
-/// Looks at the image, adds the meters of a list to its register or does one command, prints what comes of it, and says
-/// how that ended. The commands that were done are noted; no clause names the notes, since all that is promised here
-/// holds whatever becomes of them.
+/// Looks at the image, adds the meters of a list to its register or does one command, notes what was done, then prints
+/// it, and says how that ended. No clause names the notes, since all that is promised here holds whatever becomes of
+/// them.
 pub fn fit_over<'a, D, O, N>(
     alloc: Global,
     disk: D,
@@ -46,7 +48,7 @@ where
     fit_printed::<D, O, N, Brand>(alloc, disk, wish, out, notes)
 }
 
-// Does what is asked, notes it, and prints what comes of it.
+// Does what is asked, notes it, and then prints what comes of it.
 fn fit_printed<'a, D, O, N, K>(
     alloc: Global,
     disk: D,
@@ -67,9 +69,11 @@ where
         return (disk, Ending::Memory);
     };
     let mut out: KnownSink<LineWriter<O>, K> = KnownSink::new(out);
-    let (disk, outcome) = fit_on(alloc, disk, wish, &mut out);
-    let is_printed = is_written_out(out);
+    let (disk, outcome) = fit_on(alloc, disk, wish);
     note_all(&outcome, notes);
+    // What isn't put is known by the sink, too.
+    let _ = put_outcome(&outcome, &mut out);
+    let is_printed = is_written_out(out);
     (disk, fit_ending(&outcome, is_printed))
 }
 
@@ -86,6 +90,19 @@ fn note_all<N: CommandNotes>(outcome: &Result<Plan<Global>, FitFault>, notes: &m
     }
 }
 
+// Writes what was done or what is wrong; nothing where the image wasn't opened or written.
+fn put_outcome<W: Sink>(
+    outcome: &Result<Plan<Global>, FitFault>,
+    out: &mut W,
+) -> Result<(), IoFault>
+    ensures { Wrote W.Sink result out.old out.new (outcome_text outcome.now) }
+{
+    match outcome {
+        Ok(plan) => plan.print(out),
+        Err(_) => Ok(()),
+    }
+}
+
 // The ending of `fit`, by its outcome and by whether all was printed.
 fn fit_ending<'a>(outcome: &Result<Plan<Global>, FitFault>, is_printed: bool) -> Ending<'a>
     ensures { FitEnds outcome.now is_printed result }
@@ -96,7 +113,6 @@ fn fit_ending<'a>(outcome: &Result<Plan<Global>, FitFault>, is_printed: bool) ->
         Ok(_) => Ending::Clean,
         Err(FitFault::NoMemory | FitFault::Open(OpenFault::NoMemory)) => Ending::Memory,
         Err(FitFault::Open(fault)) => Ending::Open(*fault),
-        Err(FitFault::Write) => Ending::File(STREAM),
         Err(FitFault::Disk(fault)) => Ending::Disk(commit_fault(*fault)),
     }
 }

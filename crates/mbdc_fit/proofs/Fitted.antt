@@ -13,8 +13,8 @@ use Rattle.dc_sectors.specs.Runs.{LeavesOnly}
 use Rattle.dc_sectors.specs.declared.device.Disk.{Ghosts}
 use Rattle.mbdc_fit.proofs.Copies.{same_held}
 use Rattle.mbdc_fit.specs.declared.fault.FitFault.{FitFault}
-use Rattle.mbdc_fit.specs.declared.fault.FitFault.TheVariants.{Open, NoMemory, Write, Disk}
-use Rattle.mbdc_fit.specs.Fit.{Fits, FitsAll, IfDisk, IsBefore, IsListed, Lists, ListsAll, fit_text, fitted}
+use Rattle.mbdc_fit.specs.declared.fault.FitFault.TheVariants.{Open, NoMemory, Disk}
+use Rattle.mbdc_fit.specs.Fit.{Fits, FitsAll, IfDisk, IsBefore, IsListed, Lists, ListsAll, fitted}
 use Rattle.mbdc_fit.specs.Plan.{IsOneGroup, Outcome}
 use Rattle.mbdc_fit.specs.Wish.{IsMetBy}
 use Rattle.mbdc_fit.specs.declared.list.wish.Wish.{Wish}
@@ -40,20 +40,18 @@ none_spelled bytes changes none spells = one_history bytes changes [] spells (re
 
 module _ {D : Type 0} (g : Ghosts D) (wish : Wish) (house : Held) (plan : Outcome) (planned : IsMetBy wish house plan) where
   -- a row is wrong: nothing is done
-  pub all_wrong : IsOneGroup house plan → plan.wrong ≡ true → (wrote : List ℕ → Type 0) (old : Opened D) → wrote (fit_text plan) → ListsAll g wish house wrote plan old old
-  all_wrong group is wrote old text = record {
+  pub all_wrong : IsOneGroup house plan → plan.wrong ≡ true → (old : Opened D) → ListsAll g wish house plan old old
+  all_wrong group is old = record {
     lists = record { plan = plan; changes = group.changes; listed = record { planned = planned; spells = group.spells; accepted = group.accepted }; did = inl refl };
     plan_is = refl;
-    text = text;
     kept = λ keeps. subst (Keeps g old) (sym (stays plan group.changes house.state is)) keeps;
   }
 
   -- each row stands already
-  pub all_standing : IsOneGroup house plan → plan.wrong ≡ false → length plan.payload ≡ 0 → (wrote : List ℕ → Type 0) (old : Opened D) → wrote (fit_text plan) → ListsAll g wish house wrote plan old old
-  all_standing group is none wrote old text = record {
+  pub all_standing : IsOneGroup house plan → plan.wrong ≡ false → length plan.payload ≡ 0 → (old : Opened D) → ListsAll g wish house plan old old
+  all_standing group is none old = record {
     lists = record { plan = plan; changes = group.changes; listed = record { planned = planned; spells = group.spells; accepted = group.accepted }; did = inl refl };
     plan_is = refl;
-    text = text;
     kept = λ keeps. subst (Keeps g old)
         (sym (gains plan group.changes house.state is ∙ ap (after house.state) (none_spelled plan.payload group.changes none group.spells))) keeps;
   }
@@ -70,15 +68,13 @@ module _ {D : Type 0} (g : Ghosts D) (wish : Wish) (house : Held) (plan : Outcom
       did = inr (λ keeps. subst (λ (s : State). LeavesOnly g old.disk new.disk (StandsForEither (half_of g old.disk) house.state s)) (sym (gains plan changes house.state is)) (leaves keeps));
     }
 
-    pub all_written : (wrote : List ℕ → Type 0) → wrote (fit_text plan)
-        → (Keeps g old house.state → LeavesOnly g old.disk new.disk (StandsForEither (half_of g old.disk) house.state (after house.state changes)))
-        → (Keeps g old house.state → Keeps g new (after house.state changes)) → ListsAll g wish house wrote plan old new
+    pub all_written : (Keeps g old house.state → LeavesOnly g old.disk new.disk (StandsForEither (half_of g old.disk) house.state (after house.state changes)))
+        → (Keeps g old house.state → Keeps g new (after house.state changes)) → ListsAll g wish house plan old new
     unfolding some_written
-    all_written wrote text leaves kept = record {
+    all_written leaves kept = record {
       lists = some_written leaves;
       plan_is = refl;
-      text = text;
-      kept = λ keeps. subst (Keeps g new) (sym (gains plan changes house.state is)) (kept keeps);
+        kept = λ keeps. subst (Keeps g new) (sym (gains plan changes house.state is)) (kept keeps);
     }
 
 -- ---- from the disk to the disk
@@ -112,9 +108,9 @@ module _ {D : Type 0} (g : Ghosts D) (wish : Wish) (house : Held) (disk left : D
             l.did);
       }
 
-  pub fits_all : (wrote : List ℕ → Type 0) (done : Outcome) → ListsAll g wish house wrote done old new → FitsAll g wish wrote done disk left
+  pub fits_all : (done : Outcome) → ListsAll g wish house done old new → FitsAll g wish done disk left
   unfolding fits
-  fits_all wrote done a =
+  fits_all done a =
       let l = a.lists in
       let S = fitted l.plan l.changes house.state in
       let ends : g.keeps left → Keeps g new S = λ h. a.kept (kept (back (subst g.keeps same h))) in
@@ -122,7 +118,6 @@ module _ {D : Type 0} (g : Ghosts D) (wish : Wish) (house : Held) (disk left : D
       record {
         fits = fits l;
         plan_is = a.plan_is;
-        text = a.text;
         stands = λ h.
             let k = ends h in
             subst (λ (d : D). Stands (half_of g disk) S (g.reads d)) (sym same)
@@ -130,15 +125,14 @@ module _ {D : Type 0} (g : Ghosts D) (wish : Wish) (house : Held) (disk left : D
         durable = λ h. let k = ends h in subst (λ (d : D). g.choices d ≡ settled (g.reads d)) (sym same) k.is_settled;
       }
 
-  pub fits_ok : (wrote : List ℕ → Type 0) (result : Result Outcome FitFault) → IfOk result (λ done. ListsAll g wish house wrote done old new) → IfOk result (λ done. FitsAll g wish wrote done disk left)
-  fits_ok wrote (Ok done) all = fits_all wrote done all
-  fits_ok wrote (Err fault) all = tt
+  pub fits_ok : (result : Result Outcome FitFault) → IfOk result (λ done. ListsAll g wish house done old new) → IfOk result (λ done. FitsAll g wish done disk left)
+  fits_ok (Ok done) all = fits_all done all
+  fits_ok (Err fault) all = tt
 
   pub fits_err : (result : Result Outcome FitFault) → IfErr result (λ fault. IfDisk fault (λ e. Lists g wish house old new)) → IfErr result (λ fault. IfDisk fault (λ e. Fits g wish disk left))
   fits_err (Ok done) some = tt
   fits_err (Err (Open e)) some = tt
   fits_err (Err NoMemory) some = tt
-  fits_err (Err Write) some = tt
   fits_err (Err (Disk e)) some = fits some
 
   pub before_err : (result : Result Outcome FitFault) → IfErr result (λ fault. IsBefore fault → new ≡ old)

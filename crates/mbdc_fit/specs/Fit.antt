@@ -1,6 +1,6 @@
 -- What `fit`, `swap`, `move` and `out` do to an image (this product): the list or the command is planned on the register
 -- that the image stands for, and all of it is written at once, or nothing of it.
-use Rattle.std.specs.Prelude.{◌≡◌, ◌⊎◌, ℕ, List, [], ◌++◌, codes, if◌then◌else◌}
+use Rattle.std.specs.Prelude.{◌≡◌, ◌⊎◌, List, if◌then◌else◌}
 use Rattle.mbdc_change.specs.State.{State, Held}
 use Rattle.mbdc_change.specs.History.{after, AcceptsAll}
 use Rattle.mbdc_change.specs.Spelled.{SpellsChanges}
@@ -8,7 +8,7 @@ use Rattle.mbdc_change.specs.declared.change.Change.{Change}
 use Rattle.dc_sectors.specs.declared.device.Disk.{Ghosts}
 use Rattle.dc_sectors.specs.Runs.{IsSettled, LeavesOnly}
 use Rattle.mbdc_fit.specs.declared.fault.FitFault.{FitFault}
-use Rattle.mbdc_fit.specs.declared.fault.FitFault.TheVariants.{Open, NoMemory, Write, Disk}
+use Rattle.mbdc_fit.specs.declared.fault.FitFault.TheVariants.{Open, NoMemory, Disk}
 use Rattle.mbdc_fit.specs.Plan.{Outcome}
 use Rattle.mbdc_fit.specs.Wish.{IsMetBy}
 use Rattle.mbdc_fit.specs.declared.list.wish.Wish.{Wish}
@@ -17,14 +17,6 @@ use Rattle.mbdc_log.specs.Store.{Opened}
 use Rattle.mbdc_log.specs.declared.fault.OpenFault.{OpenFault}
 use Rattle.mbdc_log.specs.declared.fault.StoreFault.{StoreFault}
 use Rattle.dc_core.specs.PendingImages.{EachStands, Keeps, Reads, Stands, StandsForEither, StandsForOne}
-
--- the last line where a row is wrong
-abbrev pub nothing_done : List ℕ
-nothing_done = codes "nothing is done\n"
-
--- what is printed: what is said of each row or of the command and, where one is wrong, that nothing is done
-abbrev pub fit_text : Outcome → List ℕ
-fit_text plan = plan.text ++ (if plan.wrong then nothing_done else [])
 
 -- the register with all that is asked; where a row or the command is wrong it is as it was
 abbrev pub fitted : Outcome → List Change → State → State
@@ -46,12 +38,11 @@ pub record Lists {D : Type 0} (g : Ghosts D) (wish : Wish) (house : Held) (old n
   pub did : (new ≡ old) ⊎ (Keeps g old house.state → LeavesOnly g old.disk new.disk
       (StandsForEither (half_of g old.disk) house.state (fitted plan changes house.state)))
 
--- and all was done, and said
-pub record ListsAll {D : Type 0} (g : Ghosts D) (wish : Wish) (house : Held) (wrote : List ℕ → Type 0)
-    (plan : Outcome) (old new : Opened D) : Type 0 where
+-- and all was done
+pub record ListsAll {D : Type 0} (g : Ghosts D) (wish : Wish) (house : Held) (plan : Outcome) (old new : Opened D)
+    : Type 0 where
   pub lists : Lists g wish house old new
   pub plan_is : plan ≡ lists.plan
-  pub text : wrote (fit_text lists.plan)
   pub kept : Keeps g old house.state → Keeps g new (fitted lists.plan lists.changes house.state)
 
 -- ---- from the disk to the disk
@@ -73,11 +64,9 @@ pub record Fits {D : Type 0} (g : Ghosts D) (wish : Wish) (disk left : D) : Type
       ⊎ StandsForEither (half_of g disk) state (fitted plan changes state) image)
 
 -- DONE: the disk has the whole list, durably, or a row was wrong and nothing is done; the plan says which of both.
-pub record FitsAll {D : Type 0} (g : Ghosts D) (wish : Wish) (wrote : List ℕ → Type 0) (plan : Outcome)
-    (disk left : D) : Type 0 where
+pub record FitsAll {D : Type 0} (g : Ghosts D) (wish : Wish) (plan : Outcome) (disk left : D) : Type 0 where
   pub fits : Fits g wish disk left
   pub plan_is : plan ≡ fits.plan
-  pub text : wrote (fit_text fits.plan)
   pub stands : g.keeps left → Stands (half_of g disk) (fitted fits.plan fits.changes fits.state) (g.reads left)
   pub durable : g.keeps left → IsSettled g left
 
@@ -87,19 +76,16 @@ pub record FitsAll {D : Type 0} (g : Ghosts D) (wish : Wish) (wrote : List ℕ �
 abbrev pub IfOpen : FitFault → (OpenFault → Type 0) → Type 0
 IfOpen (Open fault) said = said fault
 IfOpen NoMemory said = Unit {0}
-IfOpen Write said = Unit {0}
 IfOpen (Disk fault) said = Unit {0}
 
 -- what is stated of the reason why the image wasn't written
 abbrev pub IfDisk : FitFault → (StoreFault → Type 0) → Type 0
 IfDisk (Open fault) said = Unit {0}
 IfDisk NoMemory said = Unit {0}
-IfDisk Write said = Unit {0}
 IfDisk (Disk fault) said = said fault
 
 -- it ended before the image was written
 abbrev pub IsBefore : FitFault → Type 0
 IsBefore (Open fault) = Unit {0}
 IsBefore NoMemory = Unit {0}
-IsBefore Write = Unit {0}
 IsBefore (Disk fault) = ⊥

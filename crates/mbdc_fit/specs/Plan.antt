@@ -262,6 +262,14 @@ pub record Outcome : Type 0 where
   pub wrong : Bool
   pub text : List ℕ
 
+-- the last line where a row is wrong
+abbrev pub nothing_done : List ℕ
+nothing_done = codes "nothing is done\n"
+
+-- what is printed: what is said of each row or of the command and, where one is wrong, that nothing is done
+abbrev pub fit_text : Outcome → List ℕ
+fit_text plan = if plan.wrong then plan.text ++ nothing_done else plan.text
+
 abbrev pub header_words : List ℕ
 header_words = codes "the first line has to be meter,line,address,flat"
 

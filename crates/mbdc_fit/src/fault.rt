@@ -1,9 +1,9 @@
 //! Why `fit` stopped.
 
 ghost use Rattle.std.specs.Prelude.{◌≡◌};
-ghost use Rattle.mbdc_fit.specs.declared.fault.FitFault.TheVariants.{NoMemory, Write};
+ghost use Rattle.mbdc_fit.specs.declared.fault.FitFault.TheVariants.{NoMemory};
 
-use mbdc_io::{IoFault, NoMemory};
+use mbdc_io::NoMemory;
 use mbdc_log::{OpenFault, StoreFault};
 use thiserror::Error;
 
@@ -16,9 +16,6 @@ pub enum FitFault {
     /// Out of memory.
     #[error("memory was refused")]
     NoMemory,
-    /// What is said of the rows wasn't written.
-    #[error("the output can't be written")]
-    Write,
     /// The image wasn't written.
     #[error("the list can't be written to the image: {0}")]
     Disk(StoreFault),
@@ -29,13 +26,5 @@ impl From<NoMemory> for FitFault {
 
     fn from(_refused: NoMemory) -> FitFault {
         FitFault::NoMemory
-    }
-}
-
-impl From<IoFault> for FitFault {
-    ghost from_gives = { λ _ fault. fault ≡ Write };
-
-    fn from(_failed: IoFault) -> FitFault {
-        FitFault::Write
     }
 }

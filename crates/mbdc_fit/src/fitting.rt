@@ -1,15 +1,13 @@
 //! The engine of `fit`.
 
-ghost use Rattle.std.specs.Prelude.{◌≡◌, ◌≢◌, ◌<◌, ◌≤◌, [], if◌then◌else◌, Err, IfErr, IfOk, IsErrOf};
+ghost use Rattle.std.specs.Prelude.{◌≡◌, ◌≢◌, ◌<◌, ◌≤◌, Err, IfErr, IfOk};
 ghost use Rattle.mbdc_io.specs.Failures.{HasRisen};
-ghost use Rattle.mbdc_io.specs.Written.{PutsInto, Wrote};
 ghost use Rattle.dc_sectors.specs.Runs.{LeavesOnly};
 ghost use Rattle.mbdc_log.specs.Halves.{budget_of, fewest_sectors, half_of};
 ghost use Rattle.mbdc_log.specs.Refusal.{TellsOfImage};
 ghost use Rattle.mbdc_log.specs.declared.fault.OpenFault.TheVariants.{Device, NotImage, Worn};
 ghost use Rattle.dc_core.specs.PendingImages.{IsRefused, StandsForOne};
-ghost use Rattle.mbdc_fit.specs.Fit.{fit_text, Fits, FitsAll, IfDisk, IfOpen, IsBefore, IsStanding};
-ghost use Rattle.mbdc_fit.specs.Fit.{Lists, ListsAll, nothing_done};
+ghost use Rattle.mbdc_fit.specs.Fit.{Fits, FitsAll, IfDisk, IfOpen, IsBefore, IsStanding, Lists, ListsAll};
 
 use crate::FitFault;
 use crate::list::{Plan, Wish, plan_wish};
@@ -18,7 +16,7 @@ use dc_meters::House;
 use dc_recovery::Store;
 use dc_sectors::Disk;
 use mbdc_change::DecodeFault;
-use mbdc_io::{Bytes, IoFault, NoMemory, Sink};
+use mbdc_io::{Bytes, IoFault, NoMemory};
 use std::alloc::Allocator;
 
 // A copy of a house, to plan on.
@@ -38,29 +36,24 @@ fn copy_of<A: Allocator + Copy>(alloc: A, house: &House<A>) -> Result<House<A>, 
     }
 }
 
-// Plans what is asked, says what comes of it, and writes it where nothing is wrong. The result is the plan.
-fn fit<D: Disk + Drop, A: Allocator + Copy, W: Sink>(
+// Plans what is asked, and writes it where nothing is wrong. The result is the plan.
+fn fit<D: Disk + Drop, A: Allocator + Copy>(
     alloc: A,
     store: &mut Store<D>,
     house: House<A>,
     wish: &Wish<'_>,
-    out: &mut W,
 ) -> Result<Plan<A>, FitFault>
     requires { house.budget ≡ budget_of (half_of D.Disk store.old.disk) }
-    ensures fitted { IfOk result (λ plan. ListsAll D.Disk wish.now house
-        (PutsInto W.Sink out.old out.new) plan store.old store.new) }
+    ensures fitted { IfOk result (λ plan. ListsAll D.Disk wish.now house plan store.old store.new) }
     ensures broken { IfErr result (λ fault. IfDisk fault (λ e.
         Lists D.Disk wish.now house store.old store.new)) }
     ensures before { IfErr result (λ fault. IsBefore fault → store.new ≡ store.old) }
     ensures opened { IfErr result (λ fault. IfOpen fault (λ e. ⊥)) }
-    ensures write { IsErrOf result FitFault.Write
-        → HasRisen (W.put_failures out.old) (W.put_failures out.new) }
     ensures back { D.keeps store.new.disk → D.keeps store.old.disk }
     ensures count { D.sectors store.new.disk ≡ D.sectors store.old.disk }
 {
     let copy = copy_of(alloc, &house)?;
     let plan = plan_wish(alloc, wish, copy)?;
-    say(&plan, out)?;
     let is_wrong = plan.is_wrong();
     if is_wrong {
         return Ok(plan);
@@ -80,40 +73,23 @@ fn fit<D: Disk + Drop, A: Allocator + Copy, W: Sink>(
     }
 }
 
-// Says what comes of the rows.
-#[tactic(auto, using(mbdc_io::proofs::Pieces::written))]
-fn say<A: Allocator + Copy, W: Sink>(plan: &Plan<A>, out: &mut W) -> Result<(), IoFault>
-    ensures { Wrote W.Sink result out.old out.new (fit_text plan.now) }
-{
-    out.put(plan.text())?;
-    out.put(last_line(plan.is_wrong()))
-}
-
-// The last line, where a row is wrong.
-fn last_line(wrong: bool) -> &'static [u8]
-    ensures { result.now ≡ (if wrong then nothing_done else []) }
-{
-    if wrong { b"nothing is done\n" } else { b"" }
-}
-
 /// Opens the image, fits the meters of a list or does one command, and closes it. What is asked is planned on the
-/// register first ([`plan_wish`]), and what is said of it is written. Where a row or the command is wrong nothing is
-/// done, and the last line says so. Else the changes of the plan are written as one group; a row that stands already
-/// asks for none. The result is the plan: where nothing is wrong in it, each row stands, and its commands are done. The
+/// register first ([`plan_wish`]). Where a row or the command is wrong nothing is done. Otherwise the changes of the
+/// plan are written as one group; a row that stands already asks for none. The result is the plan, of which
+/// [`Plan::print`] prints what was done: where nothing is wrong in it, each row stands, and its commands are done. The
 /// disk is returned in every case.
 ///
 /// # Errors
-/// [`FitFault::Open`], [`FitFault::NoMemory`] and [`FitFault::Write`] before anything is done; [`FitFault::Disk`] where
-/// the image couldn't be written: it has all that is asked then, or nothing of it.
-pub fn fit_on<D: Disk + Drop, A: Allocator + Copy, W: Sink>(
+/// [`FitFault::Open`] and [`FitFault::NoMemory`] before anything is done; [`FitFault::Disk`] where the image couldn't be
+/// written: it has all that is asked then, or nothing of it.
+pub fn fit_on<D: Disk + Drop, A: Allocator + Copy>(
     alloc: A,
     disk: D,
     wish: &Wish<'_>,
-    out: &mut W,
 ) -> (D, Result<Plan<A>, FitFault>)
     // Where each image of the disk stands for some state: all that is asked is done, or nothing.
     ensures fitted { IsStanding D.Disk disk → IfOk result.1 (λ plan.
-        FitsAll D.Disk wish.now (PutsInto W.Sink out.old out.new) plan disk result.0) }
+        FitsAll D.Disk wish.now plan disk result.0) }
     ensures broken { IsStanding D.Disk disk → IfErr result.1 (λ fault.
         IfDisk fault (λ e. Fits D.Disk wish.now disk result.0)) }
     ensures before { IsStanding D.Disk disk → IfErr result.1 (λ fault.
@@ -132,14 +108,11 @@ pub fn fit_on<D: Disk + Drop, A: Allocator + Copy, W: Sink>(
         e ≢ Device → D.reads result.0 ≡ D.reads disk)) }
     ensures device { IfErr result.1 (λ fault. IfOpen fault (λ e.
         e ≡ Device → HasRisen (D.failures disk) (D.failures result.0))) }
-    ensures untouched { IfErr result.1 (λ fault. IfOpen fault (λ e. out.new ≡ out.old)) }
-    ensures write { IsErrOf result.1 FitFault.Write
-        → HasRisen (W.put_failures out.old) (W.put_failures out.new) }
 {
     match Store::open(alloc, disk) {
         Ok((store, house)) => {
             let mut store = store;
-            let fitted = fit(alloc, &mut store, house, wish, out);
+            let fitted = fit(alloc, &mut store, house, wish);
             (store.close(), fitted)
         }
         Err((fault, disk)) => (disk, Err(FitFault::Open(fault))),

@@ -2,6 +2,7 @@
 
 ghost use Rattle.std.specs.Prelude.{◌≡◌, ◌+◌, ◌++◌, ◌∷◌, ◌↔◌, [], IfOk, IsOk, IsTrue, OnOk};
 ghost use Rattle.mbdc_io.specs.Lines.{lines_of};
+ghost use Rattle.mbdc_io.specs.Written.{Wrote};
 ghost use Rattle.mbdc_change.specs.State.{Held};
 ghost use Rattle.mbdc_fit.specs.Rows.{IsRow, header_text};
 ghost use Rattle.mbdc_change.specs.Accepts.{Accepts};
@@ -9,7 +10,7 @@ ghost use Rattle.mbdc_change.specs.Apply.{applied};
 ghost use Rattle.mbdc_change.specs.Encoding.{change_bytes};
 ghost use Rattle.mbdc_change.specs.Command.{line_of};
 ghost use Rattle.mbdc_change.specs.Valid.{IsChange};
-ghost use Rattle.mbdc_fit.specs.Plan.{change_of, numbered};
+ghost use Rattle.mbdc_fit.specs.Plan.{change_of, fit_text, numbered};
 ghost use Rattle.mbdc_fit.specs.Plan.{AreSteps, IsLineStep, IsOneGroup, IsPlanned, IsStep, IsStepBy, no_header, nothing};
 ghost use Rattle.mbdc_fit.specs.declared.list.row.Entry.TheVariants.{Row as Spelled, Bad};
 
@@ -17,7 +18,7 @@ use crate::list::row::{Entry, Row, RowFault, read_line, row_text};
 use crate::list::verdict::{Verdict, command_of, fault_words, put_row, put_said, verdict_on};
 use dc_meters::House;
 use mbdc_change::{Change, Command, CommandLine, encode_change};
-use mbdc_io::{Bytes, IoFault, NoMemory, first_line};
+use mbdc_io::{Bytes, IoFault, NoMemory, Sink, first_line};
 use std::alloc::Allocator;
 use std::marker::Model;
 
@@ -77,11 +78,16 @@ impl<A: Allocator + Copy> Plan<A> {
         self.is_wrong
     }
 
-    /// What is said of each row, a line each.
-    pub fn text(&self) -> &[u8]
-        ensures { result.now ≡ self.now.text }
+    /// Prints what is said of each row, a line each, and where one is wrong that nothing is done.
+    #[tactic(auto, using(mbdc_io::proofs::Pieces::written))]
+    pub fn print<W: Sink>(&self, out: &mut W) -> Result<(), IoFault>
+        ensures { Wrote W.Sink result out.old out.new (fit_text self.now) }
     {
-        self.text.as_slice()
+        if !self.is_wrong {
+            return out.put(self.text.as_slice());
+        }
+        out.put(self.text.as_slice())?;
+        out.put(b"nothing is done\n")
     }
 
     // Nothing is planned yet.

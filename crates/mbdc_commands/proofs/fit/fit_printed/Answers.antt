@@ -1,6 +1,6 @@
 use Rattle.std.specs.Io.Buffered.{line_writer_contents}
-use Rattle.mbdc_commands.proofs.FitLeaving.{fitted_as, none_done}
-use Rattle.mbdc_commands.proofs.Printed.{kept_so, printed_so, written_out}
+use Rattle.mbdc_commands.proofs.FitLeaving.{none_done}
+use Rattle.mbdc_commands.proofs.Printed.{kept_so, printed_so, put_unless_failed, written_out}
 use Rattle.mbdc_commands.proofs.fit.fit_printed.Goals as goal
 
 pub returns-in_default : goal.returns-in_default
@@ -14,11 +14,11 @@ returns g c =
       outcome = fit.result.1;
       is_printed = out.result;
       ends = c.fit_ending.ensures;
-      fitted = fitted_as g.D.Disk c.args.wish.now c.args.disk fit.result.0 _ _
-          (λ text put. printed_so g.O.Write.contents g.K.Known.writes c.args.out _ _ text c.requires.known
+      printed = printed_so g.O.Write.contents g.K.Known.writes c.args.out _ _ _ c.requires.known
           (kept_so (line_writer_contents g.O.Write.contents) _ _ _ c.in-Ok.ensures.bytes c.new-out.ensures.writer)
-          (written_out g.O.Write.contents g.K.Known.writes _ _ _ _ out.result text c.new-out.ensures.well (λ all. put) out.ensures.well out.ensures.left))
-          fit.result.1 (fit.ensures.fitted c.requires.stands);
+          (written_out g.O.Write.contents g.K.Known.writes _ _ _ _ out.result _ c.new-out.ensures.well
+          (λ all. put_unless_failed _ _ _ _ _ c.put_outcome.ensures (out.ensures.well all)) out.ensures.well out.ensures.left);
+      fitted = fit.ensures.fitted c.requires.stands;
       broken = fit.ensures.broken c.requires.stands;
       before = fit.ensures.before c.requires.stands;
     }
