@@ -7,7 +7,7 @@ use mbdc_files::{Host, LookedAt, Noted, ROUNDS, journal_lines};
 use mbdc_io::NoMemory;
 use mbdc_json::journal::{Journal, Keeps, read_journal};
 use mbdc_log::Greatest;
-use mbdc_looks::{Asked, Form, Report, Shown, answer, scan};
+use mbdc_looks::{Asked, Form, Outlook, Report, Shown, answer, scan};
 use std::alloc::Global;
 use std::fs::File;
 use std::io;
@@ -27,13 +27,14 @@ where
         Ok(journal) => journal,
         Err(ending) => return ending,
     };
-    let shown = match look(host, asked, &journal, image) {
-        Ok(shown) => shown,
+    let (shown, is_whole) = match look(host, asked, &journal, image) {
+        Ok(seen) => seen,
         Err(ending) => return ending,
     };
-    let ending = look_ending(shown.outlook.refusal, shown.outlook.ahead, shown.is_silent);
+    let Outlook { refusal, ahead } = shown.outlook;
+    let ending = look_ending(refusal, ahead, is_whole, shown.is_silent);
     // A table is printed only of an image that would be opened.
-    if matches!(asked, Asked::Table(..)) && shown.outlook.refusal.is_some() {
+    if matches!(asked, Asked::Table(..)) && (refusal.is_some() || !is_whole) {
         return ending;
     }
     let mut out = Noted::new(io::writer(host.rt), host.why);
@@ -66,18 +67,23 @@ fn journal_for<'a, R: Files<File = File> + Clock + AllocGlobal>(
     }
 }
 
-// What is asked of the image.
+// What is asked of the image, and whether the drive can read each sector that opening reads.
 fn look<'a, R: Files<File = File> + AllocGlobal>(
     host: &Host<'_, R>,
     asked: Asked,
     journal: &Journal<Global>,
     image: &'a str,
-) -> Result<Shown<Global>, Ending<'a>> {
+) -> Result<(Shown<Global>, bool), Ending<'a>> {
     let file = LookedAt::open(host, image)?;
     let greatest = scan_file(&file, image)?;
+    // Opening goes on past an unreadable sector that nothing needs. It is still named.
+    let is_scanned_whole = !host.why.has_unreadable.get();
+    host.why.has_unreadable.set(false);
     for _ in 0..ROUNDS {
         if let Some(shown) = look_once(host, &file, &greatest, &asked, journal, image)? {
-            return Ok(shown);
+            let is_whole = !host.why.has_unreadable.get();
+            host.why.has_unreadable.set(!is_scanned_whole || !is_whole);
+            return Ok((shown, is_whole));
         }
     }
     Err(file.busy(image))

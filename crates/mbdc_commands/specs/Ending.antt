@@ -7,6 +7,7 @@ use Rattle.mbdc_ending.specs.declared.ending.Ending.TheVariants.{Clean, Faulty, 
 use Rattle.mbdc_ending.specs.declared.fault.ProgramFault.{ProgramFault}
 use Rattle.mbdc_ending.specs.declared.fault.ProgramFault.TheVariants.{Write}
 use Rattle.mbdc_log.specs.declared.fault.OpenFault.{OpenFault}
+use Rattle.mbdc_log.specs.declared.fault.OpenFault.TheVariants.{Device}
 use Rattle.mbdc_poll.specs.declared.outcome.Outcome.{Outcome}
 
 -- A failed commit comes first, then lost output, and then a meter that wasn't read.
@@ -23,12 +24,14 @@ PollEnds (Ok outcome) is_printed image ending =
 PollEnds (Err fault) is_printed image ending = StopsAs fault image ending
 
 -- THE ENDING OF A LOOK: what reads is printed in each case. A sector that is ahead comes first, then why the image
--- wouldn't be opened, and then a meter that is silent.
-abbrev pub look_ended : Option OpenFault → Option ℕ → (is_silent : Bool) → Ending
-look_ended refusal (Some sector) is_silent = Behind sector
-look_ended (Some fault) None is_silent = Open fault
-look_ended None None true = Faulty
-look_ended None None false = Clean
+-- wouldn't be opened, and then a meter that is silent. Status 0 says that the image would be opened: each sector that was
+-- read is whole, too.
+abbrev pub look_ended : Option OpenFault → Option ℕ → (is_whole is_silent : Bool) → Ending
+look_ended refusal (Some sector) is_whole is_silent = Behind sector
+look_ended (Some fault) None is_whole is_silent = Open fault
+look_ended None None false is_silent = Open Device
+look_ended None None true true = Faulty
+look_ended None None true false = Clean
 
 -- The result of a script of which all that was held back of its text is written, or isn't.
 abbrev pub run_result : Result Bool ProgramFault → (is_written : Bool) → Result Bool ProgramFault

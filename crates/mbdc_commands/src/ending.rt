@@ -36,17 +36,19 @@ fn ending_by<'a>(fault: Option<CommitFault>, is_printed: bool, is_read: bool) ->
 }
 
 /// The ending of a look at an image: the first sector that is ahead of what it reads as comes first, then why it
-/// wouldn't be opened, and then a meter that is silent.
+/// wouldn't be opened, and then a meter that is silent. An image with a sector that the drive can't read isn't opened.
 pub fn look_ending<'a>(
     refusal: Option<OpenFault>,
     ahead: Option<u32>,
+    is_whole: bool,
     is_silent: bool,
 ) -> Ending<'a>
-    ensures { result ≡ look_ended refusal ahead is_silent }
+    ensures { result ≡ look_ended refusal ahead is_whole is_silent }
 {
     match (ahead, refusal) {
         (Some(sector), _) => Ending::Behind(sector),
         (None, Some(fault)) => Ending::Open(fault),
+        (None, None) if !is_whole => Ending::Open(OpenFault::Device),
         (None, None) if is_silent => Ending::Faulty,
         (None, None) => Ending::Clean,
     }
