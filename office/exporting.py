@@ -212,8 +212,11 @@ class Writer:
             later = window.values[at + 1] if at + 1 < len(window.values) else None
             if later is None or (later.run, later.moment) != (value.run, value.moment):  # else the later one counts
                 self.value(value, number, window.zone, window.values[at - 1] if at else None)
+        # where another telegram of that moment counts, the one that was struck says nothing
+        told = {(value.run, value.moment) for value in window.values if value.source in (STORED, READ)}
         self.lines += [f"struck,{number[fitting * RUNS]},{moment},{why}" for fitting, moment, why in self.struck.get(
-            window.place, []) if window.begins - MARGIN <= moment <= window.ends + MARGIN and fitting * RUNS in number]
+            window.place, []) if window.begins - MARGIN <= moment <= window.ends + MARGIN
+            and fitting * RUNS in number and (fitting * RUNS, moment) not in told]
         self.lines += [f"part,{span},{part.begins},{part.ends},{'-' if part.user is None else part.user}"
                        for part in window.parts]
         first = len(self.lines)

@@ -5,7 +5,7 @@ and exact ratios. demo/same compares the program with it.
 import datetime
 import re
 from fractions import Fraction
-from typing import Callable, Dict, Iterator, List, NamedTuple, Optional, Sequence, Tuple
+from typing import Callable, Dict, Iterator, List, NamedTuple, Optional, Sequence, Set, Tuple
 
 FAULTS = ("Header", "Row", "Order", "Moment", "Part", "Unit", "Fact", "TooMany", "TooLarge", "End")
 HEADER, ROW, ORDER, MOMENT, PART, UNIT, FACT, TOO_MANY, TOO_LARGE, END = range(1, 11)
@@ -44,12 +44,13 @@ FORMS: Dict[str, Tuple[str, ...]] = {
     "end": ()}
 MANY = ("read", "stored", "ended")  # with one body and more
 FACTS = ("span", "use", "factor", "co2", "degrees", "price", "average", "user")
-VALUES = ("read", "stored", "hand", "estimated", "first", "last", "struck", "ended", "zero")
+VALUES = ("read", "stored", "hand", "estimated", "first", "last", "ended", "zero")
 NUMBERS = ("of_user", "of_flat", "of_house", "mean", "change", "carbon", "cost", "weather")
 CLOSED = ("window", "place", "totals")
 AFTER: Dict[str, Sequence[str]] = {  # what may follow what
     **dict.fromkeys(("audit", *FACTS), (*FACTS, "place", "totals")), "place": ("meter",), "meter": ("meter", *CLOSED),
-    **dict.fromkeys(("window", *VALUES), (*VALUES, "part", "shown", "value", *CLOSED)), "part": ("part", "shown", "value", *CLOSED),
+    **dict.fromkeys(("window", *VALUES), (*VALUES, "struck", "part", "shown", "value", *CLOSED)),
+    "struck": ("struck", "part", "shown", "value", *CLOSED), "part": ("part", "shown", "value", *CLOSED),
     **dict.fromkeys(("shown", "value"), ("shown", "value", *CLOSED)), **dict.fromkeys(("totals", *NUMBERS), (*NUMBERS, "end")), "end": ()}
 
 
@@ -131,8 +132,8 @@ def extended(data: bytes, at: int) -> int:
     return end + 1
 
 
-def records_of(body: bytes) -> List[Record]:
-    """The records of a body of security mode 0. Raises IndexError of a text that is none."""
+def records_of(body: bytes) -> Tuple[List[Record], bool]:
+    """The records of a body of security mode 0, and whether more follow in the next one. Raises IndexError of a text that is none."""
     found, at = [], 12
     if len(body) < 12 or not body[:4].hex().isdecimal() or not is_maker(body) or body[11] & 0x1F:
         raise IndexError
@@ -157,7 +158,7 @@ def records_of(body: bytes) -> List[Record]:
                             sum((it >> 6 & 1) << n for n, it in enumerate(difes)),
                             (dif >> 6 & 1) + sum((it & 15) << 4 * n + 1 for n, it in enumerate(difes)), field, body[vif:data],
                             body[begins:at]))
-    return found
+    return found, body[at:at + 1] == b"\x1f"
 
 
 def counted_length(byte: int) -> int:
@@ -237,15 +238,18 @@ def date_of(record: Record) -> Optional[datetime.date]:
 def value_in(run: Run, quantity: str, bodies: List[bytes], day: Optional[datetime.date]) -> int:
     """The value that the bodies of a readout show: the current one, or that of a day. Raises NoEvidence."""
     found: List[Record] = []
-    for body in bodies:
+    for at, body in enumerate(bodies, 1):
         try:
-            found += records_of(body)
+            records, more_follow = records_of(body)
         except IndexError:
             raise NoEvidence("a body isn't a telegram") from None
         if identity_of(body) != run.identity:
             raise NoEvidence("a body of another meter")
         if body[9] & 8 or body[9] & 3 == 2:
             raise NoEvidence("the meter reports an error")
+        if at < len(bodies) and not more_follow:
+            raise NoEvidence("bodies of two readouts")
+        found += records
     found = [it for it in found if (it.function, it.tariff, it.subunit) == (0, 0, 0)]
     dates: Dict[int, datetime.date] = {}
     for record in found:
@@ -338,7 +342,7 @@ def end_of(day: str, offset: str) -> int:
     except ValueError:
         raise AtFault(ROW) from None
     moment = (number + 1) * DAY - 60 * int(offset)
-    if moment < 0 or abs(int(offset)) > 1440:
+    if moment < 0 or abs(int(offset)) > 840 or int(offset) % 15:
         raise AtFault(ROW)
     return moment
 
@@ -364,6 +368,7 @@ class Audit:
         self.span, self.entries, self.until = 0, [], None  # type: int, List[Counted], Optional[int]
         self.parts: Dict[Tuple[int, str, str, object], List[Part]] = {}  # by span, use, and whose
         self.in_window = 0
+        self.told: Set[Tuple[int, int]] = set()  # by run and moment: telegrams of the open window
         self.means: Dict[Tuple[str, str, str], Optional[Fraction]] = {}
 
     def take(self, line: str) -> None:
@@ -387,11 +392,11 @@ class Audit:
             raise AtFault(ORDER)
         if kind != "use" and any(form == USE and field not in self.uses for form, field in zip(forms, fields)):
             raise AtFault(FACT)
-        if self.kind in ("window", *VALUES, "part", "shown", "value") and kind in CLOSED and self.until != self.limits()[1] and not self.is_empty():
+        if self.kind in ("window", *VALUES, "struck", "part", "shown", "value") and kind in CLOSED and self.until != self.limits()[1] and not self.is_empty():
             raise AtFault(PART)
         self.kind = kind
         handler: Callable[..., None] = getattr(self, f"take_{kind}", self.take_nothing)
-        if kind in VALUES:
+        if kind in (*VALUES, "struck"):
             self.take_entry(kind, fields)
         elif kind in ("factor", "co2", "degrees", "price", "average"):
             self.take_fact(kind, fields)
@@ -467,7 +472,7 @@ class Audit:
         self.known(int(span))
         if int(span) <= self.span:
             raise AtFault(ORDER)
-        self.span, self.entries, self.until, self.in_window = int(span), [], None, 0
+        self.span, self.entries, self.until, self.in_window, self.told = int(span), [], None, 0, set()
 
     def take_entry(self, kind: str, fields: List[str]) -> None:
         number = int(fields[0])
@@ -475,6 +480,8 @@ class Audit:
             raise AtFault(FACT)
         run = self.runs[number - 1]
         if kind == "struck":
+            if (number, int(fields[1])) in self.told:
+                raise AtFault(MOMENT)
             self.counts["struck"] += 1
             return
         moment = self.moment_of(kind, run, fields)
@@ -496,6 +503,7 @@ class Audit:
                 self.printed.append(f"NO EVIDENCE line {self.line}: {why}")
                 return
             self.counts["readings"] += 1
+            self.told.add((number, moment))
         if how:
             self.counts["by hand" if how == "hand" else "estimated"] += 1
         self.in_window += 1
@@ -701,6 +709,8 @@ class Audit:
         self.compare(f"carbon of user {user} {use}", text, rounded(None if value is None else value * grams / 1000, text))
 
     def take_cost(self, span: str, user: str, use: str, unit: str, text: str) -> None:
+        if text != "-" and len(text.partition(".")[2]) != 2:
+            raise AtFault(ROW)
         value, cents = self.of_user(int(span), int(user), use, unit)[0], self.fact("price", use, unit, span)
         self.compare(f"cost of user {user} {use}", text, rounded(None if value is None else value * cents / 100, text))
 

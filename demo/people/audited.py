@@ -127,6 +127,7 @@ class Files:
         rng, (begins, ends) = self.rng, self.spans[span]
         self.add("window", span)
         self.values: List[Tuple[int, int]] = []
+        self.struck: List[Tuple[int, int, str]] = []
         for number, run in enumerate(self.runs, 1):
             first = max(begins - 3 * 86_400, run["begins"])
             last = min(ends + 2 * 86_400, run["ends"] or 10**12)
@@ -141,6 +142,8 @@ class Files:
                 value = (value + rng.choice((0, 1, 7, 60, 500))) % SIZE
             if run["ends"] == last and first <= last and rng.random() < 0.85:
                 self.end(number, run, last, value)
+        for struck in self.struck:
+            self.add("struck", *struck)
         self.parts(span, flat)
 
     def start(self, number: int, run: Dict[str, Any], at: int, value: int) -> None:
@@ -175,7 +178,7 @@ class Files:
             self.add("estimated", number, at, self.hand(said), self.unit[0])
         elif chance < 0.10:
             self.values.pop()
-            self.add("struck", number, at, rng.choice(("a digit was lost", "2000 m3 too much", "typed wrong")))
+            self.struck.append((number, at, rng.choice(("a digit was lost", "2000 m3 too much", "typed wrong"))))
         elif chance < 0.25:
             offset = rng.choice(OFFSETS[:2])
             day = datetime.datetime.fromtimestamp(at, datetime.timezone.utc).date() - DAY
@@ -271,7 +274,7 @@ class Files:
             elif kind == "change":
                 self.number(kind, span, other, user, use, unit, tail="")
             elif kind == "cost" and self.has_price:
-                self.number(kind, span, user, use, UNITS[quantity][0], tail="")
+                self.lines.append(f"cost,{span},{user},{use},{UNITS[quantity][0]},?.00")
             elif kind == "carbon" and is_kwh and self.has_price:
                 self.number(kind, span, user, use, tail="")
             elif kind == "weather" and is_kwh:
@@ -406,6 +409,16 @@ def with_byte(at: int, value: int) -> Edit:
     return with_field(-1, lambda text: f"{text[:2 * at]}{value:02X}{text[2 * at + 2:]}", "read", "stored", "ended")
 
 
+def strikes_a_reading(rng: random.Random, lines: List[str]) -> Optional[List[str]]:
+    """A telegram that counts is struck, after the values of its window."""
+    found = of_kind(rng, lines, "read")
+    if found is None:
+        return None
+    after = next(at for at in range(found, len(lines)) if lines[at].split(",")[0] in ("part", "shown", "value", "window", "place", "totals"))
+    _, run, moment_, *_ = lines[found].split(",")
+    return [*lines[:after], f"struck,{run},{moment_},typed wrong", *lines[after:]]
+
+
 def rounds_down(text: str) -> str:
     return text[:-1] + str((int(text[-1]) - 1) % 10) if text[-1:].isdecimal() else text
 
@@ -462,7 +475,12 @@ EDITS: Dict[str, Edit] = {
     "against another span": with_field(2, lambda text: "2" if text == "1" else "1", "change", "weather"),
     "of another user": with_field(2, more(1), "of_user", "mean", "cost", "carbon"), "users are swapped": swap_users,
     "a person for a restart": with_field(-1, lambda _: "hand", "first", "last"), "an estimate for a person": with_field(0, lambda _: "hand", "estimated"),
-    "struck and counted": with_field(0, lambda _: "read", "struck"), "read for stored": with_field(0, lambda _: "stored", "read"),
+    "struck and counted": strikes_a_reading, "struck before it": with_field(0, lambda _: "struck", "hand"),
+    "bodies of two readouts": with_field(-2, lambda text: text[:-2] if text.endswith("1F") else "", "read", "stored", "ended"),
+    "a cost of three decimals": with_field(-1, lambda text: f"{text}0" if text != "-" else "1", "cost"),
+    "a cost without decimals": with_field(-1, lambda text: text.partition(".")[0] if text != "-" else "1", "cost"),
+    "an offset of a day less": with_field(3, more(-1440), "stored", "span"), "an odd offset": with_field(3, more(1), "stored", "span"),
+    "read for stored": with_field(0, lambda _: "stored", "read"),
     "without a line": without(), "without a reading": without("read"), "without a restart": without("ended", "zero"), "without a factor": without("factor"),
     "without a first value": without("first", "last"), "without the end": without("end"), "without totals": without("totals"), "without a window": without_window,
     "without a part": without("part"), "without a user": without("user"), "without a place": without("place"), "a line twice": twice(),

@@ -1,9 +1,10 @@
 -- The value that the telegrams of a readout give (this product; EN 13757-3).
 use Rattle.std.specs.Prelude.{ℕ, ℤ, ◌+◌, ◌%◌, ◌/◌, ◌==◌, ◌&&◌, ◌||◌, Bool, false, not, nat_lt, if◌then◌else◌}
-use Rattle.std.specs.Prelude.{List, [], ◌∷◌, drop, Option, None, Some, Result, Ok, Err, is_some, codes}
+use Rattle.std.specs.Prelude.{List, [], ◌∷◌, drop, length, Option, None, Some, Result, Ok, Err, is_some, codes}
 use Rattle.std.specs.Str.{bytes_eq}
 use Rattle.dc_address.specs.declared.identity.Identity.{Identity}
 use Rattle.dc_records.specs.declared.fault.BodyFault.{BodyFault}
+use Rattle.dc_records.specs.Body.{continues}
 use Rattle.dc_records.specs.Record.{Entry}
 use Rattle.dc_records.specs.Telegram.{Parsed, telegram_at}
 use Rattle.dc_units.specs.declared.decimal.Decimal.{Decimal}
@@ -41,17 +42,19 @@ is_same a b = (a.number == b.number) && ((a.maker == b.maker)
     && ((a.version == b.version) && (a.kind == b.kind)))
 
 -- why a telegram can't be a meter's evidence
-abbrev pub telegram_fault : Identity → Parsed → Option Refusal
-telegram_fault meter t = if is_same t.header.identity meter
-    then (if has_error t.header.status then Some refusal.Error else None)
+abbrev pub telegram_fault : Identity → Bool → Parsed → Option Refusal
+telegram_fault meter last t = if is_same t.header.identity meter
+    then (if has_error t.header.status then Some refusal.Error
+    else if last || continues t.ending then None else Some refusal.Readouts)
     else Some refusal.Meter
 
-abbrev pub parsed_fault : Identity → Result Parsed BodyFault → Option Refusal
-parsed_fault meter (Err f) = Some refusal.Body
-parsed_fault meter (Ok t) = telegram_fault meter t
+abbrev pub parsed_fault : Identity → Bool → Result Parsed BodyFault → Option Refusal
+parsed_fault meter last (Err f) = Some refusal.Body
+parsed_fault meter last (Ok t) = telegram_fault meter last t
 
-abbrev pub body_fault : Identity → List ℕ → Option Refusal
-body_fault meter body = parsed_fault meter (telegram_at body)
+-- each body of a readout but the last says that more records follow
+abbrev pub body_fault : Identity → Bool → List ℕ → Option Refusal
+body_fault meter last body = parsed_fault meter last (telegram_at body)
 
 abbrev pub or_else : {X : Type 0} → Option X → Option X → Option X
 or_else None other = other
@@ -60,7 +63,8 @@ or_else (Some x) other = Some x
 -- the first fault of the bodies of a readout
 abbrev pub bodies_fault : Identity → List (List ℕ) → Option Refusal
 bodies_fault meter [] = None
-bodies_fault meter (body ∷ bodies) = or_else (body_fault meter body) (bodies_fault meter bodies)
+bodies_fault meter (body ∷ bodies) =
+    or_else (body_fault meter (length bodies == 0) body) (bodies_fault meter bodies)
 
 -- ---- the record that counts
 
@@ -232,5 +236,6 @@ abbrev pub text_of : Refusal → List ℕ
 text_of refusal.Body = codes "a body isn't a telegram"
 text_of refusal.Meter = codes "a body of another meter"
 text_of refusal.Error = codes "the meter reports an error"
+text_of refusal.Readouts = codes "bodies of two readouts"
 text_of refusal.Date = codes "no record dated so"
 text_of refusal.Record = codes "no record of the use"

@@ -56,10 +56,10 @@ abbrev pub end_of : ℕ → Offset → Option ℕ
 end_of day (Ahead minutes) = since_epoch ((day + 1) * seconds_of_day - 60 * minutes)
 end_of day (Behind minutes) = since_epoch ((day + 1) * seconds_of_day + 60 * minutes)
 
--- a number of minutes ahead of UTC, or behind it: at most a day
+-- a number of minutes ahead of UTC, or behind it: quarters of an hour, at most 14 hours
 abbrev pub offset_of : Bool → Option ℕ → Option Offset
 offset_of behind None = None
-offset_of behind (Some minutes) = if nat_lt 1440 minutes then None
+offset_of behind (Some minutes) = if nat_lt 840 minutes || not (minutes % 15 == 0) then None
     else if behind then Some (Behind minutes) else Some (Ahead minutes)
 
 -- the offset that a field spells: minutes, with a hyphen before them where they are behind UTC
@@ -79,7 +79,7 @@ day_in field =
     then day_at (digits_on 0 (take 4 field)) (digits_on 0 (slice_range field 5 7))
     (digits_on 0 (drop 8 field)) else None
 
--- at most a day
+-- at most 14 hours
 abbrev pub IsOffset : Offset → Type 0
-IsOffset (Ahead minutes) = minutes ≤ 1440
-IsOffset (Behind minutes) = minutes ≤ 1440
+IsOffset (Ahead minutes) = minutes ≤ 840
+IsOffset (Behind minutes) = minutes ≤ 840

@@ -70,6 +70,10 @@ abbrev pub is_valued : Stage → Bool
 is_valued stage.Valued = true
 is_valued _ = false
 
+abbrev pub is_struck : Stage → Bool
+is_struck stage.Struck = true
+is_struck _ = false
+
 abbrev pub is_parted : Stage → Bool
 is_parted stage.Parted = true
 is_parted _ = false
@@ -78,9 +82,10 @@ abbrev pub is_summed : Stage → Bool
 is_summed stage.Summed = true
 is_summed _ = false
 
--- after a window, one of its values, its parts, its numbers
+-- after a window, one of its values, of the struck ones, of its parts, of its numbers
 abbrev pub is_in_window : Stage → Bool
 is_in_window stage.Valued = true
+is_in_window stage.Struck = true
 is_in_window stage.Parted = true
 is_in_window stage.Shown = true
 is_in_window _ = false
@@ -110,7 +115,6 @@ is_value word.Estimated = true
 is_value word.First = true
 is_value word.Last = true
 is_value word.Zero = true
-is_value word.Struck = true
 is_value _ = false
 
 -- the stage that a line of a stage leads to, where it may follow
@@ -121,7 +125,8 @@ abbrev pub after_other : Stage → Word → Option Stage
 after_other s word.Place = leads (may_go_on s || is_declared s) stage.Placed
 after_other s word.Meter = leads (is_placed s || is_metered s) stage.Metered
 after_other s word.Window = leads (may_go_on s) stage.Valued
-after_other s word.Part = leads (is_valued s || is_parted s) stage.Parted
+after_other s word.Struck = leads (is_valued s || is_struck s) stage.Struck
+after_other s word.Part = leads (is_valued s || (is_struck s || is_parted s)) stage.Parted
 after_other s word.Shown = leads (is_in_window s) stage.Shown
 after_other s word.Value = leads (is_in_window s) stage.Shown
 after_other s word.Totals = leads (may_go_on s || is_declared s) stage.Summed

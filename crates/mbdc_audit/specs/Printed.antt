@@ -99,6 +99,10 @@ abbrev pub or_asked : {X : Type 0} → Bool → (List ℕ → Option X) → List
 or_asked may_ask parse field = if may_ask && bytes_eq field (codes "?") then Some None
     else option_map Some (parse field)
 
+-- a cost has two decimals, where there is a number
+abbrev pub has_cents : Published → Bool
+has_cents p = (p.decimals == 2) || bytes_eq p.text (codes "-")
+
 unfoldable pub read_alone : Bool → List (List ℕ) → Option Published
 read_alone may_ask fields = do
   text ← read_as (published_in may_ask) fields

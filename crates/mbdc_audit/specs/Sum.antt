@@ -23,7 +23,7 @@ use Rattle.mbdc_audit.specs.Field.{◌>>=◌, read_as, read_field}
 use Rattle.mbdc_audit.specs.Grade.{has_number}
 use Rattle.mbdc_audit.specs.Number.{carbon, change, cost, declared_mean, exact_in, mean, weather}
 use Rattle.mbdc_audit.specs.Place.{Opened, graded_of, only_if, share_in}
-use Rattle.mbdc_audit.specs.Printed.{Published, read_alone, read_counted, read_marked}
+use Rattle.mbdc_audit.specs.Printed.{Published, has_cents, read_alone, read_counted, read_marked}
 use Rattle.mbdc_audit.specs.Smallest.{whole_in}
 use Rattle.mbdc_audit.specs.Total.{nothing, total_at}
 use Rattle.mbdc_audit.specs.Uses.{unit_named}
@@ -258,7 +258,7 @@ carbon_of may_ask fields h = do
   number ← times_of (λ x. carbon x grams) kwh.number
   Some (alone published (some_positive number))
 
--- cost,S,U,USE,UNIT,TEXT: from the exact amount
+-- cost,S,U,USE,UNIT,TEXT: from the exact amount, with two decimals where there is a number
 unfoldable pub cost_of : Bool → List (List ℕ) → House → Option Judged
 cost_of may_ask fields h = do
   span ← read_as whole_in fields
@@ -266,11 +266,12 @@ cost_of may_ask fields h = do
   name ← read_field user.1
   unit ← read_as unit_named name.1
   published ← read_alone may_ask unit.1
+  cost_text ← only_if (has_cents published) published
   supply ← used name.0 h.facts
   amount ← user_held span.0 user.0 supply unit.0 h
   cents ← declared (key.Price supply.0 unit.0) span.0 h.facts
   number ← times_of (λ x. cost x cents) amount.number
-  Some (alone published (some_positive number))
+  Some (alone cost_text (some_positive number))
 
 abbrev pub weather_for : Option Signed → ℕ → ℕ → Option (Option Exact)
 weather_for None here there = Some None

@@ -1,5 +1,5 @@
 -- What the lines do that give the values of a window (this product).
-use Rattle.std.specs.Prelude.{ℕ, ◌-◌, ◌==◌, Bool, true, false, List, [], ◌∷◌, Option, None, Some, Result, Ok, Err}
+use Rattle.std.specs.Prelude.{ℕ, ◌-◌, ◌==◌, Bool, true, false, not, List, [], ◌∷◌, Option, None, Some, Result, Ok, Err}
 use Rattle.mbdc_io.specs.Hex.{bytes_of}
 use Rattle.mbdc_audit.specs.declared.evidence.Refusal.{Refusal}
 use Rattle.mbdc_audit.specs.declared.evidence.Storage.{Storage}
@@ -17,7 +17,7 @@ use Rattle.mbdc_audit.specs.Place.{only_if}
 use Rattle.mbdc_audit.specs.Smallest.{decimal_in, of_spelled, whole_in}
 use Rattle.mbdc_audit.specs.State.{State, with_place}
 use Rattle.mbdc_audit.specs.Uses.{is_counted, size_named}
-use Rattle.mbdc_audit.specs.Window.{vib_bytes}
+use Rattle.mbdc_audit.specs.Window.{has_telegram, vib_bytes}
 
 abbrev pub all_bytes : List (List ℕ) → Option (List (List ℕ))
 all_bytes [] = Some []
@@ -127,6 +127,7 @@ add_zero fields s = do
   from ← only_if (is_same before.identity run.identity) source.Zero
   with_place s (Place.with_value n run.begin 0 from s.place)
 
+-- a struck value doesn't count: no telegrams gave one of the window there
 unfoldable pub add_struck : List (List ℕ) → State → Option State
 add_struck fields s = do
   number ← read_as whole_in fields
@@ -134,4 +135,5 @@ add_struck fields s = do
   why ← read_field moment.1
   n ← at_end why.1 number.0
   run ← Place.run_at n s.place
-  Some (record s { counts = record s.counts { struck = up s.counts.struck } })
+  only_if (not (has_telegram n moment.0 s.place.entries s.place.sources))
+      (record s { counts = record s.counts { struck = up s.counts.struck } })

@@ -430,10 +430,13 @@ impl<A: Allocator + Copy> Audit<A> {
     fn add_struck(&mut self, fields: &mut Fields<'_>) -> Result<(), Stop>
         ensures { OnOk result (add_struck fields.old self.old ≡ Some self.new) }
     {
-        let (run, _) = (fields.number()?, fields.number()?);
+        let (run, moment) = (fields.number()?, fields.number()?);
         let _why = fields.field()?;
         fields.end()?;
         self.here.run(run)?;
+        if self.here.has_telegram(run, moment) {
+            return Err(Stop::Fault(AuditFault::Moment));
+        }
         self.counts.struck = self.counts.struck.saturating_add(1);
         Ok(())
     }

@@ -30,6 +30,8 @@ pub enum Refusal {
     Meter,
     /// A status says that the values don't hold.
     Error,
+    /// A body follows one that doesn't say so.
+    Readouts,
     /// No storage number is dated with that day.
     Date,
     /// No record has a value of the use.
@@ -45,6 +47,7 @@ impl Refusal {
             Refusal::Body => "a body isn't a telegram",
             Refusal::Meter => "a body of another meter",
             Refusal::Error => "the meter reports an error",
+            Refusal::Readouts => "bodies of two readouts",
             Refusal::Date => "no record dated so",
             Refusal::Record => "no record of the use",
         }
@@ -92,26 +95,28 @@ pub(crate) fn is_same(one: &Identity, other: &Identity) -> bool
         && one.kind == other.kind
 }
 
-// Why a telegram can't be a meter's evidence.
-fn telegram_fault(telegram: &Telegram<'_>, identity: &Identity) -> Option<Refusal>
-    ensures { result ≡ telegram_fault identity.now (parsed telegram.now) }
+// Why a telegram can't be a meter's evidence: one that isn't the last of its readout says that more records follow.
+fn telegram_fault(telegram: &Telegram<'_>, identity: &Identity, is_last: bool) -> Option<Refusal>
+    ensures { result ≡ telegram_fault identity.now is_last (parsed telegram.now) }
 {
     let header = telegram.header();
     if !is_same(&header.identity, identity) {
         Some(Refusal::Meter)
     } else if has_error(header.status) {
         Some(Refusal::Error)
+    } else if !is_last && !telegram.more_follows() {
+        Some(Refusal::Readouts)
     } else {
         None
     }
 }
 
 // Why a body can't be a meter's evidence.
-fn body_fault(body: &[u8], identity: &Identity) -> Option<Refusal>
-    ensures { result ≡ body_fault identity.now body.now }
+fn body_fault(body: &[u8], identity: &Identity, is_last: bool) -> Option<Refusal>
+    ensures { result ≡ body_fault identity.now is_last body.now }
 {
     match Telegram::parse(body) {
-        Ok(telegram) => telegram_fault(&telegram, identity),
+        Ok(telegram) => telegram_fault(&telegram, identity, is_last),
         Err(_) => Some(Refusal::Body),
     }
 }
@@ -123,7 +128,7 @@ fn bodies_fault<A: Allocator>(bodies: &[Vec<u8, A>], identity: &Identity) -> Opt
     let [body, others @ ..] = bodies else {
         return None;
     };
-    match body_fault(body.as_slice(), identity) {
+    match body_fault(body.as_slice(), identity, others.is_empty()) {
         Some(fault) => Some(fault),
         None => bodies_fault(others, identity),
     }

@@ -15,8 +15,11 @@ const SECONDS_OF_DAY: u64 = 86_400;
 
 const SECONDS_OF_MINUTE: u64 = 60;
 
-// Most minutes between a local time and UTC: a day.
-const MOST_OFFSET: u64 = 1_440;
+// Most minutes between a local time and UTC: 14 hours.
+const MOST_OFFSET: u64 = 840;
+
+// Zones are quarters of an hour apart.
+const QUARTER: u64 = 15;
 
 /// How far a local time is from UTC.
 #[derive(Clone, Copy)]
@@ -131,7 +134,7 @@ fn offset_of(is_behind: bool, minutes: Option<u64>) -> Option<Offset>
     ensures day { IfSome result IsOffset }
 {
     let minutes = minutes?;
-    if minutes > MOST_OFFSET {
+    if minutes > MOST_OFFSET || minutes % QUARTER != 0 {
         None
     } else if is_behind {
         Some(Offset::Behind(minutes))

@@ -6,7 +6,7 @@ ghost use Rattle.mbdc_audit.specs.Evidence.{value_of};
 ghost use Rattle.mbdc_audit.specs.Place.{begins, begun, closed, ends, graded_of, is_entry_after};
 ghost use Rattle.mbdc_audit.specs.Place.{last_entry, no_place, opened, run_at, share_in, value_on};
 ghost use Rattle.mbdc_audit.specs.Place.{with_part, with_run, with_value};
-ghost use Rattle.mbdc_audit.specs.Window.{vib_bytes};
+ghost use Rattle.mbdc_audit.specs.Window.{has_telegram, vib_bytes};
 
 use crate::evidence::{Counter, Refusal, Storage, value_of};
 use crate::facts::Span;
@@ -14,7 +14,7 @@ use crate::fault::{AuditFault, Stop};
 use crate::grade::Grade;
 use crate::total::Share;
 use crate::uses::Counted;
-use crate::window::{Run, Source, Window, is_over};
+use crate::window::{Run, Source, Window, has_telegram, is_over};
 use mbdc_consumption::{Entry, Period, backwards, consumption, counted, exchanges, is_in_order};
 use std::alloc::Allocator;
 use std::marker::Model;
@@ -270,6 +270,18 @@ impl<A: Allocator + Copy> Open<A> {
             vib: run.vib.as_slice(),
         };
         value_of(bodies, &counter, meant)
+    }
+
+    /// Whether telegrams gave a value of a run at a moment.
+    pub fn has_telegram(&self, number: u64, moment: u64) -> bool
+        ensures { result ≡ has_telegram number moment self.now.entries self.now.sources }
+    {
+        has_telegram(
+            self.entries.as_slice(),
+            self.sources.as_slice(),
+            number,
+            moment,
+        )
     }
 
     /// The value of a run at a moment: the last of several.

@@ -2,7 +2,7 @@
 
 ghost use Rattle.std.specs.Prelude.{◌≡◌, ◌≤◌, ◌<◌, ◌||◌, ◌&&◌, Some, IfOk, IfSome};
 ghost use Rattle.mbdc_audit.specs.Printed.{IsPrintedAs, decimals_after, decimals_in, decimals_of};
-ghost use Rattle.mbdc_audit.specs.Printed.{asked_decimals, given_of, is_beside, is_count};
+ghost use Rattle.mbdc_audit.specs.Printed.{asked_decimals, given_of, has_cents, is_beside, is_count};
 ghost use Rattle.mbdc_audit.specs.Printed.{is_printed, most_decimals, printed_of, published_in};
 ghost use Rattle.mbdc_audit.specs.Printed.{read_alone, read_counted, read_marked};
 ghost use Rattle.mbdc_audit.specs.Field.{read_as};
@@ -18,6 +18,9 @@ use mbdc_io::{IoFault, Sink};
 
 /// Most decimals of a published number.
 const MOST_DECIMALS: usize = 3;
+
+// The decimals of a cost.
+const CENTS: u32 = 2;
 
 /// A number as it is printed, or none.
 pub type Printed = Option<Decimal>;
@@ -209,6 +212,14 @@ impl<'a> Given<'a> {
             decimals,
             beside,
         })
+    }
+
+    /// Whether it has two decimals, or is none.
+    pub fn has_cents(&self) -> bool
+        ensures { result ≡ has_cents (given_of self.now.text.now self.now.is_asked
+            self.now.decimals self.now.beside) }
+    {
+        self.decimals == CENTS || is_word(self.text, "-")
     }
 
     /// Whether it is what holds, as far as it isn't asked for.

@@ -460,6 +460,9 @@ impl<A: Allocator + Copy> Audit<A> {
         let (span, user) = (fields.number()?, fields.number()?);
         let (name, unit) = (fields.field()?, fields.unit()?);
         let given = Given::alone(fields, self.may_ask)?;
+        if !given.has_cents() {
+            return Err(Stop::Fault(AuditFault::Row));
+        }
         let used = self.facts.used(name)?;
         let amount = self.of_user(span, user, used, unit)?;
         let cents = self.facts.ratio(FactKey::Price(used.0, unit), span)?;

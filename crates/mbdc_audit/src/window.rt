@@ -6,7 +6,8 @@ ghost use Rattle.std.specs.Prelude.{Some};
 ghost use Rattle.mbdc_io.specs.Hex.{bytes_of};
 ghost use Rattle.mbdc_audit.specs.Window.{declared_exchanges, declared_from, grade_of};
 ghost use Rattle.mbdc_audit.specs.Window.{grade_of_number};
-ghost use Rattle.mbdc_audit.specs.Window.{has_first, has_last, has_two_after, is_adjacent, is_at};
+ghost use Rattle.mbdc_audit.specs.Window.{has_first, has_last, has_telegram, has_two_after};
+ghost use Rattle.mbdc_audit.specs.Window.{is_adjacent, is_at, is_telegram};
 ghost use Rattle.mbdc_audit.specs.Window.{is_at_exchange, is_clear, is_close, is_exchange_in};
 ghost use Rattle.mbdc_audit.specs.Window.{is_first};
 ghost use Rattle.mbdc_audit.specs.Window.{is_how, is_known, is_last, is_near, is_over};
@@ -143,6 +144,13 @@ impl Source {
         }
     }
 
+    // Whether telegrams gave it.
+    fn is_telegram(self) -> bool
+        ensures { result ≡ is_telegram self }
+    {
+        matches!(self, Source::Telegram | Source::Ended)
+    }
+
     // Whether it is the first value of a run.
     fn is_first(self) -> bool
         ensures { result ≡ is_first self }
@@ -259,6 +267,20 @@ fn has_last(entries: &[Entry], sources: &[Source], meter: u64) -> bool
         return false;
     };
     (entry.meter == meter && source.is_last()) || has_last(entries, sources, meter)
+}
+
+/// Whether telegrams gave a value of a run at a moment.
+pub(crate) fn has_telegram(entries: &[Entry], sources: &[Source], meter: u64, moment: u64) -> bool
+    ensures { result ≡ has_telegram meter moment entries.now sources.now }
+{
+    let [entry, entries @ ..] = entries else {
+        return false;
+    };
+    let [source, sources @ ..] = sources else {
+        return false;
+    };
+    let is_there = entry.meter == meter && entry.moment == moment;
+    (is_there && source.is_telegram()) || has_telegram(entries, sources, meter, moment)
 }
 
 // Whether values lie at two different moments at or after a moment, the first of which was found or not.

@@ -3,7 +3,7 @@
 ghost use Rattle.std.specs.Prelude.{◌≡◌, find};
 ghost use Rattle.std.specs.Str.{bytes_eq};
 ghost use Rattle.mbdc_audit.specs.Order.{after, after_other, is_declared, is_fact, is_in_window};
-ghost use Rattle.mbdc_audit.specs.Order.{is_metered};
+ghost use Rattle.mbdc_audit.specs.Order.{is_metered, is_struck};
 ghost use Rattle.mbdc_audit.specs.Order.{is_parted, is_placed, is_summed, is_valued, is_value};
 ghost use Rattle.mbdc_audit.specs.Order.{leads, may_go_on, word_in, word_name};
 
@@ -163,7 +163,6 @@ impl Word {
                 | Word::First
                 | Word::Last
                 | Word::Zero
-                | Word::Struck
         )
     }
 }
@@ -189,6 +188,7 @@ pub enum Stage {
     Metered,
     /// A window, or one of its values.
     Valued,
+    Struck,
     Parted,
     Shown,
     /// `totals`, or one of its numbers.
@@ -228,6 +228,12 @@ impl Stage {
         matches!(self, Stage::Valued)
     }
 
+    fn is_struck(self) -> bool
+        ensures { result ≡ is_struck self }
+    {
+        matches!(self, Stage::Struck)
+    }
+
     fn is_parted(self) -> bool
         ensures { result ≡ is_parted self }
     {
@@ -244,7 +250,10 @@ impl Stage {
     pub fn is_in_window(self) -> bool
         ensures { result ≡ is_in_window self }
     {
-        matches!(self, Stage::Valued | Stage::Parted | Stage::Shown)
+        matches!(
+            self,
+            Stage::Valued | Stage::Struck | Stage::Parted | Stage::Shown
+        )
     }
 
     // Whether a place is whole, so that another line than one of its own may follow.
@@ -262,7 +271,11 @@ impl Stage {
             Word::Place => leads(self.may_go_on() || self.is_declared(), Stage::Placed),
             Word::Meter => leads(self.is_placed() || self.is_metered(), Stage::Metered),
             Word::Window => leads(self.may_go_on(), Stage::Valued),
-            Word::Part => leads(self.is_valued() || self.is_parted(), Stage::Parted),
+            Word::Struck => leads(self.is_valued() || self.is_struck(), Stage::Struck),
+            Word::Part => leads(
+                self.is_valued() || self.is_struck() || self.is_parted(),
+                Stage::Parted,
+            ),
             Word::Shown | Word::Value => leads(self.is_in_window(), Stage::Shown),
             Word::Totals => leads(self.may_go_on() || self.is_declared(), Stage::Summed),
             Word::End => leads(self.is_summed(), Stage::Ended),
