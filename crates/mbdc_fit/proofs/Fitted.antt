@@ -74,7 +74,7 @@ module _ {D : Type 0} (g : Ghosts D) (wish : Wish) (house : Held) (plan : Outcom
     all_written leaves kept = record {
       lists = some_written leaves;
       plan_is = refl;
-        kept = λ keeps. subst (Keeps g new) (sym (gains plan changes house.state is)) (kept keeps);
+      kept = λ keeps. subst (Keeps g new) (sym (gains plan changes house.state is)) (kept keeps);
     }
 
 -- ---- from the disk to the disk
