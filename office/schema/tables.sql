@@ -1,5 +1,5 @@
--- The tables of a new database (PostgreSQL 14 and later). office/migrate runs this, then functions.sql, views.sql and
--- rights.sql. An older database comes to the same by the numbered files, which alter tables, and by those three.
+-- The tables of a new database (PostgreSQL 14 and later). office/migrate runs this, then functions.sql, people.sql,
+-- views.sql and rights.sql. An older database comes to the same by the numbered files, which alter tables, and those.
 
 CREATE EXTENSION IF NOT EXISTS btree_gist;
 CREATE SCHEMA desk;
