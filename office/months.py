@@ -3,7 +3,7 @@
 import collections
 import datetime
 import itertools
-import multiprocessing
+import multiprocessing.pool
 import statistics
 from typing import Any, Callable, Dict, Iterator, List, Mapping, NamedTuple, Optional, Sequence, Tuple
 
@@ -282,7 +282,7 @@ def taken(cursor: Cursor, month: datetime.date, houses: List[str]) -> "collectio
 def computed(name: str, wanted: Dict[datetime.date, List[str]], workers: int
              ) -> "Iterator[Tuple[datetime.date, collections.Counter[str]]]":
     """Writes months of houses, in so many processes; the grades of each."""
-    with multiprocessing.Pool(workers) as pool:
+    with pool_of(workers, max(wanted.values(), key=len, default=[])) as pool:
         for month, houses in sorted(wanted.items()):
             total: "collections.Counter[str]" = collections.Counter()
             for counts in pool.imap_unordered(work, [(name, month, turn) for turn in turns(houses)]):
@@ -294,6 +294,11 @@ def counted(month: datetime.date, counts: "collections.Counter[str]") -> str:
     """The line of a month."""
     told = ", ".join(f"{counts[grade]} {grade}" for grade in GRADES if counts[grade])
     return f"{month:%Y-%m}: {counts.total()} places{': ' if told else ''}{told}"
+
+
+def pool_of(workers: int, houses: List[str]) -> multiprocessing.pool.Pool:
+    """Processes for the turns of these houses."""
+    return multiprocessing.Pool(min(workers, max(1, -(-len(houses) // HOUSES_A_TURN))))
 
 
 def turns(houses: List[str]) -> Iterator[List[str]]:
