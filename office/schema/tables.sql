@@ -562,7 +562,7 @@ CREATE TABLE audits (
     month date CHECK (month = date_trunc('month', month)),
     days daterange,
     version smallint NOT NULL,
-    file bytea,
+    file bytea COMPRESSION lz4,
     sha256 text NOT NULL CHECK (sha256 ~ '^[0-9a-f]{64}$'),
     program text NOT NULL CHECK (program <> ''),
     program_sha256 text NOT NULL CHECK (program_sha256 ~ '^[0-9a-f]{64}$'),
