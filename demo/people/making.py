@@ -51,7 +51,7 @@ def with_jump(plan: Plan, house: int, flat: int, kind: Kind, first: datetime.dat
     day = first + datetime.timedelta(days=rng.randrange(45, max((after - first).days - 15, 46)))
     jumps = plan._replace(leaps_on=day, leap=round(kind.a_day * rng.uniform(2, 30)) * kind.digit) if rng.random() < 0.2 else plan
     jumps = jumps._replace(is_empty=True) if house % 4 == 0 and flat == 0 else jumps
-    return jumps._replace(lost=but_mondays(first, after)) if house % 5 == 0 else jumps
+    return jumps._replace(lost=but_mondays(first, after), is_storing=False) if house % 5 == 0 else jumps
 
 
 def odd(place: int, first: datetime.date, after: datetime.date) -> Plan:
