@@ -5,7 +5,7 @@ use mbdc_commands::look_ending;
 use mbdc_ending::{Ending, ProgramFault, STREAM, ending_of};
 use mbdc_files::{Host, LookedAt, Noted, ROUNDS, journal_lines};
 use mbdc_io::NoMemory;
-use mbdc_json::journal::{Journal, read_journal};
+use mbdc_json::journal::{Journal, Keeps, read_journal};
 use mbdc_log::Greatest;
 use mbdc_looks::{Asked, Form, Outlook, Report, Shown, answer, scan};
 use std::alloc::Global;
@@ -51,13 +51,14 @@ fn journal_for<'a, R: Files<File = File> + Clock + AllocGlobal>(
     image: &str,
 ) -> Result<Journal<Global>, Ending<'a>> {
     let alloc = host.rt.alloc();
-    let now = match (asked, clock::moment(host.rt)) {
-        (Asked::Status(_, clock), _) => clock.now,
-        (Asked::Values(_), Some(moment)) => moment.seconds,
+    let (now, keeps) = match (asked, clock::moment(host.rt)) {
+        (Asked::Status(_, clock), _) => (clock.now, Keeps::Nothing),
+        (Asked::Values(Form::Text), Some(moment)) => (moment.seconds, Keeps::Lines),
+        (Asked::Values(Form::Json), Some(moment)) => (moment.seconds, Keeps::Line),
         _ => return Ok(Journal::none(alloc)),
     };
     match journal_lines(host.rt, image) {
-        Ok(Some(lines)) => match read_journal(alloc, lines.as_slice(), now) {
+        Ok(Some(lines)) => match read_journal(alloc, lines.as_slice(), now, keeps) {
             Ok(journal) => Ok(journal),
             Err(NoMemory) => Err(Ending::Memory),
         },

@@ -48,7 +48,7 @@ pub fn put_line<W: Sink>(out: &mut W, event: &Event<'_>) -> Result<(), IoFault>
         Event::Read {
             meter,
             serial,
-            bodies,
+            parts,
             ..
         } => put_pieces(
             out,
@@ -56,7 +56,7 @@ pub fn put_line<W: Sink>(out: &mut W, event: &Event<'_>) -> Result<(), IoFault>
                 Text(b"READ "),
                 Text(&meter.text()),
                 Word(*serial),
-                Word(bodies.len() as u64),
+                Word(*parts),
                 Text(b"\n"),
             ],
         ),
