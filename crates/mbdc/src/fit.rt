@@ -1,12 +1,13 @@
 //! The command `fit`: the meters of a list, added to the register of an image in a file.
 
+use crate::columns::in_order;
 use crate::journal::Noting;
 use dc_sectors::FileDisk;
 use mbdc_commands::fit_over;
 use mbdc_ending::{Ending, ProgramFault};
 use mbdc_files::{Host, Noted, open_disk};
-use mbdc_fit::list::{Wish, read_list};
-use mbdc_io::{CHUNK, MOST, NoMemory, ReadSource, Source, read_input, room};
+use mbdc_fit::list::Wish;
+use mbdc_io::{CHUNK, MOST, ReadSource, Source, read_input, room};
 use mbdc_log::Greatest;
 use mbdc_looks::register_of;
 use std::alloc::Global;
@@ -37,11 +38,11 @@ where
         Ok((house, _)) => Some(house),
         Err(_) => None,
     };
-    let list = match read_list(host.rt.alloc(), rows.as_slice(), house.as_ref()) {
-        Ok(list) => list,
-        Err(NoMemory) => return Ending::Memory,
+    let rows = match in_order(host.rt, rows, house.as_ref()) {
+        Ok(rows) => rows,
+        Err(_) => return Ending::Memory,
     };
-    wished(host, disk, image, &Wish::List(&list))
+    wished(host, disk, image, &Wish::List(rows.as_slice()))
 }
 
 /// Does what is asked on the image, and puts the commands that were done into its journal.

@@ -21,7 +21,7 @@ const NO_TABLE: &str =
 /// Prints what is asked of the image in that file, as it stands at one instant; another program may write it.
 pub fn look_into<'a, R>(host: &Host<'_, R>, asked: Asked, image: &'a str) -> Ending<'a>
 where
-    R: Files<File = File> + Clock + Print + Eprint + AllocGlobal,
+    R: Files<File = File> + Clock + Print + AllocGlobal,
 {
     let journal = match journal_for(host, &asked, image) {
         Ok(journal) => journal,
@@ -45,7 +45,7 @@ where
 }
 
 // What the journal beside the image says, where it is asked for.
-fn journal_for<'a, R: Files<File = File> + Clock + Eprint + AllocGlobal>(
+fn journal_for<'a, R: Files<File = File> + Clock + AllocGlobal>(
     host: &Host<'_, R>,
     asked: &Asked,
     image: &str,
@@ -126,7 +126,7 @@ pub fn report_on_image<'a, R>(
     is_json: bool,
 ) -> Ending<'a>
 where
-    R: Files<File = File> + Clock + Print + Eprint + AllocGlobal,
+    R: Files<File = File> + Clock + Print + AllocGlobal,
 {
     let Some(report) = Report::parse(table.as_bytes()) else {
         return Ending::Words(NO_TABLE);
@@ -147,7 +147,7 @@ pub fn tell_status<'a, R>(
     is_json: bool,
 ) -> Ending<'a>
 where
-    R: Files<File = File> + Clock + Print + Eprint + AllocGlobal,
+    R: Files<File = File> + Clock + Print + AllocGlobal,
 {
     let Some(moment) = clock::moment(host.rt) else {
         return Ending::Clock;

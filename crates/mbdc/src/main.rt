@@ -4,6 +4,7 @@
 
 mod bench;
 mod clock;
+mod columns;
 mod connecting;
 mod demo;
 mod ending;

@@ -1,6 +1,5 @@
 //! The file of an image's journal. What fails here costs a view, and nothing else.
 
-use crate::half_made::is_same_file;
 use crate::image::{NO_FILE, file_limit, refused};
 use crate::why::without_number;
 use std::alloc::AllocError;
@@ -14,8 +13,6 @@ use std::{fs, io};
 const JOURNAL: &str = ".journal";
 
 const EARLIER: &str = ".journal.1";
-
-const NO_JOURNAL: &str = "it is no journal of this image";
 
 // A file of that many bytes is full: a command that begins puts it aside. So both files have at most twice as many, and
 // what one command writes.
@@ -45,7 +42,7 @@ impl<'h, R: Files<File = File> + Eprint + AllocGlobal> Journal<'h, R> {
             length: 0,
         };
         if let Err(error) = journal.begin(image) {
-            name_failure(rt, journal.name.as_str(), &error);
+            journal.name_failure(&error);
             return None;
         }
         Some(journal)
@@ -53,13 +50,15 @@ impl<'h, R: Files<File = File> + Eprint + AllocGlobal> Journal<'h, R> {
 
     fn begin(&mut self, image: &str) -> io::Result<()> {
         let name = self.name.as_str();
-        if let Some(file) = open_journal(self.rt, image, name)?
-            && file.metadata()?.len() >= FULL
-        {
-            let earlier = format!(in self.rt.alloc(); "{image}{EARLIER}")?;
-            // What is lost there is a journal.
-            let _ = open_journal(self.rt, image, earlier.as_str())?;
-            fs::rename(self.rt, name, earlier.as_str())?;
+        // Opening a device or a pipe may do something.
+        if let Ok(about) = fs::metadata(self.rt, name) {
+            if !about.is_file() {
+                return Err(refused(NO_FILE));
+            }
+            if about.len() >= FULL {
+                let earlier = format!(in self.rt.alloc(); "{image}{EARLIER}")?;
+                fs::rename(self.rt, name, earlier.as_str())?;
+            }
         }
         let mut options = OpenOptions::new();
         options.read(true).append(true).create(true).mode(MODE);
@@ -82,7 +81,7 @@ impl<'h, R: Files<File = File> + Eprint + AllocGlobal> Journal<'h, R> {
     pub fn append(&mut self, line: &[u8]) {
         if let Err(error) = self.put(line) {
             self.file = None;
-            name_failure(self.rt, self.name.as_str(), &error);
+            self.name_failure(&error);
         }
     }
 
@@ -103,55 +102,25 @@ impl<'h, R: Files<File = File> + Eprint + AllocGlobal> Journal<'h, R> {
         }
         Ok(())
     }
-}
 
-// Says why a journal isn't used, without the number that the system's message has.
-fn name_failure<R: Eprint + AllocGlobal>(rt: &R, name: &str, error: &io::Error) {
-    if let Ok(said) = format!(in rt.alloc(); "{error}") {
-        let words = without_number(said.as_str());
-        let _ = eprint!(rt; "mbdc: journal: {name}: {words}\n");
+    // Says why no more is written, without the number that the system's message has.
+    fn name_failure(&self, error: &io::Error) {
+        if let Ok(said) = format!(in self.rt.alloc(); "{error}") {
+            let words = without_number(said.as_str());
+            let _ = eprint!(self.rt; "mbdc: journal: {}: {words}\n", self.name);
+        }
     }
-}
-
-// Opens what has that name, unless it is no journal of that image; none where there is nothing. A journal is a file of
-// its own that is empty or begins with an object. Opening a device or a pipe may do something.
-fn open_journal<R: Files<File = File>>(
-    rt: &R,
-    image: &str,
-    name: &str,
-) -> io::Result<Option<File>> {
-    let about = match fs::symlink_metadata(rt, name) {
-        Ok(about) => about,
-        Err(error) if error.kind() == ErrorKind::NotFound => return Ok(None),
-        Err(error) => return Err(error),
-    };
-    if !about.is_file() {
-        return Err(refused(NO_FILE));
-    }
-    let file = fs::open(rt, name)?;
-    let mut first = *b"{";
-    let mut reader = &file;
-    let _ = reader.read(&mut first)?;
-    let about = file.metadata()?;
-    let is_image = match fs::metadata(rt, image) {
-        Ok(own) => is_same_file(&own, &about),
-        Err(_) => false,
-    };
-    if is_image || first != *b"{" {
-        return Err(refused(NO_JOURNAL));
-    }
-    Ok(Some(file))
 }
 
 // The most bytes of a file that are read: the last ones.
 const MOST: u64 = 2 * FULL;
 
-/// The lines of an image's journal, first those of the file that was put aside; none where there is no such file. Of each
-/// file the last 16 MiB are read. One that can't be read, or that is no journal, is named on standard error.
+/// The lines of an image's journal, first those of the file that was put aside; none where there is no such file, or
+/// none that can be read. Of each file the last 16 MiB are read.
 ///
 /// # Errors
 /// Out of memory.
-pub fn journal_lines<R: Files<File = File> + Eprint + AllocGlobal>(
+pub fn journal_lines<R: Files<File = File> + AllocGlobal>(
     rt: &R,
     image: &str,
 ) -> Result<Option<Vec<u8>>, AllocError> {
@@ -160,15 +129,15 @@ pub fn journal_lines<R: Files<File = File> + Eprint + AllocGlobal>(
     for end in [EARLIER, JOURNAL] {
         let name = format!(in rt.alloc(); "{image}{end}")?;
         let name = name.as_str();
-        match open_journal(rt, image, name) {
-            Ok(Some(file)) => {
-                is_there = true;
-                add_lines(&file, &mut lines)?;
-                // A line that is torn ends here.
-                lines.push(b'\n')?;
-            }
-            Ok(None) => {}
-            Err(error) => name_failure(rt, name, &error),
+        // Opening a device or a pipe may do something.
+        if let Ok(about) = fs::metadata(rt, name)
+            && about.is_file()
+            && let Ok(file) = fs::open(rt, name)
+        {
+            is_there = true;
+            add_lines(&file, &mut lines)?;
+            // A line that is torn ends here.
+            lines.push(b'\n')?;
         }
     }
     Ok(if is_there { Some(lines) } else { None })

@@ -44,7 +44,7 @@ failure_json None number = null
 failure_json (Some moment) number = string (failure_name number)
 
 -- of a meter where there is no journal
-abbrev pub plain_object : Row → List ℕ
+unfoldable pub plain_object : Row → List ℕ
 plain_object row = value_line (object_of (
     (codes "flat", string row.flat)
     ∷ (codes "meter", object_of (identity_fields row.meter))
@@ -56,7 +56,7 @@ plain_object row = value_line (object_of (
     ∷ []))
 
 -- and where there is one, of which this is told
-abbrev pub told_object : Told → Row → List ℕ
+unfoldable pub told_object : Told → Row → List ℕ
 told_object told row = value_line (object_of (
     (codes "flat", string row.flat)
     ∷ (codes "meter", object_of (identity_fields row.meter))

@@ -56,10 +56,16 @@ failure_name number =
     if number == 6 then name_of Stranger else
     if number == 7 then name_of TooManyParts else codes "Other"
 
+unfoldable pub failed_words : ℕ → ℕ → List ℕ
+failed_words moment number = codes "FAILED " ++ (value_text (minute_of moment)
+    ++ (codes "Z" ++ number_word number))
+
+unfoldable pub name_end : ℕ → List ℕ
+name_end number = codes " " ++ (failure_name number ++ codes "\n")
+
 -- the last failed readout since: its minute (UTC), its number and its name
 unfoldable pub failed_line : ℕ → ℕ → List ℕ
-failed_line moment number = codes "FAILED " ++ (value_text (minute_of moment)
-    ++ (codes "Z" ++ (number_word number ++ (codes " " ++ (failure_name number ++ codes "\n")))))
+failed_line moment number = failed_words moment number ++ name_end number
 
 abbrev pub failed_since : Option ℕ → ℕ → List ℕ
 failed_since None number = []

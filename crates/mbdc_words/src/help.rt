@@ -208,8 +208,7 @@ Lines of the list; a comma, a semicolon, a tab or a space ends a field:
                              250, flat of 1 to 12 of A-Z a-z 0-9 . - / _
   18034063.PAD.49.06,1,S,A2  S or nothing: secondary addressing
 Other columns are left out; what report IMAGE register prints is a list, too.
-All rows are checked before the first is done. Printed of each row, or only of
-the wrong ones:
+All rows are checked before the first is done. Printed of each row:
   line i: n FIT ident line addr flat  a new meter: its command and its number
   line i: ident stands already        the register has it at this place
   line i: reason                      the row is wrong: nothing is done

@@ -4,7 +4,6 @@ ghost use Rattle.std.specs.Prelude.{IfOk};
 ghost use Rattle.mbdc_fit.specs.Plan.{IsOneGroup};
 ghost use Rattle.mbdc_fit.specs.Wish.{IsMetBy};
 
-use crate::list::listed::Listing;
 use crate::list::order::{Order, plan_for};
 use crate::list::plan::{Plan, plan_on};
 use dc_meters::House;
@@ -15,7 +14,7 @@ use std::alloc::Allocator;
 #[derive(Clone, Copy)]
 pub enum Wish<'a> {
     /// The meters of a list.
-    List(&'a Listing),
+    List(&'a [u8]),
     /// One command.
     One(Order),
 }

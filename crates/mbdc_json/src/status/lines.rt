@@ -3,7 +3,8 @@
 ghost use Rattle.std.specs.Prelude.{◌≡◌, ◌≤◌, IfSome};
 ghost use Rattle.mbdc_io.specs.Written.{Wrote};
 ghost use Rattle.mbdc_change.specs.Fields.{last_moment};
-ghost use Rattle.mbdc_json.specs.Status.{failed_text, failure_name, heard_words, row_lines, row_text};
+ghost use Rattle.mbdc_json.specs.Status.{failed_text, failed_words, failure_name, heard_words};
+ghost use Rattle.mbdc_json.specs.Status.{name_end, row_lines, row_text};
 ghost use Rattle.mbdc_json.specs.Status.{silent_words, size_line};
 ghost use Rattle.mbdc_json.specs.Status.{source_words, state_words, status_text};
 
@@ -85,13 +86,12 @@ fn source_words(told: Option<Told>) -> &'static [u8]
     }
 }
 
-// Writes the last failed readout since: its minute (UTC), its number and its name.
-#[tactic(auto, unfolding(crate::specs::Status::failed_line))]
+// Writes the last failed readout since.
+#[tactic(auto, using(mbdc_io::proofs::Pieces::written), unfolding(crate::specs::Status::failed_line))]
 fn put_failed<W: Sink>(out: &mut W, told: Option<Told>) -> Result<(), IoFault>
     requires { IfSome told (λ told. IfSome told.failed (λ moment. moment ≤ last_moment)) }
     ensures { Wrote W.Sink result out.old out.new (failed_text told) }
 {
-    let mut text = [0u8; TEXT_ROOM];
     match told {
         Some(
             Told {
@@ -99,20 +99,40 @@ fn put_failed<W: Sink>(out: &mut W, told: Option<Told>) -> Result<(), IoFault>
                 number,
                 ..
             },
-        ) => put_pieces(
-            out,
-            &[
-                Piece::Text(b"FAILED "),
-                Piece::Text(minute(moment).write_into(&mut text)),
-                Piece::Text(b"Z"),
-                Piece::Word(u64::from(number)),
-                Piece::Text(b" "),
-                Piece::Text(failure_name(number).as_bytes()),
-                Piece::Text(b"\n"),
-            ],
-        ),
+        ) => {
+            put_failed_words(out, moment, number)?;
+            put_name_end(out, number)
+        }
         _ => Ok(()),
     }
+}
+
+// Writes the minute (UTC) of a failure, and its number.
+#[tactic(auto, unfolding(crate::specs::Status::failed_words))]
+fn put_failed_words<W: Sink>(out: &mut W, moment: u64, number: u8) -> Result<(), IoFault>
+    requires { moment ≤ last_moment }
+    ensures { Wrote W.Sink result out.old out.new (failed_words moment number) }
+{
+    let mut text = [0u8; TEXT_ROOM];
+    put_pieces(
+        out,
+        &[
+            Piece::Text(b"FAILED "),
+            Piece::Text(minute(moment).write_into(&mut text)),
+            Piece::Text(b"Z"),
+            Piece::Word(u64::from(number)),
+        ],
+    )
+}
+
+// Writes the name of a failure, at the end of its line.
+#[tactic(auto, using(mbdc_io::proofs::Pieces::written), unfolding(crate::specs::Status::name_end))]
+fn put_name_end<W: Sink>(out: &mut W, number: u8) -> Result<(), IoFault>
+    ensures { Wrote W.Sink result out.old out.new (name_end number) }
+{
+    out.put(b" ")?;
+    out.put(failure_name(number).as_bytes())?;
+    out.put(b"\n")
 }
 
 /// The name of a failure by its number.

@@ -5,13 +5,14 @@ ghost use Rattle.mbdc_io.specs.Written.{Wrote};
 ghost use Rattle.mbdc_change.specs.Fields.{last_moment};
 ghost use Rattle.mbdc_decode.specs.Record.{value_json};
 ghost use Rattle.mbdc_decode.specs.Row.{field_of};
-ghost use Rattle.mbdc_json.specs.Object.{failure_json, image_object, maybe_json, row_object};
-ghost use Rattle.mbdc_json.specs.Object.{row_objects, source_json, state_json, status_objects, utc_json};
+ghost use Rattle.mbdc_json.specs.Object.{failure_json, image_object, maybe_json, plain_object, row_object};
+ghost use Rattle.mbdc_json.specs.Object.{row_objects, source_json, state_json, status_objects};
+ghost use Rattle.mbdc_json.specs.Object.{told_object, utc_json};
 
 use crate::journal::Journal;
 use crate::status::full::days_left;
 use crate::status::lines::failure_name;
-use crate::status::row::{Row, row_at};
+use crate::status::row::{Row, Told, row_at};
 use crate::status::silence::Clock;
 use dc_meters::House;
 use dc_units::Value;
@@ -60,32 +61,55 @@ fn put_row<W: Sink>(out: &mut W, row: &Row) -> Result<(), IoFault>
         IfSome told.failed (λ moment. moment ≤ last_moment)) }
     ensures { Wrote W.Sink result out.old out.new (row_object row.now) }
 {
-    let flat = Cell::Text("flat", row.flat.as_slice());
-    let meter = Cell::Meter("meter", row.meter);
-    let moment = maybe("moment", row.heard);
-    let minute = Cell::Value("utc", utc(row.heard));
-    let age = maybe("age", row.age);
-    let silent = Cell::Flag("silent", row.is_silent);
-    let state = state(row.status);
     match row.told {
-        None => put_line(out, &[flat, meter, moment, minute, age, silent, state]),
-        Some(told) => put_line(
-            out,
-            &[
-                flat,
-                meter,
-                moment,
-                minute,
-                age,
-                silent,
-                state,
-                source(told.is_noted, row.heard),
-                maybe("failed", told.failed),
-                Cell::Value("failed_utc", utc(told.failed)),
-                failure(told.failed, told.number),
-            ],
-        ),
+        None => put_plain(out, row),
+        Some(told) => put_told(out, &told, row),
     }
+}
+
+// Writes the object of a meter where there is no journal.
+#[tactic(auto, unfolding(crate::specs::Object::plain_object))]
+fn put_plain<W: Sink>(out: &mut W, row: &Row) -> Result<(), IoFault>
+    requires { IfSome row.now.heard (λ moment. moment ≤ last_moment) }
+    ensures { Wrote W.Sink result out.old out.new (plain_object row.now) }
+{
+    put_line(
+        out,
+        &[
+            Cell::Text("flat", row.flat.as_slice()),
+            Cell::Meter("meter", row.meter),
+            maybe("moment", row.heard),
+            Cell::Value("utc", utc(row.heard)),
+            maybe("age", row.age),
+            Cell::Flag("silent", row.is_silent),
+            state(row.status),
+        ],
+    )
+}
+
+// Writes the object of a meter where there is a journal.
+#[tactic(auto, unfolding(crate::specs::Object::told_object))]
+fn put_told<W: Sink>(out: &mut W, told: &Told, row: &Row) -> Result<(), IoFault>
+    requires heard { IfSome row.now.heard (λ moment. moment ≤ last_moment) }
+    requires failed { IfSome told.now.failed (λ moment. moment ≤ last_moment) }
+    ensures { Wrote W.Sink result out.old out.new (told_object told.now row.now) }
+{
+    put_line(
+        out,
+        &[
+            Cell::Text("flat", row.flat.as_slice()),
+            Cell::Meter("meter", row.meter),
+            maybe("moment", row.heard),
+            Cell::Value("utc", utc(row.heard)),
+            maybe("age", row.age),
+            Cell::Flag("silent", row.is_silent),
+            state(row.status),
+            source(told.is_noted, row.heard),
+            maybe("failed", told.failed),
+            Cell::Value("failed_utc", utc(told.failed)),
+            failure(told.failed, told.number),
+        ],
+    )
 }
 
 // The cell of where the reading comes from.
