@@ -1,16 +1,18 @@
 -- Sums of shares: an amount in the smallest unit, and the same times the weight of its place (this product).
 use Rattle.std.specs.Prelude.{ℕ, ◌+◌, ◌*◌, ◌^◌, ◌<◌, ◌==◌, ◌&&◌, if◌then◌else◌}
-use Rattle.std.specs.Prelude.{List, [], ◌∷◌, Option, None, Some, slice_get}
+use Rattle.std.specs.Prelude.{List, [], ◌∷◌, ◌++◌, Option, None, Some, slice_get}
 use Rattle.std.specs.Ordering.{nat_cmp, ordering_then}
 use Rattle.std.specs.declared.cmp.Ordering.{Ordering}
 use Rattle.std.specs.BTreeMap.{insert_entry, is_at}
 use Rattle.std.specs.Map.{lookup}
+use Rattle.mbdc_audit.specs.declared.facts.Span.{Span}
 use Rattle.mbdc_audit.specs.declared.grade.Grade.{Grade}
 use Rattle.mbdc_audit.specs.declared.grade.Grade.TheVariants.{Measured}
 use Rattle.mbdc_audit.specs.declared.total.Basis.{Basis}
 use Rattle.mbdc_audit.specs.declared.total.Key.{Key}
 use Rattle.mbdc_audit.specs.declared.total.Share.{Share}
 use Rattle.mbdc_audit.specs.declared.total.Total.{Total}
+use Rattle.mbdc_audit.specs.declared.uses.Counted.{Counted}
 use Rattle.mbdc_audit.specs.Grade.{has_number, is_reliable, worst}
 
 -- an amount of a place with this weight; nothing where its grade has no number
@@ -108,3 +110,17 @@ no_basis span used = record {
 -- of the flats that are reliable and have an area: their sum, that of their areas, and how many they are
 abbrev pub basis_of : ℕ → ℕ → List (Option ℕ) → List (Key × Total) → Basis
 basis_of span used areas sums = basis_on areas (no_basis span used) sums
+
+-- what the means of a span need, of each use from this number on, after what was made before
+abbrev pub bases_on : List (Option ℕ) → List (Key × Total) → ℕ → ℕ → List Counted → List Basis
+    → List Basis
+bases_on areas sums span used [] bases = bases
+bases_on areas sums span used (counted ∷ uses) bases = bases_on areas sums span (used + 1) uses
+    (bases ++ basis_of span used areas sums ∷ [])
+
+-- the same of spans
+abbrev pub bases_of : List (Option ℕ) → List (Key × Total) → List Counted → List Span → List Basis
+    → List Basis
+bases_of areas sums uses [] bases = bases
+bases_of areas sums uses (span ∷ spans) bases =
+    bases_of areas sums uses spans (bases_on areas sums span.number 0 uses bases)

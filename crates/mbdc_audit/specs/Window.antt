@@ -12,7 +12,7 @@ use Rattle.mbdc_audit.specs.declared.window.How.TheVariants.{Hand, Estimated}
 use Rattle.mbdc_audit.specs.declared.window.Run.{Run}
 use Rattle.mbdc_audit.specs.declared.window.Source.{Source}
 use Rattle.mbdc_audit.specs.declared.window.Vib.{Vib}
-use Rattle.mbdc_audit.specs.declared.window.Source.TheVariants.{Put, First, Last, Again, Ended, Zero}
+use Rattle.mbdc_audit.specs.declared.window.Source.TheVariants.{Telegram, Put, First, Last, Ended, Zero}
 
 -- the block of the record that counts
 abbrev pub vib_bytes : Vib → List ℕ
@@ -23,7 +23,6 @@ abbrev pub put_how : Source → Option How
 put_how (Put how) = Some how
 put_how (First how) = Some how
 put_how (Last how) = Some how
-put_how Again = Some Estimated
 put_how _ = None
 
 abbrev pub is_how : How → How → Bool
@@ -123,6 +122,20 @@ has_last meter [] sources = false
 has_last meter (e ∷ entries) [] = false
 has_last meter (e ∷ entries) (s ∷ sources) =
     ((e.meter == meter) && is_last s) || has_last meter entries sources
+
+-- telegrams gave a value
+abbrev pub is_telegram : Source → Bool
+is_telegram Telegram = true
+is_telegram Ended = true
+is_telegram _ = false
+
+-- telegrams gave a value of a run at a moment
+abbrev pub has_telegram : ℕ → ℕ → List Entry → List Source → Bool
+has_telegram meter moment [] sources = false
+has_telegram meter moment (e ∷ entries) [] = false
+has_telegram meter moment (e ∷ entries) (s ∷ sources) =
+    (((e.meter == meter) && (e.moment == moment)) && is_telegram s)
+    || has_telegram meter moment entries sources
 
 -- whether a value lies at another moment than the one that was found before
 abbrev pub is_second : ℕ → Option ℕ → Bool

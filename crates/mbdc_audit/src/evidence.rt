@@ -1,18 +1,27 @@
-//! The value that the telegrams of a line give.
+//! The value that the telegrams of a readout give.
 
-use crate::fault::Stop;
-use crate::field::Fields;
-use crate::moment::{DAY, Dated, date_in};
+ghost use Rattle.std.specs.Prelude.{◌≡◌, ◌≤◌, ◌<◌, map, option_map};
+ghost use Rattle.dc_records.specs.Record.{view};
+ghost use Rattle.dc_records.specs.Telegram.{parsed};
+ghost use Rattle.mbdc_reading.specs.Sent.{sent_at, sent_view};
+ghost use Rattle.mbdc_audit.specs.Evidence.{bodies_fault, body_fault, count_of, ends_so, date_of};
+ghost use Rattle.mbdc_audit.specs.Evidence.{dated, first_date, first_value};
+ghost use Rattle.mbdc_audit.specs.Evidence.{found_value, has_error, has_meant, is_code_alone};
+ghost use Rattle.mbdc_audit.specs.Evidence.{is_counting, is_main};
+ghost use Rattle.mbdc_audit.specs.Evidence.{is_meant, is_named, is_same, is_with_no_error};
+ghost use Rattle.mbdc_audit.specs.Evidence.{meant_value, missing, number_of, plain};
+ghost use Rattle.mbdc_audit.specs.Evidence.{records_of, telegram_fault, text_of, unit_of, value_of};
+
+use crate::moment::ended_day;
 use crate::smallest::of_decimal;
 use crate::uses::{Counted, size_of};
-use crate::window::Run;
 use dc_address::Identity;
 use dc_records::{Record, Telegram};
-use dc_units::{Seen, Value, point_of, unit_at};
-use mbdc_io::{decode_hex, room};
+use dc_units::{Decimal, Seen, Value, point_of, unit_at};
+use mbdc_reading::{Datum, Found, Reading, Sent, SentRecords, reading_of};
 use std::alloc::Allocator;
 
-/// Why a value has no evidence.
+/// Why telegrams give no value.
 #[derive(Clone, Copy)]
 pub enum Refusal {
     /// A body isn't a telegram.
@@ -21,45 +30,45 @@ pub enum Refusal {
     Meter,
     /// A status says that the values don't hold.
     Error,
-    /// A body follows that doesn't say so, or a storage number is dated with two days.
+    /// A body follows one that doesn't say so.
     Readouts,
-    /// A date and time of the telegram is too far from its moment.
-    Other,
-    /// The telegram knows a day that ended after its moment.
-    Later,
-    /// The stored day ended after the telegram's own clock.
-    Clock,
     /// No storage number is dated with that day.
     Date,
     /// No record has a value of the use.
     Record,
-    /// No telegram shows that the counter began anew.
-    Anew,
 }
 
 impl Refusal {
     /// What is printed of it.
-    pub fn text(self) -> &'static str {
+    pub fn text(self) -> &'static str
+        ensures { result.now ≡ text_of self }
+    {
         match self {
             Refusal::Body => "a body isn't a telegram",
             Refusal::Meter => "a body of another meter",
             Refusal::Error => "the meter reports an error",
             Refusal::Readouts => "bodies of two readouts",
-            Refusal::Other => "dated another day",
-            Refusal::Later => "it knows a later day",
-            Refusal::Clock => "dated after its own clock",
             Refusal::Date => "no record dated so",
             Refusal::Record => "no record of the use",
-            Refusal::Anew => "no telegram shows that it began anew",
         }
     }
 }
 
-/// Which value of a readout is meant: the current one at a moment, or the one that was stored at the end of a day.
+/// Which record of a readout is meant.
 #[derive(Clone, Copy)]
-pub enum Meant {
-    Current(u64),
-    Stored(u64),
+pub enum Storage {
+    /// The current value.
+    Current,
+    /// The value that was stored at the end of this day, by its number.
+    At(u64),
+}
+
+/// A meter whose telegrams are read: its identity, what it counts, and the block of the record that counts, or nothing.
+#[derive(Clone, Copy)]
+pub struct Counter<'a> {
+    pub identity: Identity,
+    pub counted: Counted,
+    pub vib: &'a [u8],
 }
 
 // The status (EN 13757-3): bit 3 says that there is a permanent error, bits 1 and 0 that there is an application error.
@@ -69,46 +78,27 @@ const APPLICATION: u8 = 4;
 
 const APPLICATION_ERROR: u8 = 2;
 
-// A day and, for a zone that isn't known, 14 hours.
-const NEAR: u64 = DAY + 14 * 3_600;
-
-// The longest block: a VIF and ten VIFEs (EN 13757-3).
-const MOST_VIB: usize = 11;
-
-/// The bodies of a line, as bytes.
-pub(crate) fn decoded<A: Allocator + Copy>(
-    alloc: A,
-    bodies: &[u8],
-) -> Result<Vec<Vec<u8, A>, A>, Stop> {
-    let mut all = Vec::new(alloc);
-    let mut fields = Fields::of(bodies);
-    'bodies: while let Some(digits) = fields.next_if_any() {
-        let mut bytes = room(alloc, digits.len() / 2 + 1)?;
-        let count = decode_hex(digits, bytes.as_mut_slice()).unwrap_or(0);
-        bytes.truncate(count);
-        all.push(bytes)?;
-    }
-    Ok(all)
-}
-
 // Whether a status says that the values don't hold.
-fn has_error(status: u8) -> bool {
+fn has_error(status: u8) -> bool
+    ensures { result ≡ has_error status }
+{
     status / PERMANENT % 2 == 1 || status % APPLICATION == APPLICATION_ERROR
 }
 
 /// Whether two identities are one.
-pub(crate) fn is_same(one: &Identity, other: &Identity) -> bool {
+pub(crate) fn is_same(one: &Identity, other: &Identity) -> bool
+    ensures { result ≡ is_same one.now other.now }
+{
     one.number == other.number
         && one.maker == other.maker
         && one.version == other.version
         && one.kind == other.kind
 }
 
-// Why a body can't be a meter's evidence; one that others follow says so.
-fn body_fault(body: &[u8], identity: &Identity, is_last: bool) -> Option<Refusal> {
-    let Ok(telegram) = Telegram::parse(body) else {
-        return Some(Refusal::Body);
-    };
+// Why a telegram can't be a meter's evidence: one that isn't the last of its readout says that more records follow.
+fn telegram_fault(telegram: &Telegram<'_>, identity: &Identity, is_last: bool) -> Option<Refusal>
+    ensures { result ≡ telegram_fault identity.now is_last (parsed telegram.now) }
+{
     let header = telegram.header();
     if !is_same(&header.identity, identity) {
         Some(Refusal::Meter)
@@ -121,8 +111,20 @@ fn body_fault(body: &[u8], identity: &Identity, is_last: bool) -> Option<Refusal
     }
 }
 
-// The first fault of bodies that follow one another.
-fn bodies_fault<A: Allocator>(bodies: &[Vec<u8, A>], identity: &Identity) -> Option<Refusal> {
+// Why a body can't be a meter's evidence.
+fn body_fault(body: &[u8], identity: &Identity, is_last: bool) -> Option<Refusal>
+    ensures { result ≡ body_fault identity.now is_last body.now }
+{
+    match Telegram::parse(body) {
+        Ok(telegram) => telegram_fault(&telegram, identity, is_last),
+        Err(_) => Some(Refusal::Body),
+    }
+}
+
+// The first fault of the bodies of a readout.
+fn bodies_fault<A: Allocator>(bodies: &[Vec<u8, A>], identity: &Identity) -> Option<Refusal>
+    ensures { result ≡ bodies_fault identity.now (map (λ b. b.items) bodies.now) }
+{
     let [body, others @ ..] = bodies else {
         return None;
     };
@@ -132,283 +134,274 @@ fn bodies_fault<A: Allocator>(bodies: &[Vec<u8, A>], identity: &Identity) -> Opt
     }
 }
 
+// A code without the bit that announces a VIFE.
+fn plain(code: u8) -> u8
+    ensures { result ≡ plain code }
+{
+    code % 128
+}
+
+// What a VIB's code counts, and in units of what size.
+fn unit_of(vib: &[u8]) -> Option<(Counted, u64)>
+    ensures { result ≡ unit_of vib.now }
+{
+    let found = match vib {
+        [0xFB, code, ..] => unit_at(&[0xFB, plain(*code)]),
+        [vif, ..] => unit_at(&[plain(*vif)]),
+        [] => None,
+    };
+    match found {
+        Some((quantity, _)) => size_of(quantity),
+        None => None,
+    }
+}
+
+// Whether a VIB is a code alone, or with VIFE 00, which means no error (EN 13757-3).
+fn is_code_alone(vib: &[u8]) -> bool
+    ensures { result ≡ is_code_alone vib.now }
+{
+    match vib {
+        [vif] => *vif != 0xFB,
+        [vif, next] => *vif == 0xFB || *next == 0,
+        [vif, _, next] => *vif == 0xFB && *next == 0,
+        _ => false,
+    }
+}
+
+// Whether a VIB ends in a byte with bit 7, and VIFE 00.
+fn ends_so(last: u8, code: u8, left: &[u8]) -> bool
+    ensures { result ≡ ends_so last code left.now }
+{
+    match left {
+        [vife] => u16::from(code) == u16::from(last) + 128 && *vife == 0,
+        _ => false,
+    }
+}
+
+// Whether a VIB is this one with VIFE 00 after it.
+fn is_with_no_error(name: &[u8], vib: &[u8]) -> bool
+    ensures { result ≡ is_with_no_error name.now vib.now }
+{
+    let [byte, rest @ ..] = name else {
+        return false;
+    };
+    let [other, left @ ..] = vib else {
+        return false;
+    };
+    match rest {
+        [] => ends_so(*byte, *other, left),
+        _ => byte == other && is_with_no_error(rest, left),
+    }
+}
+
+// Whether a VIB is the named one, or that with VIFE 00.
+fn is_named(name: &[u8], vib: &[u8]) -> bool
+    ensures { result ≡ is_named name.now vib.now }
+{
+    name == vib || is_with_no_error(name, vib)
+}
+
+// Whether the record that counts has this VIB.
+fn is_counting(name: &[u8], vib: &[u8]) -> bool
+    ensures { result ≡ is_counting name.now vib.now }
+{
+    match name {
+        [] => is_code_alone(vib),
+        _ => is_named(name, vib),
+    }
+}
+
+// The number of a reading, in units of its code.
+fn number_of(reading: &Reading) -> Option<Decimal>
+    ensures { result ≡ number_of reading.now }
+{
+    if reading.is_replaced || reading.unit.is_some() {
+        return None;
+    }
+    match reading.found {
+        Found::Value(_, Datum::Known(Value::Number(decimal))) => Some(decimal),
+        _ => None,
+    }
+}
+
 // Whether a record is an instantaneous value of the whole meter.
-fn is_main(record: &Record<'_>) -> bool {
+fn is_main(record: &Record<'_>) -> bool
+    ensures { result ≡ is_main (view «record».now) }
+{
     record.function == 0 && record.tariff == 0 && record.subunit == 0
 }
 
-// How many bytes of a VIB's code: two after FB.
-fn code_len(vib: &[u8]) -> usize {
-    match vib {
-        [0xFB, ..] => 2,
-        _ => 1,
-    }
-}
-
-// A VIB without VIFE 00 at its end, which means no error (EN 13757-3), in some room.
-fn bare<'r>(vib: &[u8], room: &'r mut [u8; MOST_VIB]) -> &'r [u8] {
-    let len = vib.len().min(MOST_VIB);
-    'bytes: for i in 0..len {
-        room[i] = vib[i];
-    }
-    if code_len(vib) < len && room[len - 1] == 0 {
-        room[len - 2] %= 128;
-        return &room[..len - 1];
-    }
-    &room[..len]
-}
-
-// The code of a VIB that is named, without VIFEs 3B and 3C, which count forward and backward flow; nothing with others.
-fn code_of<'r>(vib: &[u8], room: &'r mut [u8; MOST_VIB]) -> &'r [u8] {
-    let len = code_len(vib);
-    if vib.len() < len || vib.len() > MOST_VIB {
-        return &[];
-    }
-    let (code, vifes) = vib.split_at(len);
-    'vifes: for vife in vifes {
-        if vife % 128 != 0x3B && vife % 128 != 0x3C {
-            return &[];
-        }
-    }
-    room[0] = code[0];
-    if len == 2 {
-        room[1] = code[1];
-    }
-    room[len - 1] %= 128;
-    &room[..len]
-}
-
-// What a record's date says.
-fn date_of(record: &Record<'_>) -> Option<Dated> {
-    let mut room = [0u8; MOST_VIB];
-    if !is_main(record) {
+// The value of a record that counts, in the smallest unit.
+fn count_of(sent: &Sent<'_>, counted: Counted, name: &[u8]) -> Option<u64>
+    ensures { result ≡ count_of counted name.now (sent_view sent.now) }
+{
+    let record = &sent.record;
+    if !is_main(record) || !is_counting(name, record.vib) {
         return None;
     }
-    let vib = bare(record.vib, &mut room);
-    let plain = Record { vib, ..*record };
-    match point_of(&plain) {
-        Seen::Point(point) => date_in(&point.value),
+    let Some((found, size)) = unit_of(record.vib) else {
+        return None;
+    };
+    if !found.is(counted) {
+        return None;
+    }
+    match number_of(&reading_of(record, sent.len)) {
+        Some(decimal) => of_decimal(decimal, size),
+        None => None,
+    }
+}
+
+// The day that a record dates a storage number with.
+fn date_of(record: &Record<'_>, storage: u64) -> Option<u64>
+    ensures { result ≡ date_of storage (view «record».now) }
+{
+    if !is_main(record) || record.storage != storage {
+        return None;
+    }
+    match point_of(record) {
+        Seen::Point(point) => ended_day(&point.value),
         Seen::Other => None,
     }
 }
 
 // The first day with which a body dates a storage number.
-fn dated_in(body: &[u8], storage: u64) -> Option<u64> {
-    let Ok(telegram) = Telegram::parse(body) else {
-        return None;
-    };
-    'records: for record in telegram.records() {
-        if record.storage == storage
-            && let Some(dated) = date_of(&record)
-        {
-            return Some(dated.day);
+fn dated_in(body: &[u8], storage: u64) -> Option<u64>
+    ensures { result ≡ first_date storage (records_of body.now) }
+{
+    'records: for sent in SentRecords::of_body(body) {
+        if let Some(day) = date_of(&sent.record, storage) {
+            return Some(day);
         }
     }
     None
 }
 
-// The first day with which the bodies date a storage number.
-fn day_of<A: Allocator>(bodies: &[Vec<u8, A>], storage: u64) -> Option<u64> {
+// The day with which the bodies date a storage number.
+fn dated<A: Allocator>(bodies: &[Vec<u8, A>], storage: u64) -> Option<u64>
+    ensures { result ≡ dated storage (map (λ b. b.items) bodies.now) }
+{
     let [body, others @ ..] = bodies else {
         return None;
     };
     match dated_in(body.as_slice(), storage) {
         Some(day) => Some(day),
-        None => day_of(others, storage),
+        None => dated(others, storage),
     }
 }
 
-// What a date of a storage number contradicts: another date of it, or what is meant.
-fn date_fault<A: Allocator>(
-    record: &Record<'_>,
+// Whether a storage number is the one that is meant.
+fn is_meant<A: Allocator>(bodies: &[Vec<u8, A>], storage: u64, meant: Storage) -> bool
+    ensures { result ≡ is_meant (map (λ b. b.items) bodies.now) meant storage }
+{
+    match meant {
+        Storage::Current => storage == 0,
+        Storage::At(day) => match dated(bodies, storage) {
+            Some(other) => storage > 0 && other == day,
+            None => false,
+        },
+    }
+}
+
+// The value of a record that counts, where its storage number is the one that is meant.
+fn meant_value<A: Allocator>(
+    sent: &Sent<'_>,
     bodies: &[Vec<u8, A>],
-    meant: Meant,
-) -> Option<Refusal> {
-    let dated = date_of(record)?;
-    match (record.storage, meant) {
-        (0, Meant::Current(moment)) => match dated.second {
-            Some(second) if second.abs_diff(moment) > NEAR => Some(Refusal::Other),
-            _ => None,
-        },
-        (0, Meant::Stored(day)) => match dated.second {
-            Some(second) if second < day.saturating_mul(DAY) => Some(Refusal::Clock),
-            _ => None,
-        },
-        (storage, _) if day_of(bodies, storage) != Some(dated.day) => Some(Refusal::Readouts),
-        (_, Meant::Current(moment))
-            if dated.day.saturating_add(1).saturating_mul(DAY) > moment.saturating_add(NEAR) => {
-            Some(Refusal::Later)
-        }
+    meter: &Counter<'_>,
+    meant: Storage,
+) -> Option<u64>
+    ensures { result ≡ meant_value (map (λ b. b.items) bodies.now) meter.now.counted
+        meter.now.vib.now meant (sent_view sent.now) }
+{
+    match count_of(sent, meter.counted, meter.vib) {
+        Some(value) if is_meant(bodies, sent.record.storage, meant) => Some(value),
         _ => None,
     }
 }
 
-// The order in which faults of dates are named.
-fn rank(fault: Refusal) -> u8 {
-    match fault {
-        Refusal::Readouts => 0,
-        Refusal::Other => 1,
-        Refusal::Later => 2,
-        _ => 3,
-    }
-}
-
-// The first fault of the dates of some bodies, of a readout of all.
-fn dates_fault<A: Allocator>(
-    some: &[Vec<u8, A>],
-    bodies: &[Vec<u8, A>],
-    meant: Meant,
-) -> Option<Refusal> {
-    let [body, others @ ..] = some else {
-        return None;
-    };
-    let mut found = dates_fault(others, bodies, meant);
-    let Ok(telegram) = Telegram::parse(body.as_slice()) else {
-        return found;
-    };
-    'records: for record in telegram.records() {
-        if let Some(fault) = date_fault(&record, bodies, meant) {
-            found = match found {
-                Some(other) if rank(other) < rank(fault) => Some(other),
-                _ => Some(fault),
-            };
-        }
-    }
-    found
-}
-
-// Whether a storage number is the one that is meant.
-fn is_meant<A: Allocator>(bodies: &[Vec<u8, A>], storage: u64, meant: Meant) -> bool {
-    match meant {
-        Meant::Current(_) => storage == 0,
-        Meant::Stored(day) => storage > 0 && day_of(bodies, storage) == Some(day),
-    }
-}
-
-/// What a record counts: of the code alone, or of the VIB that the run names.
-#[derive(Clone, Copy)]
-enum Counts {
-    /// The record isn't of the use, or has no number.
-    Nothing,
-    /// It is; none where the number is no value of the smallest unit.
-    Amount(Option<u64>),
-}
-
-// What a record counts of a use.
-fn count_of(record: &Record<'_>, counted: Counted, named: &[u8]) -> Counts {
-    let (mut room, mut other) = ([0u8; MOST_VIB], [0u8; MOST_VIB]);
-    if !is_main(record) || record.vib.len() > MOST_VIB {
-        return Counts::Nothing;
-    }
-    let plain = bare(record.vib, &mut room);
-    if !named.is_empty() && plain != named {
-        return Counts::Nothing;
-    }
-    let vib = if named.is_empty() {
-        plain
-    } else {
-        code_of(named, &mut other)
-    };
-    let Some((quantity, _)) = unit_at(vib) else {
-        return Counts::Nothing;
-    };
-    let Some((found, size)) = size_of(quantity) else {
-        return Counts::Nothing;
-    };
-    if !found.is(counted) {
-        return Counts::Nothing;
-    }
-    let coded = Record { vib, ..*record };
-    match point_of(&coded) {
-        Seen::Point(point) => match point.value {
-            Value::Number(decimal) => Counts::Amount(of_decimal(decimal, size)),
-            _ => Counts::Nothing,
-        },
-        Seen::Other => Counts::Nothing,
-    }
-}
-
-// The first record of a body that is meant and counts.
+// The value of the first record of a body that counts and is meant.
 fn value_in<A: Allocator>(
     body: &[u8],
     bodies: &[Vec<u8, A>],
-    run: &Run,
-    counted: Counted,
-    meant: Meant,
-) -> Counts {
-    let Ok(telegram) = Telegram::parse(body) else {
-        return Counts::Nothing;
-    };
-    'records: for record in telegram.records() {
-        if is_meant(bodies, record.storage, meant) {
-            let found = count_of(&record, counted, run.vib.as_slice());
-            if matches!(found, Counts::Amount(_)) {
-                return found;
-            }
+    meter: &Counter<'_>,
+    meant: Storage,
+) -> Option<u64>
+    ensures { result ≡ first_value (map (λ b. b.items) bodies.now) meter.now.counted
+        meter.now.vib.now meant (records_of body.now) }
+{
+    'records: for sent in SentRecords::of_body(body) {
+        if let Some(value) = meant_value(&sent, bodies, meter, meant) {
+            return Some(value);
         }
     }
-    Counts::Nothing
+    None
 }
 
-// The first record of some bodies that is meant and counts.
+// The value of the first record of some bodies that counts and is meant, by all bodies of the readout.
 fn found_value<A: Allocator>(
     some: &[Vec<u8, A>],
     bodies: &[Vec<u8, A>],
-    run: &Run,
-    counted: Counted,
-    meant: Meant,
-) -> Option<u64> {
+    meter: &Counter<'_>,
+    meant: Storage,
+) -> Option<u64>
+    ensures { result ≡ found_value (map (λ b. b.items) bodies.now) meter.now.counted
+        meter.now.vib.now meant (map (λ b. b.items) some.now) }
+{
     let [body, others @ ..] = some else {
         return None;
     };
-    match value_in(body.as_slice(), bodies, run, counted, meant) {
-        Counts::Amount(amount) => amount,
-        Counts::Nothing => found_value(others, bodies, run, counted, meant),
+    match value_in(body.as_slice(), bodies, meter, meant) {
+        Some(value) => Some(value),
+        None => found_value(others, bodies, meter, meant),
     }
 }
 
-// Whether a record of some bodies dates a storage number above 0 with a day.
-fn has_day<A: Allocator>(some: &[Vec<u8, A>], day: u64) -> bool {
-    let [body, others @ ..] = some else {
-        return false;
-    };
-    let Ok(telegram) = Telegram::parse(body.as_slice()) else {
-        return false;
-    };
-    'records: for record in telegram.records() {
-        if record.storage > 0
-            && let Some(dated) = date_of(&record)
-            && dated.day == day
-        {
+// Whether a record of a body has the storage number that is meant.
+fn has_meant<A: Allocator>(body: &[u8], bodies: &[Vec<u8, A>], meant: Storage) -> bool
+    ensures { result ≡ has_meant (map (λ b. b.items) bodies.now) meant (records_of body.now) }
+{
+    'records: for sent in SentRecords::of_body(body) {
+        if is_meant(bodies, sent.record.storage, meant) {
             return true;
         }
     }
-    has_day(others, day)
+    false
 }
 
-/// The value that the bodies of a readout give of a run, in the smallest unit.
+// Why some bodies give no value: no record has the storage number that is meant, or none of them counts.
+fn missing<A: Allocator>(some: &[Vec<u8, A>], bodies: &[Vec<u8, A>], meant: Storage) -> Refusal
+    ensures { result ≡ missing (map (λ b. b.items) bodies.now) meant
+        (map (λ b. b.items) some.now) }
+{
+    let [body, others @ ..] = some else {
+        return match meant {
+            Storage::Current => Refusal::Record,
+            Storage::At(_) => Refusal::Date,
+        };
+    };
+    if has_meant(body.as_slice(), bodies, meant) {
+        Refusal::Record
+    } else {
+        missing(others, bodies, meant)
+    }
+}
+
+/// The value that the bodies of a readout give of a meter, in the smallest unit.
 ///
 /// # Errors
-/// The first [`Refusal`] that applies.
-pub(crate) fn value_of<A: Allocator>(
+/// The first [`Refusal`] of a body; [`Refusal::Date`] and [`Refusal::Record`] where no record of theirs is the value.
+pub fn value_of<A: Allocator>(
     bodies: &[Vec<u8, A>],
-    run: &Run,
-    counted: Counted,
-    meant: Meant,
-) -> Result<u64, Refusal> {
-    if let Some(fault) = bodies_fault(bodies, &run.identity) {
+    meter: &Counter<'_>,
+    meant: Storage,
+) -> Result<u64, Refusal>
+    ensures { result ≡ value_of meter.now.identity meter.now.counted meter.now.vib.now meant
+        (map (λ b. b.items) bodies.now) }
+{
+    if let Some(fault) = bodies_fault(bodies, &meter.identity) {
         return Err(fault);
     }
-    if let Some(fault) = dates_fault(bodies, bodies, meant) {
-        return Err(fault);
-    }
-    if let Meant::Stored(day) = meant
-        && !has_day(bodies, day)
-    {
-        return Err(Refusal::Date);
-    }
-    match found_value(bodies, bodies, run, counted, meant) {
+    match found_value(bodies, bodies, meter, meant) {
         Some(value) => Ok(value),
-        None => Err(Refusal::Record),
+        None => Err(missing(bodies, bodies, meant)),
     }
 }

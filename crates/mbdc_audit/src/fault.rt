@@ -1,4 +1,4 @@
-//! Why a file's lines spell no house, and what stops the audit.
+//! Why a file is no file of published numbers.
 
 ghost use Rattle.std.specs.Prelude.{◌≡◌};
 ghost use Rattle.mbdc_audit.specs.Fault.{name_of, number_of};
@@ -7,11 +7,11 @@ use mbdc_io::{IoFault, NoMemory};
 use std::alloc::{AllocError, AllocFailed};
 use thiserror::Error;
 
-/// Why a line spells nothing (this product). Numbers 4 and 5 were used until version 1.
+/// Why a line of the file is at fault (this product).
 #[derive(Clone, Copy, Debug, Error)]
 pub enum AuditFault {
-    /// The first line isn't the header of version 2.
-    #[error("the first line isn't the header of version 2")]
+    /// The first line isn't the header.
+    #[error("the first line isn't the header")]
     Header,
     /// The line has no known word, or its fields aren't of their forms.
     #[error("the line's word or fields aren't of their forms")]
@@ -19,7 +19,13 @@ pub enum AuditFault {
     /// The line can't follow the one before it.
     #[error("the line can't follow the one before it")]
     Order,
-    /// The unit isn't one of the use's.
+    /// The moment is before the last value's, or the meters' beginnings and ends aren't in order.
+    #[error("the moment is before the last value's, or the meters aren't in order")]
+    Moment,
+    /// The part isn't adjacent to the last one, the parts don't reach the end, or its user is of another flat.
+    #[error("the parts aren't adjacent, or don't reach the end")]
+    Part,
+    /// The unit isn't one of the use's, or the value is no whole number of the smallest unit.
     #[error("the unit isn't one of the use's")]
     Unit,
     /// A fact isn't declared, or twice.
@@ -28,8 +34,8 @@ pub enum AuditFault {
     /// There are more than the limit.
     #[error("there are more than the limit")]
     TooMany,
-    /// What is computed of a number doesn't fit 128 bits, or the file is longer than the limit.
-    #[error("a number or the file is too large")]
+    /// A number has more than 18 digits, or what is computed on the way doesn't fit 128 bits.
+    #[error("a number is too large")]
     TooLarge,
     /// The last line isn't `end`.
     #[error("the last line isn't the end")]
@@ -37,7 +43,7 @@ pub enum AuditFault {
 }
 
 impl AuditFault {
-    /// The fault's number.
+    /// The fault's number, from 1.
     pub fn number(self) -> u8
         ensures { result ≡ number_of self }
     {
@@ -45,6 +51,8 @@ impl AuditFault {
             AuditFault::Header => 1,
             AuditFault::Row => 2,
             AuditFault::Order => 3,
+            AuditFault::Moment => 4,
+            AuditFault::Part => 5,
             AuditFault::Unit => 6,
             AuditFault::Fact => 7,
             AuditFault::TooMany => 8,
@@ -61,6 +69,8 @@ impl AuditFault {
             AuditFault::Header => "Header",
             AuditFault::Row => "Row",
             AuditFault::Order => "Order",
+            AuditFault::Moment => "Moment",
+            AuditFault::Part => "Part",
             AuditFault::Unit => "Unit",
             AuditFault::Fact => "Fact",
             AuditFault::TooMany => "TooMany",
@@ -70,7 +80,7 @@ impl AuditFault {
     }
 }
 
-/// What stops the audit.
+/// What stops the check.
 #[derive(Clone, Copy)]
 pub(crate) enum Stop {
     Fault(AuditFault),

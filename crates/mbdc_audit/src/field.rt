@@ -2,13 +2,19 @@
 
 ghost use Rattle.std.specs.Prelude.{◌≡◌, ◌∷◌, [], Some, IfOk, MatchOption, OnOk, option_map};
 ghost use Rattle.std.specs.Str.{bytes_eq};
-ghost use Rattle.mbdc_audit.specs.Field.{fields_of, left_fields, or_none, read_as};
+ghost use Rattle.mbdc_audit.specs.Field.{fields_of, how_in, left_fields, or_none, read_as};
+ghost use Rattle.mbdc_audit.specs.Field.{read_day_end};
+ghost use Rattle.mbdc_audit.specs.Grade.{grade_named};
+ghost use Rattle.mbdc_audit.specs.Printed.{or_asked};
 ghost use Rattle.mbdc_audit.specs.Smallest.{ratio_in, whole_in};
+ghost use Rattle.mbdc_audit.specs.Uses.{unit_named};
 
 use crate::fault::AuditFault;
-use crate::moment::{DayEnd, day_number, end_of, offset_in};
+use crate::grade::Grade;
+use crate::moment::{day_in, end_of, offset_in};
 use crate::smallest::{ratio_in, whole_in};
-use dc_units::Date;
+use crate::uses::Unit;
+use crate::window::How;
 use memchr::memchr;
 use std::marker::Model;
 
@@ -17,6 +23,16 @@ pub(crate) fn is_word(field: &[u8], word: &str) -> bool
     ensures { result ≡ bytes_eq field.now word.now }
 {
     field == word.as_bytes()
+}
+
+// What is in the place of a mark or a count that is asked for.
+const ASKED: &str = "?";
+
+/// The end of a day: its number, and the moment.
+#[derive(Clone, Copy)]
+pub(crate) struct DayEnd {
+    pub day: u64,
+    pub moment: u64,
 }
 
 // Splits off the first field of a text, and returns it with the rest, where there is one.
@@ -31,65 +47,6 @@ fn first_field(text: &[u8]) -> (&[u8], Option<&[u8]>)
             (field, Some(rest))
         }
         None => (text, None),
-    }
-}
-
-/// The letters of a field.
-#[derive(Clone, Copy)]
-pub enum Letters {
-    /// `2026-10`.
-    Month,
-    /// The word of a use.
-    Use,
-    /// The name of a flat.
-    Flat,
-    /// A reason.
-    Why,
-    /// Two capital hex digits for each byte.
-    Hex,
-}
-
-impl Letters {
-    // Whether a field may have this byte.
-    fn may_be(self, byte: u8) -> bool {
-        let is_digit = byte.is_ascii_digit();
-        match self {
-            Letters::Month => is_digit || byte == b'-',
-            Letters::Use => is_digit || byte.is_ascii_lowercase() || byte == b' ' || byte == b'-',
-            Letters::Flat => {
-                byte.is_ascii_alphanumeric()
-                    || byte == b'.'
-                    || byte == b'/'
-                    || byte == b'_'
-                    || byte == b'-'
-            }
-            Letters::Why => b' ' <= byte && byte <= b'~',
-            Letters::Hex => is_digit || (b'A' <= byte && byte <= b'F'),
-        }
-    }
-
-    // Most bytes of a field.
-    fn longest(self) -> usize {
-        match self {
-            Letters::Month => 7,
-            Letters::Use => 32,
-            Letters::Flat => 12,
-            Letters::Why => 60,
-            Letters::Hex => 4_096,
-        }
-    }
-
-    // Whether a field has these letters.
-    fn spell(self, field: &[u8]) -> bool {
-        if field.is_empty() || field.len() > self.longest() {
-            return false;
-        }
-        'bytes: for byte in field {
-            if !self.may_be(*byte) {
-                return false;
-            }
-        }
-        !matches!(self, Letters::Hex) || field.len() % 2 == 0
     }
 }
 
@@ -148,28 +105,6 @@ impl<'a> Fields<'a> {
         }
     }
 
-    /// A field of these letters.
-    pub fn letters(&mut self, letters: Letters) -> Result<&'a [u8], AuditFault> {
-        let field = self.field()?;
-        if letters.spell(field) {
-            Ok(field)
-        } else {
-            Err(AuditFault::Row)
-        }
-    }
-
-    /// The bodies that are left: at least one.
-    pub fn bodies(&mut self) -> Result<&'a [u8], AuditFault> {
-        let bodies = self.rest();
-        self.letters(Letters::Hex)?;
-        'bodies: while let Some(body) = self.next_if_any() {
-            if !Letters::Hex.spell(body) {
-                return Err(AuditFault::Row);
-            }
-        }
-        Ok(bodies)
-    }
-
     /// A whole number.
     pub fn number(&mut self) -> Result<u64, AuditFault>
         ensures { IfOk result (λ n. read_as whole_in self.old ≡ Some (n, self.new)) }
@@ -212,18 +147,65 @@ impl<'a> Fields<'a> {
         }
     }
 
+    /// The unit of a number.
+    pub fn unit(&mut self) -> Result<Unit, AuditFault>
+        ensures { IfOk result (λ u. read_as unit_named self.old ≡ Some (u, self.new)) }
+    {
+        Unit::named(self.field()?).ok_or(AuditFault::Row)
+    }
+
+    /// Who put a value.
+    pub fn how(&mut self) -> Result<How, AuditFault>
+        ensures { IfOk result (λ h. read_as how_in self.old ≡ Some (h, self.new)) }
+    {
+        let field = self.field()?;
+        if is_word(field, "hand") {
+            Ok(How::Hand)
+        } else if is_word(field, "estimated") {
+            Ok(How::Estimated)
+        } else {
+            Err(AuditFault::Row)
+        }
+    }
+
     /// A day and an offset: the end of the day.
-    pub fn day_end(&mut self) -> Result<DayEnd<'a>, AuditFault> {
-        let spelled = self.rest();
-        let date = Date::parse_text(self.field()?).ok_or(AuditFault::Row)?;
-        let day = day_number(&date).ok_or(AuditFault::Row)?;
+    #[tactic(auto, unfolding(crate::specs::Field::read_day_end))]
+    pub fn day_end(&mut self) -> Result<DayEnd, AuditFault>
+        ensures { IfOk result (λ e. read_day_end self.old ≡ Some (e, self.new)) }
+    {
+        let day = day_in(self.field()?).ok_or(AuditFault::Row)?;
         let offset = offset_in(self.field()?).ok_or(AuditFault::Row)?;
         let moment = end_of(day, offset).ok_or(AuditFault::Row)?;
-        Ok(DayEnd {
-            day,
-            offset,
-            moment,
-            spelled,
-        })
+        Ok(DayEnd { day, moment })
+    }
+
+    /// A mark; none where it is asked for.
+    pub fn mark(&mut self, may_ask: bool) -> Result<Option<Grade>, AuditFault>
+        ensures { IfOk result (λ g. read_as (or_asked may_ask grade_named) self.old
+            ≡ Some (g, self.new)) }
+    {
+        let field = self.field()?;
+        if may_ask && is_word(field, ASKED) {
+            return Ok(None);
+        }
+        match Grade::named(field) {
+            Some(grade) => Ok(Some(grade)),
+            None => Err(AuditFault::Row),
+        }
+    }
+
+    /// A count; none where it is asked for.
+    pub fn count(&mut self, may_ask: bool) -> Result<Option<u64>, AuditFault>
+        ensures { IfOk result (λ n. read_as (or_asked may_ask whole_in) self.old
+            ≡ Some (n, self.new)) }
+    {
+        let field = self.field()?;
+        if may_ask && is_word(field, ASKED) {
+            return Ok(None);
+        }
+        match whole_in(field) {
+            Some(number) => Ok(Some(number)),
+            None => Err(AuditFault::Row),
+        }
     }
 }

@@ -1,8 +1,11 @@
 //! How reliable a number is.
 
-ghost use Rattle.std.specs.Prelude.{◌≡◌};
-ghost use Rattle.mbdc_audit.specs.Grade.{grade_name, has_number, is_reliable};
+ghost use Rattle.std.specs.Prelude.{◌≡◌, find};
+ghost use Rattle.std.specs.Str.{bytes_eq};
+ghost use Rattle.mbdc_audit.specs.Grade.{grade_name, grade_named, has_number, is_reliable};
 ghost use Rattle.mbdc_audit.specs.Grade.{rank, worst};
+
+use crate::field::is_word;
 
 /// How reliable a number is, from the best to the worst.
 #[derive(Clone, Copy)]
@@ -21,6 +24,16 @@ pub enum Grade {
     /// There is no value before it, or none after it: no number.
     Missing,
 }
+
+const GRADES: [Grade; 7] = [
+    Grade::Measured,
+    Grade::Hand,
+    Grade::Provisional,
+    Grade::Estimated,
+    Grade::Unclear,
+    Grade::Disturbed,
+    Grade::Missing,
+];
 
 impl Grade {
     /// The word for it.
@@ -77,4 +90,21 @@ impl Grade {
     {
         matches!(self, Grade::Measured | Grade::Hand)
     }
+
+    /// The grade that a word names.
+    pub fn named(word: &[u8]) -> Option<Grade>
+        ensures { result ≡ grade_named word.now }
+    {
+        grade_in(word, &GRADES)
+    }
+}
+
+// The first of these grades that a word names.
+fn grade_in(word: &[u8], grades: &[Grade]) -> Option<Grade>
+    ensures { result ≡ find (λ g. bytes_eq word.now (grade_name g)) grades.now }
+{
+    grades
+        .iter()
+        .copied()
+        .find(|grade| is_word(word, grade.name()))
 }

@@ -2,13 +2,15 @@
 
 ghost use Rattle.std.specs.Prelude.{◌≡◌, [], IfOk, OnOk, slice_get};
 ghost use Rattle.std.specs.Option.{SomeIff};
-ghost use Rattle.mbdc_audit.specs.Total.{FitsSum, FitsTotal, area_of, basis_after};
+ghost use Rattle.mbdc_audit.specs.Total.{FitsSum, FitsTotal, area_of, bases_of, bases_on, basis_after};
 ghost use Rattle.mbdc_audit.specs.Total.{basis_of, no_basis};
 ghost use Rattle.mbdc_audit.specs.Total.{nothing, share_of, sum_of, sums_with};
 ghost use Rattle.mbdc_audit.specs.Total.{total_at, total_of, total_with, without};
 
+use crate::facts::Span;
 use crate::fault::{AuditFault, Stop};
 use crate::grade::Grade;
+use crate::uses::Counted;
 use std::alloc::Allocator;
 use std::collections::BTreeMap;
 use std::marker::Model;
@@ -223,20 +225,40 @@ fn area_of(areas: &[Option<u64>], flat: u64) -> Option<u64>
     }
 }
 
-/// What the means of all spans and uses need, of the sums of the flats.
-pub(crate) fn bases_of<A: Allocator + Copy>(
-    alloc: A,
-    spans: u64,
-    uses: u64,
+// Adds what the means of a span need, of each use.
+fn add_bases<A: Allocator + Copy>(
+    bases: &mut Vec<Basis, A>,
+    span: u64,
+    uses: &[Counted],
     areas: &[Option<u64>],
     sums: &Sums<A>,
-) -> Result<Vec<Basis, A>, Stop> {
+) -> Result<(), Stop>
+    ensures { OnOk result (bases.new.items
+        ≡ bases_on areas.now sums.now span 0 uses.now bases.old.items) }
+{
+    let mut used = 0;
+    'uses: for _counted in uses {
+        let basis = sums.basis(span, used, areas)?;
+        bases.push(basis)?;
+        used += 1;
+    }
+    Ok(())
+}
+
+/// What the means of all spans need, of the sums of the flats.
+pub(crate) fn bases_of<A: Allocator + Copy>(
+    alloc: A,
+    spans: &[Span],
+    uses: &[Counted],
+    areas: &[Option<u64>],
+    sums: &Sums<A>,
+) -> Result<Vec<Basis, A>, Stop>
+    ensures { IfOk result (λ bases. bases.items
+        ≡ bases_of areas.now sums.now uses.now spans.now []) }
+{
     let mut bases = Vec::new(alloc);
-    'spans: for span in 0..spans {
-        'uses: for used in 0..uses {
-            let basis = sums.basis(span + 1, used, areas)?;
-            bases.push(basis)?;
-        }
+    'spans: for span in spans {
+        add_bases(&mut bases, span.number, uses, areas, sums)?;
     }
     Ok(bases)
 }

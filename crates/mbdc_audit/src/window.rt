@@ -6,7 +6,8 @@ ghost use Rattle.std.specs.Prelude.{Some};
 ghost use Rattle.mbdc_io.specs.Hex.{bytes_of};
 ghost use Rattle.mbdc_audit.specs.Window.{declared_exchanges, declared_from, grade_of};
 ghost use Rattle.mbdc_audit.specs.Window.{grade_of_number};
-ghost use Rattle.mbdc_audit.specs.Window.{has_first, has_last, has_two_after, is_adjacent, is_at};
+ghost use Rattle.mbdc_audit.specs.Window.{has_first, has_last, has_telegram, has_two_after};
+ghost use Rattle.mbdc_audit.specs.Window.{is_adjacent, is_at, is_telegram};
 ghost use Rattle.mbdc_audit.specs.Window.{is_at_exchange, is_clear, is_close, is_exchange_in};
 ghost use Rattle.mbdc_audit.specs.Window.{is_first};
 ghost use Rattle.mbdc_audit.specs.Window.{is_how, is_known, is_last, is_near, is_over};
@@ -20,10 +21,9 @@ use dc_address::Identity;
 use mbdc_consumption::{AmountFault, Entry, Period};
 use mbdc_io::decode_hex;
 
-/// A meter at a place from its beginning to its end, by its line; a counter that began anew is another run.
+/// A meter at a place from its beginning to its end; a counter that began anew is another run.
 #[derive(Clone, Copy)]
 pub struct Run {
-    pub line: u64,
     pub identity: Identity,
     pub begin: u64,
     /// The last run may have no end.
@@ -83,12 +83,8 @@ pub enum How {
 /// What a value comes from.
 #[derive(Clone, Copy)]
 pub enum Source {
-    /// The telegrams of a readout: their current value.
-    Read,
-    /// The same telegrams as at an earlier moment: an estimate.
-    Again,
-    /// The telegrams of a readout: a value that was stored at the end of a day.
-    Stored,
+    /// The telegrams of a readout.
+    Telegram,
     /// A person or an estimate, at any moment.
     Put(How),
     /// The same at a run's beginning.
@@ -128,39 +124,31 @@ impl How {
 }
 
 impl Source {
-    /// How a person or an estimate put it.
-    pub fn how(self) -> Option<How>
+    // How a person or an estimate put it.
+    fn how(self) -> Option<How>
         ensures { result ≡ put_how self }
     {
         match self {
             Source::Put(how) | Source::First(how) | Source::Last(how) => Some(how),
-            Source::Again => Some(How::Estimated),
-            Source::Read | Source::Stored | Source::Ended | Source::Zero => None,
+            Source::Telegram | Source::Ended | Source::Zero => None,
         }
     }
 
-    /// Whether a line of the same word gives both.
-    pub fn is_of(self, other: Source) -> bool {
-        match (self, other) {
-            (Source::Read | Source::Again, Source::Read | Source::Again)
-            | (Source::Stored, Source::Stored)
-            | (Source::Ended, Source::Ended)
-            | (Source::Zero, Source::Zero)
-            | (Source::First(_), Source::First(_))
-            | (Source::Last(_), Source::Last(_)) => true,
-            (Source::Put(one), Source::Put(other)) => one.is(other),
-            _ => false,
-        }
-    }
-
-    /// Whether it was put so.
-    pub fn is_put(self, how: How) -> bool
+    // Whether it was put so.
+    fn is_put(self, how: How) -> bool
         ensures { result ≡ is_put_as how (put_how self) }
     {
         match self.how() {
             Some(other) => other.is(how),
             None => false,
         }
+    }
+
+    // Whether telegrams gave it.
+    fn is_telegram(self) -> bool
+        ensures { result ≡ is_telegram self }
+    {
+        matches!(self, Source::Telegram | Source::Ended)
     }
 
     // Whether it is the first value of a run.
@@ -279,6 +267,20 @@ fn has_last(entries: &[Entry], sources: &[Source], meter: u64) -> bool
         return false;
     };
     (entry.meter == meter && source.is_last()) || has_last(entries, sources, meter)
+}
+
+/// Whether telegrams gave a value of a run at a moment.
+pub(crate) fn has_telegram(entries: &[Entry], sources: &[Source], meter: u64, moment: u64) -> bool
+    ensures { result ≡ has_telegram meter moment entries.now sources.now }
+{
+    let [entry, entries @ ..] = entries else {
+        return false;
+    };
+    let [source, sources @ ..] = sources else {
+        return false;
+    };
+    let is_there = entry.meter == meter && entry.moment == moment;
+    (is_there && source.is_telegram()) || has_telegram(entries, sources, meter, moment)
 }
 
 // Whether values lie at two different moments at or after a moment, the first of which was found or not.
