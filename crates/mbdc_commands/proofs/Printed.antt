@@ -1,12 +1,11 @@
 -- What was printed of a command's text, and what is left of its writer.
 use Rattle.std.proofs.Common.{◌≡◌, arith, ℕ, Bool, true, false, List, [], ◌++◌, Option, None, Some, Result, Ok, Err, ◌==◌, IsTrue, eq-eqb, refl, sym, ap, subst, ◌∙◌}
-use Rattle.std.specs.Prelude.{is_some}
+use Rattle.std.specs.Prelude.{is_some, OnOk, OnErr}
 use Rattle.std.specs.Io.KnownBytes.{Appends, Keeps}
 use Rattle.mbdc_commands.specs.Bytes.{IsPrinted, IsWrittenOut, text_of}
 use Rattle.mbdc_io.proofs.Pieces.{puts-none}
 use Rattle.mbdc_io.specs.Stream.{Puts}
-use Rattle.mbdc_io.specs.Written.{Wrote}
-use Rattle.mbdc_io.specs.declared.stream.Sink.{Ghosts}
+use Rattle.mbdc_io.specs.Failures.{HasRisen}
 
 -- the bytes of an input that contracts know are those that its reader had
 pub known_so : (known : Bool) (bytes : Option (List ℕ)) → known ≡ is_some bytes → text_of known true bytes ≡ bytes
@@ -36,9 +35,10 @@ written_out contents known held now before behind true text well put still left 
       held_so true (Some ys) now left text is put rest = held_some ys left text (subst (λ (n : Option (List ℕ)). Keeps n left) put rest)
 
 -- what was written is in a sink of which no put has failed
-pub put_unless_failed : {S X E : Type 0} (g : Ghosts S) (result : Result X E) (old new : S) (text : List ℕ) → Wrote g result old new text → g.put_failures new ≡ 0 → Puts (g.written old) (g.written new) text
-put_unless_failed g (Ok x) old new text wrote none = wrote.0
-put_unless_failed g (Err e) old new text wrote none = absurd (omega (arith, wrote.3, none))
+pub put_unless_failed : {X E : Type 0} (result : Result X E) (held now : Option (List ℕ)) (before behind : ℕ) (text : List ℕ) → OnOk result (Puts held now text)
+    → OnErr result (HasRisen before behind) → behind ≡ 0 → Puts held now text
+put_unless_failed (Ok x) held now before behind text puts risen none = puts
+put_unless_failed (Err e) held now before behind text puts risen none = absurd (omega (arith, risen, none))
 
 -- what was written out of the buffer of a writer was printed after what the writer had
 pub printed_so : {O : Type 0} (contents : O → Option (List ℕ)) (known : Bool) (out : O) (held : Option (List ℕ)) (printed : Bool) (text : List ℕ) → known ≡ is_some (contents out) → Keeps (contents out) held

@@ -17,7 +17,7 @@ returns g c =
       printed = printed_so g.O.Write.contents g.K.Known.writes c.args.out _ _ _ c.requires.known
           (kept_so (line_writer_contents g.O.Write.contents) _ _ _ c.in-Ok.ensures.bytes c.new-out.ensures.writer)
           (written_out g.O.Write.contents g.K.Known.writes _ _ _ _ out.result _ c.new-out.ensures.well
-          (λ all. put_unless_failed _ _ _ _ _ c.put_outcome.ensures (out.ensures.well all)) out.ensures.well out.ensures.left);
+          (λ all. put_unless_failed c.put_outcome.result _ _ _ _ _ c.put_outcome.ensures.0 c.put_outcome.ensures.3 (out.ensures.well all)) out.ensures.well out.ensures.left);
       fitted = fit.ensures.fitted c.requires.stands;
       broken = fit.ensures.broken c.requires.stands;
       before = fit.ensures.before c.requires.stands;
