@@ -1,0 +1,76 @@
+"""The checks of texts over small trees: what they find, and what they pass."""
+
+import csv
+import datetime
+import pathlib
+import types
+from collections.abc import Callable
+
+import pytest
+
+PAGE = """# A page
+
+## `poll IMAGE --line N=LINK ..`
+
+## One master
+
+## One master
+
+[here](#one-master), [second](#one-master-1), [poll](#poll-image---line-nlink-), [web](https://example.org/x#y),
+[a link over
+two lines](other.md)
+
+```
+[no link](nowhere.md)
+```
+"""
+PLACES = {"src": r'=> "([^"]+)"', "specs": r'codes "([^"]+)"'}
+RUNS = pathlib.Path(__file__).resolve().parents[2] / "bench/measured.csv"
+
+
+@pytest.fixture
+def texts(tool: Callable[[str], types.ModuleType], tmp_path: pathlib.Path, monkeypatch: pytest.MonkeyPatch) -> types.ModuleType:
+    made = tool("texts")
+    monkeypatch.setattr(made, "ROOT", tmp_path)
+    monkeypatch.setattr(made, "UNITS", "page")
+    return made
+
+
+@pytest.mark.parametrize("text, faults", [(PAGE, []), (
+    "[a](gone.md) [b](#no-heading) [c](other.md#gone) [d](other.md#other)\n",
+    ["gone.md: no such file", "#no-heading: no such heading", "other.md#gone: no such heading"])])
+def test_links(texts: types.ModuleType, tmp_path: pathlib.Path, text: str, faults: "list[str]") -> None:
+    (tmp_path / "page.md").write_text(text)
+    (tmp_path / "other.md").write_text("# Other\n")
+    assert texts.anchors(PAGE) == {"a-page", "poll-image---line-nlink-", "one-master", "one-master-1"}
+    assert list(texts.astray(tmp_path / "page.md")) == [f"page.md: {it}" for it in faults]
+
+
+@pytest.mark.parametrize("listed, faults", [("m3", []), (
+    "Wh", ["page, row 'point' lacks the unit m3, which src has", "src lacks the unit Wh, which page, row 'point' has"])])
+def test_units(texts: types.ModuleType, tmp_path: pathlib.Path, listed: str, faults: "list[str]") -> None:
+    for name, text in {"src": 'Volume => "m3"', "specs": 'volume = codes "m3"', "page": f"| point | `{listed}` |\n"}.items():
+        (tmp_path / name).write_text(text)
+    assert texts.compared(PLACES, "point") == ({"m3"}, faults)
+
+
+def test_what_mypy_says_of_a_copy_has_the_name_of_its_script(texts: types.ModuleType) -> None:
+    copy = texts.copy_name("demo/fleet-link")
+    assert copy == "copy_demo_fleet_link.py" != texts.copy_name("demo/fleet_link/x.py")
+    said = f"/tmp/types-x/{copy}:12: error: wrong\ndemo/world/box.py:3: note: here\n"
+    assert texts.renamed(said, {copy: "demo/fleet-link"}) == "demo/fleet-link:12: error: wrong\ndemo/world/box.py:3: note: here\n"
+
+
+def test_prose_without_code(texts: types.ModuleType, tmp_path: pathlib.Path) -> None:
+    page = tmp_path / "page.md"
+    page.write_text("# A title\n\nIt tells `what stands` here.\n```\ntold\n```\n    told\n| a | told |\n")
+    assert [line.split(":")[1:3] for line in texts.mannered(page)] == [["3", " tells"], ["8", " told"]]
+
+
+def test_each_run_of_a_bench_has_a_day_a_command_and_a_figure() -> None:
+    with open(RUNS, newline="") as file:
+        head, *rows = csv.reader(file)
+    assert head == ["date", "commit", "command", "what", "figure", "unit", "load", "yardstick_ms", "note"]
+    assert not [row for row in rows if len(row) != len(head) or not all(row[2:5])]
+    days = [datetime.date.fromisoformat(row[0]) for row in rows]
+    assert days == sorted(days)
