@@ -32,7 +32,7 @@ def unproved(tool: Tool, tmp_path: pathlib.Path, monkeypatch: pytest.MonkeyPatch
 def call(unproved: types.ModuleType, command: str, image: pathlib.Path) -> int:
     """The status of a call."""
     try:
-        return int(unproved.write(unproved.early.Asked(command, str(image)), [command, str(image)]))
+        return int(unproved.write(unproved.Asked(command, str(image)), [command, str(image)]))
     except SystemExit as ended:
         assert isinstance(ended.code, int)
         return ended.code
