@@ -10,7 +10,7 @@ from test_schema import ORDER, refused
 
 from box_commands import BOX_COMMANDS
 
-FORM = re.compile(r"^\| `n ([A-Z]+)((?: [a-z]+)*)` \|", re.MULTILINE)  # a row of docs/COMMANDS.md
+FORM = re.compile(r"^\* `n ([A-Z]+)((?: [a-z]+)*)`:", re.MULTILINE)  # an item of docs/COMMANDS.md
 READDRESSED = "READDRESS 11111111.PAD.01.07 9"
 ROW = '''BOX_COMMANDS["READDRESS"] = BoxCommand(
     ["identity", "address"], "UPDATE meters SET address = %(address)s WHERE box = %(box)s AND identity = %(identity)s")
