@@ -80,7 +80,7 @@ def test_a_collection_notes_a_wrong_clock(office: Office, box: Box) -> None:
                       " FROM readings ORDER BY serial")
     assert [row[0] for row in rows] == [True, True, False, True]
     assert rows[2] == (False, True, 2000)
-    assert office.sql("SELECT clock FROM boxes") == [("1 of 3 stamps can't be, as 2000-01-01 00:00",)]
+    assert office.sql("SELECT clock FROM boxes") == [({"wrong": 1, "of": 3, "first": "2000-01-01 00:00"},)]
     printed = office.run("alarms").printed
     assert "NEW clock house-1: The box's clock is wrong: 1 of 3 stamps can't be, as 2000-01-01 00:00" in printed
     assert "house-1: 0 readings" in office.collect().printed
