@@ -8,6 +8,7 @@ unfoldable pub decimal_digits : ℕ → ℕ → List ℕ
 decimal_digits zero number = []
 decimal_digits (suc width) number = number / 10 ^ width % 10 ∷ decimal_digits width number
 
+-- a decimal digit, 0 to 9
 abbrev pub is_digit : ℕ → Bool
 is_digit value = nat_lt value 10
 

@@ -9,9 +9,11 @@ maker_code first second third = (first - 64) * 1024 + (second - 64) * 32 + (thir
 abbrev pub first_letter : ℕ → ℕ
 first_letter maker = 64 + maker / 1024
 
+-- the second letter: bits 9 to 5
 abbrev pub second_letter : ℕ → ℕ
 second_letter maker = 64 + maker / 32 % 32
 
+-- the third letter: bits 4 to 0
 abbrev pub third_letter : ℕ → ℕ
 third_letter maker = 64 + maker % 32
 
@@ -30,6 +32,7 @@ pub record IsMaker (maker : ℕ) : Type 0 where
 abbrev pub is_letter : ℕ → Bool
 is_letter code = nat_le 65 code && nat_le code 90
 
+-- test: all three letters of the manufacturer code are A to Z
 abbrev pub is_maker : ℕ → Bool
 is_maker maker = is_letter (first_letter maker) &&
     (is_letter (second_letter maker) && is_letter (third_letter maker))

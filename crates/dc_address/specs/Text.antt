@@ -11,6 +11,7 @@ use Rattle.dc_address.specs.declared.fault.IdentityFault.{IdentityFault}
 use Rattle.dc_address.specs.declared.fault.IdentityFault.TheVariants.{Length, Digit, Letter, Hex}
 use Rattle.dc_address.specs.declared.fault.IdentityFault.TheVariants.{Dot}
 
+-- the ASCII code of a decimal digit
 abbrev pub decimal_code : ℕ → ℕ
 decimal_code digit = 48 + digit
 

@@ -27,6 +27,7 @@ is_rsp_ud control = control == 0x08 || control == 0x18 || control == 0x28 || con
 abbrev pub variable_data : ℕ
 variable_data = 0x72
 
+-- CI field of an application error reported by the meter
 abbrev pub application_error : ℕ
 application_error = 0x70
 
@@ -40,6 +41,7 @@ selection = 0x52
 abbrev pub selected : ℕ
 selected = 0xFD
 
+-- SND_NKE to an address
 abbrev pub reset_to : ℕ → FrameSeen
 reset_to address = short snd_nke address
 

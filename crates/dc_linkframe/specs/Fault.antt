@@ -12,9 +12,11 @@ use Rattle.dc_linkframe.specs.Frame.{checksum}
 abbrev pub begins_ack : List ℕ → Bool
 begins_ack text = slice_index text 0 == 0xE5
 
+-- the first byte is the start of a short frame, 0x10
 abbrev pub begins_short : List ℕ → Bool
 begins_short text = slice_index text 0 == 0x10
 
+-- the first byte is the start of a long frame, 0x68
 abbrev pub begins_long : List ℕ → Bool
 begins_long text = slice_index text 0 == 0x68
 
@@ -44,6 +46,7 @@ stands text Stop = not (begins_ack text) && not (slice_index text (length text -
 stands text Checksum = not (begins_ack text) && not
     (slice_index text (length text - 2) == checksum (content_of text))
 
+-- the faults in the order in which they are looked for
 abbrev pub in_order : List FrameFault
 in_order = Empty ∷ Start ∷ Truncated ∷ Lengths ∷ Trailing ∷ Stop ∷ Checksum ∷ []
 

@@ -13,9 +13,11 @@ fields_of text =
     else long (slice_index text 4) (slice_index text 5) (slice_index text 6)
     (slice_range text 7 (length text - 2))
 
+-- the frame, or none where there is a fault
 abbrev pub unless_faulty : Option FrameFault → FrameSeen → Option FrameSeen
 unless_faulty None frame = Some frame
 unless_faulty (Some fault) frame = None
 
+-- the link frame that the bytes spell; none where they have a fault
 unfoldable pub frame_of : List ℕ → Option FrameSeen
 frame_of text = unless_faulty (fault_of text) (fields_of text)

@@ -11,6 +11,7 @@ use Rattle.dc_pages.specs.declared.site.Site.{Site}
 abbrev pub head_len : ℕ
 head_len = 24
 
+-- the payload of a page's sector: 512 bytes less its head
 abbrev pub page_payload : ℕ
 page_payload = 488
 
@@ -18,9 +19,11 @@ page_payload = 488
 abbrev pub base_kind : ℕ
 base_kind = 0x42
 
+-- the kind of a page of changes
 abbrev pub change_kind : ℕ
 change_kind = 0x50
 
+-- the kind of a commit sector
 abbrev pub commit_kind : ℕ
 commit_kind = 0x43
 
@@ -91,6 +94,7 @@ site_of place limit kind version sequence = record {
 abbrev pub IsPageKind : ℕ → Type 0
 IsPageKind kind = (kind ≡ base_kind) ⊎ (kind ≡ change_kind)
 
+-- a version of the format that this product reads
 abbrev pub IsKnown : ℕ → Type 0
 IsKnown version = (version ≡ 1) ⊎ (version ≡ 2)
 

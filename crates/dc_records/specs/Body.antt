@@ -34,6 +34,7 @@ pub data Item : Type 0 where
   filler : Item
   spelled : List ℕ → Entry → Item
 
+-- the text of a record spells it; a filler has nothing to satisfy
 abbrev pub IsItem : Item → Type 0
 IsItem filler = Unit {0}
 IsItem (spelled text e) = Spells text e
@@ -66,6 +67,7 @@ pub data Front : Type 0 where
   skips : List ℕ → Front
   gives : Entry → List ℕ → Front
 
+-- the end, the filler or the record that the bytes begin with, or the fault of that record
 unfoldable pub front_at : List ℕ → Result Front BodyFault
 front_at [] = Ok (ends plain)
 front_at (b ∷ rest) =
@@ -92,6 +94,7 @@ abbrev pub turns : ℕ → List ℕ → Result (List Entry × Ending) BodyFault
 turns zero bytes = Err Cut
 turns (suc n) bytes = after (turns n) (front_at bytes)
 
+-- the data records and the end that the bytes hold, or the first fault
 unfoldable pub content_at : List ℕ → Result (List Entry × Ending) BodyFault
 content_at bytes = turns (suc (length bytes)) bytes
 

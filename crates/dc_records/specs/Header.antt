@@ -29,6 +29,7 @@ security_mode h = h.config / 256 % 32
 
 -- ---- reading
 
+-- the long header with this identity, and its other fields from bytes 8 to 11 of the text
 abbrev pub header_with : Identity → List ℕ → Header
 header_with identity text = record {
   identity = identity;
@@ -37,6 +38,7 @@ header_with identity text = record {
   config = little_from 10 2 text;
 }
 
+-- the long header where the first eight bytes are an identity, otherwise BadIdentity
 abbrev pub header_by : (text : List ℕ) (is : Bool) → is_identity (take 8 text) ≡ is
     → Result Header BodyFault
 header_by text true is = Ok (header_with (spelled_identity (take 8 text) is).0 text)

@@ -37,6 +37,7 @@ counted_at [] = Err Cut
 counted_at (byte ∷ rest) = if nat_lt byte 0xC0 then split_at byte rest
     else if nat_lt byte 0xF0 then split_at (byte % 16) rest else Err BadLength
 
+-- number of bytes of the VIB at the front: VIF and VIFEs, or 7C, a length byte and its characters
 abbrev pub vib_len : List ℕ → Result ℕ BodyFault
 vib_len [] = Err Cut
 vib_len (vif ∷ rest) =
@@ -44,9 +45,11 @@ vib_len (vif ∷ rest) =
     else if vif == 0x7C then (counted_at rest >>= λ x. Ok (2 + length x.0))
     else (chain_len TooManyVife 10 vif rest >>= λ n. Ok (n + 1))
 
+-- the data of a record and the bytes after it, by the data field of its DIF
 abbrev pub data_at : ℕ → List ℕ → Result (List ℕ × List ℕ) BodyFault
 data_at field bytes = if field == 0xD then counted_at bytes else split_at (width field) bytes
 
+-- the data record of a DIF, its DIFEs, its VIB and its data
 abbrev pub entry_of : ℕ → List ℕ → List ℕ → List ℕ → Entry
 entry_of dif difes vib content = record {
   storage = dif / 64 % 2 + 2 * number 16 (map storage_digit difes);
@@ -58,6 +61,7 @@ entry_of dif difes vib content = record {
   content = content;
 }
 
+-- the data record that the bytes begin with and the bytes after it, or the first fault
 unfoldable pub record_at : List ℕ → Result (Entry × List ℕ) BodyFault
 record_at [] = Err Cut
 record_at (dif ∷ bytes) =

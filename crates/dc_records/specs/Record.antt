@@ -40,9 +40,11 @@ number base (digit ∷ higher) = digit + base * number base higher
 abbrev pub storage_digit : ℕ → ℕ
 storage_digit dife = dife % 16
 
+-- the tariff bits of a DIFE
 abbrev pub tariff_digit : ℕ → ℕ
 tariff_digit dife = dife / 16 % 4
 
+-- the subunit bit of a DIFE
 abbrev pub subunit_digit : ℕ → ℕ
 subunit_digit dife = dife / 64 % 2
 

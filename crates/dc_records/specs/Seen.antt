@@ -6,6 +6,7 @@ use Rattle.dc_records.specs.declared.front.Front as code_type
 use Rattle.dc_records.specs.Record.{view}
 use Rattle.dc_records.specs.Body.{Ending, plain, last, more, Front, ends, skips, gives}
 
+-- the end of a telegram, by the bytes that the code's `End` refers to
 abbrev pub ending : End → Ending
 ending Plain = plain
 ending (Last rest) = last rest.now

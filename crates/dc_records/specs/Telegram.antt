@@ -44,6 +44,7 @@ pub data HasFault (text : List ℕ) (f : BodyFault) : Type 0 where
 
 -- ---- reading
 
+-- the telegram of a body, its header, and its records and end
 abbrev pub parsed_of : List ℕ → Header → List Entry × Ending → Parsed
 parsed_of body h x = record { body = body; header = h; records = x.0; ending = x.1 }
 

@@ -15,6 +15,7 @@ use Rattle.dc_sectors.specs.Disk.{Image, Choices, Counted}
 use Rattle.dc_sectors.specs.Record.{image_of, reads_after, choices_after, ImageSince}
 use Rattle.dc_sectors.specs.FileCalls.{Call, Measured, Got, Put, Synced}
 
+-- the state of a disk over a file
 pub record FileState : Type 0 where
   pub sectors : ℕ
   -- number of failures of the file; it saturates at 2 ^ 64 - 1
@@ -86,6 +87,7 @@ IsSyncOf old (Err _) calls = ((old.lost ≡ true) × (calls ≡ old.calls))
 
 -- What the disk model states after these calls, from what the sectors held before the first.
 
+-- what each sector held before the first call
 abbrev pub start_of : FileState → Image
 start_of disk = image_of disk.start
 
@@ -102,12 +104,15 @@ abbrev pub events_of : List Call → List Event
 events_of [] = []
 events_of (call ∷ earlier) = noted (events_of earlier) call
 
+-- what each sector reads after the calls so far
 abbrev pub reads_in : FileState → Image
 reads_in disk = reads_after (start_of disk) (events_of disk.calls)
 
+-- the possible contents of each sector after a crash at this moment
 abbrev pub choices_in : FileState → Choices
 choices_in disk = choices_after (start_of disk) (events_of disk.calls)
 
+-- the current moment: number of writes, failed ones included, and of successful syncs so far
 abbrev pub moment_in : FileState → ℕ
 moment_in disk = length (events_of disk.calls)
 

@@ -30,10 +30,12 @@ abbrev pub writes_next : (ℕ → ℕ) → Event → ℕ → ℕ
 writes_next writes (Write at bytes is_done) = λ n. if n == at then writes n + 1 else writes n
 writes_next writes Sync = λ n. 0
 
+-- what each sector reads after these events, from an image
 abbrev pub reads_from : Image → List Event → Image
 reads_from image [] = image
 reads_from image (event ∷ events) = reads_from (reads_next image event) events
 
+-- the possible contents of each sector after these events, from an image and its possible contents
 abbrev pub choices_from : Image → Choices → List Event → Choices
 choices_from image choices [] = choices
 choices_from image choices (event ∷ events) =
@@ -45,9 +47,11 @@ writes_from writes (event ∷ events) = writes_from (writes_next writes event) e
 
 -- the same from an image that was settled
 
+-- what each sector reads after these events, from the start
 abbrev pub reads_after : Image → List Event → Image
 reads_after start events = reads_from start events
 
+-- the possible contents of each sector after these events, where the start was synced
 abbrev pub choices_after : Image → List Event → Choices
 choices_after start events = choices_from start (settled start) events
 

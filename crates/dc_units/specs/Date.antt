@@ -31,9 +31,11 @@ short_year y = if nat_le y 80 then Some (2000 + y)
 abbrev pub day_bits : ℕ → ℕ → ℕ
 day_bits low high = low % 32
 
+-- the month's bits in the two bytes of a date
 abbrev pub month_bits : ℕ → ℕ → ℕ
 month_bits low high = high % 16
 
+-- the year's seven bits in the two bytes of a date, without the century
 abbrev pub year_bits : ℕ → ℕ → ℕ
 year_bits low high = low / 32 + 8 * (high / 16)
 

@@ -29,6 +29,7 @@ digit_pair byte = (byte / 16) ∷ (byte % 16) ∷ []
 abbrev pub bcd_digits : List ℕ → List ℕ
 bcd_digits bytes = flat_map digit_pair (reverse bytes)
 
+-- a BCD digit, 0 to 9
 abbrev pub is_decimal_digit : ℕ → Bool
 is_decimal_digit d = nat_lt d 10
 
@@ -37,6 +38,7 @@ abbrev pub number_after : ℕ → List ℕ → Option ℕ
 number_after n digits =
     if list_all is_decimal_digit digits then Some (number_from_digits_after 10 n digits) else None
 
+-- the negative of a natural number
 abbrev pub minus : ℕ → ℤ
 minus n = neg_ℤ (pos n)
 

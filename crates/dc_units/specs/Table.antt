@@ -45,6 +45,7 @@ behind extension first last quantity exponent =
       exponent = exponent;
     }
 
+-- the VIFs that are read, then the codes after the extension VIFs FB and FD, with their quantities
 abbrev pub table : List Row
 table =
     vif 0x00 0x07 EnergyWattHour (minus 3)

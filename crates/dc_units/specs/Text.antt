@@ -14,6 +14,7 @@ last_digits base zero n = []
 last_digits base (suc count) n = last_digits base count (n / base)
     ++ (digit_glyph true (n % base) ∷ [])
 
+-- a minus sign before a negative number, nothing before any other
 abbrev pub sign : ℤ → List ℕ
 sign (pos n) = []
 sign (negsuc n) = codes "-"
@@ -31,6 +32,7 @@ abbrev pub magnitude_text : ℕ → ℤ → List ℕ
 magnitude_text n (pos power) = whole_text n power
 magnitude_text n (negsuc k) = fraction_text n (suc k)
 
+-- the decimal text of a mantissa times a power of ten
 abbrev pub decimal_text : Decimal → List ℕ
 decimal_text d = sign d.mantissa ++ magnitude_text (unsigned_abs d.mantissa) d.exponent
 

@@ -19,10 +19,12 @@ abbrev pub scaled : ℤ → Option ℤ → Value
 scaled exponent None = NoValue
 scaled exponent (Some n) = Number (record { mantissa = n; exponent = exponent })
 
+-- the value of a date field: its date, or no value
 abbrev pub on_day : Option Day → Value
 on_day None = NoValue
 on_day (Some day) = OnDay day
 
+-- the value of a date and time field: its date, hour and minute, or no value
 abbrev pub at_minute : Option Moment → Value
 at_minute None = NoValue
 at_minute (Some moment) = Minute moment.day moment.hour moment.minute
