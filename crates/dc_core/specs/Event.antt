@@ -8,6 +8,8 @@ use Rattle.dc_core.specs.declared.line_heard.LineHeard.{LineHeard}
 use Rattle.dc_core.specs.declared.fault.HearFault.{HearFault}
 use Rattle.dc_core.specs.declared.fault.CommitFault.{CommitFault}
 
+-- What a concentrator is asked to do: to start a readout of a meter on a line, to give the next request of a line,
+-- to take the bytes received on a line at a time, to commit what is pending, to take a line of the billing office.
 pub data Event : Type 0 where
   starts : ℕ → Identity → Event
   asks : ℕ → Event
@@ -29,6 +31,8 @@ pub data Reply : Type 0 where
   obeyed : ℕ → Change → Reply
   uncommitted : Change → CommitFault → Reply
 
+-- The answers, in the order of the events: started or a fault, the request to send if there is one, what was received
+-- or a fault, the number of committed changes or a fault, the reply to the office's line.
 pub data Answer : Type 0 where
   started : Result (Unit {0}) StartFault → Answer
   asked : Option (List ℕ) → Answer

@@ -57,9 +57,11 @@ pub record IsStoppedFile (g : Ghosts FileState) (state : State) (done more : Lis
 
 -- ---- what it holds
 
+-- the changes that were accepted by these turns after an opening with this state, in order
 abbrev pub accepted : State → List Turn → List Change
 accepted state turns = accepted_in (opened state) turns
 
+-- the second list of changes begins with the first
 abbrev pub IsPrefix : List Change → List Change → Type 0
 IsPrefix prefix changes = (rest : List Change) × (changes ≡ prefix ++ rest)
 

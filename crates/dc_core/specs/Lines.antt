@@ -17,6 +17,7 @@ line_count = 8
 abbrev pub is_line : ℕ → Bool
 is_line line = nat_le 1 line && nat_le line line_count
 
+-- no bus line has a session
 abbrev pub no_sessions : List (Option Summary)
 no_sessions = replicate line_count None
 
@@ -34,10 +35,12 @@ settled_at (Pending true) s = Some (settled_by s)
 settled_at (Pending false) s = None
 settled_at stage s = Some s
 
+-- the session on a line after a commit
 abbrev pub settled_on : Option Summary → Option Summary
 settled_on None = None
 settled_on (Some s) = settled_at s.stage s
 
+-- the sessions on all lines after a commit
 abbrev pub settled_lines : List (Option Summary) → List (Option Summary)
 settled_lines lines = map settled_on lines
 
@@ -46,6 +49,7 @@ abbrev pub unless_of : Identity → Option Summary → Option Summary
 unless_of meter None = None
 unless_of meter (Some s) = if is_meter meter s.meter then None else Some s
 
+-- ends the session of that meter on whatever line
 abbrev pub lines_without : Identity → List (Option Summary) → List (Option Summary)
 lines_without meter lines = map (unless_of meter) lines
 

@@ -16,21 +16,25 @@ use Rattle.mbdc_log.specs.Store.{Opened}
 abbrev pub Reads : ℕ → State → Image → Type 0
 Reads = standing.Reads register
 
+-- the image stands for this state of the register
 abbrev pub Stands : ℕ → State → Image → Type 0
 Stands = standing.Stands register
 
 abbrev pub IsRead : ℕ → Root → ℕ → ℕ → State → Image → Type 0
 IsRead = standing.IsRead register
 
+-- each image of these possible contents stands for some state of the register
 abbrev pub EachStands : ℕ → Choices → Type 0
 EachStands = standing.EachStands register
 
+-- the image stands for the same state as some image of these possible contents
 abbrev pub StandsForOne : ℕ → Choices → Image → Type 0
 StandsForOne = standing.StandsForOne register
 
 abbrev pub StandsForEither : ℕ → State → State → Image → Type 0
 StandsForEither = standing.StandsForEither register
 
+-- the image stands for the state after a prefix of these changes
 abbrev pub StandsForFront : ℕ → State → List Change → Image → Type 0
 StandsForFront = standing.StandsForFront register
 
@@ -46,5 +50,6 @@ IsBehindAt = behind.IsBehindAt register
 abbrev pub IsWorn : ℕ → Image → Type 0
 IsWorn = refusal.IsWorn register
 
+-- the open store keeps this state of the register
 abbrev pub Keeps : {D : Type 0} → Ghosts D → Opened D → State → Type 0
 Keeps g opened state = store.Keeps register g opened state

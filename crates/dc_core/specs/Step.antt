@@ -41,14 +41,18 @@ use Rattle.dc_core.specs.Event.{obeyed, uncommitted}
 
 -- ---- a readout begins
 
+-- the meter is registered on this bus line
 abbrev pub is_on : ℕ → Option MeterRow → Bool
 is_on line None = false
 is_on line (Some row) = row.line == line
 
+-- the primary address in the meter's row, if it has one
 abbrev pub address_in : Option MeterRow → Option ℕ
 address_in None = None
 address_in (Some row) = row.address
 
+-- A readout starts if the line exists, the concentrator runs, the meter is registered on that line
+-- and the line has no session.
 abbrev pub start_answer : Core → ℕ → Identity → Result (Unit {0}) StartFault
 start_answer core line meter =
     if not (is_line line) then Err StartNoLine
@@ -65,6 +69,7 @@ after_start core line meter (Err fault) = core
 
 -- ---- a request is asked for
 
+-- the bytes of the session's next request, if one is to be sent
 abbrev pub asked_on : Option Summary → Option (List ℕ)
 asked_on None = None
 asked_on (Some s) = option_map spelling (asked_by s)
@@ -73,12 +78,14 @@ asked_on (Some s) = option_map spelling (asked_by s)
 abbrev pub longest_request : ℕ
 longest_request = 17
 
+-- the bytes of the line's next request; none where the line doesn't exist or the concentrator has stopped
 abbrev pub ask_answer : Core → ℕ → Option (List ℕ)
 ask_answer core line = if not (is_line line) || core.stopped then None
     else asked_on (session_of core line)
 
 -- ---- an answer is received
 
+-- this answer, unless the telegram's change is refused
 abbrev pub unless_refused : Option TakeFault → LineHeard → Result LineHeard HearFault
 unless_refused None accepted = Ok accepted
 unless_refused (Some fault) accepted = Err (hear_fault fault)
@@ -88,6 +95,7 @@ abbrev pub take_answer : ℕ → Core → Change → LineHeard → Result LineHe
 take_answer budget core change accepted =
     unless_refused (refuses budget (length core.pending) change (present core)) accepted
 
+-- the answer by the session's verdict: try again, acknowledged, a telegram that is accepted or refused, or failed
 abbrev pub verdict_answer : ℕ → Core → ℕ → Verdict → Result LineHeard HearFault
 verdict_answer budget core moment again = Ok Again
 verdict_answer budget core moment ready = Ok Ready
@@ -96,6 +104,7 @@ verdict_answer budget core moment (new part telegram) =
     (Accepted part (continues telegram.ending))
 verdict_answer budget core moment (failed why) = Ok (Failed why)
 
+-- the answer on a line with this session; without an open request the line is idle
 abbrev pub answer_on : ℕ → Core → ℕ → List ℕ → Option Summary → Result LineHeard HearFault
 answer_on budget core moment bytes None = Err Idle
 answer_on budget core moment bytes (Some s) =
@@ -123,12 +132,14 @@ and_pending moment pending ready = pending
 and_pending moment pending (new part telegram) = pending ++ change_of moment part telegram ∷ []
 and_pending moment pending (failed why) = pending
 
+-- the concentrator after a verdict: the session goes on or ends, and a telegram is pending
 abbrev pub judged : Core → ℕ → ℕ → Summary → Verdict → Core
 judged core line moment s verdict =
     record (with_session line (session_after s verdict) core) {
       pending = and_pending moment core.pending verdict;
     }
 
+-- the concentrator after an answer on a line with this session; nothing changes without a session
 abbrev pub heard_on : Core → ℕ → ℕ → List ℕ → Option Summary → Core
 heard_on core line moment bytes None = core
 heard_on core line moment bytes (Some s) = judged core line moment s (verdict_by s bytes)
@@ -139,6 +150,7 @@ after_hear core line moment bytes (Ok answer) =
     heard_on core line moment bytes (session_of core line)
 after_hear core line moment bytes (Err fault) = core
 
+-- the answer reports an accepted telegram: its part number, and whether more parts follow
 abbrev pub IsAccepted : Result LineHeard HearFault → Type 0
 IsAccepted answer = (part : ℕ) × (more : Bool) × (answer ≡ Ok (Accepted part more))
 
@@ -155,6 +167,8 @@ settled_core core [] = core
 settled_core core (change ∷ changes) =
     record core { committed = present core; pending = []; lines = settled_lines core.lines }
 
+-- A commit that succeeds leaves nothing pending. A failure of the disk stops the concentrator; any other fault changes
+-- nothing.
 abbrev pub after_commit : Core → Result ℕ CommitFault → Core
 after_commit core (Ok count) = settled_core core core.pending
 after_commit core (Err Device) = record core { stopped = true }
@@ -185,6 +199,7 @@ abbrev pub removed_by : Change → Option Identity
 removed_by (Telegram part moment body) = None
 removed_by (Numbered number command) = meter_removed command
 
+-- the session of a removed meter ends
 abbrev pub lines_after : Option Identity → List (Option Summary) → List (Option Summary)
 lines_after None lines = lines
 lines_after (Some meter) lines = lines_without meter lines
@@ -202,6 +217,8 @@ after_answer core (obeyed number change) = settled (ordered change core)
 after_answer core (uncommitted change fault) = after_commit (ordered change core) (Err fault)
 after_answer core reply = core
 
+-- A text that is no line changes nothing. If the pending changes couldn't be committed, the state is as after a failed
+-- commit. Before any other reply they were committed.
 abbrev pub after_reply : Core → Reply → Core
 after_reply core unread = core
 after_reply core (unstored fault) = after_commit core (Err fault)
@@ -211,6 +228,7 @@ after_reply core reply = after_answer (settled core) reply
 abbrev pub SpellsNone : List ℕ → Type 0
 SpellsNone text = (line : OfficeLine) → IsOfficeLine line → text ≢ office_text line
 
+-- the line is valid, and the text is its spelling
 pub record Spells (text : List ℕ) (line : OfficeLine) : Type 0 where
   pub is_line : IsOfficeLine line
   pub text_is : text ≡ office_text line
@@ -246,6 +264,8 @@ pub record IsJudged (budget : ℕ) (core : Core) (text : List ℕ) (reply : Repl
   pub running : core.stopped ≡ false
   pub answer : MayAnswer budget (settled core) line reply
 
+-- Which replies a text may have: that it is no line, that the pending changes couldn't be committed, or the reply by
+-- the verdict on the line that it spells.
 abbrev pub MayReply : ℕ → Core → List ℕ → Reply → Type 0
 MayReply budget core text unread = SpellsNone text
 MayReply budget core text (unstored fault) =

@@ -26,6 +26,7 @@ IsChain budget core (turn ∷ turns) =
 
 -- ---- the changes that were accepted, in order
 
+-- the telegram of an answer on a line with this session, as a change; none without a session
 abbrev pub taken_from : ℕ → List ℕ → Option Summary → List Change
 taken_from moment bytes None = []
 taken_from moment bytes (Some s) = and_pending moment [] (verdict_by s bytes)
@@ -43,6 +44,7 @@ accepted_by core (hears line moment bytes) (heard (Ok answer)) =
 accepted_by core (offices text) (replied reply) = taken_with reply
 accepted_by core event answer = []
 
+-- the changes that were accepted by these turns, the first turn first
 abbrev pub accepted_in : Core → List Turn → List Change
 accepted_in core [] = []
 accepted_in core (turn ∷ turns) =

@@ -18,9 +18,11 @@ use Rattle.dc_meters.specs.Points.{points_of}
 abbrev pub is_dating : Point → Bool
 is_dating p = is_time_point p.quantity && (p.function == 0 && (p.tariff == 0 && p.subunit == 0))
 
+-- the day of a point that dates its storage number, if its value is a day
 abbrev pub dating_day : Point → Option Day
 dating_day p = if is_dating p then day_of p.value else None
 
+-- the day that a point gives this storage number
 abbrev pub day_for : ℕ → Point → Option Day
 day_for storage p = if p.storage == storage then dating_day p else None
 
@@ -37,6 +39,7 @@ is_stored p = not (is_time_point p.quantity) && nat_le 1 p.storage
 abbrev pub due_day : List Point → Point → Option Day
 due_day points p = if is_stored p then dated p.storage points else None
 
+-- the same year, month and day
 abbrev pub same_day : Day → Day → Bool
 same_day a b = (a.year == b.year) && ((a.month == b.month) && (a.day == b.day))
 
@@ -45,6 +48,7 @@ abbrev pub day_cmp : Day → Day → Ordering
 day_cmp a b = ordering_then (nat_cmp a.year b.year)
     (ordering_then (nat_cmp a.month b.month) (nat_cmp a.day b.day))
 
+-- there is a day, and it is the date
 abbrev pub is_on : Day → Option Day → Bool
 is_on date None = false
 is_on date (Some day) = same_day day date
@@ -53,6 +57,7 @@ is_on date (Some day) = same_day day date
 abbrev pub is_due : Day → List Point → Point → Bool
 is_due date points p = is_on date (due_day points p)
 
+-- the points that were stored at the date
 abbrev pub due_value : Day → List Point → List Point
 due_value date points = filter (is_due date points) points
 

@@ -15,13 +15,16 @@ abbrev pub shown : Seen → List Point
 shown (Known p) = p ∷ []
 shown Other = []
 
+-- the points of a telegram's data records, in order
 abbrev pub points_in : List Entry → List Point
 points_in records = flat_map (λ r. shown (seen_of r)) records
 
+-- the points of a decoded telegram; none where it can't be decoded
 abbrev pub points_read : Result Parsed BodyFault → List Point
 points_read (Ok telegram) = points_in telegram.records
 points_read (Err fault) = []
 
+-- the points of a readout's parts, in order
 abbrev pub points_of : List PartRow → List Point
 points_of parts = flat_map (λ part. points_read (telegram_at part.body)) parts
 

@@ -15,6 +15,8 @@ pub record IsCount (count : ℕ) : Type 0 where
   pub low : 1 ≤ count
   pub high : count ≤ 100
 
+-- The values in the line are valid: a command's number, its values and its meters, a window's first serial and its
+-- count, and the date of a REPORT, which must exist.
 abbrev pub IsOfficeLine : OfficeLine → Type 0
 IsOfficeLine (Command ordered) = IsNumber ordered.number × IsCommand ordered.command
     × NamesMeters ordered.command

@@ -49,10 +49,12 @@ end_line count = codes "END" ++ number_word count ++ codes "\n"
 
 -- ---- the text that is shown
 
+-- the lines of the readings from a serial on, at most `count` of them, then END and their number
 unfoldable pub window_text : ℕ → ℕ → State → List ℕ
 window_text from count s = flat_map reading_lines (window from count s)
     ++ end_line (length (window from count s))
 
+-- the lines of the meters, then END and their number
 unfoldable pub register_text : State → List ℕ
 register_text s = meter_lines s ++ end_line (length s.meters)
 
@@ -60,6 +62,7 @@ register_text s = meter_lines s ++ end_line (length s.meters)
 unfoldable pub report_text : Day → State → List ℕ
 report_text date s = due_text date s ++ end_line (length (due_rows date s))
 
+-- the reply to a line that shows something; a command shows nothing
 abbrev pub shown_text : OfficeLine → State → List ℕ
 shown_text (Command ordered) s = []
 shown_text (Window from count) s = window_text from count s

@@ -22,6 +22,7 @@ abbrev pub is_repeat : Ordered → State → Bool
 is_repeat ordered s = ordered.number == s.last_number && bytes_eq
     (line_of ordered.number ordered.command) s.last_line
 
+-- the line repeats the last command; only a command can
 abbrev pub repeats : OfficeLine → State → Bool
 repeats (Command ordered) s = is_repeat ordered s
 repeats (Window from count) s = false
@@ -30,6 +31,7 @@ repeats (Report date) s = false
 
 -- ---- where a code applies
 
+-- the code applies to the command; numbers are consecutive, so `Order` refuses any but the next
 abbrev pub command_stands : ℕ → Ordered → State → Code → Bool
 command_stands budget ordered s Syntax = false
 command_stands budget ordered s Store = false
@@ -55,6 +57,7 @@ window_stands from s (Gone confirmed) = nat_le from s.confirmed
 window_stands from s Full = false
 window_stands from s Memory = false
 
+-- the code applies to the line; none applies to REGISTER and REPORT
 abbrev pub stands : ℕ → OfficeLine → State → Code → Bool
 stands budget (Command ordered) s code = command_stands budget ordered s code
 stands budget (Window from count) s code = window_stands from s code
@@ -63,10 +66,12 @@ stands budget (Report date) s code = false
 
 -- ---- the first code that applies
 
+-- the codes, in the order in which they are tested
 abbrev pub codes_in_order : State → List Code
 codes_in_order s = Order s.last_number ∷ Known ∷ Unknown ∷ Address ∷ Beyond ∷ Gone s.confirmed
     ∷ Full ∷ []
 
+-- the code with which the line is refused, if any
 abbrev pub code_against : ℕ → OfficeLine → State → Option Code
 code_against budget line s = find (stands budget line s) (codes_in_order s)
 
@@ -79,10 +84,12 @@ granted (Window from count) = Show
 granted Register = Show
 granted (Report date) = Show
 
+-- the line is refused with this code, or granted without one
 abbrev pub unless : Option Code → OfficeLine → Verdict
 unless (Some code) line = Refuse code
 unless None line = granted line
 
+-- the verdict on a line, in this state and budget
 unfoldable pub verdict_of : Held → OfficeLine → Verdict
 verdict_of house line =
     if repeats line house.state then Repeat

@@ -27,6 +27,7 @@ continues number (Some row) = number == 1 || number == length row.parts + 1
 
 -- ---- the tests, one per fault
 
+-- the same primary address; secondary addressing shares none
 abbrev pub same_primary : Option ℕ → Option ℕ → Bool
 same_primary None taken = false
 same_primary (Some address) None = false
@@ -36,6 +37,7 @@ same_primary (Some address) (Some taken) = taken == address
 abbrev pub occupies : ℕ → Option ℕ → MeterRow → Bool
 occupies line address row = row.line == line && same_primary address row.address
 
+-- a registered meter has this primary address on this line
 abbrev pub is_taken : ℕ → Option ℕ → State → Bool
 is_taken line address s = list_any (occupies line address) (values_of s.meters)
 
@@ -61,6 +63,7 @@ is_unknown (Out meter) s = not (is_some (row_of meter s))
 is_unknown (Confirm serial) s = false
 is_unknown (Swap old new address) s = not (is_some (row_of old s))
 
+-- another meter has the command's primary address on the same bus line
 abbrev pub is_address_taken : Command → State → Bool
 is_address_taken (Fit meter line address flat) s = is_taken line address s
 is_address_taken (Move meter flat) s = false
@@ -85,6 +88,7 @@ is_full budget (Out meter) s = false
 is_full budget (Confirm serial) s = false
 is_full budget (Swap old new address) s = false
 
+-- the fault applies to the command
 abbrev pub command_stands : ℕ → Command → State → ChangeFault → Bool
 command_stands budget command s Unknown = is_unknown command s
 command_stands budget command s Known = is_known command s
@@ -104,16 +108,20 @@ telegram_stands budget part moment body s Full =
 
 -- ---- the first fault that applies
 
+-- the faults, in the order in which they are tested
 abbrev pub faults_in_order : List ChangeFault
 faults_in_order = Known ∷ Unknown ∷ AddressTaken ∷ Beyond ∷ Full ∷ []
 
+-- why a telegram is refused, if it is
 abbrev pub telegram_refusal : ℕ → ℕ → ℕ → BodyRow → State → Option ChangeFault
 telegram_refusal budget part moment body s =
     find (telegram_stands budget part moment body s) faults_in_order
 
+-- why a command is refused, if it is
 abbrev pub command_refusal : ℕ → Command → State → Option ChangeFault
 command_refusal budget command s = find (command_stands budget command s) faults_in_order
 
+-- why a change is refused, if it is
 abbrev pub refusal : ℕ → Change → State → Option ChangeFault
 refusal budget (Telegram part moment body) s = telegram_refusal budget part moment body s
 refusal budget (Numbered number command) s = command_refusal budget command s

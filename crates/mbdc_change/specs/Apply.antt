@@ -44,10 +44,12 @@ abbrev pub told : ℕ → ℕ → BodyRow → State → State
 told part moment body s = heard body.meter body.more part
     (record { moment = moment; body = body.bytes }) (row_of body.meter s) s
 
+-- the meter's flat is replaced; its readings keep the flat of their time
 abbrev pub moved : Identity → List ℕ → Option MeterRow → State → State
 moved meter flat None s = s
 moved meter flat (Some row) s = with_row meter (record row { flat = flat }) s
 
+-- the meter is registered with this row, in order of identities
 abbrev pub fitted : Identity → MeterRow → State → State
 fitted meter row s = record s { meters = insert_entry identity_cmp s.meters meter row }
 
@@ -66,12 +68,14 @@ swapped old new address (Some row) s =
       parts = [];
     }) s)
 
+-- the readings up to a serial are confirmed and removed; the confirmed serial never decreases
 abbrev pub confirmed_up_to : ℕ → State → State
 confirmed_up_to serial s = record s {
   confirmed = max s.confirmed serial;
   readings = filter (λ r. nat_lt serial r.serial) s.readings;
 }
 
+-- the register after a command of the billing office
 abbrev pub commanded : Command → State → State
 commanded (Fit meter line address flat) s =
     fitted meter (record { line = line; address = address; flat = flat; parts = [] }) s
@@ -80,6 +84,7 @@ commanded (Out meter) s = taken_out meter s
 commanded (Confirm serial) s = confirmed_up_to serial s
 commanded (Swap old new address) s = swapped old new address (row_of old s) s
 
+-- The state after a change: a telegram, or a command, whose number and line are then the last ones.
 abbrev pub applied : Change → State → State
 applied (Telegram part moment body) s = told part moment body s
 applied (Numbered number command) s =

@@ -65,12 +65,15 @@ argument_words (Out meter) = text_of meter ∷ []
 argument_words (Confirm serial) = decimal serial ∷ []
 argument_words (Swap old new address) = text_of old ∷ text_of new ∷ address_word address ∷ []
 
+-- the verb and the arguments
 abbrev pub command_words : Command → List (List ℕ)
 command_words command = verb_of command ∷ argument_words command
 
+-- the words of the command's line: its number, the verb, the arguments
 abbrev pub words_of : ℕ → Command → List (List ℕ)
 words_of number command = decimal number ∷ command_words command
 
+-- the command's line: its words separated by single spaces, without LF
 unfoldable pub line_of : ℕ → Command → List ℕ
 line_of number command = join_with_byte 32 (words_of number command)
 
@@ -83,6 +86,7 @@ arguments_of command = join_with_byte 32 (argument_words command)
 
 -- ---- its bytes: a tag, the number, the arguments
 
+-- the encoding of a numbered command; the tag is 2 to 6
 abbrev pub command_bytes : ℕ → Command → List ℕ
 command_bytes number (Fit meter line address flat) =
     ((((byte 2 ++ long_bytes number) ++ wire_of meter) ++ byte line) ++ byte (address_byte address))

@@ -17,11 +17,13 @@ use Rattle.mbdc_change.specs.Command.{IsCommand, longest_line}
 
 -- ---- changes
 
+-- the telegram's part number and time stamp are in range, and its body is valid
 pub record IsTelegram (part moment : ℕ) (body : BodyRow) : Type 0 where
   pub part_fits : part ≤ most_parts
   pub moment_fits : moment ≤ last_moment
   pub body_is : IsBody body
 
+-- a valid telegram, or a valid command with a valid number
 abbrev pub IsChange : Change → Type 0
 IsChange (Telegram part moment body) = IsTelegram part moment body
 IsChange (Numbered number command) = IsNumber number × IsCommand command
@@ -34,20 +36,24 @@ pub record IsBodyText (bytes : List ℕ) : Type 0 where
   pub more : Bool
   pub body_is : IsBody (record { bytes = bytes; meter = meter; more = more })
 
+-- the part's time stamp is in range, and its body is that of some telegram
 pub record IsPart (part : PartRow) : Type 0 where
   pub moment_fits : part.moment ≤ last_moment
   pub body_is : IsBodyText part.body
 
+-- at most 255 parts, and all of them valid
 pub record AreParts (parts : List PartRow) : Type 0 where
   pub count : length parts ≤ most_parts
   pub each : All IsPart parts
 
+-- the meter's bus line, address, flat and open parts are valid
 pub record IsMeter (row : MeterRow) : Type 0 where
   pub line_is : IsBusLine row.line
   pub address_is : IsAddress row.address
   pub flat_is : IsFlat row.flat
   pub parts_are : AreParts row.parts
 
+-- the reading's flat and parts are valid
 pub record IsReading (reading : ReadingRow) : Type 0 where
   pub flat_is : IsFlat reading.flat
   pub parts_are : AreParts reading.parts

@@ -11,6 +11,7 @@ fewest_sectors = 131
 abbrev pub shortest_half : ℕ
 shortest_half = 64
 
+-- maximum number of sectors of a half
 abbrev pub longest_half : ℕ
 longest_half = 65536
 
@@ -18,6 +19,7 @@ longest_half = 65536
 abbrev pub half_len_of : ℕ → ℕ
 half_len_of sectors = min longest_half ((sectors - 3) / 2)
 
+-- number of sectors of a half of the image on this disk
 abbrev pub half_of : {D : Type 0} → Ghosts D → D → ℕ
 half_of g disk = half_len_of (g.sectors disk)
 
@@ -25,6 +27,7 @@ half_of g disk = half_len_of (g.sectors disk)
 abbrev pub half_start : ℕ → ℕ → ℕ
 half_start half_len half = 3 + half_len * half
 
+-- the number after the last sector of half 0 or 1
 abbrev pub half_end : ℕ → ℕ → ℕ
 half_end half_len half = 3 + half_len * half + half_len
 

@@ -129,6 +129,8 @@ module _ {K : Type 0} (lang : Language K) where
     pub place : ℕ
     pub by : ReadsBy half_len root m place state image
 
+  -- the image stands for the state: by some root and some number of groups of changes after the base,
+  -- it reads as the state, and it is fresh
   pub record Stands (half_len : ℕ) (state : lang.State) (image : Image) : Type 0 where
     pub root : Root
     pub m : ℕ
