@@ -28,6 +28,8 @@ pub mod Life
 pub mod NextRoot
 -- what opening may leave at any moment, and on Ok
 pub mod Opened
+-- what is read of an image without the root in force, which is put back
+pub mod OlderRoots
 -- what calls that only read may leave at any moment: an image of the disk as it was
 pub mod ReadMoments
 -- the refusals of an image exclude each other, and a state's image is refused only for an exhausted

@@ -1,11 +1,11 @@
 -- What is rescued of a damaged image (this product): what it reads as without the sector where reading stops.
-use Rattle.std.specs.Prelude.{◌≡◌, ℕ, replicate}
+use Rattle.std.specs.Prelude.{◌≡◌, ◌<◌, ◌+◌, ◌*◌, ℕ, replicate}
 use Rattle.dc_sectors.specs.Disk.{Image, put}
 use Rattle.dc_roots.specs.declared.root.Root.{Root}
 use Rattle.dc_roots.specs.Root.{slot}
 use Rattle.dc_roots.specs.Choice.{IsChosen}
 use Rattle.mbdc_log.specs.declared.fault.OpenFault.{OpenFault}
-use Rattle.mbdc_log.specs.declared.fault.OpenFault.TheVariants.{Damaged}
+use Rattle.mbdc_log.specs.declared.fault.OpenFault.TheVariants.{NotImage, Damaged, Version, Worn, Device, NoMemory}
 use Rattle.mbdc_log.specs.declared.rescuing.Source.{Source}
 use Rattle.mbdc_log.specs.declared.rescuing.Source.TheVariants.{Whole, Without, OtherRoot}
 use Rattle.mbdc_log.specs.Refusal.{IsUnread, TellsOfImage}
@@ -20,7 +20,20 @@ without n image = put image n (replicate 512 0)
 abbrev pub part_of : Source → Image → Image
 part_of Whole image = image
 part_of (Without n) image = without n image
-part_of (OtherRoot n at) image = without at (without n image)
+part_of (OtherRoot n at) image = without at image
+
+-- the sector that a fault names, or else this one
+abbrev pub sector_in : ℕ → OpenFault → ℕ
+sector_in at (Damaged n) = n
+sector_in at NotImage = at
+sector_in at Version = at
+sector_in at Worn = at
+sector_in at Device = at
+sector_in at NoMemory = at
+
+-- the slot of the root in force
+abbrev pub IsSlot : ℕ → Image → Type 0
+IsSlot at image = (root : Root) × IsChosen root image × (at ≡ slot root.generation)
 
 module _ {K : Type 0} (lang : Language K) where
   -- reading stops, for some reason that is a fact of the image
@@ -29,14 +42,27 @@ module _ {K : Type 0} (lang : Language K) where
     pub of_image : TellsOfImage fault
     pub unread : IsUnread lang half_len image fault
 
-  -- Why not the whole image: reading stops at that sector; and it still stops without it, so that the root in force is
-  -- left out too.
+  -- reading the whole image stops for that fault, and still stops without the sector that it names
+  pub record IsStuck (half_len : ℕ) (fault : OpenFault) (image : Image) : Type 0 where
+    pub of_image : TellsOfImage fault
+    pub unread : IsUnread lang half_len image fault
+    pub without_it : (n : ℕ) → fault ≡ Damaged n → n < 3 + 2 * half_len → Stops half_len (without n image)
+
+  -- reading stops without the root in force too: no older root leads to a state
+  abbrev pub HasNoOlder : ℕ → Image → Type 0
+  HasNoOlder half_len image = (at : ℕ) → IsSlot at image → Stops half_len (without at image)
+
+  -- NOTHING IS RESCUED: neither way leads to a state.
+  abbrev pub IsLost : ℕ → OpenFault → Image → Type 0
+  IsLost half_len fault image = IsStuck half_len fault image × HasNoOlder half_len image
+
+  -- Why not the whole image: reading stops at that sector; and it still stops without it, or stops at the root in
+  -- force, so that this root is left out.
   abbrev pub IsReason : ℕ → Source → Image → Type 0
   IsReason half_len Whole image = Unit {0}
   IsReason half_len (Without n) image = IsUnread lang half_len image (Damaged n)
-  IsReason half_len (OtherRoot n at) image = IsUnread lang half_len image (Damaged n)
-      × Stops half_len (without n image)
-      × (root : Root) × IsChosen root image × (at ≡ slot root.generation)
+  IsReason half_len (OtherRoot n at) image = (fault : OpenFault) × IsStuck half_len fault image
+      × (n ≡ sector_in at fault) × IsSlot at image
 
   -- THE STATE IS RESCUED: as much of the image as can be read reads as it.
   pub record IsRescued (half_len : ℕ) (source : Source) (root : Root) (place last : ℕ)

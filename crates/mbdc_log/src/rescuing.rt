@@ -1,22 +1,22 @@
 //! Rescues the state of an image whose chain is broken, and writes a state into a new image.
 
-ghost use Rattle.std.specs.Prelude.{◌≡◌, ◌≢◌, ◌⊎◌, ◌<◌, ◌≤◌, ◌+◌, ◌*◌, true, false, Err};
-ghost use Rattle.std.specs.Prelude.{IfOk, IfErr, IsErrOf};
+ghost use Rattle.std.specs.Prelude.{◌≡◌, ◌≢◌, ◌⊎◌, ◌<◌, ◌≤◌, ◌+◌, ◌*◌, ℕ, true, false, Err};
+ghost use Rattle.std.specs.Prelude.{Ok, None, IfOk, IfErr, IfSome, IsErrOf, MatchOption};
 ghost use Rattle.dc_sectors.specs.Disk.{Image, IsImage};
 ghost use Rattle.dc_sectors.specs.Runs.{Counts, IsSettled};
 ghost use Rattle.mbdc_log.specs.declared.fault.OpenFault.TheVariants.{NotImage, Damaged, Device, NoMemory};
 ghost use Rattle.mbdc_log.specs.Greatest.{IsGreatest};
 ghost use Rattle.mbdc_log.specs.Halves.{budget_of, fewest_sectors, half_of, longest_half};
 ghost use Rattle.mbdc_log.specs.Refusal.{IsUnread, TellsOfImage};
-ghost use Rattle.mbdc_log.specs.Rescue.{IsRescued, without};
+ghost use Rattle.mbdc_log.specs.Rescue.{HasNoOlder, IsLost, IsRescued, IsSlot, Stops, sector_in, without};
 ghost use Rattle.mbdc_log.specs.Stands.{IsRead, Stands};
 
 use crate::greatest::{Greatest, greatest_of};
-use crate::halves::{FEWEST_SECTORS, FIRST_SECTOR, half_len_of};
+use crate::halves::{FEWEST_SECTORS, half_end, half_len_of};
 use crate::reading::{Found, read_chain};
 use crate::{FormatFault, Log, OpenFault, StoreFault};
 use dc_roots::{RootFault, choose};
-use dc_sectors::{Disk, Failed};
+use dc_sectors::{Disk, Failed, ReadFault};
 use mbdc_io::kept::{Kept, KeptIn, Subject};
 use std::marker::PhantomData;
 
@@ -27,8 +27,8 @@ pub enum Source {
     Whole,
     /// All but this sector, where reading the whole image stops: the state before the group that begins there.
     Without(u32),
-    /// All but this sector and the root in force, whose slot is the second number: the state that the older root leads
-    /// to. A compaction may be lost.
+    /// All but the root in force, whose slot is the second number: the state that the older root leads to. Reading the
+    /// whole image stops at the first number. A compaction may be lost.
     OtherRoot(u32, u32),
 }
 
@@ -66,22 +66,23 @@ fn is_of_image(fault: OpenFault) -> bool
     }
 }
 
-/// Clears a sector, and reads the image without it.
+/// Clears a sector, and reads the image without it, if it leads to a state.
 fn read_without<K: Kept, D: Disk>(
     alloc: K::Alloc,
     copy: &mut D,
     half_len: u32,
     n: u32,
-) -> Result<Found<K>, OpenFault>
+) -> Result<Option<Found<K>>, OpenFault>
     requires n { n < D.sectors copy.old }
     requires most { half_len ≤ longest_half }
     requires fits { 3 + 2 * half_len ≤ D.sectors copy.old }
-    ensures cleared { IfErr result (λ fault. fault ≢ Device → D.reads copy.new ≡ without n (D.reads copy.old)) }
-    ensures all { D.keeps copy.new → IfOk result (λ found. IsRead K.Language half_len found.root found.place
-        found.last (K.state found.house) (without n (D.reads copy.old))) }
-    ensures refused { D.keeps copy.new → IfErr result (λ fault.
-        IsUnread K.Language half_len (without n (D.reads copy.old)) fault) }
-    ensures budget { IfOk result (λ found. K.limit found.house ≡ budget_of half_len) }
+    ensures cleared { IfOk result (λ left. D.reads copy.new ≡ without n (D.reads copy.old)) }
+    ensures left { D.keeps copy.new → IfOk result (λ left. MatchOption left
+        (Stops K.Language half_len (without n (D.reads copy.old)))
+        (λ found. IsRead K.Language half_len found.root found.place found.last (K.state found.house)
+        (without n (D.reads copy.old)))) }
+    ensures other { IfErr result (λ fault. (fault ≡ Device) ⊎ (fault ≡ NoMemory)) }
+    ensures budget { IfOk result (λ left. IfSome left (λ found. K.limit found.house ≡ budget_of half_len)) }
     ensures before { D.keeps copy.new → D.keeps copy.old }
     ensures counts { Counts D.Disk copy.old copy.new (IsErrOf result Device) }
 {
@@ -89,46 +90,11 @@ fn read_without<K: Kept, D: Disk>(
         Ok(()) => {}
         Err(Failed) => return Err(OpenFault::Device),
     }
-    read_chain(alloc, copy, half_len)
-}
-
-/// Reads what is left without the sector where reading stops, and else without the root in force too.
-fn read_parts<K: Kept, D: Disk>(
-    alloc: K::Alloc,
-    copy: &mut D,
-    half_len: u32,
-    n: u32,
-) -> Result<(Found<K>, Source), OpenFault>
-    requires n { n < D.sectors copy.old }
-    requires most { half_len ≤ longest_half }
-    requires fits { 3 + 2 * half_len ≤ D.sectors copy.old }
-    ensures rescued { D.keeps copy.new → IsUnread K.Language half_len (D.reads copy.old) (Damaged n)
-        → IfOk result (λ found. IsRescued K.Language half_len found.1 found.0.root found.0.place found.0.last
-        (K.state found.0.house) (D.reads copy.old)) }
-    ensures refused { IfErr result (λ fault. ((fault ≡ Device) ⊎ (fault ≡ NoMemory)) ⊎ (fault ≡ Damaged n)) }
-    ensures budget { IfOk result (λ found. K.limit found.0.house ≡ budget_of half_len) }
-    ensures before { D.keeps copy.new → D.keeps copy.old }
-    ensures counts { Counts D.Disk copy.old copy.new (IsErrOf result Device) }
-{
-    let root = match choose(copy) {
-        Ok(root) => root,
-        Err(RootFault::Device) => return Err(OpenFault::Device),
-        Err(_) => return Err(OpenFault::Damaged(n)),
-    };
-    match read_without(alloc, copy, half_len, n) {
-        Ok(found) => return Ok((found, Source::Without(n))),
-        Err(fault) => {
-            if !is_of_image(fault) {
-                return Err(fault);
-            }
-        }
-    }
-    let slot = root.slot();
-    match read_without(alloc, copy, half_len, slot) {
-        Ok(found) => Ok((found, Source::OtherRoot(n, slot))),
+    match read_chain(alloc, copy, half_len) {
+        Ok(found) => Ok(Some(found)),
         Err(fault) => {
             if is_of_image(fault) {
-                Err(OpenFault::Damaged(n))
+                Ok(None)
             } else {
                 Err(fault)
             }
@@ -136,12 +102,123 @@ fn read_parts<K: Kept, D: Disk>(
     }
 }
 
+/// Reads the image without the root in force, if it leads to a state, and puts that root back. Returns its slot too.
+fn read_older<K: Kept, D: Disk>(
+    alloc: K::Alloc,
+    copy: &mut D,
+    half_len: u32,
+) -> Result<Option<(Found<K>, u32)>, OpenFault>
+    requires most { half_len ≤ longest_half }
+    requires fits { 3 + 2 * half_len ≤ D.sectors copy.old }
+    ensures back { D.keeps copy.new → IfOk result (λ older. D.reads copy.new ≡ D.reads copy.old) }
+    ensures none { D.keeps copy.new → result ≡ Ok None → HasNoOlder K.Language half_len (D.reads copy.old) }
+    ensures older { D.keeps copy.new → IfOk result (λ older. IfSome older (λ o. IsSlot o.1 (D.reads copy.old)
+        × IsRead K.Language half_len o.0.root o.0.place o.0.last (K.state o.0.house)
+        (without o.1 (D.reads copy.old)))) }
+    ensures other { IfErr result (λ fault. (fault ≡ Device) ⊎ (fault ≡ NoMemory)) }
+    ensures budget { IfOk result (λ older. IfSome older (λ o. K.limit o.0.house ≡ budget_of half_len)) }
+    ensures before { D.keeps copy.new → D.keeps copy.old }
+    ensures counts { Counts D.Disk copy.old copy.new (IsErrOf result Device) }
+{
+    let slot = match choose(copy) {
+        Ok(root) => root.slot(),
+        Err(RootFault::Device) => return Err(OpenFault::Device),
+        Err(_) => return Ok(None),
+    };
+    let bytes = match copy.read(slot) {
+        Ok(bytes) => bytes,
+        Err(ReadFault::Unreadable) => return Ok(None),
+        Err(ReadFault::Failed) => return Err(OpenFault::Device),
+    };
+    let left = read_without(alloc, copy, half_len, slot)?;
+    match copy.write(slot, &bytes) {
+        Ok(()) => {}
+        Err(Failed) => return Err(OpenFault::Device),
+    }
+    match left {
+        Some(found) => Ok(Some((found, slot))),
+        None => Ok(None),
+    }
+}
+
+/// The sector that a fault names, or else this one.
+fn sector_in(at: u32, fault: OpenFault) -> u32
+    ensures { result ≡ sector_in at fault }
+{
+    match fault {
+        OpenFault::Damaged(n) => n,
+        _ => at,
+    }
+}
+
+/// Reads the image without the sector that a fault names, if it leads to a state. Returns the sector too.
+fn read_before<K: Kept, D: Disk>(
+    alloc: K::Alloc,
+    copy: &mut D,
+    half_len: u32,
+    fault: OpenFault,
+) -> Result<Option<(Found<K>, u32)>, OpenFault>
+    requires most { half_len ≤ longest_half }
+    requires fits { 3 + 2 * half_len ≤ D.sectors copy.old }
+    ensures none { D.keeps copy.new → result ≡ Ok None → (n : ℕ) → fault ≡ Damaged n → n < 3 + 2 * half_len
+        → Stops K.Language half_len (without n (D.reads copy.old)) }
+    ensures before_it { D.keeps copy.new → IfOk result (λ left. IfSome left (λ f. (fault ≡ Damaged f.1)
+        × IsRead K.Language half_len f.0.root f.0.place f.0.last (K.state f.0.house)
+        (without f.1 (D.reads copy.old)))) }
+    ensures other { IfErr result (λ f. (f ≡ Device) ⊎ (f ≡ NoMemory)) }
+    ensures budget { IfOk result (λ left. IfSome left (λ f. K.limit f.0.house ≡ budget_of half_len)) }
+    ensures before { D.keeps copy.new → D.keeps copy.old }
+    ensures counts { Counts D.Disk copy.old copy.new (IsErrOf result Device) }
+{
+    let OpenFault::Damaged(n) = fault else {
+        return Ok(None);
+    };
+    if n >= half_end(half_len, 1) {
+        return Ok(None);
+    }
+    match read_without(alloc, copy, half_len, n)? {
+        Some(found) => Ok(Some((found, n))),
+        None => Ok(None),
+    }
+}
+
+/// Reads what is left of an image: without the sector where reading stops, or by the older root.
+fn read_parts<K: Kept, D: Disk>(
+    alloc: K::Alloc,
+    copy: &mut D,
+    half_len: u32,
+    fault: OpenFault,
+) -> Result<(Found<K>, Source), OpenFault>
+    requires of_image { TellsOfImage fault }
+    requires most { half_len ≤ longest_half }
+    requires fits { 3 + 2 * half_len ≤ D.sectors copy.old }
+    ensures rescued { D.keeps copy.new → IsUnread K.Language half_len (D.reads copy.old) fault
+        → IfOk result (λ found. IsRescued K.Language half_len found.1 found.0.root found.0.place found.0.last
+        (K.state found.0.house) (D.reads copy.old)) }
+    ensures lost { D.keeps copy.new → IsUnread K.Language half_len (D.reads copy.old) fault
+        → IfErr result (λ f. TellsOfImage f → IsLost K.Language half_len f (D.reads copy.old)) }
+    ensures refused { IfErr result (λ f. ((f ≡ Device) ⊎ (f ≡ NoMemory)) ⊎ (f ≡ fault)) }
+    ensures budget { IfOk result (λ found. K.limit found.0.house ≡ budget_of half_len) }
+    ensures before { D.keeps copy.new → D.keeps copy.old }
+    ensures counts { Counts D.Disk copy.old copy.new (IsErrOf result Device) }
+{
+    let older = read_older(alloc, copy, half_len)?;
+    match read_before(alloc, copy, half_len, fault)? {
+        Some((found, n)) => return Ok((found, Source::Without(n))),
+        None => {}
+    }
+    match older {
+        Some((found, slot)) => Ok((found, Source::OtherRoot(sector_in(slot, fault), slot))),
+        None => Err(fault),
+    }
+}
+
 /// Rescues the state of an image: what it reads as; where its chain is broken, the state that the chain reads as up to
-/// there; where the root in force leads to no state, that of the older root. The sectors that are left out are cleared
-/// in `copy`, so it has to be a copy of the image, in memory.
+/// there; where the root in force leads to no state, that of the older root. Sectors are cleared in `copy`, so it has to
+/// be a copy of the image, in memory.
 ///
 /// # Errors
-/// Why the image reads as no state, if no part of it does either.
+/// Why the image reads as no state, if it leads to none without the sector where reading stops, nor by the older root.
 pub fn rescue<K: Kept, D: Disk>(alloc: K::Alloc, copy: &mut D) -> Result<Rescued<K>, OpenFault>
     ensures small { D.sectors copy.old < fewest_sectors → result ≡ Err NotImage }
     ensures rescued { D.keeps copy.new → IfOk result (λ r.
@@ -151,6 +228,8 @@ pub fn rescue<K: Kept, D: Disk>(alloc: K::Alloc, copy: &mut D) -> Result<Rescued
         IsGreatest (half_of D.Disk copy.old) r.greatest (D.reads copy.old)) }
     ensures refused { fewest_sectors ≤ D.sectors copy.old → D.keeps copy.new
         → IfErr result (λ fault. IsUnread K.Language (half_of D.Disk copy.old) (D.reads copy.old) fault) }
+    ensures lost { fewest_sectors ≤ D.sectors copy.old → D.keeps copy.new → IfErr result (λ fault.
+        TellsOfImage fault → IsLost K.Language (half_of D.Disk copy.old) fault (D.reads copy.old)) }
     ensures budget { IfOk result (λ r. K.limit r.found.house ≡ budget_of (half_of D.Disk copy.old)) }
     ensures before { D.keeps copy.new → D.keeps copy.old }
     ensures counts { Counts D.Disk copy.old copy.new (IsErrOf result Device) }
@@ -164,7 +243,7 @@ pub fn rescue<K: Kept, D: Disk>(alloc: K::Alloc, copy: &mut D) -> Result<Rescued
         Ok(greatest) => greatest,
         Err(Failed) => return Err(OpenFault::Device),
     };
-    let n = match read_chain(alloc, copy, half_len) {
+    let fault = match read_chain(alloc, copy, half_len) {
         Ok(found) => {
             return Ok(Rescued {
                 found,
@@ -172,15 +251,19 @@ pub fn rescue<K: Kept, D: Disk>(alloc: K::Alloc, copy: &mut D) -> Result<Rescued
                 greatest,
             });
         }
-        Err(OpenFault::Damaged(n)) if n >= FIRST_SECTOR && n < count => n,
-        Err(fault) => return Err(fault),
+        Err(fault) => fault,
     };
-    let (found, source) = read_parts(alloc, copy, half_len, n)?;
-    Ok(Rescued {
-        found,
-        source,
-        greatest,
-    })
+    if !is_of_image(fault) {
+        return Err(fault);
+    }
+    match read_parts(alloc, copy, half_len, fault) {
+        Ok((found, source)) => Ok(Rescued {
+            found,
+            source,
+            greatest,
+        }),
+        Err(fault) => Err(fault),
+    }
 }
 
 /// What a store keeps, where it is of one type.
