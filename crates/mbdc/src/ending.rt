@@ -13,7 +13,7 @@ use clap::Error;
 use clap::error::ErrorKind;
 use dc_core::CommitFault;
 use mbdc_ending::{Ending, STREAM};
-use mbdc_files::{Reason, Why, holder_of, without_number};
+use mbdc_files::{ERRORS, Reason, Why, holder_of, is_full, without_number};
 use mbdc_io::{Buffered, IoFault, Sink, WriteSink, put_number};
 use mbdc_log::{FormatFault, OpenFault};
 use mbdc_words::{WordsFault, nearest};
@@ -63,7 +63,11 @@ const LINE: usize = 8_192;
 pub fn told(rt: &HostRuntime, ending: &Ending) -> ExitCode
     ensures { exit_status result ≡ status_of ending.now }
 {
-    // The status is returned even if the line can't be written: no other channel is left.
+    // The status is returned even if the line can't be written: no other channel is left. A write to a file that has
+    // reached the limit of files would end the program by a signal.
+    if is_full(rt, ERRORS) {
+        return ExitCode::from(ending.status());
+    }
     match Buffered::new(rt.alloc(), LINE, WriteSink::new(rt.stderr())) {
         Ok(mut out) => {
             if ending.put_line(&mut out).is_ok() {

@@ -3,7 +3,7 @@
 use crate::clock;
 use mbdc_commands::look_ending;
 use mbdc_ending::{Ending, ProgramFault, STREAM, ending_of};
-use mbdc_files::{Host, LookedAt, Noted, ROUNDS, journal_lines};
+use mbdc_files::{Host, LookedAt, Output, ROUNDS, journal_lines};
 use mbdc_io::NoMemory;
 use mbdc_json::journal::{Journal, Keeps, read_journal};
 use mbdc_log::Greatest;
@@ -37,7 +37,7 @@ where
     if matches!(asked, Asked::Table(..)) && (refusal.is_some() || !is_whole) {
         return ending;
     }
-    let mut out = Noted::new(io::writer(host.rt), host.why);
+    let mut out = Output::new(io::writer(host.rt), host);
     if out.write_all(shown.text.as_slice()).is_err() || out.flush().is_err() {
         return ending_of(Err(ProgramFault::Write), STREAM);
     }

@@ -22,7 +22,7 @@ mod tracing;
 
 use ending::{is_cut_off, told, told_disk, told_why, told_words};
 use mbdc_ending::Ending;
-use mbdc_files::{Host, NOWHERE, Why, hold};
+use mbdc_files::{ERRORS, Host, NOWHERE, Why, hold, is_full};
 use mbdc_words::{Call, call_of};
 use std::io::{ErrorKind, IsTerminal, Write};
 use std::process::ExitCode;
@@ -78,6 +78,9 @@ fn answer(rt: &HostRuntime, call: &Call<'_>) -> ExitCode {
         return ExitCode::from(ending.status());
     }
     let status = told(rt, &ending);
+    if is_full(rt, ERRORS) {
+        return status;
+    }
     if call.is_verbose || host.is_watched {
         told_why(rt, &ending, &why, host.is_watched);
     }

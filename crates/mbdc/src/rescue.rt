@@ -4,7 +4,7 @@ use dc_meters::House;
 use dc_sectors::{Disk, FileDisk};
 use mbdc_commands::{put_rescued, rescue_over};
 use mbdc_ending::{Ending, ProgramFault, STREAM, ending_of};
-use mbdc_files::{Host, Noted, begin_image, copy_disk, end_image};
+use mbdc_files::{Host, Noted, Output, begin_image, copy_disk, end_image};
 use mbdc_io::{Sink, WriteSink};
 use mbdc_json::journal::Journal;
 use mbdc_log::Rescued;
@@ -50,7 +50,7 @@ where
 }
 
 // Prints what was rescued, and what the new image holds.
-fn print<R: Print + AllocGlobal>(
+fn print<R: Files<File = File> + Print + AllocGlobal>(
     host: &Host<'_, R>,
     rescued: &Rescued<House<Global>>,
     new: FileDisk<Noted<'_, File>>,
@@ -65,7 +65,7 @@ fn print<R: Print + AllocGlobal>(
         Asked::Contents,
         &Journal::none(alloc),
     )?;
-    let mut out = WriteSink::new(Noted::new(io::writer(host.rt), host.why));
+    let mut out = WriteSink::new(Output::new(io::writer(host.rt), host));
     if put_rescued(rescued, &mut out).is_err()
         || out.put(shown.text.as_slice()).is_err()
         || out.flush().is_err()

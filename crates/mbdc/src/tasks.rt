@@ -14,7 +14,7 @@ use mbdc_audit::{audit, fill};
 use mbdc_decode::decode_lines;
 use mbdc_decode::objects::json_lines;
 use mbdc_ending::{Ending, ProgramFault, STREAM};
-use mbdc_files::{Host, Noted, back_up, format_image};
+use mbdc_files::{Host, Noted, Output, back_up, format_image};
 use mbdc_io::{Buffered, Bytes, ReadSource, Sink, Source, WriteSink};
 use mbdc_json::explain_lines;
 use mbdc_looks::Asked;
@@ -73,7 +73,7 @@ where
     }
 }
 
-fn work_on_file<'a, R: Files + Print + Eprint + AllocGlobal>(
+fn work_on_file<'a, R: Files<File = File> + Print + Eprint + AllocGlobal>(
     host: &Host<'_, R>,
     engine: Engine,
     name: &'a str,
@@ -84,7 +84,7 @@ fn work_on_file<'a, R: Files + Print + Eprint + AllocGlobal>(
     }
 }
 
-fn work_on<'a, R: Print + Eprint + AllocGlobal, F: Read + Drop>(
+fn work_on<'a, R: Files<File = File> + Print + Eprint + AllocGlobal, F: Read + Drop>(
     host: &Host<'_, R>,
     engine: Engine,
     file: F,
@@ -100,13 +100,13 @@ fn work_on<'a, R: Print + Eprint + AllocGlobal, F: Read + Drop>(
 }
 
 // Runs the engine from what the source has left to standard output. It writes in large pieces.
-fn work<R: Print + Eprint + AllocGlobal, S: Source>(
+fn work<R: Files<File = File> + Print + Eprint + AllocGlobal, S: Source>(
     host: &Host<'_, R>,
     engine: Engine,
     reader: &mut S,
 ) -> Result<bool, ProgramFault> {
     let alloc = host.rt.alloc();
-    let printer = Noted::new(io::writer(host.rt), host.why);
+    let printer = Output::new(io::writer(host.rt), host);
     let mut writer = Buffered::new(alloc, ROOM, WriteSink::new(printer))?;
     let found = match engine {
         Engine::Decode(Form::Text) => decode_lines(alloc, reader, &mut writer)?,

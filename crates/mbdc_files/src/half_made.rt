@@ -5,7 +5,7 @@ ghost use Rattle.dc_sectors.specs.File.{IsOpened};
 ghost use Rattle.mbdc_files.specs.Formatted.{IsOfFormat};
 
 use crate::host::Host;
-use crate::image::lock;
+use crate::image::{lock, within_limit};
 use crate::why::{Noted, Why};
 use dc_sectors::FileDisk;
 use mbdc_ending::Ending;
@@ -123,6 +123,9 @@ pub fn begin_image<'a, R: Files<File = File> + AllocGlobal>(
             host.why
                 .file(name, io::Error::from(ErrorKind::AlreadyExists)),
         );
+    }
+    if let Err(error) = within_limit(length) {
+        return Err(host.why.file(name, error));
     }
     let half_made = match HalfMade::create(host.rt, name) {
         Ok(half_made) => half_made,
