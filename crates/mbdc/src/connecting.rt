@@ -43,6 +43,7 @@ where
 {
     let mut linker = Linker { rt: host.rt };
     let peers = reach_all(host.rt.alloc(), &links.links, &mut linker);
+    host.why.is_named.set(peers.is_err());
     links_of(host.why, peers)
 }
 

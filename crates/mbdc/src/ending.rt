@@ -13,9 +13,10 @@ use clap::Error;
 use clap::error::ErrorKind;
 use dc_core::CommitFault;
 use mbdc_ending::{Ending, STREAM};
-use mbdc_files::{ERRORS, Reason, Why, holder_of, is_full, without_number};
+use mbdc_files::{ERRORS, Reason, Why, holder_of, is_full};
 use mbdc_io::{Buffered, IoFault, Sink, WriteSink, put_number};
 use mbdc_log::{FormatFault, OpenFault};
+use mbdc_raw::links::without_number;
 use mbdc_words::{WordsFault, nearest};
 use std::alloc::{AllocError, Global};
 use std::io;
@@ -99,6 +100,7 @@ pub fn told_why(rt: &HostRuntime, ending: &Ending, why: &Why, is_watched: bool) 
     } else {
         ""
     };
+    let reason = if why.is_named.get() { None } else { reason };
     let Some(reason) = reason else {
         if !step.is_empty() {
             let _ = eprint!(rt; "mbdc: next: {step}\n");

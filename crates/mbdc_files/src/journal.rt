@@ -1,7 +1,7 @@
 //! The file of an image's journal. What fails here costs a view, and nothing else.
 
 use crate::image::{NO_FILE, file_limit, refused};
-use crate::why::without_number;
+use mbdc_raw::links::without_number;
 use std::alloc::AllocError;
 use std::fs::{File, OpenOptions};
 use std::io::{ErrorKind, Read, Seek, SeekFrom, Write};

@@ -15,17 +15,6 @@ use std::os::unix::fs::FileExt;
 // Number of bytes of a sector.
 const SECTOR: u64 = 512;
 
-// The text between the system's message and its error number.
-const NUMBERED: &str = " (os error ";
-
-/// The system's message without its error number.
-pub fn without_number(said: &str) -> &str {
-    match said.rsplit_once(NUMBERED) {
-        Some((words, _)) => words,
-        None => said,
-    }
-}
-
 /// The system's message for a call that failed, and the bus line of its link.
 #[derive(Clone, Copy)]
 pub struct Reason {
@@ -54,6 +43,8 @@ pub struct Why {
     pub disk: Cell<Option<DiskReason>>,
     /// Whether the drive couldn't read a sector of the image.
     pub has_unreadable: Cell<bool>,
+    /// Whether a line on standard error has named the last failed call already.
+    pub is_named: Cell<bool>,
 }
 
 impl Why {
@@ -63,6 +54,7 @@ impl Why {
             last: Cell::new(None),
             disk: Cell::new(None),
             has_unreadable: Cell::new(false),
+            is_named: Cell::new(false),
         }
     }
 

@@ -16,7 +16,7 @@ mod waiting;
 
 pub use bus::LinkBus;
 pub use connection::Connection;
-pub use linking::Linker;
+pub use linking::{Linker, without_number};
 pub use peer::{BlockBus, ByteBus, Peer, RawBus, SystemBus};
 pub use socket::{Socket, Tcp, Terminal};
 pub use terminal::Held;

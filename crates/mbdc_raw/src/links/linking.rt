@@ -13,6 +13,17 @@ use std::net::{Net, TcpStream};
 use std::rt::{Clock, Files};
 use std::{fs, io};
 
+// The text between the system's message and its error number.
+const NUMBERED: &str = " (os error ";
+
+/// The system's message without its error number.
+pub fn without_number(said: &str) -> &str {
+    match said.rsplit_once(NUMBERED) {
+        Some((words, _)) => words,
+        None => said,
+    }
+}
+
 /// Connects links by TCP and over terminals, and says on standard error which can't be connected.
 #[derive(Clone, Copy, Drop)]
 pub struct Linker<'r, R> {
@@ -46,7 +57,10 @@ where
     fn say(&mut self, line: u8, error: &io::Error)
         ensures { ⊤ }
     {
-        let _ = eprint!(self.rt; "mbdc: gateway: line {line}: {error}\n");
+        if let Ok(said) = format!(in self.rt.alloc(); "{error}") {
+            let words = without_number(said.as_str());
+            let _ = eprint!(self.rt; "mbdc: gateway: line {line}: {words}\n");
+        }
     }
 
     fn release(&mut self, peer: &Peer<R>)
