@@ -1,7 +1,6 @@
 -- The records of several telegrams: those of a list, and the one that comes next.
-use Rattle.std.proofs.Common.{◌≡◌, ◌≢◌, ℕ, zero, suc, ◌+◌, ◌-◌, ◌<◌, ◌≤◌, Bool, true, false, cond, eqb, List, [], ◌∷◌, ◌++◌, length, get_or, drop, Option, Some, None, refl, ap, sym, ◌∙◌, append-nil, arith}
+use Rattle.std.proofs.Common.{◌≡◌, ◌≢◌, ℕ, zero, suc, ◌+◌, ◌-◌, ◌<◌, ◌≤◌, Bool, true, false, cond, eqb, List, [], ◌∷◌, ◌++◌, length, get_or, drop, Option, Some, None, refl, ap, sym, ◌∙◌, arith, map}
 use Rattle.std.proofs.lemmas.List.{drop_all, drop_more}
-use Rattle.mbdc_change.specs.State.{PartRow}
 use Rattle.dc_records.specs.Body.{front_at}
 use Rattle.mbdc_reading.specs.Front.{wide_front_at}
 use Rattle.mbdc_reading.specs.Sent.{Sent, read_at}
@@ -9,7 +8,7 @@ use Rattle.mbdc_reading.specs.declared.content.headline.Main.{Main}
 use Rattle.mbdc_reading.specs.declared.content.headline.Key.{Key}
 use Rattle.mbdc_reading.specs.Headline.{headline, headline_by, headline_from, key_of, main_of, next_in, taken, with_next}
 use Rattle.mbdc_shown.specs.declared.stand.Current.{Current}
-use Rattle.mbdc_shown.specs.Stand.{all_sent, body_sent, headline_left, is_in, left_after, listed, part_sent, parts_sent}
+use Rattle.mbdc_shown.specs.Stand.{bodies_sent, body_sent, headline_left, is_in, left_after, listed}
 
 -- ---- telegrams
 
@@ -17,11 +16,14 @@ pub no_sent : body_sent [] ≡ []
 unfolding read_at wide_front_at front_at
 no_sent = refl
 
-pub all_of_parts : (parts : List PartRow) → all_sent [] parts ≡ parts_sent parts
-all_of_parts parts = ap (λ (ss : List Sent). ss ++ parts_sent parts) no_sent
+-- one telegram more of those that are gone through by index
+next_sent : {X : Type 0} (text : X → List ℕ) (xs : List X) (i : ℕ) (d : X) → i < length xs
+    → bodies_sent (map text (drop i xs)) ≡ body_sent (text (get_or xs i d)) ++ bodies_sent (map text (drop (i + 1) xs))
+next_sent {X} text xs i d within = ap (λ (ys : List X). bodies_sent (map text ys)) (drop_more xs i d within)
 
-pub all_of_body : (body : List ℕ) → all_sent body [] ≡ body_sent body
-all_of_body body = append-nil (body_sent body)
+-- after the last telegram
+last_sent : {X : Type 0} (text : X → List ℕ) (xs : List X) (i : ℕ) → length xs ≤ i → bodies_sent (map text (drop i xs)) ≡ []
+last_sent {X} text xs i past = ap (λ (ys : List X). bodies_sent (map text ys)) (drop_all i xs past)
 
 -- ---- lists
 
@@ -61,17 +63,17 @@ next_append main last best [] ys = refl
 next_append main last best (x ∷ xs) ys = next_append main last (taken main last best x) xs ys
 
 -- one telegram more of those that are gone through by index
-pub next_turn : (main : Main) (last : Option Key) (best : Option Sent) (parts : List PartRow) (i : ℕ) (part : PartRow) → i < length parts → part ≡ get_or parts i part
-    → next_in main last best (parts_sent (drop i parts)) ≡ next_in main last (next_in main last best (part_sent part)) (parts_sent (drop (i + 1) parts))
-next_turn main last best parts i part within is =
-    ap (λ (ps : List PartRow). next_in main last best (parts_sent ps)) (drop_more parts i part within ∙ ap (λ (p : PartRow). p ∷ drop (i + 1) parts) (sym is))
-    ∙ next_append main last best (part_sent part) (parts_sent (drop (i + 1) parts))
+pub next_turn : {X : Type 0} (text : X → List ℕ) (main : Main) (last : Option Key) (best : Option Sent) (xs : List X) (i : ℕ) (d : X) → i < length xs
+    → next_in main last best (bodies_sent (map text (drop i xs))) ≡ next_in main last (next_in main last best (body_sent (text (get_or xs i d)))) (bodies_sent (map text (drop (i + 1) xs)))
+next_turn text main last best xs i d within =
+    ap (next_in main last best) (next_sent text xs i d within)
+    ∙ next_append main last best (body_sent (text (get_or xs i d))) (bodies_sent (map text (drop (i + 1) xs)))
 
 -- after the last telegram
-pub next_last : (main : Main) (last : Option Key) (best : Option Sent) (parts : List PartRow) (n : ℕ) → length parts ≤ n
-    → next_in main last best (parts_sent (drop n parts)) ≡ best
+pub next_last : {X : Type 0} (text : X → List ℕ) (main : Main) (last : Option Key) (best : Option Sent) (xs : List X) (n : ℕ) → length xs ≤ n
+    → next_in main last best (bodies_sent (map text (drop n xs))) ≡ best
 unfolding next_in
-next_last main last best parts n is = ap (λ (ps : List PartRow). next_in main last best (parts_sent ps)) (drop_all n parts is)
+next_last text main last best xs n is = ap (next_in main last best) (last_sent text xs n is)
 
 -- ---- a headline, record by record
 

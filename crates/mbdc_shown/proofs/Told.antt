@@ -1,16 +1,13 @@
--- What one telegram reports: its fields, one after the other.
+-- What telegrams report: the fields, one after the other.
 use Rattle.std.proofs.Common.{◌≡◌, ℕ, List, [], ◌∷◌, ◌++◌, codes, ap, sym, ◌∙◌, append-nil}
 use Rattle.json.specs.Token as Token
-use Rattle.dc_records.specs.Telegram.{Parsed}
-use Rattle.dc_records.specs.declared.header.Header.{Header}
 use Rattle.mbdc_reading.specs.Headline.{headline}
 use Rattle.mbdc_reading.specs.Sent.{Sent}
 use Rattle.mbdc_decode.specs.Object.{Field, fields_tokens}
 use Rattle.mbdc_decode.proofs.ObjectTexts.{fields-append, fields-cons}
 use Rattle.mbdc_shown.specs.Reported.{received_fields, records_field, reported_fields, told_fields}
-use Rattle.mbdc_shown.specs.Stand.{all_sent, body_sent, listed}
+use Rattle.mbdc_shown.specs.Stand.{listed}
 use Rattle.mbdc_shown.specs.declared.stand.Current.TheVariants.{Values, Also}
-use Rattle.mbdc_shown.proofs.Sents.{all_of_body}
 
 three : (a b c : Field) → fields_tokens (a ∷ []) ++ (fields_tokens (b ∷ []) ++ (fields_tokens (c ∷ []) ++ [])) ≡ fields_tokens (a ∷ b ∷ c ∷ [])
 three a b c =
@@ -30,12 +27,9 @@ told_as kind ss a b c first second third =
     ∙ ap (λ (x : List Sent). fields_tokens (told (headline kind ss) x c)) second
     ∙ ap (λ (x : List Sent). fields_tokens (told (headline kind ss) (listed Values ss) x)) third
 
-pub reported_as : (moment : ℕ) (header : Header) (body : List ℕ) (t : Parsed) → header ≡ t.header → body ≡ t.body
-    → fields_tokens (received_fields moment header.status) ++ (fields_tokens (told_fields header.identity.kind (all_sent body [])) ++ []) ≡ fields_tokens (reported_fields moment t)
+pub reported_as : (moment status kind : ℕ) (ss : List Sent)
+    → fields_tokens (received_fields moment status) ++ (fields_tokens (told_fields kind ss) ++ []) ≡ fields_tokens (reported_fields moment status kind ss)
 unfolding reported_fields
-reported_as moment header body t same sent =
-    ap (λ (ts : List Token.Token). fields_tokens (received_fields moment header.status) ++ ts) (append-nil (fields_tokens (told_fields header.identity.kind (all_sent body []))))
-    ∙ sym (fields-append (received_fields moment header.status) (told_fields header.identity.kind (all_sent body [])))
-    ∙ ap (λ (ss : List Sent). fields_tokens (received_fields moment header.status ++ told_fields header.identity.kind ss)) (all_of_body body)
-    ∙ ap (λ (h : Header). fields_tokens (received_fields moment h.status ++ told_fields h.identity.kind (body_sent body))) same
-    ∙ ap (λ (b : List ℕ). fields_tokens (received_fields moment t.header.status ++ told_fields t.header.identity.kind (body_sent b))) sent
+reported_as moment status kind ss =
+    ap (λ (ts : List Token.Token). fields_tokens (received_fields moment status) ++ ts) (append-nil (fields_tokens (told_fields kind ss)))
+    ∙ sym (fields-append (received_fields moment status) (told_fields kind ss))

@@ -1,12 +1,11 @@
--- What one telegram reports, as JSON (this product): the fields of a reading but its serial.
+-- What the telegrams of a reading report, as JSON (this product): the fields of a reading but its serial.
 use Rattle.std.specs.Prelude.{ℕ, List, [], ◌∷◌, ◌++◌, codes, map}
-use Rattle.dc_records.specs.Telegram.{Parsed}
 use Rattle.mbdc_reading.specs.Headline.{headline}
 use Rattle.mbdc_reading.specs.Sent.{Sent}
 use Rattle.mbdc_decode.specs.Object.{Field, object_of, array_of, count}
 use Rattle.mbdc_decode.specs.Meter.{status_fields}
 use Rattle.mbdc_decode.specs.Record.{record_json, value_json}
-use Rattle.mbdc_shown.specs.Stand.{body_sent, listed}
+use Rattle.mbdc_shown.specs.Stand.{listed}
 use Rattle.mbdc_shown.specs.Utc.{minute_of}
 use Rattle.mbdc_shown.specs.declared.stand.Current.TheVariants.{Values, Also}
 
@@ -31,6 +30,6 @@ received_fields moment status =
     ∷ (codes "status", object_of (status_fields status))
     ∷ []
 
--- when it was received, the status, and what its records tell
-unfoldable pub reported_fields : ℕ → Parsed → List Field
-reported_fields moment t = received_fields moment t.header.status ++ told_fields t.header.identity.kind (body_sent t.body)
+-- when the last one was received, its status, and what the records of all tell
+unfoldable pub reported_fields : ℕ → ℕ → ℕ → List Sent → List Field
+reported_fields moment status kind ss = received_fields moment status ++ told_fields kind ss

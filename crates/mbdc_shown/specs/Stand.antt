@@ -1,6 +1,6 @@
 -- What is told of a reading (this product; EN 13757-3): its headline, and its current records, those of storage number 0 that are
 -- instantaneous.
-use Rattle.std.specs.Prelude.{ℕ, ◌-◌, ◌==◌, ◌&&◌, if◌then◌else◌, Bool, true, false, List, [], ◌++◌, drop, filter, Option, Some, None}
+use Rattle.std.specs.Prelude.{ℕ, ◌-◌, ◌==◌, ◌&&◌, if◌then◌else◌, Bool, true, false, List, [], drop, filter, map, Option, Some, None}
 use Rattle.std.specs.List.{flat_map}
 use Rattle.mbdc_change.specs.State.{PartRow}
 use Rattle.mbdc_reading.specs.declared.content.headline.Key.{Key}
@@ -19,16 +19,16 @@ use Rattle.mbdc_shown.specs.declared.stand.Current.TheVariants.{Values, Also, Un
 abbrev pub body_sent : List ℕ → List Sent
 body_sent body = sent_at (drop 12 body)
 
--- those of kept telegrams
-abbrev pub part_sent : PartRow → List Sent
-part_sent part = body_sent part.body
+-- those of telegrams, one after the other
+abbrev pub bodies_sent : List (List ℕ) → List Sent
+bodies_sent bodies = flat_map body_sent bodies
 
-abbrev pub parts_sent : List PartRow → List Sent
-parts_sent parts = flat_map part_sent parts
+-- the telegrams of a reading
+abbrev pub body_of : PartRow → List ℕ
+body_of part = part.body
 
--- those of a telegram that isn't kept, and of kept ones
-abbrev pub all_sent : List ℕ → List PartRow → List Sent
-all_sent body parts = body_sent body ++ parts_sent parts
+abbrev pub bodies_of : List PartRow → List (List ℕ)
+bodies_of parts = map body_of parts
 
 -- ---- the current ones: as the due-date table has them, by their codes, or not read
 

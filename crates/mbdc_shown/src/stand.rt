@@ -1,15 +1,14 @@
 //! What is shown of a reading: its headline, and its current records.
 
-ghost use Rattle.std.specs.Prelude.{◌≡◌, None, option_map};
+ghost use Rattle.std.specs.Prelude.{◌≡◌, None, map, option_map};
 ghost use Rattle.std.specs.Iterator.{YieldsFirstBy};
 ghost use Rattle.mbdc_reading.specs.Sent.{sent_view};
 ghost use Rattle.mbdc_reading.specs.Headline.{headline, next_in};
-ghost use Rattle.mbdc_shown.specs.Stand.{all_sent, is_in, left_after, listed};
+ghost use Rattle.mbdc_shown.specs.Stand.{bodies_sent, is_in, left_after, listed};
 
-use dc_meters::Part;
+use crate::bodies::Bodies;
 use mbdc_reading::content::{Key, MOST_TARIFFS, Main, key_of, next_in};
 use mbdc_reading::{How, Sent, SentRecords, reading_of};
-use std::alloc::Allocator;
 use std::marker::Model;
 
 /// A list of current records: those of storage number 0 that are instantaneous (EN 13757-3).
@@ -41,36 +40,39 @@ fn is_in(list: Current, sent: &Sent<'_>) -> bool
 /// The current records of a list, in the order of the telegrams and of their records. Contracts see the list of those
 /// that are still to come.
 #[derive(Drop)]
-pub struct Listed<'a, A: Allocator> {
+pub struct Listed<'a> {
     list: Current,
     records: SentRecords<'a>,
-    parts: &'a [Part<A>],
+    bodies: &'a [&'a [u8]],
+    // So many of the bodies were begun.
+    gone: usize,
 }
 
-impl<'a, A: Allocator> Model for Listed<'a, A> {
-    ghost use Rattle.std.specs.Prelude.{List, ◌++◌};
+impl<'a> Model for Listed<'a> {
+    ghost use Rattle.std.specs.Prelude.{List, ◌++◌, drop, map};
     ghost use Rattle.mbdc_reading.specs.Sent.{Sent};
-    ghost use Rattle.mbdc_shown.specs.Stand.{listed, parts_sent};
+    ghost use Rattle.mbdc_shown.specs.Stand.{bodies_sent, listed};
 
     ghost Value = { List Sent };
 
-    ghost view = { λ l. listed l.list (l.records ++ parts_sent l.parts.now) };
+    ghost view = { λ l. listed l.list (l.records ++ bodies_sent (map (λ s. s.now) (drop l.gone l.bodies.now))) };
 }
 
-impl<'a, A: Allocator> Listed<'a, A> {
-    /// Those of a telegram's body that isn't kept, and of parts.
-    pub fn new(list: Current, body: &'a [u8], parts: &'a [Part<A>]) -> Self
-        ensures { result ≡ listed list (all_sent body.now parts.now) }
+impl<'a> Listed<'a> {
+    /// Those of telegrams.
+    pub fn new(list: Current, bodies: &'a Bodies<'a>) -> Self
+        ensures { result ≡ listed list (bodies_sent bodies.now) }
     {
         Listed {
             list,
-            records: SentRecords::of_body(body),
-            parts,
+            records: SentRecords::of_body(&[]),
+            bodies: bodies.as_slice(),
+            gone: 0,
         }
     }
 }
 
-impl<'a, A: Allocator> Iterator for Listed<'a, A> {
+impl<'a> Iterator for Listed<'a> {
     ghost use Rattle.std.specs.Iterator.{YieldsFirstBy, item_count};
     ghost use Rattle.mbdc_reading.specs.Sent.{sent_view};
 
@@ -81,13 +83,15 @@ impl<'a, A: Allocator> Iterator for Listed<'a, A> {
     ghost remaining = { item_count (λ l. l) };
 
     fn next(&mut self) -> Option<Sent<'a>> {
-        'parts: loop {
+        'bodies: loop {
             if let Some(sent) = next_listed(self.list, &mut self.records) {
                 return Some(sent);
             }
-            let (part, others) = self.parts.split_first()?;
-            self.records = SentRecords::of_body(part.body());
-            self.parts = others;
+            if self.gone >= self.bodies.len() {
+                return None;
+            }
+            self.records = SentRecords::of_body(self.bodies[self.gone]);
+            self.gone += 1;
         }
     }
 }
@@ -106,41 +110,39 @@ fn next_listed<'a>(list: Current, records: &mut SentRecords<'a>) -> Option<Sent<
 
 /// The records that a meter stands at. Contracts see the list of those that are still to come.
 #[derive(Drop)]
-pub struct Headline<'a, A: Allocator> {
+pub struct Headline<'a> {
     main: Option<Main>,
     last: Option<Key>,
     left: u32,
-    body: &'a [u8],
-    parts: &'a [Part<A>],
+    bodies: &'a [&'a [u8]],
 }
 
-impl<'a, A: Allocator> Model for Headline<'a, A> {
-    ghost use Rattle.std.specs.Prelude.{List};
+impl<'a> Model for Headline<'a> {
+    ghost use Rattle.std.specs.Prelude.{List, map};
     ghost use Rattle.mbdc_reading.specs.Sent.{Sent};
-    ghost use Rattle.mbdc_shown.specs.Stand.{all_sent, headline_left};
+    ghost use Rattle.mbdc_shown.specs.Stand.{bodies_sent, headline_left};
 
     ghost Value = { List Sent };
 
-    ghost view = { λ h. headline_left h.left h.main h.last (all_sent h.body.now h.parts.now) };
+    ghost view = { λ h. headline_left h.left h.main h.last (bodies_sent (map (λ s. s.now) h.bodies.now)) };
 }
 
-impl<'a, A: Allocator> Headline<'a, A> {
-    /// What a meter of this device type stands at after a telegram that isn't kept, and parts.
+impl<'a> Headline<'a> {
+    /// What a meter of this device type stands at after telegrams.
     #[tactic(auto, unfolding(mbdc_reading::specs::Headline::headline))]
-    pub fn new(kind: u8, body: &'a [u8], parts: &'a [Part<A>]) -> Self
-        ensures { result ≡ headline kind (all_sent body.now parts.now) }
+    pub fn new(kind: u8, bodies: &'a Bodies<'a>) -> Self
+        ensures { result ≡ headline kind (bodies_sent bodies.now) }
     {
         Headline {
             main: Main::of(kind),
             last: None,
             left: MOST_TARIFFS,
-            body,
-            parts,
+            bodies: bodies.as_slice(),
         }
     }
 }
 
-impl<'a, A: Allocator> Iterator for Headline<'a, A> {
+impl<'a> Iterator for Headline<'a> {
     ghost use Rattle.std.specs.Iterator.{YieldsFirstBy, item_count};
     ghost use Rattle.mbdc_reading.specs.Sent.{sent_view};
 
@@ -156,7 +158,7 @@ impl<'a, A: Allocator> Iterator for Headline<'a, A> {
             return None;
         }
         let main = self.main?;
-        let sent = next_of(main, self.last, self.body, self.parts)?;
+        let sent = next_of(main, self.last, self.bodies)?;
         self.left = left_after(self.left, sent.record.tariff);
         self.last = Some(key_of(&sent));
         Some(sent)
@@ -174,17 +176,12 @@ fn left_after(left: u32, tariff: u32) -> u32
 }
 
 // The record that comes next after the last one.
-fn next_of<'a, A: Allocator>(
-    main: Main,
-    last: Option<Key>,
-    body: &'a [u8],
-    parts: &'a [Part<A>],
-) -> Option<Sent<'a>>
-    ensures { option_map sent_view result ≡ next_in main last None (all_sent body.now parts.now) }
+fn next_of<'a>(main: Main, last: Option<Key>, bodies: &'a [&'a [u8]]) -> Option<Sent<'a>>
+    ensures { option_map sent_view result ≡ next_in main last None (bodies_sent (map (λ s. s.now) bodies.now)) }
 {
-    let mut best = next_in(main, last, None, SentRecords::of_body(body));
-    for part in parts {
-        best = next_in(main, last, best, SentRecords::of_body(part.body()));
+    let mut best = None;
+    for body in bodies {
+        best = next_in(main, last, best, SentRecords::of_body(*body));
     }
     best
 }

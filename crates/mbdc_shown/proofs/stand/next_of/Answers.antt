@@ -1,25 +1,21 @@
-use Rattle.std.proofs.Common.{◌+◌, ◌∙◌, None, Option, ap, arith, drop, option_map, sym}
+use Rattle.std.proofs.Common.{◌+◌, ◌∙◌, Option, ap, arith, drop, map, option_map, sym}
 use Rattle.mbdc_reading.specs.Sent.{Sent, sent_view}
 use Rattle.mbdc_reading.specs.Headline.{next_in}
-use Rattle.mbdc_shown.specs.Stand.{body_sent, parts_sent}
-use Rattle.mbdc_shown.proofs.Sents.{next_append, next_turn, next_last}
+use Rattle.mbdc_shown.specs.Stand.{bodies_sent}
+use Rattle.mbdc_shown.proofs.Sents.{next_turn, next_last}
 use Rattle.mbdc_shown.proofs.stand.next_of.Goals as goal
 
-pub loop-part-init : goal.loop-part-init
-loop-part-init g c =
-    ap (λ (best : Option Sent). next_in c.args.main c.args.last best (parts_sent c.args.parts.now))
-    (c.next_in-best.ensures ∙ ap (next_in c.args.main c.args.last None) c.of_body.ensures)
-    ∙ sym (next_append c.args.main c.args.last None (body_sent c.args.body.now) (parts_sent c.args.parts.now))
-
-pub loop-part-preserved : goal.loop-part-preserved
-loop-part-preserved g c =
-    let best = option_map sent_view c.loop-part.best in
-    ap (λ (b : Option Sent). next_in c.args.main c.args.last b (parts_sent (drop (c.loop-part.part-index + 1) c.args.parts.now)))
-    (c.next_in-best-in-loop-part.ensures ∙ ap (next_in c.args.main c.args.last best) (c.of_body-in-loop-part.ensures ∙ ap body_sent c.body.ensures.body))
-    ∙ sym (next_turn c.args.main c.args.last best c.args.parts.now c.loop-part.part-index c.part-item.result (omega (arith, c.loop-part-test.true)) c.part-item.is)
-    ∙ c.loop-part.invariant
+pub loop-body-preserved : goal.loop-body-preserved
+loop-body-preserved c =
+    let best = option_map sent_view c.loop-body.best in
+    let bodies = c.args.bodies.now in
+    let i = c.loop-body.body-index in
+    ap (λ (b : Option Sent). next_in c.args.main c.args.last b (bodies_sent (map (λ s. s.now) (drop (i + 1) bodies))))
+    (c.next_in-best.ensures ∙ ap (next_in c.args.main c.args.last best) c.of_body.ensures)
+    ∙ sym (next_turn (λ s. s.now) c.args.main c.args.last best bodies i _ c.loop-body-test.true)
+    ∙ c.loop-body.invariant
 
 pub returns : goal.returns
-returns g c =
-    sym (next_last c.args.main c.args.last (option_map sent_view c.loop-part.best) c.args.parts.now c.loop-part.part-index (omega (arith, c.loop-part-test.false, c.loop-part.auto.part-index-end)))
-    ∙ c.loop-part.invariant
+returns c =
+    sym (next_last (λ s. s.now) c.args.main c.args.last (option_map sent_view c.loop-body.best) c.args.bodies.now c.loop-body.body-index (omega (arith, c.loop-body-test.false, c.loop-body.auto.body-index-end)))
+    ∙ c.loop-body.invariant
