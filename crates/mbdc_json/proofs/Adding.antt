@@ -6,28 +6,26 @@ use Rattle.std.specs.Prelude.{nat_le}
 use Rattle.dc_address.proofs.Order.{same_from_tie}
 use Rattle.dc_address.specs.Identity.{identity_cmp}
 use Rattle.dc_address.specs.declared.identity.Identity.{Identity}
-use Rattle.mbdc_io.specs.Bytes.{Stored}
 use Rattle.mbdc_io.specs.Lines.{lines_of}
 use Rattle.mbdc_json.specs.Entry.{IsLine}
-use Rattle.mbdc_json.specs.Journal.{Adds, Notes, after_entries, after_entry, is_of, moment_of, noted_in, text_after, text_by, text_in, texts_after}
+use Rattle.mbdc_json.specs.Journal.{Adds, Notes, after_entries, after_entry, bodies_after, is_of, moment_of, noted_in, sent_after, sent_by, sent_in}
 use Rattle.mbdc_json.specs.Noted.{noted_after}
 use Rattle.mbdc_json.specs.declared.journal.entry.Entry.{Entry}
-use Rattle.mbdc_json.specs.declared.journal.kept.Keeps.{Keeps}
 use Rattle.mbdc_json.specs.declared.journal.noted.Noted.{Noted}
 
-pub no_lines : (now : ℕ) (keeps : Keeps) (notes : Notes) → Adds now keeps [] notes notes
-no_lines now keeps notes = record { entries = []; lines_are = tt; noted = λ meter. refl; texts = λ meter. refl }
+pub no_lines : (now : ℕ) (notes : Notes) → Adds now [] notes notes
+no_lines now notes = record { entries = []; lines_are = tt; noted = λ meter. refl; sent = λ meter. refl }
 
 -- a line, and then lines
-pub line_and_lines : (now : ℕ) (keeps : Keeps) (line : List ℕ) (lines : List (List ℕ)) (old mid new : Notes) (entry : Option Entry)
+pub line_and_lines : (now : ℕ) (line : List ℕ) (lines : List (List ℕ)) (old mid new : Notes) (entry : Option Entry)
     → IsLine line entry → ((meter : Identity) → noted_in mid.notes meter ≡ after_entry now meter entry (noted_in old.notes meter))
-    → ((meter : Identity) → text_in mid.texts meter ≡ text_by keeps now meter line entry (text_in old.texts meter))
-    → Adds now keeps lines mid new → Adds now keeps (line ∷ lines) old new
-line_and_lines now keeps line lines old mid new entry is step text adds = record {
+    → ((meter : Identity) → sent_in mid.sent meter ≡ sent_by now meter line entry (sent_in old.sent meter))
+    → Adds now lines mid new → Adds now (line ∷ lines) old new
+line_and_lines now line lines old mid new entry is step sent adds = record {
   entries = entry ∷ adds.entries;
   lines_are = (is, adds.lines_are);
   noted = λ meter. adds.noted meter ∙ ap (after_entries now meter adds.entries) (step meter);
-  texts = λ meter. adds.texts meter ∙ ap (texts_after keeps now meter lines adds.entries) (text meter);
+  sent = λ meter. adds.sent meter ∙ ap (sent_after now meter lines adds.entries) (sent meter);
 }
 
 pub no_line : (text : List ℕ) → length text ≡ 0 → lines_of text ≡ []
@@ -47,17 +45,17 @@ module _ (now : ℕ) (entry : Entry) (old new : List (Identity × Noted)) (in_ti
       here false at = rw (updates meter, at) refl
 
 -- what is kept of an entry in time is that of its meter, and of no other
-module _ (now : ℕ) (entry : Entry) (text : Stored) (old new : List (Identity × Stored)) (in_time : nat_le (moment_of entry.said) now ≡ true)
+module _ (now : ℕ) (entry : Entry) (bodies : List (List ℕ)) (old new : List (Identity × List (List ℕ))) (in_time : nat_le (moment_of entry.said) now ≡ true)
     (updates : (q : Identity) → lookup (is_at (identity_cmp q)) new
-    ≡ cond (is_at (identity_cmp entry.meter) q) (Some text) (lookup (is_at (identity_cmp q)) old)) where
-  pub text_kept : (meter : Identity) → text_in new meter ≡ text_after now meter entry (Some text.bytes) (text_in old meter)
-  text_kept meter = here (is_at (identity_cmp entry.meter) meter) refl
+    ≡ cond (is_at (identity_cmp entry.meter) q) (Some bodies) (lookup (is_at (identity_cmp q)) old)) where
+  pub bodies_kept : (meter : Identity) → sent_in new meter ≡ bodies_after now meter entry (Some bodies) (sent_in old meter)
+  bodies_kept meter = here (is_at (identity_cmp entry.meter) meter) refl
     where
-      here : (b : Bool) → is_at (identity_cmp entry.meter) meter ≡ b → text_in new meter ≡ text_after now meter entry (Some text.bytes) (text_in old meter)
+      here : (b : Bool) → is_at (identity_cmp entry.meter) meter ≡ b → sent_in new meter ≡ bodies_after now meter entry (Some bodies) (sent_in old meter)
       here true at = rw (updates meter, at, in_time) refl
       here false at = rw (updates meter, at) refl
 
-pub nothing_kept : (now : ℕ) (meter : Identity) (entry : Entry) (before : Option (List ℕ)) → before ≡ text_after now meter entry None before
+pub nothing_kept : (now : ℕ) (meter : Identity) (entry : Entry) (before : List (List ℕ)) → before ≡ bodies_after now meter entry None before
 nothing_kept now meter entry before = here (is_of now meter entry)
   where
     here : (b : Bool) → before ≡ cond b before before

@@ -8,14 +8,14 @@ mod Unread
 mod Names
 -- a prefix of one piece of a text
 pub mod Fronts
--- the items of a list in JSON
-mod Items
 -- of the module `status`
 
 -- what silence and room mean
 mod Room
 -- of the module `journal`
 
+-- the bodies of a reading
+mod Bodies
 -- lines, one after the other
 mod Adding
 -- the words of events

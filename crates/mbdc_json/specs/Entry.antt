@@ -23,8 +23,10 @@ HasNumber name json n = option_and_then as_number (get name json) ≡ Some (deci
 abbrev pub NamesMeter : Json → Identity → Type 0
 NamesMeter json meter = text_in (codes "meter") json ≡ Some (text_of meter)
 
--- the time stamp of the last telegram, and its status byte
-pub record HasReading (json : Json) (moment status : ℕ) : Type 0 where
+-- the serial, the time stamp of the last telegram, and its status byte
+pub record HasReading (json : Json) (serial moment status : ℕ) : Type 0 where
+  pub serial_is : HasNumber (codes "serial") json serial
+  pub serial_fits : serial < end_of_numbers
   pub moment_is : HasNumber (codes "moment") json moment
   pub moment_fits : moment < end_of_numbers
   pub object : Json
@@ -40,17 +42,17 @@ pub record HasFailure (json : Json) (at number : ℕ) : Type 0 where
   pub number_fits : number < 256
 
 abbrev pub IsReadIn : Json → Said → Type 0
-IsReadIn json (Read moment status) = HasReading json moment status
+IsReadIn json (Read serial moment status) = HasReading json serial moment status
 IsReadIn json (Failed at number) = ⊥
 
 abbrev pub IsFailedIn : Json → Said → Type 0
-IsFailedIn json (Read moment status) = ⊥
+IsFailedIn json (Read serial moment status) = ⊥
 IsFailedIn json (Failed at number) = HasFailure json at number
 
 -- a meter was read, or its readout failed
 abbrev pub IsSaid : Json → Said → Type 0
-IsSaid json (Read moment status) =
-    (text_in (codes "event") json ≡ Some (codes "read")) × HasReading json moment status
+IsSaid json (Read serial moment status) =
+    (text_in (codes "event") json ≡ Some (codes "read")) × HasReading json serial moment status
 IsSaid json (Failed at number) =
     (text_in (codes "event") json ≡ Some (codes "failed")) × HasFailure json at number
 

@@ -1,24 +1,18 @@
--- What the meters of a house stand at (this product): of each registered meter the current values of its last reading
--- that the register holds.
-use Rattle.std.specs.Prelude.{ℕ, ◌-◌, ◌/◌, ◌%◌, ◌==◌, ◌&&◌, Bool, false, List, [], ◌∷◌, ◌++◌, length, codes}
-use Rattle.std.specs.Prelude.{slice_get, Option, None, Some, Result, Ok, Err, if◌then◌else◌}
+-- What the meters of a house stand at (this product): the reading that is shown of a meter, and its lines.
+use Rattle.std.specs.Prelude.{ℕ, ◌-◌, ◌/◌, ◌%◌, ◌==◌, ◌&&◌, Bool, false, true, List, [], ◌∷◌, ◌++◌, length, codes}
+use Rattle.std.specs.Prelude.{slice_get, Option, None, Some, if◌then◌else◌}
 use Rattle.std.specs.Prelude.{min, ◌^◌, nat_le, nat_lt, map, decimal}
 use Rattle.std.specs.Option.{option_or, option_and_then}
 use Rattle.std.specs.List.{flat_map}
 use Rattle.mbdc_io.specs.Words.{number_word, byte_word}
 use Rattle.dc_address.specs.declared.identity.Identity.{Identity}
 use Rattle.dc_address.specs.Text.{text_of}
-use Rattle.dc_records.specs.declared.fault.BodyFault.{BodyFault}
-use Rattle.dc_records.specs.Telegram.{Parsed, telegram_at}
-use Rattle.dc_units.specs.declared.point.Point.{Point}
 use Rattle.dc_units.specs.Text.{value_text}
 use Rattle.dc_records.specs.Fields.{application_name}
 use Rattle.dc_records.specs.Media.{medium_name}
 use Rattle.mbdc_change.specs.State.{State, ReadingRow, PartRow}
 use Rattle.dc_meters.specs.Orders.{reading_of, serials_of}
-use Rattle.dc_meters.specs.Points.{points_of}
 use Rattle.dc_meters.specs.declared.place.Place.{Place}
-use Rattle.mbdc_decode.specs.Seen.{point_text}
 use Rattle.dc_records.specs.Record.{Entry}
 use Rattle.mbdc_reading.specs.Codes.{code_at, number_of}
 use Rattle.mbdc_reading.specs.Headline.{headline}
@@ -28,9 +22,10 @@ use Rattle.mbdc_reading.specs.Reading.{reading_of as read_of}
 use Rattle.mbdc_reading.specs.declared.reading.Reading.{Reading}
 use Rattle.mbdc_reading.specs.Sent.{Sent}
 use Rattle.mbdc_reading.specs.Text.{unit_text, value_text_of}
-use Rattle.mbdc_shown.specs.Stand.{listed, parts_sent}
-use Rattle.mbdc_shown.specs.declared.stand.Current.TheVariants.{Also, Unread}
+use Rattle.mbdc_shown.specs.Stand.{bodies_sent, listed}
+use Rattle.mbdc_shown.specs.declared.stand.Current.TheVariants.{Also, Unread, Values}
 use Rattle.mbdc_shown.specs.Utc.{minute_of}
+use Rattle.mbdc_json.specs.declared.latest.reading.Shown.{Shown}
 
 -- ---- which reading
 
@@ -47,24 +42,6 @@ last_reading meter s =
 -- the last telegram of a reading
 abbrev pub last_part : ReadingRow → Option PartRow
 last_part r = slice_get r.parts (length r.parts - 1)
-
--- ---- which values: storage number 0, instantaneous (EN 13757-3)
-
-abbrev pub is_current : Point → Bool
-is_current p = (p.storage == 0) && (p.function == 0)
-
--- ---- their lines
-
--- the tariff, the subunit, and the value with its unit
-unfoldable pub value_line : Point → List ℕ
-value_line p = codes "VALUE" ++ (number_word p.tariff ++ (number_word p.subunit
-    ++ (codes " " ++ (point_text p ++ codes "\n"))))
-
-abbrev pub current_line : Point → List ℕ
-current_line p = if is_current p then value_line p else []
-
-abbrev pub value_lines : ReadingRow → List ℕ
-value_lines r = flat_map current_line (points_of r.parts)
 
 -- ---- the lines of records
 
@@ -87,11 +64,11 @@ reading_as word e r = word ++ (number_word e.tariff ++ (number_word e.subunit
 unfoldable pub sent_words : List ℕ → Sent → List ℕ
 sent_words word s = reading_as word s.entry (read_of s.entry s.len)
 
-unfoldable pub headline_line : Sent → List ℕ
-headline_line s = sent_words (codes "HEADLINE") s ++ codes "\n"
+unfoldable pub sent_line : List ℕ → Sent → List ℕ
+sent_line word s = sent_words word s ++ codes "\n"
 
-unfoldable pub headline_lines : List Sent → List ℕ
-headline_lines ss = flat_map headline_line ss
+unfoldable pub sent_lines : List ℕ → List Sent → List ℕ
+sent_lines word ss = flat_map (sent_line word) ss
 
 -- the names of VIFEs; `after_fc` says that an FC stands before the first
 abbrev pub name_words : List ℕ → List ℕ
@@ -118,12 +95,10 @@ unread_line n =
     else if n == 1 then codes "1 record not read\n"
     else decimal n ++ codes " records not read\n"
 
--- what the records of a reading tell
-unfoldable pub other_lines : List Sent → List ℕ
-other_lines ss = also_lines (listed Also ss) ++ unread_line (counted (listed Unread ss))
-
-unfoldable pub told_lines : ReadingRow → List Sent → List ℕ
-told_lines r ss = headline_lines (headline r.meter.kind ss) ++ (value_lines r ++ other_lines ss)
+-- what the records of a meter of this device type tell
+unfoldable pub told_lines : ℕ → List Sent → List ℕ
+told_lines kind ss = sent_lines (codes "HEADLINE") (headline kind ss) ++ (sent_lines (codes "VALUE") (listed Values ss)
+    ++ (also_lines (listed Also ss) ++ unread_line (counted (listed Unread ss))))
 
 -- what a bit of the status byte says, where it is set
 unfoldable pub bit_words : ℕ → List ℕ → List ℕ
@@ -142,27 +117,23 @@ byte_words status = codes " " ++ (application_name status ++ bits_words status)
 unfoldable pub status_line : ℕ → List ℕ
 status_line status = codes "STATUS" ++ (byte_word status ++ (byte_words status ++ codes "\n"))
 
-abbrev pub status_read : Result Parsed BodyFault → List ℕ
-status_read (Ok telegram) = status_line telegram.header.status
-status_read (Err fault) = []
+abbrev pub end_words : Bool → List ℕ
+end_words true = codes "Z JOURNAL\n"
+end_words false = codes "Z\n"
 
--- the minute at which a part was received, in UTC, the end of the line, and the status that it reports
-unfoldable pub part_words : PartRow → List ℕ
-part_words part = codes " " ++ (value_text (minute_of part.moment)
-    ++ (codes "Z\n" ++ status_read (telegram_at part.body)))
-
-abbrev pub moment_words : Option PartRow → List ℕ
-moment_words None = codes "\n"
-moment_words (Some part) = part_words part
+-- the minute at which the last telegram was received, in UTC, and whether the reading is the journal's
+unfoldable pub when_words : ℕ → Bool → List ℕ
+when_words moment is_noted = codes " " ++ (value_text (minute_of moment) ++ end_words is_noted)
 
 -- the serial and the moment of a reading, the meter's status, and what its records tell
-unfoldable pub reading_words : ReadingRow → List ℕ
-reading_words r = number_word r.serial ++ (moment_words (last_part r) ++ told_lines r (parts_sent r.parts))
+unfoldable pub shown_lines : ℕ → Shown → List ℕ
+shown_lines kind r = number_word r.serial ++ (when_words r.moment r.is_noted
+    ++ (status_line r.status ++ told_lines kind (bodies_sent r.bodies)))
 
--- what follows the meter: its last reading, if one is held
-abbrev pub held_words : Option ReadingRow → List ℕ
-held_words None = codes " NONE\n"
-held_words (Some r) = reading_words r
+-- what follows the meter: the reading that is shown, if one is
+abbrev pub shown_words : ℕ → Option Shown → List ℕ
+shown_words kind None = codes " NONE\n"
+shown_words kind (Some r) = shown_lines kind r
 
 -- the flat, the meter and its medium
 unfoldable pub place_words : Place → List ℕ

@@ -4,11 +4,11 @@
 pub mod Values
 -- of the module `latest`
 
--- the lines of `values` of a reading that the image holds
+-- a meter's last reading, and the lines of one that is shown
 pub mod LatestValues
--- those of a reading of the journal
-pub mod Said
--- of both the later one
+-- which one is shown
+pub mod Shown
+-- the lines of `values`
 pub mod Latest
 -- of the module `status`
 
@@ -26,6 +26,8 @@ pub mod Laws
 
 -- the lines of a journal
 pub mod Entry
+-- the bodies of a reading in them
+pub mod Bodies
 -- what is noted of a meter
 pub mod Noted
 -- what a journal says of the meters

@@ -14,8 +14,8 @@ failing_after (Some failing) at number = record { since = failing.since; at = at
 
 -- a reading ends what failed before it
 abbrev pub noted_after : Said → Noted → Noted
-noted_after (Read moment status) noted = record {
-  read = Some (record { moment = moment; status = status });
+noted_after (Read serial moment status) noted = record {
+  read = Some (record { serial = serial; moment = moment; status = status });
   failing = None;
 }
 noted_after (Missed at number) noted = record {

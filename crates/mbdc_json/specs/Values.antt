@@ -1,69 +1,47 @@
 -- What the meters of a house stand at, as JSON Lines (this product): the lines of `values`, an object a meter.
-use Rattle.std.specs.Prelude.{ℕ, List, [], ◌∷◌, ◌++◌, codes, Option, None, Some, Result, Ok, Err}
+use Rattle.std.specs.Prelude.{ℕ, Bool, true, false, List, [], ◌∷◌, ◌++◌, codes, Option, None, Some}
 use Rattle.std.specs.List.{flat_map}
 use Rattle.json.specs.Json.{Json, string, null}
-use Rattle.json.specs.Print.{print}
-use Rattle.json.specs.Token as Token
-use Rattle.dc_address.specs.declared.identity.Identity.{Identity}
-use Rattle.dc_records.specs.declared.fault.BodyFault.{BodyFault}
-use Rattle.dc_records.specs.Telegram.{Parsed, telegram_at}
-use Rattle.mbdc_change.specs.State.{State, ReadingRow, PartRow}
+use Rattle.mbdc_change.specs.State.{State}
 use Rattle.dc_meters.specs.Places.{by_flat}
 use Rattle.dc_meters.specs.declared.place.Place.{Place}
 use Rattle.mbdc_json.specs.Journal.{Notes}
-use Rattle.mbdc_json.specs.Latest.{noted_text}
-use Rattle.mbdc_json.specs.LatestValues.{last_part, last_reading}
-use Rattle.mbdc_decode.specs.Object.{object_of, count, fields_tokens}
+use Rattle.mbdc_json.specs.Shown.{shown_of}
+use Rattle.mbdc_json.specs.declared.latest.reading.Shown.{Shown}
+use Rattle.mbdc_decode.specs.Object.{Field, object_of, count}
 use Rattle.mbdc_decode.specs.Meter.{identity_fields}
 use Rattle.mbdc_decode.specs.JsonText.{value_line}
-use Rattle.mbdc_shown.specs.Reported.{received_fields, told_fields}
-use Rattle.mbdc_shown.specs.Stand.{parts_sent}
+use Rattle.mbdc_shown.specs.Reported.{reported_fields}
+use Rattle.mbdc_shown.specs.Stand.{bodies_sent}
 
--- the status byte of a telegram, which a part always is
-abbrev pub byte_in : Result Parsed BodyFault → ℕ
-byte_in (Ok telegram) = telegram.header.status
-byte_in (Err fault) = 0
+-- a reading of a meter of this device type
+unfoldable pub reading_json : ℕ → Shown → Json
+reading_json kind r =
+    object_of ((codes "serial", count r.serial) ∷ reported_fields r.moment r.status kind (bodies_sent r.bodies))
 
--- a reading with this last part
-unfoldable pub reading_json : ReadingRow → PartRow → Json
-reading_json r part = object_of (
-    (codes "serial", count r.serial)
-    ∷ (received_fields part.moment (byte_in (telegram_at part.body)) ++ told_fields r.meter.kind (parts_sent r.parts)))
+-- null where none is shown
+abbrev pub shown_json : ℕ → Option Shown → Json
+shown_json kind None = null
+shown_json kind (Some r) = reading_json kind r
 
-abbrev pub last_json : ReadingRow → Option PartRow → Json
-last_json r None = null
-last_json r (Some part) = reading_json r part
+abbrev pub is_noted : Option Shown → Bool
+is_noted None = false
+is_noted (Some r) = r.is_noted
 
--- the last reading; null where none is held
-abbrev pub held_json : Option ReadingRow → Json
-held_json None = null
-held_json (Some r) = last_json r (last_part r)
+-- the flat and the meter, and whether the reading is the journal's
+unfoldable pub place_fields : Place → Bool → List Field
+place_fields place true = (codes "flat", string place.flat) ∷ (codes "meter", object_of (identity_fields place.meter))
+    ∷ (codes "from", string (codes "journal")) ∷ []
+place_fields place false =
+    (codes "flat", string place.flat) ∷ (codes "meter", object_of (identity_fields place.meter)) ∷ []
 
--- a registered meter and its last reading
-unfoldable pub stands_json : State → Place → Json
-stands_json s place = object_of (
-    (codes "flat", string place.flat)
-    ∷ (codes "meter", object_of (identity_fields place.meter))
-    ∷ (codes "reading", held_json (last_reading place.meter s))
-    ∷ [])
-
--- a registered meter whose reading is the event of a line of the journal, which is an object in JSON
-abbrev pub noted_tokens : List ℕ → Identity → List Token.Token
-noted_tokens flat meter = Token.begin_object ∷ (fields_tokens (
-    (codes "flat", string flat)
-    ∷ (codes "meter", object_of (identity_fields meter))
-    ∷ (codes "from", string (codes "journal"))
-    ∷ []) ++ (Token.key (codes "reading") ∷ []))
-
-unfoldable pub noted_line : Place → List ℕ → List ℕ
-noted_line place event = print (noted_tokens place.flat place.meter) ++ (event ++ codes "}\n")
-
-abbrev pub line_by : Option (List ℕ) → State → Place → List ℕ
-line_by None s place = value_line (stands_json s place)
-line_by (Some event) s place = noted_line place event
+-- a registered meter, and its reading
+unfoldable pub stands_json : Place → Option Shown → Json
+stands_json place shown =
+    object_of (place_fields place (is_noted shown) ++ (codes "reading", shown_json place.meter.kind shown) ∷ [])
 
 abbrev pub stands_line : Notes → State → Place → List ℕ
-stands_line journal s place = line_by (noted_text journal place.meter (last_reading place.meter s)) s place
+stands_line journal s place = value_line (stands_json place (shown_of journal s place.meter))
 
 -- THE LINES of each registered meter, by flat and then by identity
 unfoldable pub values_lines : Notes → State → List ℕ

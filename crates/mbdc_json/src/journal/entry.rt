@@ -13,11 +13,11 @@ ghost use Rattle.mbdc_json.specs.declared.journal.entry.Entry.{Entry as Noted};
 ghost use Rattle.mbdc_json.specs.declared.journal.entry.Said.{Said as Event};
 ghost use Rattle.json.specs.Value.{value_view};
 
-use crate::journal::kept::{Keeps, kept_of};
+use crate::journal::kept::Kept;
 use dc_address::Identity;
 use json::{Error, Scratch, Value};
 use mbdc_change::parse_number;
-use mbdc_io::{Bytes, NoMemory};
+use mbdc_io::NoMemory;
 use std::alloc::Allocator;
 
 /// What a line says of a meter.
@@ -25,6 +25,8 @@ use std::alloc::Allocator;
 pub enum Said {
     /// It was read.
     Read {
+        /// The serial of its reading.
+        serial: u64,
         /// The time stamp of its last telegram, in seconds since 1970.
         moment: u64,
         /// The status byte of that telegram.
@@ -53,45 +55,42 @@ pub struct Entry {
 pub struct Line<A: Allocator> {
     /// What it says.
     pub entry: Entry,
-    /// What is kept of it, if anything.
-    pub text: Option<Bytes<A>>,
+    /// The bodies of the reading, if it is of one.
+    pub bodies: Option<Kept<A>>,
 }
 
 /// Reads a line, given without its line feed: the entry that it is, if it is one, and what is kept of it.
 pub fn read_line<A: Allocator + Copy>(
     alloc: A,
-    keeps: Keeps,
     line: &[u8],
     scratch: &mut Scratch<A>,
 ) -> Result<Option<Line<A>>, NoMemory>
     ensures line { IfOk result (λ found. IsLine line.now (entry_in found)) }
-    ensures text { IfOk result (IsKept keeps line.now (document line.now)) }
+    ensures kept { IfOk result (IsKept (document line.now)) }
 {
     match Value::from_slice(alloc, line, scratch) {
-        Ok(json) => line_of(alloc, keeps, line, &json),
+        Ok(json) => line_of(alloc, &json),
         Err(Error::OutOfMemory) => Err(NoMemory),
         Err(_) => Ok(None),
     }
 }
 
 // A line that is this object.
-fn line_of<A: Allocator + Copy>(
-    alloc: A,
-    keeps: Keeps,
-    line: &[u8],
-    json: &Value<'_, A>,
-) -> Result<Option<Line<A>>, NoMemory>
+fn line_of<A: Allocator + Copy>(alloc: A, json: &Value<'_, A>) -> Result<Option<Line<A>>, NoMemory>
     ensures found { IfOk result (λ found. IfSome found (λ l.
         IsEntry (value_view json.now) l.entry)) }
     ensures only { IfOk result (λ found. (entry : Noted) → IsEntry (value_view json.now) entry
         → entry_in found ≡ Some entry) }
-    ensures text { IfOk result (IsKept keeps line.now (Some (value_view json.now))) }
+    ensures kept { IfOk result (IsKept (Some (value_view json.now))) }
 {
     let Some(entry) = entry_of(json) else {
         return Ok(None);
     };
-    let text = kept_of(alloc, keeps, line, entry.said, json)?;
-    Ok(Some(Line { entry, text }))
+    let bodies = match entry.said {
+        Said::Read { .. } => Some(Kept::of(alloc, json)?),
+        Said::Failed { .. } => None,
+    };
+    Ok(Some(Line { entry, bodies }))
 }
 
 // The entry that an object is.
@@ -119,12 +118,17 @@ fn said_in<A: Allocator>(json: &Value<'_, A>) -> Option<Said>
 // A reading, by the members other than its event.
 fn read_in<A: Allocator>(json: &Value<'_, A>) -> Option<Said>
     ensures found { IfSome result (λ said. IsReadIn (value_view json.now) said) }
-    ensures only { (moment status : ℕ) → HasReading (value_view json.now) moment status
-        → result ≡ Some (Said.Read moment status) }
+    ensures only { (serial moment status : ℕ) → HasReading (value_view json.now) serial moment status
+        → result ≡ Some (Said.Read serial moment status) }
 {
+    let serial = number_in(json, "serial")?;
     let moment = number_in(json, "moment")?;
     let status = byte_in(json.get("status")?, "code")?;
-    Some(Said::Read { moment, status })
+    Some(Said::Read {
+        serial,
+        moment,
+        status,
+    })
 }
 
 // A failed readout, by the members other than its event.

@@ -1,17 +1,18 @@
 //! What a journal says of the meters.
 
-ghost use Rattle.std.specs.Prelude.{◌≡◌, Some, false, IfOk, OnOk, option_map};
+ghost use Rattle.std.specs.Prelude.{◌≡◌, Some, false, IfOk, OnOk};
 ghost use Rattle.dc_address.specs.declared.identity.Identity.{Identity as Meter};
 ghost use Rattle.mbdc_io.specs.Lines.{lines_of};
-ghost use Rattle.mbdc_json.specs.Journal.{Adds, IsJournal, after_entry, bytes_in, moment_of, no_notes, noted_in};
-ghost use Rattle.mbdc_json.specs.Journal.{text_after, text_in};
+ghost use Rattle.mbdc_json.specs.Journal.{Adds, IsJournal, after_entry, bodies_after, moment_of, no_notes, noted_in};
+ghost use Rattle.mbdc_json.specs.Journal.{sent_in};
 
 use crate::journal::entry::{Entry, Line, Said, read_line};
-use crate::journal::kept::Keeps;
+use crate::journal::kept::Kept;
 use crate::journal::noted::Noted;
 use dc_address::Identity;
 use json::Scratch;
-use mbdc_io::{Bytes, NoMemory, first_line};
+use mbdc_io::{NoMemory, first_line};
+use mbdc_shown::Bodies;
 use std::alloc::Allocator;
 use std::collections::BTreeMap;
 use std::marker::Model;
@@ -21,8 +22,8 @@ use std::marker::Model;
 pub struct Journal<A: Allocator + Copy> {
     is_there: bool,
     notes: BTreeMap<Identity, Noted, A>,
-    // What is kept of the last reading of each.
-    texts: BTreeMap<Identity, Bytes<A>, A>,
+    // The bodies of the last reading of each.
+    sent: BTreeMap<Identity, Kept<A>, A>,
 }
 
 impl<A: Allocator + Copy> Model for Journal<A> {
@@ -33,7 +34,7 @@ impl<A: Allocator + Copy> Model for Journal<A> {
     ghost view = { λ j. record {
       is_there = j.is_there;
       notes = j.notes.entries;
-      texts = j.texts.entries;
+      sent = j.sent.entries;
     } };
 }
 
@@ -45,7 +46,7 @@ impl<A: Allocator + Copy> Journal<A> {
         Journal {
             is_there: false,
             notes: BTreeMap::new(alloc),
-            texts: BTreeMap::new(alloc),
+            sent: BTreeMap::new(alloc),
         }
     }
 
@@ -66,13 +67,13 @@ impl<A: Allocator + Copy> Journal<A> {
         }
     }
 
-    /// What is kept of a meter's last reading, if anything.
-    pub fn text_of(&self, meter: &Identity) -> Option<&[u8]>
-        ensures { option_map (λ s. s.now) result ≡ text_in self.now.texts meter.now }
+    /// The bodies of a meter's last reading.
+    pub(crate) fn bodies_of(&self, meter: &Identity) -> Bodies<'_>
+        ensures { result ≡ sent_in self.now.sent meter.now }
     {
-        match self.texts.get(meter) {
-            Some(text) => Some(text.as_slice()),
-            None => None,
+        match self.sent.get(meter) {
+            Some(kept) => kept.bodies(),
+            None => Bodies::none(),
         }
     }
 
@@ -81,7 +82,7 @@ impl<A: Allocator + Copy> Journal<A> {
         ensures noted { OnOk result ((meter : Meter) → noted_in self.new.notes meter
             ≡ after_entry now meter (Some entry) (noted_in self.old.notes meter)) }
         ensures there { self.new.is_there ≡ self.old.is_there }
-        ensures texts { self.new.texts ≡ self.old.texts }
+        ensures sent { self.new.sent ≡ self.old.sent }
     {
         if moment_of(entry.said) > now {
             return Ok(());
@@ -91,17 +92,17 @@ impl<A: Allocator + Copy> Journal<A> {
         Ok(())
     }
 
-    // Keeps this of an entry, unless it is of a later moment than the clock's.
-    fn keep(&mut self, entry: Entry, text: Bytes<A>, now: u64) -> Result<(), NoMemory>
-        ensures kept { OnOk result ((meter : Meter) → text_in self.new.texts meter
-            ≡ text_after now meter entry (Some text.bytes) (text_in self.old.texts meter)) }
+    // Keeps the bodies of an entry, unless it is of a later moment than the clock's.
+    fn keep(&mut self, entry: Entry, kept: Kept<A>, now: u64) -> Result<(), NoMemory>
+        ensures kept { OnOk result ((meter : Meter) → sent_in self.new.sent meter
+            ≡ bodies_after now meter entry (Some kept) (sent_in self.old.sent meter)) }
         ensures there { self.new.is_there ≡ self.old.is_there }
         ensures notes { self.new.notes ≡ self.old.notes }
     {
         if moment_of(entry.said) > now {
             return Ok(());
         }
-        let _ = self.texts.insert(entry.meter, text)?;
+        let _ = self.sent.insert(entry.meter, kept)?;
         Ok(())
     }
 
@@ -109,29 +110,28 @@ impl<A: Allocator + Copy> Journal<A> {
     fn take_line(&mut self, line: Line<A>, now: u64) -> Result<(), NoMemory>
         ensures noted { OnOk result ((meter : Meter) → noted_in self.new.notes meter
             ≡ after_entry now meter (Some line.entry) (noted_in self.old.notes meter)) }
-        ensures kept { OnOk result ((meter : Meter) → text_in self.new.texts meter
-            ≡ text_after now meter line.entry (bytes_in line.text)
-            (text_in self.old.texts meter)) }
+        ensures kept { OnOk result ((meter : Meter) → sent_in self.new.sent meter
+            ≡ bodies_after now meter line.entry line.bodies (sent_in self.old.sent meter)) }
         ensures there { self.new.is_there ≡ self.old.is_there }
     {
-        let Line { entry, text } = line;
+        let Line { entry, bodies } = line;
         self.take(entry, now)?;
-        match text {
-            Some(text) => self.keep(entry, text, now),
+        match bodies {
+            Some(kept) => self.keep(entry, kept, now),
             None => Ok(()),
         }
     }
 
     // Takes lines.
-    fn take_lines(&mut self, alloc: A, keeps: Keeps, text: &[u8], now: u64) -> Result<(), NoMemory>
-        ensures added { OnOk result (Adds now keeps (lines_of text.now) self.old self.new) }
+    fn take_lines(&mut self, alloc: A, text: &[u8], now: u64) -> Result<(), NoMemory>
+        ensures added { OnOk result (Adds now (lines_of text.now) self.old self.new) }
         ensures there { self.new.is_there ≡ self.old.is_there }
     {
         let mut scratch = Scratch::new(alloc);
         let mut rest = text;
         'lines: while !rest.is_empty() {
             let (line, after) = first_line(rest);
-            match read_line(alloc, keeps, line, &mut scratch)? {
+            match read_line(alloc, line, &mut scratch)? {
                 Some(line) => self.take_line(line, now)?,
                 None => {}
             }
@@ -150,20 +150,19 @@ fn moment_of(said: Said) -> u64
     }
 }
 
-/// Reads the lines of a journal, at this second since 1970; of each reading this is kept.
+/// Reads the lines of a journal, at this second since 1970.
 pub fn read_journal<A: Allocator + Copy>(
     alloc: A,
     lines: &[u8],
     now: u64,
-    keeps: Keeps,
 ) -> Result<Journal<A>, NoMemory>
-    ensures { IfOk result (λ journal. IsJournal now keeps (lines_of lines.now) journal) }
+    ensures { IfOk result (λ journal. IsJournal now (lines_of lines.now) journal) }
 {
     let mut journal = Journal {
         is_there: true,
         notes: BTreeMap::new(alloc),
-        texts: BTreeMap::new(alloc),
+        sent: BTreeMap::new(alloc),
     };
-    journal.take_lines(alloc, keeps, lines, now)?;
+    journal.take_lines(alloc, lines, now)?;
     Ok(journal)
 }

@@ -8,6 +8,8 @@ use crate::journal::entry::Said;
 /// A reading, by its last telegram.
 #[derive(Clone, Copy)]
 pub struct Taken {
+    /// Its serial.
+    pub serial: u64,
     /// Its time stamp, in seconds since 1970.
     pub moment: u64,
     /// Its status byte.
@@ -50,8 +52,16 @@ impl Noted {
         ensures { result ≡ noted_after said self }
     {
         match said {
-            Said::Read { moment, status } => Noted {
-                read: Some(Taken { moment, status }),
+            Said::Read {
+                serial,
+                moment,
+                status,
+            } => Noted {
+                read: Some(Taken {
+                    serial,
+                    moment,
+                    status,
+                }),
                 failing: None,
             },
             Said::Failed { at, number } => Noted {

@@ -1,37 +1,32 @@
 //! The lines of `values`.
 
-ghost use Rattle.std.specs.Prelude.{◌≡◌, [], false, map, option_copied, option_map};
+ghost use Rattle.std.specs.Prelude.{◌≡◌, ◌≤◌, codes, false, map, option_map};
+ghost use Rattle.mbdc_change.specs.Fields.{last_moment};
 ghost use Rattle.mbdc_io.specs.Written.{Wrote};
-ghost use Rattle.mbdc_json.specs.Latest.{meter_text, shown_words, values_text};
-ghost use Rattle.mbdc_json.specs.LatestValues.{current_line, held_words, last_part};
-ghost use Rattle.mbdc_json.specs.LatestValues.{moment_words, part_words, place_words, reading_words};
-ghost use Rattle.mbdc_json.specs.LatestValues.{also_line, also_lines, counted, headline_line, headline_lines};
-ghost use Rattle.mbdc_json.specs.LatestValues.{name_words, names_words, other_lines, sent_words, shown, shown_word};
-ghost use Rattle.mbdc_json.specs.LatestValues.{told_lines};
-ghost use Rattle.mbdc_json.specs.LatestValues.{unread_line, value_line, value_lines, value_word};
-ghost use Rattle.mbdc_shown.specs.Stand.{all_sent};
+ghost use Rattle.mbdc_json.specs.Latest.{meter_text, values_text};
+ghost use Rattle.mbdc_json.specs.LatestValues.{also_line, also_lines, counted, name_words, names_words, place_words};
+ghost use Rattle.mbdc_json.specs.LatestValues.{sent_line, sent_lines, sent_words, shown, shown_lines, shown_word};
+ghost use Rattle.mbdc_json.specs.LatestValues.{told_lines, unread_line, value_word, when_words};
+ghost use Rattle.mbdc_shown.specs.Stand.{bodies_sent};
 ghost use Rattle.mbdc_reading.specs.Sent.{sent_view};
 ghost use Rattle.mbdc_reading.specs.Vifes.{vife_at};
 
 use crate::journal::Journal;
-use crate::latest::noted::noted_text;
-use crate::latest::reading::last_reading;
+use crate::latest::reading::{Shown, shown_of};
 use crate::latest::status::put_status;
-use dc_meters::{House, Part, Place, Points, Reading};
+use dc_meters::{House, Place};
 use dc_records::names::medium_name;
-use dc_units::{Point, TEXT_ROOM};
-use mbdc_decode::put_point;
+use dc_units::TEXT_ROOM;
 use mbdc_decode::tokens::{Piece, put_pieces};
 use mbdc_io::{IoFault, Sink, put_number_word};
 use mbdc_reading::{
     READING_ROOM, Sent, code_at, is_extension, number_after, number_of, reading_of, told_of,
     unit_text, value_text, vife_at,
 };
-use mbdc_shown::{Current, Headline, Listed, minute};
+use mbdc_shown::{Bodies, Current, Headline, Listed, minute};
 use std::alloc::Allocator;
 
-/// Writes what each registered meter stands at, by flat and then by identity, beside a journal that keeps
-/// [`Lines`](crate::journal::Keeps::Lines).
+/// Writes what each registered meter stands at, by flat and then by identity, beside a journal.
 #[tactic(auto, using(mbdc_io::proofs::Pieces::written), unfolding(crate::specs::Latest::values_text))]
 pub fn put_values<A: Allocator + Copy, W: Sink>(
     out: &mut W,
@@ -57,23 +52,10 @@ fn put_meter<A: Allocator + Copy, W: Sink>(
     ensures { Wrote W.Sink result out.old out.new
         (meter_text journal.now house.now.state place.now) }
 {
-    let held = last_reading(house, &place.meter);
     put_place(out, place)?;
-    put_shown_reading(out, noted_text(journal, &place.meter, held), held)
-}
-
-// Writes the lines of the journal's reading, or those of the one that is held.
-fn put_shown_reading<A: Allocator, W: Sink>(
-    out: &mut W,
-    noted: Option<&[u8]>,
-    held: Option<&Reading<A>>,
-) -> Result<(), IoFault>
-    ensures { Wrote W.Sink result out.old out.new
-        (shown_words (option_map (λ s. s.now) noted.entry) (option_copied held.entry)) }
-{
-    match noted {
-        Some(text) => out.put(text),
-        None => put_held(out, held),
+    match shown_of(house, journal, &place.meter) {
+        Some(shown) => put_shown_reading(out, place.meter.kind, &shown),
+        None => out.put(b" NONE\n"),
     }
 }
 
@@ -90,72 +72,80 @@ fn put_place<W: Sink>(out: &mut W, place: &Place) -> Result<(), IoFault>
     out.put(medium_name(place.meter.kind).as_bytes())
 }
 
-// Writes the last reading, or that none is held.
-#[tactic(auto, using(mbdc_io::proofs::Pieces::written))]
-fn put_held<A: Allocator, W: Sink>(out: &mut W, reading: Option<&Reading<A>>) -> Result<(), IoFault>
-    ensures { Wrote W.Sink result out.old out.new (held_words (option_copied reading.entry)) }
+// Writes the serial and the moment of a reading, the status, and what the records of a meter of this device type tell.
+#[tactic(auto, using(mbdc_io::proofs::Pieces::written), unfolding(crate::specs::LatestValues::shown_lines))]
+fn put_shown_reading<W: Sink>(out: &mut W, kind: u8, shown: &Shown<'_>) -> Result<(), IoFault>
+    requires { shown.now.moment ≤ last_moment }
+    ensures { Wrote W.Sink result out.old out.new (shown_lines kind shown.now) }
 {
-    match reading {
-        Some(reading) => put_reading(out, reading),
-        None => out.put(b" NONE\n"),
-    }
+    put_number_word(out, shown.serial)?;
+    put_when(out, shown.moment, shown.is_noted)?;
+    put_status(out, shown.status)?;
+    put_told(out, kind, &shown.bodies)
 }
 
-// Writes the serial and the moment of a reading, the status, and what its records tell.
-#[tactic(auto, using(mbdc_io::proofs::Pieces::written, mbdc_shown::proofs::Sents::all_of_parts), unfolding(crate::specs::LatestValues::reading_words))]
-fn put_reading<A: Allocator, W: Sink>(out: &mut W, reading: &Reading<A>) -> Result<(), IoFault>
-    ensures { Wrote W.Sink result out.old out.new (reading_words reading.now) }
+// Writes the minute (UTC) of a moment, and whether the reading is the journal's.
+#[tactic(auto, unfolding(crate::specs::LatestValues::when_words))]
+fn put_when<W: Sink>(out: &mut W, moment: u64, is_noted: bool) -> Result<(), IoFault>
+    requires { moment ≤ last_moment }
+    ensures { Wrote W.Sink result out.old out.new (when_words moment is_noted) }
 {
-    put_number_word(out, reading.serial())?;
-    put_moment(out, reading)?;
-    put_told(out, reading)
+    let mut text = [0u8; TEXT_ROOM];
+    let end: &[u8] = if is_noted { b"Z JOURNAL\n" } else { b"Z\n" };
+    put_pieces(
+        out,
+        &[
+            Piece::Text(b" "),
+            Piece::Text(minute(moment).write_into(&mut text)),
+            Piece::Text(end),
+        ],
+    )
 }
 
-// Writes what the records of a reading tell.
+// Writes what the records of a meter of this device type tell.
 #[tactic(auto, using(mbdc_io::proofs::Pieces::written), unfolding(crate::specs::LatestValues::told_lines))]
-fn put_told<A: Allocator, W: Sink>(out: &mut W, reading: &Reading<A>) -> Result<(), IoFault>
-    ensures { Wrote W.Sink result out.old out.new (told_lines reading.now (all_sent [] reading.now.parts)) }
+fn put_told<W: Sink>(out: &mut W, kind: u8, bodies: &Bodies<'_>) -> Result<(), IoFault>
+    ensures { Wrote W.Sink result out.old out.new (told_lines kind (bodies_sent bodies.now)) }
 {
-    let parts = reading.parts();
-    put_headline(out, Headline::new(reading.meter().kind, &[], parts))?;
-    put_current(out, reading)?;
-    put_others(out, parts)
-}
-
-// Writes the records that the due-date table doesn't have, and how many aren't read.
-#[tactic(auto, using(mbdc_io::proofs::Pieces::written), unfolding(crate::specs::LatestValues::other_lines))]
-fn put_others<A: Allocator, W: Sink>(out: &mut W, parts: &[Part<A>]) -> Result<(), IoFault>
-    ensures { Wrote W.Sink result out.old out.new (other_lines (all_sent [] parts.now)) }
-{
-    put_also(out, Listed::new(Current::Also, &[], parts))?;
-    put_unread(out, Listed::new(Current::Unread, &[], parts))
+    put_headline(out, Headline::new(kind, bodies))?;
+    put_current(out, Listed::new(Current::Values, bodies))?;
+    put_also(out, Listed::new(Current::Also, bodies))?;
+    put_unread(out, Listed::new(Current::Unread, bodies))
 }
 
 // Writes the lines of what a meter stands at.
-#[tactic(auto, using(mbdc_io::proofs::Pieces::written), unfolding(crate::specs::LatestValues::headline_lines))]
-fn put_headline<A: Allocator, W: Sink>(
-    out: &mut W,
-    headline: Headline<'_, A>,
-) -> Result<(), IoFault>
-    ensures { Wrote W.Sink result out.old out.new (headline_lines headline.entry) }
+#[tactic(auto, using(mbdc_io::proofs::Pieces::written), unfolding(crate::specs::LatestValues::sent_lines))]
+fn put_headline<W: Sink>(out: &mut W, headline: Headline<'_>) -> Result<(), IoFault>
+    ensures { Wrote W.Sink result out.old out.new (sent_lines (codes "HEADLINE") headline.entry) }
 {
     for sent in headline {
-        put_headline_line(out, &sent)?;
+        put_sent_line(out, b"HEADLINE", &sent)?;
     }
     Ok(())
 }
 
-#[tactic(auto, using(mbdc_io::proofs::Pieces::written), unfolding(crate::specs::LatestValues::headline_line))]
-fn put_headline_line<W: Sink>(out: &mut W, sent: &Sent<'_>) -> Result<(), IoFault>
-    ensures { Wrote W.Sink result out.old out.new (headline_line (sent_view sent.now)) }
+// Writes the lines of the records that the due-date table has.
+#[tactic(auto, using(mbdc_io::proofs::Pieces::written), unfolding(crate::specs::LatestValues::sent_lines))]
+fn put_current<W: Sink>(out: &mut W, current: Listed<'_>) -> Result<(), IoFault>
+    ensures { Wrote W.Sink result out.old out.new (sent_lines (codes "VALUE") current.entry) }
 {
-    put_sent(out, b"HEADLINE", sent)?;
+    for sent in current {
+        put_sent_line(out, b"VALUE", &sent)?;
+    }
+    Ok(())
+}
+
+#[tactic(auto, using(mbdc_io::proofs::Pieces::written), unfolding(crate::specs::LatestValues::sent_line))]
+fn put_sent_line<W: Sink>(out: &mut W, word: &'static [u8], sent: &Sent<'_>) -> Result<(), IoFault>
+    ensures { Wrote W.Sink result out.old out.new (sent_line word.now (sent_view sent.now)) }
+{
+    put_sent(out, word, sent)?;
     out.put(b"\n")
 }
 
 // Writes the lines of records that the due-date table doesn't have.
 #[tactic(auto, using(mbdc_io::proofs::Pieces::written), unfolding(crate::specs::LatestValues::also_lines))]
-fn put_also<A: Allocator, W: Sink>(out: &mut W, also: Listed<'_, A>) -> Result<(), IoFault>
+fn put_also<W: Sink>(out: &mut W, also: Listed<'_>) -> Result<(), IoFault>
     ensures { Wrote W.Sink result out.old out.new (also_lines also.entry) }
 {
     for sent in also {
@@ -193,8 +183,8 @@ fn put_sent<W: Sink>(out: &mut W, word: &'static [u8], sent: &Sent<'_>) -> Resul
     put_word(out, unit_text(&reading, record.vib, &mut room))
 }
 
-/// Writes a value as one word.
-pub(crate) fn put_value_word<W: Sink>(out: &mut W, text: Option<&[u8]>) -> Result<(), IoFault>
+// Writes a value as one word.
+fn put_value_word<W: Sink>(out: &mut W, text: Option<&[u8]>) -> Result<(), IoFault>
     ensures { Wrote W.Sink result out.old out.new (value_word (option_map (λ s. s.now) text.entry)) }
 {
     match text {
@@ -222,8 +212,8 @@ fn put_shown<W: Sink>(out: &mut W, text: &[u8]) -> Result<(), IoFault>
     Ok(())
 }
 
-/// A byte of a word, or a point.
-pub(crate) fn shown(byte: u8) -> u8
+// A byte of a word, or a point.
+fn shown(byte: u8) -> u8
     ensures { result ≡ shown byte }
 {
     match byte {
@@ -254,7 +244,7 @@ fn put_name<W: Sink>(out: &mut W, number: u8) -> Result<(), IoFault>
 
 // Writes how many records aren't read, if there are any.
 #[tactic(auto, unfolding(crate::specs::LatestValues::unread_line))]
-fn put_unread<A: Allocator, W: Sink>(out: &mut W, unread: Listed<'_, A>) -> Result<(), IoFault>
+fn put_unread<W: Sink>(out: &mut W, unread: Listed<'_>) -> Result<(), IoFault>
     ensures { Wrote W.Sink result out.old out.new (unread_line (counted unread.entry)) }
 {
     let mut count: u64 = 0;
@@ -271,64 +261,4 @@ fn put_unread<A: Allocator, W: Sink>(out: &mut W, unread: Listed<'_, A>) -> Resu
         out,
         &[Piece::Number(count), Piece::Text(b" records not read\n")],
     )
-}
-
-// Writes the moment of a reading's last part, and the status in it.
-#[tactic(auto, using(mbdc_io::proofs::Pieces::written))]
-fn put_moment<A: Allocator, W: Sink>(out: &mut W, reading: &Reading<A>) -> Result<(), IoFault>
-    ensures { Wrote W.Sink result out.old out.new (moment_words (last_part reading.now)) }
-{
-    let parts = reading.parts();
-    match parts.get(parts.len().saturating_sub(1)) {
-        Some(part) => put_part(out, part),
-        None => out.put(b"\n"),
-    }
-}
-
-// Writes the minute at which a part was received, and the status that it reports.
-#[tactic(auto, using(mbdc_io::proofs::Pieces::written), unfolding(crate::specs::LatestValues::part_words))]
-fn put_part<A: Allocator, W: Sink>(out: &mut W, part: &Part<A>) -> Result<(), IoFault>
-    ensures { Wrote W.Sink result out.old out.new (part_words part.now) }
-{
-    let mut text = [0u8; TEXT_ROOM];
-    out.put(b" ")?;
-    out.put(minute(part.moment()).write_into(&mut text))?;
-    out.put(b"Z\n")?;
-    put_status(out, part.telegram().header().status)
-}
-
-// Writes the current values of a reading.
-#[tactic(auto, using(mbdc_io::proofs::Pieces::written))]
-fn put_current<A: Allocator, W: Sink>(out: &mut W, reading: &Reading<A>) -> Result<(), IoFault>
-    ensures { Wrote W.Sink result out.old out.new (value_lines reading.now) }
-{
-    for point in Points::of(reading.parts()) {
-        put_if_current(out, &point)?;
-    }
-    Ok(())
-}
-
-// Writes the line of a current value, and of no other.
-#[tactic(auto, using(mbdc_io::proofs::Pieces::written))]
-fn put_if_current<W: Sink>(out: &mut W, point: &Point) -> Result<(), IoFault>
-    ensures { Wrote W.Sink result out.old out.new (current_line point.now) }
-{
-    if point.storage == 0 && point.function == 0 {
-        put_value(out, point)
-    } else {
-        Ok(())
-    }
-}
-
-// Writes the line of a value: its tariff, its subunit, and the value with its unit.
-#[tactic(auto, using(mbdc_io::proofs::Pieces::written), unfolding(crate::specs::LatestValues::value_line))]
-fn put_value<W: Sink>(out: &mut W, point: &Point) -> Result<(), IoFault>
-    ensures { Wrote W.Sink result out.old out.new (value_line point.now) }
-{
-    out.put(b"VALUE")?;
-    put_number_word(out, u64::from(point.tariff))?;
-    put_number_word(out, u64::from(point.subunit))?;
-    out.put(b" ")?;
-    put_point(point, out)?;
-    out.put(b"\n")
 }

@@ -1,15 +1,99 @@
-//! The last reading of a meter, and its last part.
+//! The reading that is shown of a meter.
 
-ghost use Rattle.std.specs.Prelude.{◌≡◌, option_copied};
+ghost use Rattle.std.specs.Prelude.{◌≡◌, ◌≤◌, IfSome, option_copied};
+ghost use Rattle.dc_records.specs.Telegram.{telegram_at};
+ghost use Rattle.mbdc_change.specs.Fields.{last_moment};
 ghost use Rattle.mbdc_json.specs.Heard.{last_of_parts, part_in};
 ghost use Rattle.mbdc_json.specs.LatestValues.{last_of, last_reading};
+ghost use Rattle.mbdc_json.specs.Shown.{byte_in, held_shown, noted_shown, shown_of};
 
+use crate::journal::Journal;
+use crate::status::{is_later, moment_of, taken_at};
 use dc_address::Identity;
 use dc_meters::{House, Part, Reading, Serials};
+use mbdc_shown::Bodies;
 use std::alloc::Allocator;
 
+/// A reading as it is shown.
+#[derive(Drop)]
+pub struct Shown<'a> {
+    /// Its serial.
+    pub serial: u64,
+    /// The time stamp of its last telegram, in seconds since 1970.
+    pub moment: u64,
+    /// The status byte of that telegram.
+    pub status: u8,
+    /// Whether it is the journal's.
+    pub is_noted: bool,
+    /// The bodies of its telegrams.
+    pub bodies: Bodies<'a>,
+}
+
+/// What is shown of a meter: its last reading that the register holds, or that of the journal, where it is later.
+pub(crate) fn shown_of<'a, A: Allocator + Copy>(
+    house: &'a House<A>,
+    journal: &'a Journal<A>,
+    meter: &Identity,
+) -> Option<Shown<'a>>
+    ensures shown { result ≡ shown_of journal.now house.now.state meter.now }
+    ensures within { IfSome result (λ shown. shown.moment ≤ last_moment) }
+{
+    let held = last_reading(house, meter);
+    match noted_shown(journal, meter, moment_of(part_in(held))) {
+        Some(shown) => Some(shown),
+        None => held_shown(held),
+    }
+}
+
+// The journal's last reading of a meter, where it is later than this moment and the line has its telegrams.
+fn noted_shown<'a, A: Allocator + Copy>(
+    journal: &'a Journal<A>,
+    meter: &Identity,
+    held: Option<u64>,
+) -> Option<Shown<'a>>
+    ensures shown { result ≡ noted_shown journal.now meter.now held }
+    ensures within { IfSome result (λ shown. shown.moment ≤ last_moment) }
+{
+    let taken = journal.of(meter).read?;
+    let moment = taken_at(Some(taken))?;
+    let bodies = journal.bodies_of(meter);
+    if bodies.len() == 0 || !is_later(Some(moment), held) {
+        return None;
+    }
+    Some(Shown {
+        serial: taken.serial,
+        moment,
+        status: taken.status,
+        is_noted: true,
+        bodies,
+    })
+}
+
+// A reading of the register.
+fn held_shown<A: Allocator>(reading: Option<&Reading<A>>) -> Option<Shown<'_>>
+    ensures shown { result ≡ held_shown (option_copied reading.entry) }
+    ensures within { IfSome result (λ shown. shown.moment ≤ last_moment) }
+{
+    let reading = reading?;
+    let part = last_of(reading.parts())?;
+    Some(Shown {
+        serial: reading.serial(),
+        moment: part.moment(),
+        status: status_of(part),
+        is_noted: false,
+        bodies: Bodies::of(reading.parts()),
+    })
+}
+
+// The status byte of a part's telegram.
+fn status_of<A: Allocator>(part: &Part<A>) -> u8
+    ensures { result ≡ byte_in (telegram_at part.now.body) }
+{
+    part.telegram().header().status
+}
+
 /// The last reading of a meter that the register holds; none where the office has confirmed all, or none was taken.
-pub fn last_reading<'a, A: Allocator + Copy>(
+pub(crate) fn last_reading<'a, A: Allocator + Copy>(
     house: &'a House<A>,
     meter: &Identity,
 ) -> Option<&'a Reading<A>>

@@ -10,5 +10,5 @@ pub returns-in-read-clause-only : goal.returns-in-read-clause-only
 returns-in-read-clause-only g c = only
   where
     only : (said : Said) → IsSaid (value_view c.args.json.now) said → c.read_in.result ≡ Some said
-    only (Read moment status) is = c.read_in.ensures.only moment status is.1
+    only (Read serial moment status) is = c.read_in.ensures.only serial moment status is.1
     only (Failed at number) is = absurd (read_or_failed c.in_ok-text_in.field-0.now c.in-read.is (c.in_ok-text_in.ensures ∙ is.0))

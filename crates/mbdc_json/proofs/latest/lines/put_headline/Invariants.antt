@@ -1,7 +1,7 @@
-use Rattle.std.proofs.Common.{◌≡◌}
+use Rattle.std.proofs.Common.{◌≡◌, codes}
 use Rattle.std.specs.List.{flat_map}
 use Rattle.std.specs.Io.KnownBytes.{append_known}
-use Rattle.mbdc_json.specs.LatestValues.{headline_line}
+use Rattle.mbdc_json.specs.LatestValues.{sent_line}
 use Rattle.mbdc_json.proofs.latest.lines.put_headline.Given as goal
 
 -- the lines so far, and those of the records that are left, make the whole
@@ -9,6 +9,6 @@ abbrev pub invariant-loop-sent : goal.invariant-loop-sent
 invariant-loop-sent g l = record {
   can : (goal.iterator-loop-sent g).can_next l.sent-iterator;
   ends : (goal.iterator-loop-sent g).is_finite l.sent-iterator;
-  text : append_known (g.W.Sink.written l.out) (flat_map headline_line l.sent-iterator) ≡ append_known (g.W.Sink.written l.initial.out) (flat_map headline_line l.initial.sent-iterator);
+  text : append_known (g.W.Sink.written l.out) (flat_map (sent_line (codes "HEADLINE")) l.sent-iterator) ≡ append_known (g.W.Sink.written l.initial.out) (flat_map (sent_line (codes "HEADLINE")) l.initial.sent-iterator);
   well : g.W.Sink.put_failures l.out ≡ g.W.Sink.put_failures l.initial.out;
 }

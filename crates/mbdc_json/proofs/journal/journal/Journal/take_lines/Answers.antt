@@ -2,7 +2,7 @@ use Rattle.std.proofs.Common.{◌≡◌, ◌∙◌, List, ℕ, [], None, Some, O
 use Rattle.json.specs.Json.{document}
 use Rattle.mbdc_io.specs.Lines.{lines_of}
 use Rattle.mbdc_json.specs.Entry.{IsLine}
-use Rattle.mbdc_json.specs.Journal.{Adds, IsKept, entry_in, text_after, text_in}
+use Rattle.mbdc_json.specs.Journal.{Adds, IsKept, bodies_after, entry_in, sent_in}
 use Rattle.mbdc_json.proofs.Adding.{line_and_lines, no_line, no_lines}
 use Rattle.mbdc_json.proofs.journal.journal.Journal.take_lines.Goals as goal
 
@@ -11,12 +11,12 @@ lines-preserved-in_ok-take_line-in-Some g c =
     let line : List ℕ = c.first_line.result.0.now in
     let entry = c.in-Some.line.entry in
     let is : IsLine line (Some entry) = subst (IsLine line) (ap entry_in c.in-Some.is) c.in_ok-line.ensures.line in
-    let kept = subst (IsKept c.args.keeps line (document line)) c.in-Some.is c.in_ok-line.ensures.text in
+    let kept = subst (IsKept (document line)) c.in-Some.is c.in_ok-line.ensures.kept in
     record {
       adds = λ new more.
-          c.lines.invariant.adds new (subst (λ (lines : List (List ℕ)). Adds c.args.now c.args.keeps lines c.lines.self new) (sym c.first_line.ensures.lines)
-          (line_and_lines c.args.now c.args.keeps line _ c.lines.self c.take_line.new.self new (Some entry) is c.in_ok-take_line-in-Some.ensures.noted
-          (λ meter. c.in_ok-take_line-in-Some.ensures.kept meter ∙ ap (λ (text : Option (List ℕ)). text_after c.args.now meter entry text (text_in c.lines.self.texts meter)) kept) more));
+          c.lines.invariant.adds new (subst (λ (lines : List (List ℕ)). Adds c.args.now lines c.lines.self new) (sym c.first_line.ensures.lines)
+          (line_and_lines c.args.now line _ c.lines.self c.take_line.new.self new (Some entry) is c.in_ok-take_line-in-Some.ensures.noted
+          (λ meter. c.in_ok-take_line-in-Some.ensures.kept meter ∙ ap (λ (bodies : Option (List (List ℕ))). bodies_after c.args.now meter entry bodies (sent_in c.lines.self.sent meter)) kept) more));
       there = c.in_ok-take_line-in-Some.ensures.there ∙ c.lines.invariant.there;
     }
 
@@ -26,8 +26,8 @@ lines-preserved g c =
     let is : IsLine line None = subst (IsLine line) (ap entry_in c.in-None.is) c.in_ok-line.ensures.line in
     record {
       adds = λ new more.
-          c.lines.invariant.adds new (subst (λ (lines : List (List ℕ)). Adds c.args.now c.args.keeps lines c.lines.self new) (sym c.first_line.ensures.lines)
-          (line_and_lines c.args.now c.args.keeps line _ c.lines.self c.lines.self new None is (λ meter. refl) (λ meter. refl) more));
+          c.lines.invariant.adds new (subst (λ (lines : List (List ℕ)). Adds c.args.now lines c.lines.self new) (sym c.first_line.ensures.lines)
+          (line_and_lines c.args.now line _ c.lines.self c.lines.self new None is (λ meter. refl) (λ meter. refl) more));
       there = c.lines.invariant.there;
     }
 
@@ -35,4 +35,4 @@ pub returns-clause-added : goal.returns-clause-added
 returns-clause-added g c =
     let none : lines_of c.lines.rest.now ≡ [] = no_line c.lines.rest.now (eqb-true _ _ (sym c.lines-test.ensures)) in
     c.lines.invariant.adds c.lines.self
-    (subst (λ (lines : List (List ℕ)). Adds c.args.now c.args.keeps lines c.lines.self c.lines.self) (sym none) (no_lines c.args.now c.args.keeps c.lines.self))
+    (subst (λ (lines : List (List ℕ)). Adds c.args.now lines c.lines.self c.lines.self) (sym none) (no_lines c.args.now c.lines.self))

@@ -1,0 +1,15 @@
+use Rattle.std.proofs.Common.{◌∙◌, arith, map}
+use Rattle.mbdc_json.proofs.Bodies.{no_bodies, one_more}
+use Rattle.mbdc_json.proofs.journal.kept.all_bodies.Goals as goal
+
+pub returns-in-None : goal.returns-in-None
+returns-in-None g c =
+    no_bodies (λ b. b.items) (map (λ b. b.items) c.items.bodies.items) c.args.items.now c.items.item-index c.item-item.result c.in_ok-body.field-0
+    (omega (arith, c.items-test.true)) c.item-item.is c.in_ok-body.ensures c.in-None.is
+    ∙ c.items.invariant
+
+pub items-preserved : goal.items-preserved
+items-preserved g c =
+    one_more (λ b. b.items) c.items.bodies.items c.push.new.self.items c.in-Some.body c.args.items.now c.items.item-index c.item-item.result c.in_ok-body.field-0
+    c.in_ok-push-in-Some.ensures.items (omega (arith, c.items-test.true)) c.item-item.is c.in_ok-body.ensures c.in-Some.is
+    ∙ c.items.invariant
