@@ -3,9 +3,7 @@
 mbdc-house and mbdc-page and the comments of house.conf.
 
 `words.py bash|zsh|fish|synopsis|commands|house|page|settings PROGRAM` prints that. `words.py check PROGRAM` prints each
-difference between the list and the help of the program, with status 1 where there is one. `words.py help PROGRAM` writes
-packaging/help anew: the help of the program and of each command, and what it says of the mistakes that
-packaging/help/mistakes.txt lists.
+difference between the list and the help of the program, with status 1 where there is one.
 """
 
 import os
@@ -18,7 +16,7 @@ from collections.abc import Iterator
 from typing import Optional
 
 HERE = pathlib.Path(__file__).resolve().parent
-LIST, TEXTS, CONF = HERE / "commands.txt", HERE / "help", HERE / "house.conf"
+LIST, CONF = HERE / "commands.txt", HERE / "house.conf"
 OF_THE_PROGRAM = ["--verbose", "--help", "--version"]
 OF_EACH_COMMAND = OF_THE_PROGRAM[:2]
 NO_GROUPS = {"Arguments:", "Options:", "Example:"}  # the other sections of a help
@@ -372,26 +370,12 @@ where its line on standard error names a file, a bus line or a disk, a second li
 has what the system said of it."""
 
 
-def write_help(program: str) -> None:
-    """Writes what the program says into packaging/help."""
-    for name in ["mbdc", *(it.name for it in listed())]:
-        words = [program, *([] if name == "mbdc" else [name]), "--help"]
-        (TEXTS / f"{name}.txt").write_bytes(subprocess.run(words, stdout=subprocess.PIPE, check=True).stdout)
-    mistakes = TEXTS / "mistakes.txt"
-    lines = [line.split(" => ")[0] for line in mistakes.read_text().splitlines()]
-    said = (subprocess.run([program, *shlex.split(it)], stdin=subprocess.DEVNULL, capture_output=True, text=True).stderr for it in lines)
-    mistakes.write_text("".join(f"{words} => {text}" for words, text in zip(lines, said)))
-
-
 def main() -> int:
     makers = {"bash": bash, "zsh": zsh, "fish": fish, "synopsis": synopsis, "commands": commands_of, "house": house, "page": page,
               "settings": settings}
-    if len(sys.argv) != 3 or sys.argv[1] not in [*makers, "check", "help"]:
+    if len(sys.argv) != 3 or sys.argv[1] not in [*makers, "check"]:
         print(__doc__, file=sys.stderr)
         return USAGE
-    if sys.argv[1] == "help":
-        write_help(sys.argv[2])
-        return 0
     if sys.argv[1] != "check":
         print(makers[sys.argv[1]](sys.argv[2]), end="")
         return 0

@@ -11,11 +11,10 @@ from typing import Optional
 import pytest
 
 ROOT = pathlib.Path(__file__).resolve().parents[2]
-TEXTS = ROOT / "packaging" / "help"
 WORDS = ROOT / "crates" / "mbdc_words" / "src"
 Said = Callable[..., "tuple[int, str]"]
-MISTAKES = [line.split(" => ") for line in (TEXTS / "mistakes.txt").read_text().splitlines()]
-COMMANDS = sorted(it.stem for it in TEXTS.glob("*.txt") if it.stem not in ("mbdc", "mistakes"))
+MISTAKES = [line.split(" => ") for line in pathlib.Path(__file__).with_name("mistakes.txt").read_text().splitlines()]
+COMMANDS = re.findall(r'name: "(\w+)"', (WORDS / "rows.rt").read_text())
 IS_BUILT = 'root=$PWD; . tools/built.sh; present=$(sources && toolchain) || exit 1; is_built && echo "$built/mbdc" && exit; ' \
     '[ "$present" = "$(cat out/run/unproved/sources 2>/dev/null)" ] && echo "$built/unproved/mbdc"'
 
@@ -49,28 +48,12 @@ def printed(program: str, words: str) -> "tuple[int, str]":
     return ran.returncode, ran.stdout + ran.stderr
 
 
-def constants() -> "dict[str, str]":
-    """The texts of help.rt."""
-    return dict(re.findall(r'pub const (\w+): &str = "(.*?)";', (WORDS / "help.rt").read_text(), re.S))
-
-
-def test_the_help_of_the_program_is_that_of_the_sources(said: Said) -> None:
-    assert said("--help") == said("-h") == said("help") == (0, constants()["PROGRAM"] + "\n")
-    assert said("--version") == (0, f"mbdc {constants()['VERSION']}\n")
-
-
-@pytest.mark.parametrize("name", COMMANDS)
-def test_the_help_of_a_command_is_that_of_the_sources(said: Said, name: str) -> None:
-    status, text = said(name, "--help")
-    assert (status, said("help", name)) == (0, (0, text))
-    about, after = text.split("\n", 1)
-    assert f'about: "{about}",' in (WORDS / "rows.rt").read_text()
-    assert after.endswith("\n\n" + constants()[name.upper()] + "\n")
-
-
-def test_each_command_has_a_help(early: types.ModuleType) -> None:
-    assert set(COMMANDS) == {it.name for it in early.packaging.listed()}
-    assert set(early.COMMANDS) == set(COMMANDS)
+def test_each_command_has_a_help(early: types.ModuleType, said: Said) -> None:
+    assert set(early.COMMANDS) == set(COMMANDS) == {it.name for it in early.packaging.listed()}
+    assert said("--help") == said("-h") == said("help")
+    for name in COMMANDS:
+        assert said(name, "--help") == said("help", name)
+        assert f"\nUsage: mbdc {name} [OPTIONS]" in said(name, "--help")[1] and "\nExample:\n" in said(name, "--help")[1]
 
 
 def test_the_commands_that_a_word_is_near_are_those_of_the_sources(early: types.ModuleType) -> None:
