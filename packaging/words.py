@@ -1,9 +1,9 @@
 #!/usr/bin/env python3
-"""Makes completions and parts of manual pages of what packaging/commands.txt and `mbdc --help` say, and of the help of
-mbdc-house and mbdc-page and the comments of house.conf.
+"""Makes completions and parts of manual pages of the words of mbdc, which its sources have, and of the help of mbdc-house and
+mbdc-page and the comments of house.conf.
 
-`words.py bash|zsh|fish|synopsis|commands|house|page|settings PROGRAM` prints that. `words.py check PROGRAM` prints each
-difference between the list and the help of the program, with status 1 where there is one.
+`words.py bash|zsh|fish|synopsis|commands|house|page|settings` prints that. `words.py check PROGRAM` prints each command
+whose help isn't that of the sources, with status 1 where there is one.
 """
 
 import os
@@ -15,11 +15,12 @@ import sys
 from collections.abc import Iterator
 from typing import Optional
 
+import told
+
 HERE = pathlib.Path(__file__).resolve().parent
-LIST, CONF = HERE / "commands.txt", HERE / "house.conf"
+CONF = HERE / "house.conf"
 OF_THE_PROGRAM = ["--verbose", "--help", "--version"]
 OF_EACH_COMMAND = OF_THE_PROGRAM[:2]
-NO_GROUPS = {"Arguments:", "Options:", "Example:"}  # the other sections of a help
 SCHEMES = ["tcp://", "serial:", "blocks://"]
 BUS_LINES = range(1, 9)
 OF_BUS_LINES = {"--line", "--csv"}  # which mbdc-house gives itself
@@ -53,13 +54,17 @@ class Command:
 
 
 def listed() -> list[Command]:
-    commands, group = [], ""
-    for line in LIST.read_text().splitlines():
-        if line.endswith(":"):
-            group = line
-        elif line and not line.startswith("#"):
-            commands.append(Command(line, group))
-    return commands
+    return [Command(told.synopsis_of(name), group) for group, names in told.groups().items() for name in names]
+
+
+def about(name: str) -> str:
+    """What a command does."""
+    return told.commands()[name][0]["about"]
+
+
+def texts_of(name: str) -> dict[str, str]:
+    """What help says of each option of a command."""
+    return {told.word_of(row): told.text_of(row) for row in told.commands()[name][1] if not told.is_argument(row)}
 
 
 def said_by(script: str) -> list[str]:
@@ -88,56 +93,11 @@ def of_page() -> dict[str, tuple[str, str]]:
     return {it[1]: (it[2], it[3] or "") for it in found if it}
 
 
-class Help:
-    """What the help of the program or of one of its commands lists, each with its text."""
-
-    def __init__(self, program: str, *command: str) -> None:
-        done = subprocess.run([program, *command, "--help"], capture_output=True, text=True, check=True)
-        self.about = done.stdout.split("\n", 1)[0]
-        self.commands: dict[str, tuple[str, str]] = {}
-        self.arguments: list[tuple[str, bool]] = []
-        self.options: dict[str, tuple[Optional[str], str]] = {}
-        self.examples: list[str] = []
-        section = ""
-        for line in done.stdout.splitlines():
-            if not line.startswith(" "):
-                section = line
-            elif section == "Example:":
-                self.examples.append(line.strip())
-            elif not command and self.is_group(section) and (found := re.match(r"  (\S+)  +(.*)$", line)):
-                self.commands[found[1]] = (section, found[2])
-            elif section == "Arguments:" and (found := re.match(r"  ([<\[])([^>\]]+)[>\]](?:\.\.\.)?(?:  |$)", line)):
-                self.arguments.append((found[2], found[1] == "<"))
-            elif section == "Options:":
-                self.read_option(line)
-
-    @staticmethod
-    def is_group(section: str) -> bool:
-        return section.endswith(":") and section not in NO_GROUPS
-
-    def read_option(self, line: str) -> None:
-        found = re.match(r"  (?:-\w,|   ) (--[\w-]+)(?: <([^>]+)>)?(?:\.\.\.)?(?:  +(.*))?$", line)
-        if found and found[1] not in OF_THE_PROGRAM:
-            self.options[found[1]] = (found[2], found[3] or "")
-
-
 def differences(program: str) -> Iterator[str]:
-    commands = {it.name: it for it in listed()}
-    of_program = Help(program)
-    in_help = of_program.commands
-    for name in sorted(commands.keys() ^ in_help.keys()):
-        yield f"command {name}: {'not in the list' if name in in_help else 'not in the help'}"
-    for name in sorted(commands.keys() & in_help.keys()):
-        command, of_command = commands[name], Help(program, name)
-        if in_help[name] != (command.group, of_command.about):
-            yield f"command {name}: the help of the program has {in_help[name]}, not {command.group, of_command.about}"
-        if not any(f"mbdc {name}" in example for example in of_command.examples):
-            yield f"command {name}: its help has no example of it"
-        options = {option: value for option, (value, _) in of_command.options.items()}
-        for what, in_list, shown in (("arguments", command.arguments, of_command.arguments),
-                                     ("options", command.options, options)):
-            if in_list != shown:
-                yield f"{what} of {name}: the list has {in_list}, the help has {shown}"
+    texts = {"": told.texts()["PROGRAM"] + "\n", **{name: told.help_of(name) for name in told.commands()}}
+    for name, text in texts.items():
+        if subprocess.run([program, *name.split(), "--help"], stdout=subprocess.PIPE, text=True, check=True).stdout != text:
+            yield f"mbdc {name}".rstrip()
 
 
 def bash_case(command: Command) -> str:
@@ -213,7 +173,7 @@ def bash_of(program: str, function: str, commands: list[Command], house: str = "
                        lines=" ".join(f"{n}=" for n in BUS_LINES), numbers=" ".join(map(str, BUS_LINES)))
 
 
-def bash(program: str) -> str:
+def bash() -> str:
     house, page = [it for it, _ in of_house()], of_page()
     cases = (f"    {option}:*) mapfile -t COMPREPLY < <(compgen -W '{value.replace(',', ' ') if value.islower() else ''}' -- \"$word\") ;;"
              for option, (value, _) in page.items() if value not in FILES)
@@ -234,12 +194,11 @@ def fish_of(program: str, commands: list[tuple[Command, str]]) -> Iterator[str]:
             yield f"{after} -l {option[2:]}{' -r' if value else ''}{' -F' if value in FILES else ''}"
 
 
-def fish(program: str) -> str:
-    texts = Help(program).commands
+def fish() -> str:
     page = (f"complete -c mbdc-page -l {option[2:]} -r" + (f" -f -a '{value.replace(',', ' ')}'" if value.islower() else "")
             for option, (value, _) in of_page().items())
     return "\n".join(["# Completion of mbdc, mbdc-house and mbdc-page for fish.", "# Made by packaging/words.py.",
-                      *fish_of("mbdc", [(it, texts[it.name][1]) for it in listed()]), *fish_of("mbdc-house", of_house()), *page]) + "\n"
+                      *fish_of("mbdc", [(it, about(it.name)) for it in listed()]), *fish_of("mbdc-house", of_house()), *page]) + "\n"
 
 
 def zsh_text(text: str) -> str:
@@ -252,10 +211,10 @@ def zsh_action(value: str) -> str:
     return actions.get(kind_of(value), "")
 
 
-def zsh_case(program: str, command: Command) -> str:
-    of_command, specs = Help(program, command.name), []
+def zsh_case(command: Command) -> str:
+    texts, specs = texts_of(command.name), []
     for option, value in command.options.items():
-        text = zsh_text(of_command.options.get(option, ("", ""))[1])
+        text = zsh_text(texts[option])
         shown = f":{zsh_text(value)}:{zsh_action(value)}" if value else ""
         is_repeated = re.search(rf"{option} [^\[\]|]*\.\.\.|\[{option}[^\]]*\]\.\.\.", command.words)
         specs.append(f"'{'*' if is_repeated else ''}{option}[{text}]{shown}'")
@@ -267,7 +226,7 @@ def zsh_case(program: str, command: Command) -> str:
 OF_EACH_IN_ZSH = ["'--verbose[Says why a command failed]'", "'--help[Print help]'"]
 ZSH = """#compdef mbdc
 # Completion of mbdc for zsh.
-# Made by packaging/words.py from packaging/commands.txt.
+# Made by packaging/words.py.
 
 _mbdc_links() {{
     compadd -S '' -- {schemes}
@@ -301,10 +260,10 @@ _mbdc "$@"
 """
 
 
-def zsh(program: str) -> str:
-    commands, texts = listed(), Help(program).commands
-    about = (f"        '{it.name}:{zsh_text(texts.get(it.name, ('', ''))[1])}'" for it in commands)
-    return ZSH.format(commands="\n".join(about), cases="\n".join(zsh_case(program, it) for it in commands),
+def zsh() -> str:
+    commands = listed()
+    described = (f"        '{it.name}:{zsh_text(about(it.name))}'" for it in commands)
+    return ZSH.format(commands="\n".join(described), cases="\n".join(map(zsh_case, commands)),
                       schemes=" ".join(SCHEMES), lines=" ".join(map(str, BUS_LINES)), own=" ".join(OF_THE_PROGRAM))
 
 
@@ -320,34 +279,33 @@ def roff_words(words: str) -> str:
     return shown.replace("...", " ...")
 
 
-def synopsis(program: str) -> str:
+def synopsis() -> str:
     return "\n.br\n".join(f".B mbdc {it.name}\n{roff_words(it.words)}".rstrip() for it in listed()) + "\n"
 
 
-def commands_of(program: str) -> str:
+def commands_of() -> str:
     """A paragraph for each command, by the texts of its help."""
     texts = []
     for command in listed():
-        of_command = Help(program, command.name)
-        texts.append(f".TP\n.B {command.name}\n{roff(of_command.about)}.")
-        options = [f".TP\n\\fB{roff(option)}\\fR{f' {chr(92)}fI{value}{chr(92)}fR' if value else ''}\n{roff(text)}."
-                   for option, (value, text) in of_command.options.items()]
+        texts.append(f".TP\n.B {command.name}\n{roff(about(command.name))}.")
+        options = [f".TP\n\\fB{roff(option)}\\fR{f' {chr(92)}fI{command.options[option]}{chr(92)}fR' if command.options[option] else ''}\n"
+                   f"{roff(text)}." for option, text in texts_of(command.name).items()]
         texts += [".RS", *options, ".RE"] if options else []
     return "\n".join([*texts, VERBOSE_IN_ROFF]) + "\n"
 
 
-def house(program: str) -> str:
+def house() -> str:
     """A paragraph for each command of mbdc-house."""
     return "".join(f".TP\n\\fB{roff(it.name)}\\fR {roff_words(it.words)}\n{roff(text)}.\n" for it, text in of_house())
 
 
-def page(program: str) -> str:
+def page() -> str:
     """A paragraph for each option of mbdc-page."""
     return "".join(f".TP\n.BI {roff(option)} \" {value.replace(',', ' | ')}\"\n{roff(text) or 'The language of the page'}.\n"
                    for option, (value, text) in of_page().items())
 
 
-def settings(program: str) -> str:
+def settings() -> str:
     """A paragraph for each setting of house.conf, by the comment before it."""
     made = []
     for block in CONF.read_text().split("\n\n")[1:]:
@@ -373,15 +331,16 @@ has what the system said of it."""
 def main() -> int:
     makers = {"bash": bash, "zsh": zsh, "fish": fish, "synopsis": synopsis, "commands": commands_of, "house": house, "page": page,
               "settings": settings}
-    if len(sys.argv) != 3 or sys.argv[1] not in [*makers, "check"]:
+    words = sys.argv[1:]
+    if len(words) == 1 and words[0] in makers:
+        print(makers[words[0]](), end="")
+        return 0
+    if len(words) != 2 or words[0] != "check":
         print(__doc__, file=sys.stderr)
         return USAGE
-    if sys.argv[1] != "check":
-        print(makers[sys.argv[1]](sys.argv[2]), end="")
-        return 0
-    found = list(differences(sys.argv[2]))
+    found = list(differences(words[1]))
     for it in found:
-        print(f"packaging/commands.txt: {it}", file=sys.stderr)
+        print(f"{it} --help isn't that of crates/mbdc_words", file=sys.stderr)
     return 1 if found else 0
 
 

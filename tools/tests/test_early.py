@@ -50,6 +50,7 @@ def printed(program: str, words: str) -> "tuple[int, str]":
 
 def test_each_command_has_a_help(early: types.ModuleType, said: Said) -> None:
     assert set(early.COMMANDS) == set(COMMANDS) == {it.name for it in early.packaging.listed()}
+    assert (early.RANGES["--tries"], early.RANGES["SECTORS"], early.EXCLUSIVE[0]) == ([1, 9], [131, 131075], {"--json", "--explain"})
     assert said("--help") == said("-h") == said("help")
     for name in COMMANDS:
         assert said(name, "--help") == said("help", name)

@@ -3,31 +3,19 @@
 import pathlib
 import shutil
 import subprocess
-import types
-from collections.abc import Callable
 
 import pytest
 
 PACKAGING = pathlib.Path(__file__).resolve().parents[2] / "packaging"
-MBDC = """#!/bin/sh
-exec cat "$0.$1"
-"""
 ASK = ("source {}/bash-completion/completions/{}; compopt() {{ :; }}; COMP_WORDS=({}); COMP_CWORD=$((${{#COMP_WORDS[@]}} - 1)); "
        "{}; printf '%s\\n' \"${{COMPREPLY[@]}}\"")
 
 
 @pytest.fixture(scope="module")
-def share(tool: Callable[[str], types.ModuleType], tmp_path_factory: pytest.TempPathFactory) -> pathlib.Path:
+def share(tmp_path_factory: pytest.TempPathFactory) -> pathlib.Path:
     """The folder of what the package has in /usr/share."""
     folder = tmp_path_factory.mktemp("words")
-    program = folder / "mbdc"
-    program.write_text(MBDC)
-    program.chmod(0o755)
-    told = tool("told.py")
-    (folder / "mbdc.--help").write_text(told.texts()["PROGRAM"] + "\n")
-    for name in told.commands():
-        (folder / f"mbdc.{name}").write_text(told.help_of(name))
-    subprocess.run([PACKAGING / "lay", "pages", folder, program], check=True)
+    subprocess.run([PACKAGING / "lay", "pages", folder], check=True)
     return folder / "usr/share"
 
 

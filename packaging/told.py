@@ -23,8 +23,8 @@ def texts() -> dict[str, str]:
 def row_of(fields: str) -> Row:
     """A row by its fields, and those of the row that it is made from."""
     base = re.search(r"\.\.(\w+)", fields)
-    given = re.findall(r'^ *(\w+): (?:Some\(|&\[)?(?:"(.*)"|(\w*)).*$', fields, re.M)
-    return {**(constant(base[1]) if base else {}), **{name: quoted or word for name, quoted, word in given}}
+    given = re.findall(r'^ *(\w+): (?:Some\(|&\[)?(?:"(.*)"|(?:\w+::)*([\w ,(]*)).*$', fields, re.M)
+    return {**(constant(base[1]) if base else {}), **{name: quoted or word.rstrip(",") for name, quoted, word in given}}
 
 
 @functools.cache
@@ -40,22 +40,39 @@ def commands() -> dict[str, tuple[Row, list[Row]]]:
     for block in re.split(r"^    CommandRow \{", source("rows.rt"), flags=re.M)[1:]:
         head, _, words = block.partition("args: &[")
         rows = re.findall(r"Row \{([^{}]*)\}|([A-Z_]{3,})(?=,|\])", words.partition("\n    },")[0])
-        command = row_of(head.replace("help::", ""))
+        command = row_of(head)
         found[command["name"]] = command, [row_of(fields) if fields else constant(name) for fields, name in rows]
     return found
 
 
+def is_argument(row: Row) -> bool:
+    return row["long"] == "None"
+
+
+def is_required(row: Row) -> bool:
+    return row["is_required"] == "true"
+
+
+def word_of(row: Row) -> str:
+    """An option, or the name of an argument."""
+    return row["id"] if is_argument(row) else f"--{row['long']}"
+
+
 def spelled(row: Row) -> str:
     """A word as help has it."""
-    if row["long"] == "None":
-        return "<{id}>".format(**row) if row["is_required"] == "true" else "[{id}]".format(**row)
-    return "--{long} <{values}>".format(**row) if row["values"] else "--{long}".format(**row)
+    if is_argument(row):
+        return f"<{row['id']}>" if is_required(row) else f"[{row['id']}]"
+    return f"{word_of(row)} <{row['values']}>" if row["values"] else word_of(row)
+
+
+def text_of(row: Row) -> str:
+    """What help says of a word."""
+    return row["help"] + (f" [default: {row['defaults']}]" if row["defaults"] else "")
 
 
 def section(title: str, rows: list[Row], indent: str, *others: tuple[str, str]) -> list[str]:
     """The words of a section below each other, with what they do."""
-    defaults = (f" [default: {row['defaults']}]" if row["defaults"] else "" for row in rows)
-    shown = [*((indent + spelled(row), row["help"] + default) for row, default in zip(rows, defaults)), *others]
+    shown = [*((indent + spelled(row), text_of(row)) for row in rows), *others]
     width = max((len(word) for word, _ in shown), default=0)
     return [title, *(f"{word:{width}}  {text}" for word, text in shown), ""] if shown else []
 
@@ -63,9 +80,29 @@ def section(title: str, rows: list[Row], indent: str, *others: tuple[str, str]) 
 def help_of(name: str) -> str:
     """What `mbdc NAME --help` prints."""
     command, rows = commands()[name]
-    options, arguments = [[row for row in rows if (row["long"] == "None") == is_argument] for is_argument in (False, True)]
-    needed = [spelled(row) for row in options if row["is_required"] == "true"]
+    options, arguments = ([row for row in rows if is_argument(row) == wanted] for wanted in (False, True))
+    needed = [spelled(row) for row in options if is_required(row)]
     return "\n".join([command["about"], "", " ".join(["Usage: mbdc", name, "[OPTIONS]", *needed, *map(spelled, arguments)]), "",
                       *section("Arguments:", arguments, "  "),
                       *section("Options:", [*options, constant("VERBOSE")], "      ", ("  -h, --help", "Print help")),
                       texts()[command["after"]], ""])
+
+
+def groups() -> dict[str, list[str]]:
+    """The commands of each group of the program's help, in its order."""
+    sections = re.findall(r"^(\w[^\n]*:)\n((?:  .*\n)+)", texts()["PROGRAM"], re.M)
+    return {title: re.findall(r"^  (\w+)", rows, re.M) for title, rows in sections if title != "Options:"}
+
+
+def synopsis_of(name: str) -> str:
+    """A command with its words: [X] is optional, X... may be repeated, and of A | B one is given."""
+    _, rows = commands()[name]
+    words = [re.sub("[<>]", "", spelled(row)).strip("[]") for row in rows]
+    shown = [name]
+    for row, word in zip(rows, words):
+        other = next((it for it, of in zip(words, rows) if row["id"] in of["others"].split() or of["id"] in row["others"].split()), None)
+        if other and words.index(other) < words.index(word):
+            shown[shown.index(f"[{other}]")] = f"[{other} | {word}]"
+        else:
+            shown.append((word if is_required(row) else f"[{word}]") + "..." * (row["action"] == "Append"))
+    return " ".join(shown)
