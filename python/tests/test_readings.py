@@ -1,9 +1,9 @@
-"""Each record of readings.tsv, each body of contents.tsv and each headline of headlines.tsv is read as its row says, by both ways."""
+"""Each code, record, body and headline of the tables beside this file is read as its row says, by both ways."""
 
 import decimal
 import json
 import pathlib
-from typing import Any, Dict, List, Optional
+from typing import Any, Dict, Iterator, List, Optional, Tuple
 
 import pytest
 
@@ -22,7 +22,44 @@ def rows_of(name: str) -> List[List[str]]:
     return [line.split("\t") for line in text.splitlines() if not line.startswith("#")]
 
 
-READINGS, CONTENTS, HEADLINES = rows_of("readings.tsv"), rows_of("contents.tsv"), rows_of("headlines.tsv")
+# Of the value information before a code: data fields, their data and what these are
+DATA: Dict[str, List[Tuple[str, str, str]]] = {
+    "": [("04", "10000000", "16"), ("05", "0000C03F", "1.5")], "FB": [("04", "10000000", "16")],
+    "FD": [("04", "0B0BCD13", "332204811"), ("02", "9F2C", "11423"), ("0D", "0431204241", "AB 1")]}
+REAL, TEXT = "05", "0D"
+
+
+def read_as(field: str, data: str, value: str, unit: str, power: int, kind: str) -> List[str]:
+    """How a record is read: reading, value, unit and type."""
+    if kind == "other" or field == TEXT and kind != "text":
+        return ["other", "-", "-", "-"]
+    if kind == "flags":
+        return ["plain", bytes.fromhex(data)[::-1].hex().upper(), "flags", "flags"]
+    if field == TEXT:
+        return ["plain", value, "-", "text"]
+    return ["point" if kind == "point" and field != REAL else "plain", f"{decimal.Decimal(value).scaleb(power):f}", unit, "number"]
+
+
+def rows_of_codes(row: List[str]) -> Iterator[List[str]]:
+    """The rows of readings that a row of codes is."""
+    codes, quantity, units, power, kind = row
+    first, _, last = codes.partition("-")
+    before, count = first[:-2], int(last or first[-2:], 16) - int(first[-2:], 16) + 1
+    of_codes = units.split("|")
+    for n in range(count):
+        unit, grown = (of_codes[n], 0) if len(of_codes) > 1 else (units, n)
+        for field, data, value in DATA[before]:
+            reading, *others = read_as(field, data, value, unit, int(power) + grown, kind)
+            yield [f"{field}{before}{int(first[-2:], 16) + n:02X}{data}", quantity, "-", reading, *others, *"------"]
+
+
+READINGS = [*rows_of("readings.tsv"), *(made for row in rows_of("codes.tsv") for made in rows_of_codes(row))]
+CONTENTS = rows_of("contents.tsv")
+# The VIFEs of a volume with which a meter stands at it, and their powers of ten (Headline in docs/JSON.md)
+CORRECTED = {0x00: 0, 0x3A: 0, 0x3B: 0, 0x3E: 0, **{0x70 + n: n - 6 for n in range(8)}, 0x7D: 3}
+OF_VIFES = [[f"{HEADER.hex()}0493{vife:02X}0B0BCD13", f"0:332204811e{CORRECTED[vife] - 3}:m3" if vife in CORRECTED else "-"]
+            for vife in range(128)]
+HEADLINES = [*rows_of("headlines.tsv"), *OF_VIFES]
 
 
 def wanted_of(field: str, cell: str) -> object:
