@@ -8,7 +8,7 @@ from typing import Any, Dict, Iterator, List, Optional, Tuple
 import pytest
 
 import mbdc
-from world.frames import answer
+from world.frames import RSP_UD, answer, long_frame
 from world.said import frame_object, same_object
 
 HEADER = bytes.fromhex("785634122440010755000000")  # 12345678.PAD.01.07
@@ -54,7 +54,28 @@ def rows_of_codes(row: List[str]) -> Iterator[List[str]]:
 
 
 READINGS = [*rows_of("readings.tsv"), *(made for row in rows_of("codes.tsv") for made in rows_of_codes(row))]
-CONTENTS = rows_of("contents.tsv")
+# Units of fixed data (EN 13757-3): the code of the first of nine, quantity, unit, and its power of ten
+NINE = [(2, "energy", "Wh", 0), (11, "energy", "J", 3), (20, "power", "W", 0), (29, "power", "J/h", 3), (38, "volume", "m3", -6),
+        (47, "volume_flow", "m3/h", -6)]
+FIXED = {**{first + n: (quantity, unit, power + n) for first, quantity, unit, power in NINE for n in range(9)},
+         56: ("temperature", "C", -3), 57: ("heat_cost_allocation", "HCA", 0), 63: ("dimensionless", "-", 0)}
+
+
+def fixed_row(status: int, code: int) -> List[str]:
+    """A frame of fixed data of water whose counters have a unit, and what it says: counters are binary by the first bit of the
+    status, and both of a due date by the second; otherwise the second one has the unit of the first, of its due date."""
+    units, dated = (0xC0 | code, 0x40 | code if status & 2 else 0x7E), status >> 1 & 1
+    body = bytes([*bytes.fromhex("7856341207"), status, *units, *bytes.fromhex("0100000035010000")])
+    quantity, unit, power = FIXED.get(code, ("reserved", "-", 0))
+    records = []
+    for storage, byte, data, count in ((dated, units[0], "01000000", 1), (1, units[1], "35010000", 309 if status & 1 else 135)):
+        value = f"plain,{decimal.Decimal(count).scaleb(power):f}" if code in FIXED else "other,-"
+        records.append(f"{storage},0,{byte:02X},{data},{quantity},-,{value},{unit},-")
+    frame = long_frame(RSP_UD, 1, 0x73, body).hex().upper()
+    return [frame, "fixed", "12345678 water", "7", "0", "-", " ".join(records), "-", "fixed data (CI 73): not registered"]
+
+
+CONTENTS = [*rows_of("contents.tsv"), *(fixed_row(status, code) for status in range(4) for code in range(64))]
 # The VIFEs of a volume with which a meter stands at it, and their powers of ten (Headline in docs/JSON.md)
 CORRECTED = {0x00: 0, 0x3A: 0, 0x3B: 0, 0x3E: 0, **{0x70 + n: n - 6 for n in range(8)}, 0x7D: 3}
 OF_VIFES = [[f"{HEADER.hex()}0493{vife:02X}0B0BCD13", f"0:332204811e{CORRECTED[vife] - 3}:m3" if vife in CORRECTED else "-"]
