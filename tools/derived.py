@@ -1,4 +1,4 @@
-"""The derives of a library's types: which ones a source can do without, and the source that tests are compiled over.
+"""The derives of a library's types, of the sources that tests are compiled over.
 
 A derived `Debug`, `PartialEq` or `Eq` is proved as any function is. Most are needed by tests alone, which aren't proved: these are added
 where tests/ is compiled, and stand in no source."""
@@ -21,17 +21,6 @@ def changed(text: str, choose: Callable[[str, str, list[str]], list[str]]) -> st
         return f"#[derive({', '.join(names)})]{found[2]}"
 
     return DERIVE.sub(judge, text)
-
-
-def without(text: str, is_needed: Callable[[str, str], bool]) -> str:
-    """The text without the derives that neither another derive nor the program needs."""
-
-    def choose(name: str, _: str, names: list[str]) -> list[str]:
-        asked = {"Debug"} if "Error" in names else set()
-        asked |= {"PartialEq", "Eq"} if {"Ord", "Hash"} & {*names} else set()
-        return [it for it in names if it not in OF_TESTS or it in asked or is_needed(name, it)]
-
-    return changed(text, choose)
 
 
 def for_tests(text: str) -> str:

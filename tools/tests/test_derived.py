@@ -1,4 +1,4 @@
-"""The derives that tests add to a library's types, and those that a source can do without."""
+"""The derives that tests add to a library's types."""
 
 import types
 from collections.abc import Callable
@@ -25,11 +25,3 @@ def test_a_plain_type_derives_what_tests_compare(derived: types.ModuleType, sour
     text = derived.for_tests(source)
     assert text.startswith(f"#[derive({wanted})]")
     assert text.split("\n", 1)[1] == source.split("\n", 1)[1]
-
-
-def test_a_derive_stays_that_another_one_or_the_program_needs(derived: types.ModuleType) -> None:
-    text = ("#[derive(Clone, Copy, Debug, PartialEq, Eq)]\nenum Kind {\n    One,\n}\n"
-            "#[derive(PartialEq, Eq, Ord, Debug)]\nstruct Key(u8);\n#[derive(Debug, Error)]\nenum Fault {\n    One,\n}\n")
-    assert derived.without(text, lambda name, derive: (name, derive) == ("Kind", "PartialEq")) == (
-        "#[derive(Clone, Copy, PartialEq)]\nenum Kind {\n    One,\n}\n"
-        "#[derive(PartialEq, Eq, Ord)]\nstruct Key(u8);\n#[derive(Debug, Error)]\nenum Fault {\n    One,\n}\n")
