@@ -82,6 +82,7 @@ def test_definitions_on_a_page_have_their_comments_and_links(headline: types.Mod
     assert '<h3 id="dc_x/Headline/IsKept">IsKept <small>dc_x Headline, named by the_headline</small></h3>\n<p>kept</p>' in page
     assert '<pre><a href="#dc_x/Headline/IsKept">IsKept</a> state</pre>' in page
     assert '  pub held : <a href="#dc_y/State/after">later</a> state\n' in page and "<p>A root.</p>" in page
+    assert 'named by <a href="#dc_x/Headline/IsKept">IsKept</a>' in page and "<p>In words: a concentrator" in page
 
 
 def test_its_table_takes_the_place_of_the_old_one(headline: types.ModuleType) -> None:
