@@ -2,7 +2,8 @@
 
 use crate::columns::in_order;
 use crate::journal::Noting;
-use dc_sectors::FileDisk;
+use dc_meters::House;
+use dc_sectors::{Disk, FileDisk};
 use mbdc_commands::fit_over;
 use mbdc_ending::{Ending, ProgramFault};
 use mbdc_files::{Host, Noted, open_disk};
@@ -33,23 +34,28 @@ where
         Ok(rows) => rows,
         Err(fault) => return host.why.ended(Err(fault), list),
     };
-    // An image that doesn't open is refused next.
-    let house = match register_of(host.rt.alloc(), &mut disk, &Greatest::NONE) {
-        Ok((house, _)) => Some(house),
-        Err(_) => None,
-    };
+    let house = house_in(host.rt.alloc(), &mut disk);
     let rows = match in_order(host.rt, rows, house.as_ref()) {
         Ok(rows) => rows,
         Err(_) => return Ending::Memory,
     };
-    wished(host, disk, image, &Wish::List(rows.as_slice()))
+    wished(host, disk, image, house, &Wish::List(rows.as_slice()))
 }
 
-/// Does what is asked on the image, and puts the commands that were done into its journal.
+/// The register of an image on that disk. One that doesn't open is refused next.
+pub fn house_in<D: Disk>(alloc: Global, disk: &mut D) -> Option<House<Global>> {
+    match register_of(alloc, disk, &Greatest::NONE) {
+        Ok((house, _)) => Some(house),
+        Err(_) => None,
+    }
+}
+
+/// Does what is asked on the image with this register, and puts the commands that were done into its journal.
 pub fn wished<'a, D, R>(
     host: &Host<'_, R>,
     disk: FileDisk<D>,
     image: &str,
+    house: Option<House<Global>>,
     wish: &Wish<'_>,
 ) -> Ending<'a>
 where
@@ -57,7 +63,7 @@ where
     R: Files<File = File> + Clock + Print + Eprint + AllocGlobal,
 {
     let out = Noted::new(io::writer(host.rt), host.why);
-    let mut notes = Noting::new(host, image, None);
+    let mut notes = Noting::new(host, image, house);
     let (_disk, ending) = fit_over(host.rt.alloc(), disk, wish, out, &mut notes);
     ending
 }

@@ -3,11 +3,11 @@
 use crate::clock;
 use mbdc_commands::look_ending;
 use mbdc_ending::{Ending, ProgramFault, STREAM, ending_of};
-use mbdc_files::{Host, LookedAt, Output, ROUNDS, journal_lines};
+use mbdc_files::{Host, LookedAt, Output, ROUNDS, journal_lines, own_lines};
 use mbdc_io::NoMemory;
 use mbdc_json::journal::{Journal, Keeps, read_journal};
 use mbdc_log::Greatest;
-use mbdc_looks::{Asked, Form, Outlook, Report, Shown, answer, scan};
+use mbdc_looks::{Asked, Form, Outlook, Report, Shown, answer, register_of, scan};
 use std::alloc::Global;
 use std::fs::File;
 use std::io;
@@ -21,7 +21,7 @@ const NO_TABLE: &str =
 /// Prints what is asked of the image in that file, as it stands at one instant; another program may write it.
 pub fn look_into<'a, R>(host: &Host<'_, R>, asked: Asked, image: &'a str) -> Ending<'a>
 where
-    R: Files<File = File> + Clock + Print + AllocGlobal,
+    R: Files<File = File> + Clock + Print + Eprint + AllocGlobal,
 {
     let journal = match journal_for(host, &asked, image) {
         Ok(journal) => journal,
@@ -45,7 +45,7 @@ where
 }
 
 // What the journal beside the image says, where it is asked for.
-fn journal_for<'a, R: Files<File = File> + Clock + AllocGlobal>(
+fn journal_for<'a, R: Files<File = File> + Clock + Eprint + AllocGlobal>(
     host: &Host<'_, R>,
     asked: &Asked,
     image: &str,
@@ -58,13 +58,29 @@ fn journal_for<'a, R: Files<File = File> + Clock + AllocGlobal>(
         _ => return Ok(Journal::none(alloc)),
     };
     match journal_lines(host.rt, image) {
-        Ok(Some(lines)) => match read_journal(alloc, lines.as_slice(), now, keeps) {
+        Ok(Some(lines)) => match read_journal(
+            alloc,
+            own_lines(lines.as_slice(), next_serial(host, image)),
+            now,
+            keeps,
+        ) {
             Ok(journal) => Ok(journal),
             Err(NoMemory) => Err(Ending::Memory),
         },
         Ok(None) => Ok(Journal::none(alloc)),
         Err(_) => Err(Ending::Memory),
     }
+}
+
+// The serial of the image's next reading, which its journal doesn't have; of one that doesn't read, the greatest number.
+fn next_serial<R: Files<File = File> + AllocGlobal>(host: &Host<'_, R>, image: &str) -> u64 {
+    if let Ok(file) = LookedAt::open(host, image)
+        && let Ok(mut disk) = file.disk(image)
+        && let Ok((house, _)) = register_of(host.rt.alloc(), &mut disk, &Greatest::NONE)
+    {
+        return house.next_serial();
+    }
+    u64::MAX
 }
 
 // What is asked of the image, and whether the drive can read each sector that opening reads.
@@ -126,7 +142,7 @@ pub fn report_on_image<'a, R>(
     is_json: bool,
 ) -> Ending<'a>
 where
-    R: Files<File = File> + Clock + Print + AllocGlobal,
+    R: Files<File = File> + Clock + Print + Eprint + AllocGlobal,
 {
     let Some(report) = Report::parse(table.as_bytes()) else {
         return Ending::Words(NO_TABLE);
@@ -147,7 +163,7 @@ pub fn tell_status<'a, R>(
     is_json: bool,
 ) -> Ending<'a>
 where
-    R: Files<File = File> + Clock + Print + AllocGlobal,
+    R: Files<File = File> + Clock + Print + Eprint + AllocGlobal,
 {
     let Some(moment) = clock::moment(host.rt) else {
         return Ending::Clock;

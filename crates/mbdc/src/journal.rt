@@ -24,25 +24,60 @@ pub struct Noting<'h, 'i, R> {
     house: Option<House<Global>>,
 }
 
-impl<'h, 'i, R: Files<File = File> + Eprint + AllocGlobal> Noting<'h, 'i, R> {
-    /// The journal of the image with this register.
+impl<'h, 'i, R: Files<File = File> + Clock + Eprint + AllocGlobal> Noting<'h, 'i, R> {
+    /// The journal of the image with this register. Where it lacks the last command, since a run was ended between the
+    /// commit and the line, it gets that first.
     pub fn new(host: &Host<'h, R>, image: &'i str, house: Option<House<Global>>) -> Self {
-        Noting {
+        let mut noting = Noting {
             rt: host.rt,
             image,
             journal: None,
             is_open: false,
             house,
+        };
+        noting.complete();
+        noting
+    }
+
+    fn complete(&mut self) {
+        let (now, image) = (self.now(), self.image);
+        let mut line = Bytes::new(self.rt.alloc());
+        match &self.house {
+            Some(house) if house.last_number() > 0 => {
+                let (number, command) = (house.last_number(), house.last_line());
+                if put_command_note(&mut line, now, number, command).is_err() {
+                    return;
+                }
+            }
+            _ => return,
+        }
+        self.open();
+        if let Some(journal) = &mut self.journal
+            && let Ok(false) = journal.has(image, line.as_slice())
+        {
+            journal.append(line.as_slice());
         }
     }
 
-    fn append(&mut self, line: &Bytes<Global>) {
+    fn open(&mut self) {
         if !self.is_open {
             self.journal = Journal::open(self.rt, self.image);
             self.is_open = true;
         }
+    }
+
+    fn append(&mut self, line: &Bytes<Global>) {
+        self.open();
         if let Some(journal) = &mut self.journal {
             journal.append(line.as_slice());
+        }
+    }
+
+    // The second since 1970, and 0 where the clock has none: the line tells more than its moment.
+    fn now(&self) -> u64 {
+        match moment(self.rt) {
+            Some(now) => now.seconds,
+            None => 0,
         }
     }
 }
@@ -50,9 +85,6 @@ impl<'h, 'i, R: Files<File = File> + Eprint + AllocGlobal> Noting<'h, 'i, R> {
 impl<R: Files<File = File> + Clock + Eprint + AllocGlobal> Notes for Noting<'_, '_, R> {
     fn note(&mut self, event: &Event<'_>) {
         let alloc = self.rt.alloc();
-        let Some(at) = moment(self.rt) else {
-            return;
-        };
         let flat = match (meter_of(event), &self.house) {
             (Some(meter), Some(house)) => house.meter(&meter).map(|known| known.flat()),
             _ => None,
@@ -64,7 +96,7 @@ impl<R: Files<File = File> + Clock + Eprint + AllocGlobal> Notes for Noting<'_, 
         let mut object = Bytes::new(alloc);
         let mut line = Bytes::new(alloc);
         if put_object(&mut object, event).is_ok()
-            && put_note(&mut line, at.seconds, flat, object.as_slice()).is_ok()
+            && put_note(&mut line, self.now(), flat, object.as_slice()).is_ok()
         {
             self.append(&line);
         }
@@ -82,12 +114,9 @@ fn meter_of(event: &Event<'_>) -> Option<Identity> {
 
 impl<R: Files<File = File> + Clock + Eprint + AllocGlobal> CommandNotes for Noting<'_, '_, R> {
     fn note(&mut self, done: &Numbered) {
-        let Some(at) = moment(self.rt) else {
-            return;
-        };
         let command = done.command.line(done.number);
         let mut line = Bytes::new(self.rt.alloc());
-        if put_command_note(&mut line, at.seconds, done.number, command.as_slice()).is_ok() {
+        if put_command_note(&mut line, self.now(), done.number, command.as_slice()).is_ok() {
             self.append(&line);
         }
     }

@@ -39,7 +39,7 @@ where
     if host.is_watched {
         foretell(host, &house, &order);
     }
-    wished(host, disk, task.image, &Wish::One(order))
+    wished(host, disk, task.image, Some(house), &Wish::One(order))
 }
 
 // The command that the words ask for.

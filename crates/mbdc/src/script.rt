@@ -1,7 +1,7 @@
 //! The command `run`: a script over an image in a file.
 
 use crate::connecting::{connected, released};
-use crate::fit::read_whole;
+use crate::fit::{house_in, read_whole};
 use crate::journal::Noting;
 use dc_sectors::FileDisk;
 use mbdc_bus::Both;
@@ -65,7 +65,9 @@ where
         Err(fault) => return host.why.ended(Err(fault), task.script),
     };
     let out = Noted::new(io::writer(host.rt), host.why);
-    let mut notes = Noting::new(host, task.image, None);
+    let mut disk = disk;
+    let house = house_in(host.rt.alloc(), &mut disk);
+    let mut notes = Noting::new(host, task.image, house);
     let (_, ending) = run_over(
         host.rt.alloc(),
         host.why,

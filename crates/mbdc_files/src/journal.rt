@@ -1,18 +1,24 @@
 //! The file of an image's journal. What fails here costs a view, and nothing else.
 
+use crate::half_made::is_same_file;
 use crate::image::{NO_FILE, file_limit, refused};
+use mbdc_io::first_line;
 use mbdc_raw::links::without_number;
 use std::alloc::AllocError;
 use std::fs::{File, OpenOptions};
 use std::io::{ErrorKind, Read, Seek, SeekFrom, Write};
 use std::os::unix::fs::OpenOptionsExt;
 use std::rt::Files;
-use std::{fs, io};
+use std::{fs, io, str};
 
 // What follows the image's name, and what follows that of the file that was full.
 const JOURNAL: &str = ".journal";
 
 const EARLIER: &str = ".journal.1";
+
+const NO_JOURNAL: &str = "it is no journal";
+
+const NO_PLACE: &str = "it is full, and what has its name with .1 is no journal";
 
 // A file of that many bytes is full: a command that begins puts it aside. So both files have at most twice as many, and
 // what one command writes.
@@ -42,7 +48,7 @@ impl<'h, R: Files<File = File> + Eprint + AllocGlobal> Journal<'h, R> {
             length: 0,
         };
         if let Err(error) = journal.begin(image) {
-            journal.name_failure(&error);
+            name_failure(rt, journal.name.as_str(), &error);
             return None;
         }
         Some(journal)
@@ -50,15 +56,14 @@ impl<'h, R: Files<File = File> + Eprint + AllocGlobal> Journal<'h, R> {
 
     fn begin(&mut self, image: &str) -> io::Result<()> {
         let name = self.name.as_str();
-        // Opening a device or a pipe may do something.
-        if let Ok(about) = fs::metadata(self.rt, name) {
-            if !about.is_file() {
-                return Err(refused(NO_FILE));
+        if let Some(file) = open_journal(self.rt, image, name)?
+            && file.metadata()?.len() >= FULL
+        {
+            let earlier = format!(in self.rt.alloc(); "{image}{EARLIER}")?;
+            if open_journal(self.rt, image, earlier.as_str()).is_err() {
+                return Err(refused(NO_PLACE));
             }
-            if about.len() >= FULL {
-                let earlier = format!(in self.rt.alloc(); "{image}{EARLIER}")?;
-                fs::rename(self.rt, name, earlier.as_str())?;
-            }
+            fs::rename(self.rt, name, earlier.as_str())?;
         }
         let mut options = OpenOptions::new();
         options.read(true).append(true).create(true).mode(MODE);
@@ -81,8 +86,31 @@ impl<'h, R: Files<File = File> + Eprint + AllocGlobal> Journal<'h, R> {
     pub fn append(&mut self, line: &[u8]) {
         if let Err(error) = self.put(line) {
             self.file = None;
-            self.name_failure(&error);
+            name_failure(self.rt, self.name.as_str(), &error);
         }
+    }
+
+    /// Whether the journal of that image has a line that says the same, whenever that was written.
+    ///
+    /// # Errors
+    /// Out of memory.
+    pub fn has(&self, image: &str, line: &[u8]) -> Result<bool, AllocError> {
+        let Some(lines) = journal_lines(self.rt, image)? else {
+            return Ok(false);
+        };
+        let said = said_in(line.trim_ascii_end());
+        let mut rest = lines.as_slice();
+        for _ in 0..lines.len() {
+            if rest.is_empty() {
+                break;
+            }
+            let (line, after) = first_line(rest);
+            if said_in(line) == said {
+                return Ok(true);
+            }
+            rest = after;
+        }
+        Ok(false)
     }
 
     fn put(&mut self, line: &[u8]) -> io::Result<()> {
@@ -102,25 +130,63 @@ impl<'h, R: Files<File = File> + Eprint + AllocGlobal> Journal<'h, R> {
         }
         Ok(())
     }
+}
 
-    // Says why no more is written, without the number that the system's message has.
-    fn name_failure(&self, error: &io::Error) {
-        if let Ok(said) = format!(in self.rt.alloc(); "{error}") {
-            let words = without_number(said.as_str());
-            let _ = eprint!(self.rt; "mbdc: journal: {}: {words}\n", self.name);
-        }
+// What a line says after its moment.
+fn said_in(line: &[u8]) -> &[u8] {
+    match line.iter().position(|byte| *byte == b',') {
+        Some(at) => line.get(at..).unwrap_or(line),
+        None => line,
     }
+}
+
+// Says why a journal isn't used, without the number that the system's message has.
+fn name_failure<R: Eprint + AllocGlobal>(rt: &R, name: &str, error: &io::Error) {
+    if let Ok(said) = format!(in rt.alloc(); "{error}") {
+        let words = without_number(said.as_str());
+        let _ = eprint!(rt; "mbdc: journal: {name}: {words}\n");
+    }
+}
+
+// Opens what has that name, unless it is no journal of that image; none where there is nothing. A journal is a file of
+// its own that is empty or begins with an object. Opening a device or a pipe may do something.
+fn open_journal<R: Files<File = File>>(
+    rt: &R,
+    image: &str,
+    name: &str,
+) -> io::Result<Option<File>> {
+    let about = match fs::symlink_metadata(rt, name) {
+        Ok(about) => about,
+        Err(error) if error.kind() == ErrorKind::NotFound => return Ok(None),
+        Err(error) => return Err(error),
+    };
+    if !about.is_file() {
+        return Err(refused(NO_FILE));
+    }
+    let file = fs::open(rt, name)?;
+    let mut first = *b"{";
+    let mut reader = &file;
+    let _ = reader.read(&mut first)?;
+    let about = file.metadata()?;
+    let is_image = match fs::metadata(rt, image) {
+        Ok(own) => is_same_file(&own, &about),
+        Err(_) => false,
+    };
+    if is_image || first != *b"{" {
+        return Err(refused(NO_JOURNAL));
+    }
+    Ok(Some(file))
 }
 
 // The most bytes of a file that are read: the last ones.
 const MOST: u64 = 2 * FULL;
 
-/// The lines of an image's journal, first those of the file that was put aside; none where there is no such file, or
-/// none that can be read. Of each file the last 16 MiB are read.
+/// The lines of an image's journal, first those of the file that was put aside; none where there is no such file. Of each
+/// file the last 16 MiB are read. One that can't be read, or that is no journal, is named on standard error.
 ///
 /// # Errors
 /// Out of memory.
-pub fn journal_lines<R: Files<File = File> + AllocGlobal>(
+pub fn journal_lines<R: Files<File = File> + Eprint + AllocGlobal>(
     rt: &R,
     image: &str,
 ) -> Result<Option<Vec<u8>>, AllocError> {
@@ -129,15 +195,15 @@ pub fn journal_lines<R: Files<File = File> + AllocGlobal>(
     for end in [EARLIER, JOURNAL] {
         let name = format!(in rt.alloc(); "{image}{end}")?;
         let name = name.as_str();
-        // Opening a device or a pipe may do something.
-        if let Ok(about) = fs::metadata(rt, name)
-            && about.is_file()
-            && let Ok(file) = fs::open(rt, name)
-        {
-            is_there = true;
-            add_lines(&file, &mut lines)?;
-            // A line that is torn ends here.
-            lines.push(b'\n')?;
+        match open_journal(rt, image, name) {
+            Ok(Some(file)) => {
+                is_there = true;
+                add_lines(&file, &mut lines)?;
+                // A line that is torn ends here.
+                lines.push(b'\n')?;
+            }
+            Ok(None) => {}
+            Err(error) => name_failure(rt, name, &error),
         }
     }
     Ok(if is_there { Some(lines) } else { None })
@@ -168,4 +234,35 @@ fn add_lines(file: &File, lines: &mut Vec<u8>) -> Result<(), AllocError> {
     }
     lines.truncate(at);
     Ok(())
+}
+
+/// The lines of a journal that are of an image whose next reading gets that serial: those from its first reading on after
+/// the last one of another image, which has a serial that this image hasn't given.
+pub fn own_lines(lines: &[u8], next_serial: u64) -> &[u8] {
+    let mut own = lines;
+    let mut is_own = true;
+    let mut rest = lines;
+    for _ in 0..lines.len() {
+        if rest.is_empty() {
+            break;
+        }
+        let (line, after) = first_line(rest);
+        match serial_in(line) {
+            Some(serial) if serial >= next_serial => is_own = false,
+            Some(_) if !is_own => {
+                own = rest;
+                is_own = true;
+            }
+            _ => {}
+        }
+        rest = after;
+    }
+    if is_own { own } else { rest }
+}
+
+// The serial of a line of a reading.
+fn serial_in(line: &[u8]) -> Option<u64> {
+    let (_, after) = str::from_utf8(line).ok()?.split_once("\"serial\":")?;
+    let end = after.find(|it: char| !it.is_ascii_digit())?;
+    after.get(..end)?.parse().ok()
 }

@@ -7,7 +7,8 @@
 //! whole; no file that holds anything but zeros is touched. [`hold`] gives each closed standard stream to `/dev/null`,
 //! so that no image gets its number.
 //!
-//! [`Journal`] appends lines to the file beside an image, whose failures change nothing of a command.
+//! [`Journal`] appends lines to the file beside an image, whose failures change nothing of a command. [`journal_lines`]
+//! reads them, and [`own_lines`] are those of this image. What is no journal is neither read nor written.
 //!
 //! A [`Host`] is the system as the commands see it, with the record of its failed calls ([`Why`]). A
 //! [`Noted`] file or stream puts its failed calls there. [`holder_of`] names the process that has a file locked.
@@ -37,7 +38,7 @@ pub use holder::{holder_in, holder_of};
 pub use host::Host;
 pub use image::{open_image, open_to_look};
 pub use image_file::{ImageFile, open_disk};
-pub use journal::{Journal, journal_lines};
+pub use journal::{Journal, journal_lines, own_lines};
 pub use looking::{LookDisk, LookedAt, ROUNDS};
 pub use output::{ERRORS, Output, is_full};
 pub use patient::Patient;

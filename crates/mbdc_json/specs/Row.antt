@@ -59,17 +59,22 @@ abbrev pub number_in : Option Failing → ℕ
 number_in None = 0
 number_in (Some failing) = failing.number
 
+-- the later of both; at one moment the image's
+abbrev pub heard_in : Option ℕ → Option ℕ → Option ℕ
+heard_in noted held = if is_noted noted held then noted else held
+
+-- when the last readout failed, where nothing was heard since
+abbrev pub failed_by : Option Failing → Option ℕ → Option ℕ
+failed_by failing heard = if is_later (failing_at failing) heard then failing_at failing else None
+
 -- where there is a journal: whether the reading is its, and how the readouts since have failed
 abbrev pub told_by : Notes → Identity → Option ℕ → Option Told
 told_by journal meter held = if journal.is_there then Some (record {
   is_noted = is_noted (taken_at (noted_in journal.notes meter).read) held;
-  failed = failing_at (noted_in journal.notes meter).failing;
+  failed = failed_by (noted_in journal.notes meter).failing
+      (heard_in (taken_at (noted_in journal.notes meter).read) held);
   number = number_in (noted_in journal.notes meter).failing;
 }) else None
-
--- the later of both; at one moment the image's
-abbrev pub heard_in : Option ℕ → Option ℕ → Option ℕ
-heard_in noted held = if is_noted noted held then noted else held
 
 unfoldable pub heard_by : Notes → State → Identity → Option ℕ
 heard_by journal s meter = heard_in (taken_at (noted_in journal.notes meter).read) (heard s meter)

@@ -3,7 +3,7 @@
 ghost use Rattle.std.specs.Prelude.{◌≡◌, ◌≤◌, Some, None, IfSome, if◌then◌else◌, option_copied, option_map};
 ghost use Rattle.mbdc_change.specs.Fields.{last_moment};
 ghost use Rattle.mbdc_json.specs.Heard.{ago};
-ghost use Rattle.mbdc_json.specs.Row.{code_of, failing_at, failing_since, is_later, number_in, row_at};
+ghost use Rattle.mbdc_json.specs.Row.{code_of, failed_by, failing_since, is_later, number_in, row_at};
 ghost use Rattle.mbdc_json.specs.Row.{status_in, taken_at, within};
 
 use crate::journal::{Failing, Journal, Taken};
@@ -77,7 +77,7 @@ pub(crate) fn row_at<A: Allocator + Copy>(
         } else {
             code_of(part_in(last_reading(house, &place.meter)))
         },
-        told: told_by(journal.is_there(), is_noted, noted.failing),
+        told: told_by(journal.is_there(), is_noted, noted.failing, heard),
     }
 }
 
@@ -133,11 +133,29 @@ pub(crate) fn is_later(noted: Option<u64>, held: Option<u64>) -> bool
     }
 }
 
+// When the last readout failed, where nothing was heard since.
+fn failed_by(failing: Option<Failing>, heard: Option<u64>) -> Option<u64>
+    ensures failed { result ≡ failed_by failing heard }
+    ensures fits { IfSome result (λ moment. moment ≤ last_moment) }
+{
+    let failed = within(failing?.at);
+    if is_later(failed, heard) {
+        failed
+    } else {
+        None
+    }
+}
+
 // What the journal says, where there is one.
-fn told_by(is_there: bool, is_noted: bool, failing: Option<Failing>) -> Option<Told>
+fn told_by(
+    is_there: bool,
+    is_noted: bool,
+    failing: Option<Failing>,
+    heard: Option<u64>,
+) -> Option<Told>
     ensures told { result ≡ (if is_there then Some (record {
       is_noted = is_noted;
-      failed = failing_at failing;
+      failed = failed_by failing heard;
       number = number_in failing;
     }) else None) }
     ensures fits { IfSome result (λ told. IfSome told.failed (λ moment. moment ≤ last_moment)) }
@@ -145,17 +163,14 @@ fn told_by(is_there: bool, is_noted: bool, failing: Option<Failing>) -> Option<T
     if !is_there {
         return None;
     }
-    Some(match failing {
-        Some(failing) => Told {
-            is_noted,
-            failed: within(failing.at),
-            number: failing.number,
-        },
-        None => Told {
-            is_noted,
-            failed: None,
-            number: 0,
-        },
+    let number = match failing {
+        Some(failing) => failing.number,
+        None => 0,
+    };
+    Some(Told {
+        is_noted,
+        failed: failed_by(failing, heard),
+        number,
     })
 }
 
