@@ -57,6 +57,9 @@ const RESCUE: &str = "mbdc rescue IMAGE NEW writes what is left of it to a new i
 
 const RENEW: &str = "its counters are spent: mbdc rescue IMAGE NEW writes its state to a new image";
 
+// What stands before an option that `clap` takes for the one that was meant.
+const SIMILAR: &str = "a similar argument exists: '";
+
 // A line of up to this many bytes goes out as one write.
 const LINE: usize = 8_192;
 
@@ -237,10 +240,17 @@ fn told_by_clap(rt: &HostRuntime, error: &Error, words: &[String]) -> ExitCode
         return told(rt, &Ending::Memory);
     }
     if !error.use_stderr() {
-        return if rt.print(error).is_ok() && io::writer(rt).flush().is_ok() {
-            told(rt, &Ending::Clean)
-        } else {
-            told(rt, &Ending::File(STREAM))
+        let printed = match rt.print(error) {
+            Ok(()) => io::writer(rt).flush(),
+            Err(fault) => Err(fault),
+        };
+        return match printed {
+            Ok(()) => told(rt, &Ending::Clean),
+            // A reader that has seen enough, as head, is no mistake to tell a person of.
+            Err(fault) if fault.kind() == io::ErrorKind::BrokenPipe => {
+                ExitCode::from(Ending::File(STREAM).status())
+            }
+            Err(_) => told(rt, &Ending::File(STREAM)),
         };
     }
     match mistake(rt.alloc(), error, words) {
@@ -267,10 +277,19 @@ fn mistake(alloc: Global, error: &Error, words: &[String]) -> Result<String, All
         && let Some(word) = words.iter().skip(1).find(|word| !word.starts_with('-'))
         && let Some(command) = nearest(word)
     {
-        what.push_str("; did you mean ")?;
-        what.push_str(command)?;
-        what.push_str("?")?;
+        add_meant(&mut what, command)?;
+    }
+    if let Some((_, tip)) = text.as_str().split_once(SIMILAR)
+        && let Some((option, _)) = tip.split_once('\'')
+    {
+        add_meant(&mut what, option)?;
     }
     what.push_str("; try mbdc --help")?;
     Ok(what)
+}
+
+fn add_meant(what: &mut String, meant: &str) -> Result<(), AllocError> {
+    what.push_str("; did you mean ")?;
+    what.push_str(meant)?;
+    what.push_str("?")
 }
