@@ -9,7 +9,7 @@ FUNCTIONS = ("instantaneous", "maximum", "minimum", "error state")
 
 Object = dict[str, Any]
 
-REPORTED = ("moment", "utc", "status", "headline", "values", "also")  # of a reading's last telegram
+REPORTED = ("moment", "utc", "status", "headline", "values", "also")  # of a reading's telegrams
 
 
 def value_of(record: Object) -> str:
@@ -103,7 +103,7 @@ def poll_line_of(event: Object) -> str:
     body = f" {fault['number']} {fault['name']}" if fault else ""
     rest = {"read": ("meter", "serial", "parts"), "failed": ("meter", "number", "name"),
             "refused": ("meter", "number", "name"), "late": ("line", "answers"), "end": ("read", "failed")}[kind]
-    more = {"failed": ("line", "heard"), "read": REPORTED}.get(kind, ())
+    more = {"failed": ("line", "heard"), "read": ("bodies", *REPORTED)}.get(kind, ())
     assert list(event) == ["event", *rest, *(["fault"] if fault else []), *more], event
     assert list(event.get("heard", {})) in ([], ["silent", "noise", "others"]), event
     return " ".join([kind.upper(), *(str(event[field]) for field in rest)]) + body

@@ -12,8 +12,8 @@ use mbdc_looks::register_of;
 use std::alloc::Global;
 use std::str;
 
-/// The option whose words name meters, as its mistakes begin.
-pub const ONLY: &str = "--only ";
+// The option whose words name meters, as its mistakes begin.
+const ONLY: &str = "--only ";
 
 /// The meters that these names mean in the register of the image on that disk, which isn't written, and that register,
 /// where it reads.

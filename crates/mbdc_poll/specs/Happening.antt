@@ -6,6 +6,7 @@ use Rattle.mbdc_change.specs.State.{State, ReadingRow, PartRow}
 use Rattle.dc_core.specs.Event.{Event, starts, asks, hears, commits, offices}
 use Rattle.dc_core.specs.Transcript.{Turn}
 use Rattle.dc_meters.specs.Orders.{reading_of, serials_of}
+use Rattle.mbdc_shown.specs.Stand.{bodies_of}
 use Rattle.mbdc_poll.specs.declared.event.Event.{Event as Told}
 use Rattle.mbdc_poll.specs.declared.event.Event.TheVariants.{Read as was_read, Failed as has_failed}
 use Rattle.mbdc_poll.specs.declared.event.Event.TheVariants.{Refused as was_refused, Lost as is_lost}
@@ -87,13 +88,13 @@ last_of n (serial ∷ serials) = last_of serial serials
 abbrev pub newest_serial : Identity → State → ℕ
 newest_serial meter state = last_of 0 (serials_of meter state.readings)
 
-abbrev pub parts_in : Option ReadingRow → ℕ
-parts_in None = 0
-parts_in (Some reading) = length reading.parts
+abbrev pub bodies_in : Option ReadingRow → List (List ℕ)
+bodies_in None = []
+bodies_in (Some reading) = bodies_of reading.parts
 
--- the number of its parts
-abbrev pub newest_parts : Identity → State → ℕ
-newest_parts meter state = parts_in (reading_of (newest_serial meter state) state.readings)
+-- the bodies of its telegrams
+abbrev pub newest_bodies : Identity → State → List (List ℕ)
+newest_bodies meter state = bodies_in (reading_of (newest_serial meter state) state.readings)
 
 abbrev pub last_in : Option ReadingRow → Option PartRow
 last_in None = None

@@ -13,7 +13,7 @@ use Rattle.dc_core.specs.declared.fault.CommitFault.{CommitFault}
 use Rattle.dc_core.specs.declared.fault.HearFault.{HearFault}
 use Rattle.dc_core.specs.declared.line_heard.LineHeard.{LineHeard}
 use Rattle.dc_core.specs.declared.line_heard.LineHeard.TheVariants.{Accepted}
-use Rattle.mbdc_poll.specs.Happening.{Happening, does, tells, newest_serial, newest_parts, newest_last}
+use Rattle.mbdc_poll.specs.Happening.{Happening, does, tells, newest_serial, newest_bodies, newest_last}
 use Rattle.mbdc_poll.specs.declared.event.Event.{Event as Told}
 use Rattle.mbdc_poll.specs.declared.event.Event.TheVariants.{Read as was_read, Failed as has_failed}
 use Rattle.mbdc_poll.specs.declared.event.Event.TheVariants.{Refused as was_refused, Lost as is_lost}
@@ -134,10 +134,10 @@ pub data InRounds {T : Type 0} (told : T → ℕ → T → Type 0) (passes : T �
 
 -- ---- the events
 
--- the reading of an event is the newest one of its meter in the register, and the last part is that reading's
+-- the reading of an event is the newest one of its meter in the register, and the bodies and the last part are that reading's
 abbrev pub IsNewest : State → Told → Type 0
 IsNewest state (was_read meter serial parts last) =
-    (serial ≡ newest_serial meter state) × (parts ≡ newest_parts meter state)
+    (serial ≡ newest_serial meter state) × (parts ≡ newest_bodies meter state)
     × (last ≡ newest_last meter state)
 IsNewest state (has_failed at meter why brought) = Unit {0}
 IsNewest state (was_refused meter refusal) = Unit {0}

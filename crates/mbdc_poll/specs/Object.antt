@@ -1,8 +1,9 @@
 -- The events of a poll as JSON objects (RFC 8259; this product), a line each.
-use Rattle.std.specs.Prelude.{ℕ, List, [], ◌∷◌, ◌++◌, codes, flat_map}
+use Rattle.std.specs.Prelude.{ℕ, List, [], ◌∷◌, ◌++◌, Option, codes, flat_map, length, map}
 use Rattle.json.specs.Json.{Json, string}
 use Rattle.dc_address.specs.Text.{text_of}
 use Rattle.dc_address.specs.declared.identity.Identity.{Identity}
+use Rattle.mbdc_change.specs.State.{PartRow}
 use Rattle.mbdc_decode.specs.Content.{content_field}
 use Rattle.mbdc_decode.specs.JsonText.{value_line}
 use Rattle.dc_readout.specs.declared.misses.misses.Misses.{Misses}
@@ -12,9 +13,9 @@ use Rattle.dc_readout.specs.declared.why.Why.TheVariants.{ApplicationError, Cont
 use Rattle.dc_readout.specs.declared.why.Why.TheVariants.{TooManyParts}
 use Rattle.dc_readout.specs.Why.{number_of as why_number, name_of as why_name}
 use Rattle.dc_records.specs.Fault.{number_of as content_number, name_of as content_name}
-use Rattle.mbdc_decode.specs.Object.{Field, object_of as object_with, count}
+use Rattle.mbdc_decode.specs.Object.{Field, array_of, object_of as object_with, count}
 use Rattle.mbdc_poll.specs.Content.{untaken}
-use Rattle.mbdc_poll.specs.Read.{last_fields}
+use Rattle.mbdc_poll.specs.Read.{hex_json, last_fields}
 use Rattle.mbdc_poll.specs.Refusal.{refusal_number, refusal_name}
 use Rattle.mbdc_poll.specs.declared.brought.Brought.{Brought}
 use Rattle.mbdc_poll.specs.declared.end.Refusal.{Refusal}
@@ -72,15 +73,19 @@ unfoldable pub refused_fields : Identity → Refusal → List Field
 refused_fields meter refusal = (event_field (codes "refused") ∷ meter_field meter ∷ [])
     ++ fault_fields (refusal_number refusal) (refusal_name refusal)
 
--- what was read, the reading's serial and number of parts, and what the last part reports
-unfoldable pub read_fields : Identity → ℕ → ℕ → List Field → List Field
+-- the bodies of telegrams
+unfoldable pub bodies_field : List (List ℕ) → Field
+bodies_field bodies = (codes "bodies", array_of (map hex_json bodies))
+
+-- what was read, the reading's serial, the number and the bodies of its parts, and what they report
+unfoldable pub read_fields : Identity → ℕ → List (List ℕ) → Option PartRow → List Field
 read_fields meter serial parts last =
     (event_field (codes "read") ∷ meter_field meter ∷ count_field (codes "serial") serial
-    ∷ count_field (codes "parts") parts ∷ []) ++ last
+    ∷ count_field (codes "parts") (length parts) ∷ bodies_field parts ∷ []) ++ last_fields meter.kind parts last
 
 -- THE FIELDS OF AN EVENT.
 abbrev pub fields_of : Event → List Field
-fields_of (Read meter serial parts last) = read_fields meter serial parts (last_fields last)
+fields_of (Read meter serial parts last) = read_fields meter serial parts last
 fields_of (Failed line meter why brought) = failed_fields line meter why brought
 fields_of (Refused meter refusal) = refused_fields meter refusal
 fields_of (Lost line) = event_field (codes "lost") ∷ count_field (codes "line") line ∷ []

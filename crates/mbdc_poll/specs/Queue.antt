@@ -52,7 +52,7 @@ IsUnpending (Over end) = Unit {0}
 -- such an event says how a readout ended
 abbrev pub IsToldAs : End → Told → Type 0
 IsToldAs (Read meter) told =
-    (serial parts : ℕ) × (last : Option PartRow) × (told ≡ was_read meter serial parts last)
+    (serial : ℕ) × (parts : List (List ℕ)) × (last : Option PartRow) × (told ≡ was_read meter serial parts last)
 IsToldAs (Failed meter why) told =
     (at : ℕ) × (brought : Brought) × (told ≡ has_failed at meter why brought)
 IsToldAs (Refused meter refusal) told = told ≡ was_refused meter refusal

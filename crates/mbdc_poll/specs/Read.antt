@@ -1,17 +1,24 @@
--- What the last part of a reading reports (this product).
+-- What the telegrams of a reading report (this product).
 use Rattle.std.specs.Prelude.{ℕ, List, [], Option, None, Some, Result, Ok, Err}
+use Rattle.json.specs.Json.{Json, string}
 use Rattle.mbdc_change.specs.State.{PartRow}
+use Rattle.mbdc_io.specs.Hex.{upper_hex}
 use Rattle.mbdc_shown.specs.Reported.{reported_fields}
+use Rattle.mbdc_shown.specs.Stand.{bodies_sent}
 use Rattle.dc_records.specs.Telegram.{Parsed, telegram_at}
 use Rattle.dc_records.specs.declared.fault.BodyFault.{BodyFault}
 use Rattle.mbdc_decode.specs.Object.{Field}
 
--- what a telegram reports, which a part always is
-abbrev pub reported_by : ℕ → Result Parsed BodyFault → List Field
-reported_by moment (Ok telegram) = reported_fields moment telegram
-reported_by moment (Err fault) = []
+-- the bytes of a body
+abbrev pub hex_json : List ℕ → Json
+hex_json body = string (upper_hex body)
 
--- what the last part reports: its moment, its status and its current values
-abbrev pub last_fields : Option PartRow → List Field
-last_fields None = []
-last_fields (Some part) = reported_by part.moment (telegram_at part.body)
+-- what all telegrams report; the last one, which a part always is, has the status
+abbrev pub reported_by : ℕ → ℕ → List (List ℕ) → Result Parsed BodyFault → List Field
+reported_by moment kind bodies (Ok telegram) = reported_fields moment telegram.header.status kind (bodies_sent bodies)
+reported_by moment kind bodies (Err fault) = []
+
+-- with the moment and the status of the last part, of a meter of this device type
+abbrev pub last_fields : ℕ → List (List ℕ) → Option PartRow → List Field
+last_fields kind bodies None = []
+last_fields kind bodies (Some part) = reported_by part.moment kind bodies (telegram_at part.body)

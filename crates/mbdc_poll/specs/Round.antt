@@ -12,7 +12,7 @@ use Rattle.mbdc_poll.specs.Bus.{Bus}
 use Rattle.dc_core.specs.Went.{BehindAnyRun, Went}
 use Rattle.mbdc_poll.specs.Happening.{Happening, does, tells, happened_on, happened_events}
 use Rattle.mbdc_poll.specs.Happening.{happened_turns, reads_in}
-use Rattle.mbdc_poll.specs.Happening.{failures_in, newest_serial, newest_parts, newest_last}
+use Rattle.mbdc_poll.specs.Happening.{failures_in, newest_serial, newest_bodies, newest_last}
 use Rattle.mbdc_poll.specs.declared.brought.Brought.{Brought}
 use Rattle.mbdc_poll.specs.declared.end.End.{End}
 use Rattle.mbdc_poll.specs.declared.end.End.TheVariants.{Read, Failed, Refused}
@@ -184,7 +184,7 @@ meters_left {B} stations = sum (map (λ (s : Station B). length s.left.now) stat
 -- the event of an end on this line, by the register and what the tries of the readout brought
 abbrev pub told_of : State → ℕ → Brought → End → Told
 told_of state line brought (Read meter) =
-    was_read meter (newest_serial meter state) (newest_parts meter state) (newest_last meter state)
+    was_read meter (newest_serial meter state) (newest_bodies meter state) (newest_last meter state)
 told_of state line brought (Failed meter why) = has_failed line meter why brought
 told_of state line brought (Refused meter refusal) = was_refused meter refusal
 

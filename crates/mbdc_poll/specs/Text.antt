@@ -1,5 +1,5 @@
 -- The events of a poll as lines of text (this product).
-use Rattle.std.specs.Prelude.{ℕ, List, ◌++◌, codes, flat_map}
+use Rattle.std.specs.Prelude.{ℕ, List, ◌++◌, codes, flat_map, length}
 use Rattle.dc_address.specs.Text.{text_of}
 use Rattle.dc_address.specs.declared.identity.Identity.{Identity}
 use Rattle.mbdc_io.specs.Words.{number_word}
@@ -39,7 +39,7 @@ refused_line meter refusal = codes "REFUSED " ++ (text_of meter
 -- THE LINE OF AN EVENT.
 abbrev pub line_of : Event → List ℕ
 line_of (Read meter serial parts last) = codes "READ " ++ (text_of meter
-    ++ (number_word serial ++ (number_word parts ++ codes "\n")))
+    ++ (number_word serial ++ (number_word (length parts) ++ codes "\n")))
 line_of (Failed line meter why brought) = failed_line meter why
 line_of (Refused meter refusal) = refused_line meter refusal
 line_of (Lost line) = codes "LINE" ++ (number_word line ++ codes " LOST\n")

@@ -5,6 +5,7 @@ use crate::end::Refusal;
 use crate::last_part::LastPart;
 use dc_address::Identity;
 use dc_readout::Why;
+use mbdc_shown::Bodies;
 
 /// An event of a poll.
 #[derive(Drop)]
@@ -15,9 +16,9 @@ pub enum Event<'a> {
         meter: Identity,
         /// The serial of its reading.
         serial: u64,
-        /// Number of telegrams of the reading.
-        parts: u64,
-        /// The last one, if the register holds the reading.
+        /// The bodies of the reading's telegrams.
+        bodies: Bodies<'a>,
+        /// The last telegram, if the register holds the reading.
         last: Option<LastPart<'a>>,
     },
     /// The last readout of a meter failed.

@@ -1,27 +1,28 @@
 //! The newest reading of a meter in a register.
 
 ghost use Rattle.std.specs.Prelude.{◌≡◌, option_copied};
-ghost use Rattle.mbdc_poll.specs.Happening.{newest_serial, newest_parts, newest_last};
-ghost use Rattle.mbdc_poll.specs.Happening.{parts_in, last_in};
+ghost use Rattle.mbdc_poll.specs.Happening.{newest_serial, newest_bodies, newest_last};
+ghost use Rattle.mbdc_poll.specs.Happening.{bodies_in, last_in};
 ghost use Rattle.mbdc_poll.specs.declared.event.Event.TheVariants.{Read};
 
 use crate::event::Event;
 use crate::last_part::LastPart;
 use dc_address::Identity;
 use dc_meters::{House, Reading};
+use mbdc_shown::Bodies;
 use std::alloc::Allocator;
 
 /// The event of a meter that was read, with its newest reading.
 pub(crate) fn newest_reading<A: Allocator + Copy>(house: &House<A>, meter: Identity) -> Event<'_>
     ensures { result ≡ Read meter (newest_serial meter house.now.state)
-        (newest_parts meter house.now.state) (newest_last meter house.now.state) }
+        (newest_bodies meter house.now.state) (newest_last meter house.now.state) }
 {
     let serial = newest_serial(house, &meter);
     let reading = house.reading(serial);
     Event::Read {
         meter,
         serial,
-        parts: parts_in(reading) as u64,
+        bodies: bodies_in(reading),
         last: last_in(reading),
     }
 }
@@ -37,13 +38,13 @@ fn newest_serial<A: Allocator + Copy>(house: &House<A>, meter: &Identity) -> u64
     newest
 }
 
-// Number of parts of a reading.
-fn parts_in<A: Allocator>(reading: Option<&Reading<A>>) -> usize
-    ensures { result ≡ parts_in (option_copied reading.entry) }
+// The bodies of a reading's telegrams.
+fn bodies_in<A: Allocator>(reading: Option<&Reading<A>>) -> Bodies<'_>
+    ensures { result ≡ bodies_in (option_copied reading.entry) }
 {
     match reading {
-        Some(reading) => reading.parts().len(),
-        None => 0,
+        Some(reading) => Bodies::of(reading.parts()),
+        None => Bodies::none(),
     }
 }
 

@@ -201,7 +201,7 @@ module _ (budget line : ℕ) (state : State) (wire : Wire) (all : List Turn) (ch
   last_serial n (r ∷ rows) row = last_serial r.serial rows row
 
   -- where all is committed, the newest reading is that in which the readout ended
-  new_at : (x m : Identity) (serial parts : ℕ) (last : Option PartRow) (before more : List Turn) (now : Line) → all ≡ before ++ more → Since x before now → session_of (core_at before) line ≡ None → IsSettled (store_behind some_wait before) → IsNewest (present (core_at before)) (told_read m serial parts last) → m ≡ x → New x serial
+  new_at : (x m : Identity) (serial : ℕ) (parts : List (List ℕ)) (last : Option PartRow) (before more : List Turn) (now : Line) → all ≡ before ++ more → Since x before now → session_of (core_at before) line ≡ None → IsSettled (store_behind some_wait before) → IsNewest (present (core_at before)) (told_read m serial parts last) → m ≡ x → New x serial
   new_at x m serial parts last before more now is s free kept newest same =
       let chain_here = (chain_parts budget (opened state) before more (subst (IsChain budget (opened state)) is chain)).0 in
       let of = all_left IsOfLines before more (subst (AllByRecursion IsOfLines) is of_all) in

@@ -41,7 +41,7 @@ use Rattle.mbdc_theorems.proofs.OneRun.{acked, asks_none, commits_it, commits_no
 -- ---- what happens
 
 abbrev told : Told
-told = was_read one 1 1 (Some part)
+told = was_read one 1 (part.body ∷ []) (Some part)
 
 abbrev happened : List Happening
 happened = does commits_none ∷ does starts_it ∷ does resets_it ∷ does hears_ack ∷ does commits_none ∷ does requests_it ∷ does hears_it ∷ does commits_it ∷ does asks_none ∷ does commits_none ∷ tells 1 told ∷ []
@@ -55,7 +55,7 @@ last = record first { left = record first.left { now = [] }; due = 0; brought = 
 -- ---- the line
 
 goes_it : Goes 1 1 (part_of first) happened (part_of last)
-goes_it = queue.stands_by tt (queue.starts_it (omega arith) (queue.asks_it (queue.goes_on tt (queue.stands_by tt (queue.asks_it (queue.is_accepted (queue.is_stored (queue.has_no_request (queue.stands_by tt (queue.is_told (1, 1, Some part, refl) queue.stays))))))))))
+goes_it = queue.stands_by tt (queue.starts_it (omega arith) (queue.asks_it (queue.goes_on tt (queue.stands_by tt (queue.asks_it (queue.is_accepted (queue.is_stored (queue.has_no_request (queue.stands_by tt (queue.is_told (1, part.body ∷ [], Some part, refl) queue.stays))))))))))
 
 not_lost : told ≢ is_lost 1
 not_lost e = absurd cc

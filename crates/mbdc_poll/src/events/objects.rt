@@ -1,15 +1,16 @@
 //! The events of a poll as JSON objects (RFC 8259).
 
+ghost use Rattle.std.specs.Prelude.{map};
 ghost use Rattle.json.specs.Tree.{json_tokens};
 ghost use Rattle.mbdc_io.specs.Written.{Wrote};
 ghost use Rattle.mbdc_decode.specs.Content.{content_field};
 ghost use Rattle.mbdc_decode.specs.JsonText.{value_line};
-ghost use Rattle.mbdc_decode.specs.Object.{fields_tokens};
+ghost use Rattle.mbdc_decode.specs.Object.{fields_tokens, values_tokens};
 ghost use Rattle.mbdc_decode.specs.Writing.{Added};
 ghost use Rattle.mbdc_poll.specs.Content.{untaken};
 ghost use Rattle.mbdc_poll.specs.Object.{body_fields, failed_fields, fault_fields, fields_of, heard_fields};
 ghost use Rattle.mbdc_poll.specs.Object.{json_of, object_of, read_fields, refused_fields};
-ghost use Rattle.mbdc_poll.specs.Read.{last_fields};
+ghost use Rattle.mbdc_poll.specs.Read.{hex_json, last_fields};
 
 use crate::events::content::untaken;
 use crate::{Brought, Event, LastPart, Refusal, Teller};
@@ -20,7 +21,7 @@ use mbdc_decode::objects::Cell::{Number, Text};
 use mbdc_decode::objects::{put_content, put_row};
 use mbdc_decode::tokens::TokenWriter;
 use mbdc_io::{IoFault, Sink};
-use mbdc_shown::put_reported;
+use mbdc_shown::{Bodies, put_reported};
 
 /// Prints a JSON object for each event, in a line of its own.
 #[derive(Drop)]
@@ -70,9 +71,9 @@ fn put_fields<W: Sink>(out: &mut TokenWriter<'_, W>, event: &Event<'_>)
         Event::Read {
             meter,
             serial,
-            parts,
+            bodies,
             last,
-        } => put_read(out, meter, *serial, *parts, last),
+        } => put_read(out, meter, *serial, bodies, last),
         Event::Failed {
             line,
             meter,
@@ -103,16 +104,16 @@ fn put_fields<W: Sink>(out: &mut TokenWriter<'_, W>, event: &Event<'_>)
     }
 }
 
-// Writes the fields of a meter that was read, and what the last part of its reading reports.
+// Writes the fields of a meter that was read: the bodies of its telegrams, and what they report.
 fn put_read<W: Sink>(
     out: &mut TokenWriter<'_, W>,
     meter: &Identity,
     serial: u64,
-    parts: u64,
+    bodies: &Bodies<'_>,
     last: &Option<LastPart<'_>>,
 )
     ensures { Added W.Sink out.old out.new
-        (fields_tokens (read_fields meter.now serial parts (last_fields last.now))) }
+        (fields_tokens (read_fields meter.now serial bodies.now last.now)) }
 {
     put_row(
         out,
@@ -120,17 +121,44 @@ fn put_read<W: Sink>(
             Text("event", b"read"),
             Text("meter", &meter.text()),
             Number("serial", serial),
-            Number("parts", parts),
+            Number("parts", bodies.len() as u64),
         ],
     );
-    put_last(out, last);
+    out.put_name("bodies");
+    out.begin_array();
+    put_bodies(out, bodies.as_slice());
+    out.end_array();
+    put_last(out, meter.kind, bodies, last);
 }
 
-fn put_last<W: Sink>(out: &mut TokenWriter<'_, W>, last: &Option<LastPart<'_>>)
-    ensures { Added W.Sink out.old out.new (fields_tokens (last_fields last.now)) }
+// Writes bodies in hex digits, as items of an array.
+fn put_bodies<W: Sink>(out: &mut TokenWriter<'_, W>, bodies: &[&[u8]])
+    ensures { Added W.Sink out.old out.new
+        (values_tokens (map hex_json (map (λ s. s.now) bodies.now))) }
+{
+    if let [body, rest @ ..] = bodies {
+        out.put_hex_string(body);
+        put_bodies(out, rest);
+    }
+}
+
+// Writes what the telegrams report, the last of which is this part.
+fn put_last<W: Sink>(
+    out: &mut TokenWriter<'_, W>,
+    kind: u8,
+    bodies: &Bodies<'_>,
+    last: &Option<LastPart<'_>>,
+)
+    ensures { Added W.Sink out.old out.new (fields_tokens (last_fields kind bodies.now last.now)) }
 {
     if let Some(part) = last {
-        put_reported(out, part.moment(), &part.telegram());
+        put_reported(
+            out,
+            part.moment(),
+            part.telegram().header().status,
+            kind,
+            bodies,
+        );
     }
 }
 

@@ -48,7 +48,7 @@ pub fn put_line<W: Sink>(out: &mut W, event: &Event<'_>) -> Result<(), IoFault>
         Event::Read {
             meter,
             serial,
-            parts,
+            bodies,
             ..
         } => put_pieces(
             out,
@@ -56,7 +56,7 @@ pub fn put_line<W: Sink>(out: &mut W, event: &Event<'_>) -> Result<(), IoFault>
                 Text(b"READ "),
                 Text(&meter.text()),
                 Word(*serial),
-                Word(*parts),
+                Word(bodies.len() as u64),
                 Text(b"\n"),
             ],
         ),
