@@ -24,7 +24,8 @@ def row_of(fields: str) -> Row:
     """A row by its fields, and those of the row that it is made from."""
     base = re.search(r"\.\.(\w+)", fields)
     given = re.findall(r'^ *(\w+): (?:Some\(|&\[)?(?:"(.*)"|(?:\w+::)*([\w ,(]*)).*$', fields, re.M)
-    return {**(constant(base[1]) if base else {}), **{name: quoted or word.rstrip(",") for name, quoted, word in given}}
+    own = {name: quoted.replace('", "', " ") or word.rstrip(",") for name, quoted, word in given}
+    return {**(constant(base[1]) if base else {}), **own}
 
 
 @functools.cache
@@ -102,7 +103,8 @@ def synopsis_of(name: str) -> str:
     for row, word in zip(rows, words):
         other = next((it for it, of in zip(words, rows) if row["id"] in of["others"].split() or of["id"] in row["others"].split()), None)
         if other and words.index(other) < words.index(word):
-            shown[shown.index(f"[{other}]")] = f"[{other} | {word}]"
+            place = next(at for at, it in enumerate(shown) if other in it)
+            shown[place] = f"{shown[place][:-1]} | {word}]"
         else:
             shown.append((word if is_required(row) else f"[{word}]") + "..." * (row["action"] == "Append"))
     return " ".join(shown)

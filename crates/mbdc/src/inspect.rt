@@ -5,14 +5,18 @@ use mbdc_commands::look_ending;
 use mbdc_ending::{Ending, ProgramFault, STREAM, ending_of};
 use mbdc_files::{Host, LookedAt, Output, ROUNDS, journal_lines, own_lines};
 use mbdc_io::NoMemory;
-use mbdc_json::journal::{Journal, Keeps, read_journal};
+use mbdc_json::journal::{Journal, read_journal};
 use mbdc_log::Greatest;
 use mbdc_looks::{Asked, Form, Outlook, Report, Shown, answer, register_of, scan};
+use mbdc_words::Layout;
 use std::alloc::Global;
 use std::fs::File;
 use std::io;
 use std::io::Write;
 use std::rt::{Clock, Files};
+
+// Seconds after which a meter is silent where nothing is said of it: the default of `status`.
+const SILENT: u64 = 172_800;
 
 // The mistake of a word that names no table.
 const NO_TABLE: &str =
@@ -51,10 +55,9 @@ fn journal_for<'a, R: Files<File = File> + Clock + Eprint + AllocGlobal>(
     image: &str,
 ) -> Result<Journal<Global>, Ending<'a>> {
     let alloc = host.rt.alloc();
-    let (now, keeps) = match (asked, clock::moment(host.rt)) {
-        (Asked::Status(_, clock), _) => (clock.now, Keeps::Nothing),
-        (Asked::Values(Form::Text), Some(moment)) => (moment.seconds, Keeps::Lines),
-        (Asked::Values(Form::Json), Some(moment)) => (moment.seconds, Keeps::Line),
+    let now = match (asked, clock::moment(host.rt)) {
+        (Asked::Status(_, clock) | Asked::Overview(clock), _) => clock.now,
+        (Asked::Values(_), Some(moment)) => moment.seconds,
         _ => return Ok(Journal::none(alloc)),
     };
     match journal_lines(host.rt, image) {
@@ -62,7 +65,6 @@ fn journal_for<'a, R: Files<File = File> + Clock + Eprint + AllocGlobal>(
             alloc,
             own_lines(lines.as_slice(), next_serial(host, image)),
             now,
-            keeps,
         ) {
             Ok(journal) => Ok(journal),
             Err(NoMemory) => Err(Ending::Memory),
@@ -150,9 +152,39 @@ where
     look_into(host, Asked::Table(report, form_of(is_json)), image)
 }
 
-/// The form of a text, or of JSON Lines.
-pub fn form_of(is_json: bool) -> Form {
+// The form of a text, or of JSON Lines.
+fn form_of(is_json: bool) -> Form {
     if is_json { Form::Json } else { Form::Text }
+}
+
+/// How what the meters say is printed, where standard output is a terminal or isn't.
+pub fn shown_as(layout: Layout, is_terminal: bool) -> Layout {
+    match (layout, is_terminal) {
+        (Layout::Default, true) => Layout::Table,
+        (Layout::Default, false) => Layout::Lines,
+        (layout, _) => layout,
+    }
+}
+
+/// Prints what the meters of the image in that file stand at; whether one is silent isn't asked.
+pub fn tell_values<'a, R>(host: &Host<'_, R>, image: &'a str, layout: Layout) -> Ending<'a>
+where
+    R: Files<File = File> + Clock + Print + Eprint + AllocGlobal,
+{
+    let asked = match layout {
+        Layout::Table => return heard_of(tell_status(host, image, SILENT, layout)),
+        Layout::Json => Asked::Values(Form::Json),
+        Layout::Lines | Layout::Default => Asked::Values(Form::Text),
+    };
+    look_into(host, asked, image)
+}
+
+// The ending of a look that doesn't ask whether a meter is silent.
+fn heard_of(ending: Ending<'_>) -> Ending<'_> {
+    match ending {
+        Ending::Faulty => Ending::Clean,
+        ending => ending,
+    }
 }
 
 /// Prints when the meters of the image in that file were last heard; one is silent after `silent` seconds.
@@ -160,7 +192,7 @@ pub fn tell_status<'a, R>(
     host: &Host<'_, R>,
     image: &'a str,
     silent: u64,
-    is_json: bool,
+    layout: Layout,
 ) -> Ending<'a>
 where
     R: Files<File = File> + Clock + Print + Eprint + AllocGlobal,
@@ -172,5 +204,10 @@ where
         now: moment.seconds,
         patience: silent,
     };
-    look_into(host, Asked::Status(form_of(is_json), clock), image)
+    let asked = match layout {
+        Layout::Table => Asked::Overview(clock),
+        Layout::Json => Asked::Status(Form::Json, clock),
+        Layout::Lines | Layout::Default => Asked::Status(Form::Text, clock),
+    };
+    look_into(host, asked, image)
 }

@@ -72,7 +72,7 @@ fn answer(rt: &HostRuntime, call: &Call<'_>) -> ExitCode {
         why: &why,
         is_watched: rt.stderr().is_terminal(),
     };
-    let ending = tasks::run(&host, &call.task);
+    let ending = tasks::run(&host, &call.task, rt.stdout().is_terminal());
     // A reader that has seen enough, as head, is no mistake to tell a person of.
     if host.is_watched && is_cut_off(&ending, &why) {
         return ExitCode::from(ending.status());

@@ -3,7 +3,7 @@
 use crate::bench::on_bus;
 use crate::demo;
 use crate::fit::fit_on_image;
-use crate::inspect::{form_of, look_into, report_on_image, tell_status};
+use crate::inspect::{look_into, report_on_image, shown_as, tell_status, tell_values};
 use crate::order::order_on_image;
 use crate::pointed::Pointed;
 use crate::poll::poll_on_image;
@@ -18,7 +18,7 @@ use mbdc_files::{Host, Noted, Output, back_up, format_image};
 use mbdc_io::{Buffered, Bytes, ReadSource, Sink, Source, WriteSink};
 use mbdc_json::explain_lines;
 use mbdc_looks::Asked;
-use mbdc_words::{Engine, Form, Task};
+use mbdc_words::{Engine, Form, Layout, Task};
 use std::alloc::{Allocator, Global};
 use std::fs::File;
 use std::io::{Read, Write};
@@ -29,8 +29,8 @@ use std::{fs, io, str};
 /// Number of bytes that go to standard output at once.
 pub const ROOM: usize = 65_536;
 
-/// Runs the task that the words name.
-pub fn run<'a, R>(host: &Host<'a, R>, task: &Task<'a>) -> Ending<'a>
+/// Runs the task that the words name; `is_terminal` says that standard output is one.
+pub fn run<'a, R>(host: &Host<'a, R>, task: &Task<'a>, is_terminal: bool) -> Ending<'a>
 where
     R: Files<File = File>
         + Net<Stream = TcpStream, Listener = TcpListener>
@@ -55,20 +55,25 @@ where
             is_json,
         } => report_on_image(host, image, table, *is_json),
         Task::Inspect { image } => look_into(host, Asked::Contents, image),
-        Task::Values { image, is_json } => {
-            look_into(host, Asked::Values(form_of(*is_json)), image)
-        }
+        Task::Values { image, layout } => tell_values(host, image, shown_as(*layout, is_terminal)),
         Task::Status {
             image,
             silent,
-            is_json,
-        } => tell_status(host, image, *silent, *is_json),
+            layout,
+        } => tell_status(host, image, *silent, shown_as(*layout, is_terminal)),
         Task::Fit { image, list } => fit_on_image(host, image, list),
         Task::Order(task) => order_on_image(host, task),
         Task::Copy { image, file } => back_up(host, image, file),
         Task::Rescue { image, file } => rescue_image(host, image, file),
         Task::Bus(task) => on_bus(host, task),
-        Task::Poll(task) => poll_on_image(host, task),
+        Task::Poll(task) => {
+            let ending = poll_on_image(host, task);
+            let is_polled = matches!(ending, Ending::Clean | Ending::Faulty);
+            if is_terminal && is_polled && !task.is_json {
+                let _ = tell_values(host, task.image, Layout::Table);
+            }
+            ending
+        }
         Task::Demo => demo::play(host),
     }
 }

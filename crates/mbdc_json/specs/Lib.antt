@@ -20,6 +20,8 @@ pub mod Row
 pub mod Status
 -- the same as JSON objects
 pub mod Object
+-- the table for a person
+pub mod Overview
 -- what SILENT, ROOM and DAYS mean
 pub mod Laws
 -- of the module `journal`

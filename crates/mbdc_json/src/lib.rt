@@ -10,10 +10,12 @@
 mod explain;
 pub mod journal;
 pub mod latest;
+mod overview;
 mod place;
 pub mod status;
 mod table;
 mod values;
 
 pub use explain::explain_lines;
+pub use overview::put_overview;
 pub use values::put_value_objects;

@@ -18,8 +18,9 @@ mod row;
 mod silence;
 
 pub use laws::rows_mean_what_they_say;
+pub(crate) use lines::failure_name;
 pub use lines::put_status;
 pub use object::put_status_objects;
-pub(crate) use row::{is_later, taken_at};
+pub(crate) use row::{Row, Told, is_later, row_at, taken_at};
 pub(crate) use silence::moment_of;
 pub use silence::{Clock, any_silent};

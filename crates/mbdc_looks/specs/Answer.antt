@@ -15,10 +15,11 @@ use Rattle.mbdc_looks.specs.Report.{due_lines, register_lines}
 use Rattle.mbdc_json.specs.Values.{values_lines}
 use Rattle.mbdc_json.specs.Latest.{values_text}
 use Rattle.mbdc_json.specs.Object.{status_objects}
+use Rattle.mbdc_json.specs.Overview.{overview_text}
 use Rattle.mbdc_json.specs.Status.{any_silent, status_text}
 use Rattle.mbdc_json.specs.declared.status.silence.Clock.{Clock}
 use Rattle.mbdc_looks.specs.declared.asking.Asked.{Asked}
-use Rattle.mbdc_looks.specs.declared.asking.Asked.TheVariants.{Contents, Values, Status, Table}
+use Rattle.mbdc_looks.specs.declared.asking.Asked.TheVariants.{Contents, Values, Status, Overview, Table}
 use Rattle.mbdc_looks.specs.declared.asking.Form.{Form}
 use Rattle.mbdc_looks.specs.declared.asking.Form.TheVariants.{Text, Json}
 use Rattle.mbdc_looks.specs.declared.asking.Report.{Report}
@@ -51,6 +52,7 @@ abbrev pub house_text : Asked → Notes → Held → List ℕ
 house_text Contents journal house = []
 house_text (Values form) journal house = values_in form journal house.state
 house_text (Status form clock) journal house = status_in form clock journal house
+house_text (Overview clock) journal house = overview_text clock.patience clock.now journal house.state
 house_text (Table report form) journal house = table_text form report house.state
 
 abbrev pub seen_house : Asked → Notes → ℕ → Option Seen → List ℕ
@@ -63,6 +65,7 @@ contents_text Contents sectors first second seen outlook =
     number_line (codes "DISK") sectors ++ image_text (half_len_of sectors) first second seen outlook
 contents_text (Values form) sectors first second seen outlook = []
 contents_text (Status form clock) sectors first second seen outlook = []
+contents_text (Overview clock) sectors first second seen outlook = []
 contents_text (Table report form) sectors first second seen outlook = []
 
 -- of a disk that is too small for an image
@@ -70,6 +73,7 @@ abbrev pub small_text : Asked → ℕ → List ℕ
 small_text Contents sectors = number_line (codes "DISK") sectors ++ refused_line NotImage
 small_text (Values form) sectors = []
 small_text (Status form clock) sectors = []
+small_text (Overview clock) sectors = []
 small_text (Table report form) sectors = []
 
 -- whether a meter is silent; only who asks for the status hears of it
@@ -78,6 +82,7 @@ is_silent asked journal None = false
 is_silent Contents journal (Some seen) = false
 is_silent (Values form) journal (Some seen) = false
 is_silent (Status form clock) journal (Some seen) = any_silent clock.patience clock.now journal seen.state
+is_silent (Overview clock) journal (Some seen) = any_silent clock.patience clock.now journal seen.state
 is_silent (Table report form) journal (Some seen) = false
 
 pub record IsSmall (asked : Asked) (sectors : ℕ) (text : List ℕ) (outlook : Outlook) (silent : Bool)

@@ -24,8 +24,8 @@ use mbdc_ending::ProgramFault;
 use mbdc_io::{Bytes, IoFault, NoMemory, Sink};
 use mbdc_json::journal::Journal;
 use mbdc_json::latest::put_values;
-use mbdc_json::put_value_objects;
 use mbdc_json::status::{Clock, any_silent, put_status, put_status_objects};
+use mbdc_json::{put_overview, put_value_objects};
 use mbdc_log::{FEWEST_SECTORS, Greatest, OpenFault, greatest_of, half_len_of};
 use std::alloc::Allocator;
 
@@ -110,6 +110,7 @@ fn add_house<A: Allocator + Copy>(
         Asked::Values(Form::Text) => kept(put_values(text, house, journal)),
         Asked::Values(Form::Json) => kept(put_value_objects(text, house, journal)),
         Asked::Status(form, clock) => kept(put_status_in(text, *form, *clock, journal, house)),
+        Asked::Overview(clock) => kept(put_overview(text, house, *clock, journal)),
         Asked::Table(report, form) => add_table(alloc, house, *report, *form, text),
     }
 }
@@ -133,7 +134,7 @@ fn add_contents<A: Allocator + Copy>(
             put_number_line(text, b"DISK", u64::from(sectors))?;
             put_image(text, half_len_of(sectors), slots, look)
         }
-        Asked::Values(_) | Asked::Status(..) | Asked::Table(..) => Ok(()),
+        Asked::Values(_) | Asked::Status(..) | Asked::Overview(_) | Asked::Table(..) => Ok(()),
     }
 }
 
@@ -142,7 +143,9 @@ fn has_silent<A: Allocator + Copy>(asked: &Asked, journal: &Journal<A>, look: &L
     ensures { result ≡ is_silent asked.now journal.now (option_map seen_of look.now.found) }
 {
     match (&look.found, asked) {
-        (Some(found), Asked::Status(_, clock)) => any_silent(&found.house, *clock, journal),
+        (Some(found), Asked::Status(_, clock) | Asked::Overview(clock)) => {
+            any_silent(&found.house, *clock, journal)
+        }
         (Some(_), Asked::Contents | Asked::Values(_) | Asked::Table(..)) => false,
         (None, _) => false,
     }
@@ -180,7 +183,7 @@ fn answer_small<A: Allocator>(alloc: A, sectors: u32, asked: Asked) -> Result<By
     let mut text = Bytes::new(alloc);
     match asked {
         Asked::Contents => kept(put_small(&mut text, sectors))?,
-        Asked::Values(_) | Asked::Status(..) | Asked::Table(..) => {}
+        Asked::Values(_) | Asked::Status(..) | Asked::Overview(_) | Asked::Table(..) => {}
     }
     Ok(text)
 }

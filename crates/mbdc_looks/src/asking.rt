@@ -17,6 +17,8 @@ pub enum Asked {
     Values(Form),
     /// When its meters were last heard at a clock, and how full the image is.
     Status(Form, Clock),
+    /// What its meters stand at and when they were last heard at a clock, as a table for a person.
+    Overview(Clock),
     /// A table of its contents.
     Table(Report, Form),
 }

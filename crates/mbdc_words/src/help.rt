@@ -169,10 +169,12 @@ Faults: mbdc: open: 1 NotImage, 2 Damaged sector, 3 Version, 4 Worn, 5 Device;
 pub const VALUES: &str = "Example:
   mbdc values house.image
 
-Printed, for each registered meter by flat: METER flat ident medium, and NONE
-  where no reading of it is held, else the serial and the minute (UTC) of the
-  last one; STATUS hex words, the status byte that it sent. Of its current
-  records (storage number 0, instantaneous):
+Printed at a terminal, or with --table: a line a meter by flat, with the first
+  value that it stands at, its state, and how long ago it was heard.
+Printed elsewhere, or with --lines, for each registered meter by flat: METER
+  flat ident medium, and NONE where no reading of it is held, else the serial
+  and the minute (UTC) of the last one; STATUS hex words, the status byte that
+  it sent. Of its current records (storage number 0, instantaneous):
   HEADLINE tariff subunit value unit  what the meter stands at, a line a tariff
   VALUE tariff subunit value unit     each that the due-date table has
   ALSO tariff subunit value unit quantity, qualifier ..  each other that is read
@@ -187,7 +189,8 @@ Faults: mbdc: open: 1 NotImage, 2 Damaged sector, 3 Version, 4 Worn, 5 Device;
 pub const STATUS: &str = "Example:
   mbdc status house.image --silent 12h
 
-Printed, for each registered meter by flat: METER flat ident, the minute (UTC)
+Printed at a terminal, or with --table: the table of values. Elsewhere, or with
+  --lines, for each registered meter by flat: METER flat ident, the minute (UTC)
   at which it was last heard and the seconds since, or NONE where nothing of it
   is held; SILENT where that is longer ago than TIME; the status byte of its
   last reading in words; JOURNAL where IMAGE.journal has a later reading. After
@@ -312,8 +315,9 @@ ends:
                            have sent: make --patience longer
   END read failed
 With --json an object an event. On a terminal, standard error shows how far it
-is. --trace FILE gets each request and answer, as of scan. Where the clock is
-earlier than a time stamp of the register:
+is, and the table of values follows END. --trace FILE gets each request and
+answer, as of scan. Where the clock is earlier than a time stamp of the
+register:
 mbdc: clock: behind the newest reading
 Status: 0 every meter was read, 1 one wasn't, 3 the image, 4 a link, a file or
   memory.";

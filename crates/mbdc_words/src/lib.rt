@@ -21,7 +21,7 @@ pub use link::LinkName;
 pub use links::{LINES, Links};
 pub use near::nearest;
 pub use task::{
-    BusTask, Call, Engine, Errand, Form, Listing, MeterName, OrderTask, PollTask, Reached, RunTask,
-    Scan, Task, Turn,
+    BusTask, Call, Engine, Errand, Form, Layout, Listing, MeterName, OrderTask, PollTask, Reached,
+    RunTask, Scan, Task, Turn,
 };
 pub use words::call_of;

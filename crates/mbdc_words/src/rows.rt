@@ -201,6 +201,23 @@ const JSON: Row = Row {
     ..FLAG
 };
 
+// `--table` and `--lines` of a command that prints a table at a terminal and lines elsewhere.
+const AS_TABLE: Row = Row {
+    id: "AS_TABLE",
+    long: Some("table"),
+    others: &["AS_LINES", "JSON"],
+    help: "Prints a table, a line a meter: the default at a terminal",
+    ..FLAG
+};
+
+const AS_LINES: Row = Row {
+    id: "AS_LINES",
+    long: Some("lines"),
+    others: &["JSON"],
+    help: "Prints all that is known, in lines of words: the default in a pipe or file",
+    ..FLAG
+};
+
 // ---- the commands, in groups: a proof that names a constant reads all of it, and the checker's steps have a limit
 
 // Commands over lines.
@@ -446,7 +463,7 @@ const IMAGES: &[CommandRow] = &[
         name: "values",
         about: "Prints what each meter stands at, and changes nothing",
         after: help::VALUES,
-        args: &[IMAGE, JSON],
+        args: &[IMAGE, AS_TABLE, AS_LINES, JSON],
     },
     CommandRow {
         name: "status",
@@ -462,6 +479,8 @@ const IMAGES: &[CommandRow] = &[
                 help: "A meter not heard for longer is silent: days, as 2 or 2d, or hours, as 12h",
                 ..OPTION
             },
+            AS_TABLE,
+            AS_LINES,
             JSON,
         ],
     },

@@ -167,6 +167,19 @@ pub struct Call<'a> {
     pub is_verbose: bool,
 }
 
+/// How what the meters of an image say is printed.
+#[derive(Clone, Copy)]
+pub enum Layout {
+    /// As a table at a terminal, and else as lines of words.
+    Default,
+    /// As lines of words.
+    Lines,
+    /// As JSON Lines.
+    Json,
+    /// As a table, a line a meter.
+    Table,
+}
+
 /// The task that the words name.
 #[derive(Drop)]
 pub enum Task<'a> {
@@ -204,8 +217,8 @@ pub enum Task<'a> {
     Values {
         /// The image's file.
         image: &'a str,
-        /// Whether it is printed as JSON Lines.
-        is_json: bool,
+        /// How it is printed.
+        layout: Layout,
     },
     /// When the meters of an image were last heard, without opening it.
     Status {
@@ -213,8 +226,8 @@ pub enum Task<'a> {
         image: &'a str,
         /// The number of seconds after which a meter is silent.
         silent: u64,
-        /// Whether it is printed as JSON Lines.
-        is_json: bool,
+        /// How it is printed.
+        layout: Layout,
     },
     /// The meters of a list, added to the register of an image.
     Fit {

@@ -6,8 +6,8 @@ use crate::links::Links;
 use crate::rows::program;
 use crate::silence::silence_of;
 use crate::task::{
-    BusTask, Call, Engine, Errand, Form, Listing, MeterName, OrderTask, PollTask, Reached, RunTask,
-    Scan, Task, Turn,
+    BusTask, Call, Engine, Errand, Form, Layout, Listing, MeterName, OrderTask, PollTask, Reached,
+    RunTask, Scan, Task, Turn,
 };
 use clap::ArgMatches;
 use dc_address::Primary;
@@ -147,7 +147,7 @@ fn image_task<'a>(
         "inspect" => Ok(Task::Inspect { image }),
         "values" => Ok(Task::Values {
             image,
-            is_json: inner.get_flag("JSON"),
+            layout: layout_of(inner),
         }),
         "status" => status_task(image, inner),
         "fit" => Ok(Task::Fit {
@@ -206,8 +206,21 @@ fn status_task<'a>(image: &'a str, inner: &ArgMatches<'a>) -> Result<Task<'a>, W
     Ok(Task::Status {
         image,
         silent: silence_of(word.as_bytes()).ok_or(WordsFault::Silence)?,
-        is_json: inner.get_flag("JSON"),
+        layout: layout_of(inner),
     })
+}
+
+// How what the meters say is printed: at most one of the options is there.
+fn layout_of(inner: &ArgMatches<'_>) -> Layout {
+    if inner.get_flag("JSON") {
+        Layout::Json
+    } else if inner.get_flag("AS_LINES") {
+        Layout::Lines
+    } else if inner.get_flag("AS_TABLE") {
+        Layout::Table
+    } else {
+        Layout::Default
+    }
 }
 
 fn run_task<'a>(image: &'a str, inner: &ArgMatches<'a>) -> Result<Task<'a>, WordsFault> {

@@ -183,8 +183,8 @@ fn put_sent<W: Sink>(out: &mut W, word: &'static [u8], sent: &Sent<'_>) -> Resul
     put_word(out, unit_text(&reading, record.vib, &mut room))
 }
 
-// Writes a value as one word.
-fn put_value_word<W: Sink>(out: &mut W, text: Option<&[u8]>) -> Result<(), IoFault>
+/// Writes a value as one word.
+pub(crate) fn put_value_word<W: Sink>(out: &mut W, text: Option<&[u8]>) -> Result<(), IoFault>
     ensures { Wrote W.Sink result out.old out.new (value_word (option_map (λ s. s.now) text.entry)) }
 {
     match text {
@@ -193,8 +193,8 @@ fn put_value_word<W: Sink>(out: &mut W, text: Option<&[u8]>) -> Result<(), IoFau
     }
 }
 
-// Writes a text as one word.
-fn put_word<W: Sink>(out: &mut W, text: &[u8]) -> Result<(), IoFault>
+/// Writes a text as one word.
+pub(crate) fn put_word<W: Sink>(out: &mut W, text: &[u8]) -> Result<(), IoFault>
     ensures { Wrote W.Sink result out.old out.new (shown_word text.now) }
 {
     if text.is_empty() {

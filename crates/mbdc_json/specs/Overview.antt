@@ -1,0 +1,130 @@
+-- The table of a house's meters for a person (this product): a line for each registered meter, in columns.
+use Rattle.std.specs.Prelude.{ℕ, ◌-◌, ◌/◌, ◌%◌, ◌==◌, nat_lt, Bool, true, false, List, [], ◌∷◌, ◌++◌, take, length, codes, decimal}
+use Rattle.std.specs.Prelude.{Option, None, Some, if◌then◌else◌}
+use Rattle.std.specs.List.{flat_map}
+use Rattle.mbdc_change.specs.State.{State}
+use Rattle.dc_address.specs.Text.{text_of}
+use Rattle.dc_meters.specs.Places.{by_flat}
+use Rattle.dc_meters.specs.declared.place.Place.{Place}
+use Rattle.dc_records.specs.Fields.{application_name}
+use Rattle.dc_records.specs.Media.{medium_name}
+use Rattle.mbdc_reading.specs.Headline.{headline}
+use Rattle.mbdc_reading.specs.Reading.{reading_of}
+use Rattle.mbdc_reading.specs.Sent.{Sent}
+use Rattle.mbdc_reading.specs.Text.{unit_text, value_text_of}
+use Rattle.mbdc_shown.specs.Stand.{bodies_sent}
+use Rattle.mbdc_json.specs.Journal.{Notes}
+use Rattle.mbdc_json.specs.LatestValues.{shown_word, value_word}
+use Rattle.mbdc_json.specs.Row.{row_at}
+use Rattle.mbdc_json.specs.Shown.{shown_of}
+use Rattle.mbdc_json.specs.Status.{failure_name}
+use Rattle.mbdc_json.specs.declared.latest.reading.Shown.{Shown}
+use Rattle.mbdc_json.specs.declared.status.row.Row.{Row}
+use Rattle.mbdc_json.specs.declared.status.row.Told.{Told}
+
+-- ---- columns
+
+-- the names of the columns, each at the left of its column but VALUE at the right
+unfoldable pub titles : List ℕ
+titles = codes "FLAT     METER    MEDIUM             VALUE UNIT  STATE           HEARD\n"
+
+abbrev pub blanks : List ℕ
+blanks = codes "                "
+
+-- the blanks that a text of this length lacks to the width of its column; a longer text lacks none
+unfoldable pub lacking : ℕ → ℕ → List ℕ
+lacking width len = take (width - len) blanks
+
+-- a text at the left of its column, and a blank
+unfoldable pub at_left : ℕ → List ℕ → List ℕ
+at_left width text = text ++ (lacking width (length text) ++ codes " ")
+
+-- ---- what the meter stands at
+
+-- a value at the right of its column, and its unit; a dash for what isn't there
+unfoldable pub cells : Option (List ℕ) → List ℕ → List ℕ
+cells value unit = lacking 12 (length (value_word value)) ++ (value_word value ++ (codes " " ++ (shown_word unit
+    ++ (lacking 5 (length (shown_word unit)) ++ codes " "))))
+
+unfoldable pub sent_cells : Sent → List ℕ
+sent_cells s = cells (value_text_of (reading_of s.entry s.len) s.entry.content)
+    (unit_text (reading_of s.entry s.len) s.entry.vib)
+
+-- those of the first record of a headline
+abbrev pub first_cells : List Sent → List ℕ
+first_cells [] = cells None []
+first_cells (s ∷ ss) = sent_cells s
+
+abbrev pub value_cells : ℕ → Option Shown → List ℕ
+value_cells kind None = cells None []
+value_cells kind (Some shown) = first_cells (headline kind (bodies_sent shown.bodies))
+
+-- ---- its state, and when it was heard
+
+-- the most serious state that a status byte reports (EN 13757-3, long data header); none for a meter in order
+unfoldable pub reported : ℕ → List ℕ
+reported status =
+    if status / 8 % 2 == 1 then codes "permanent error"
+    else if status / 16 % 2 == 1 then codes "temporary error"
+    else if status / 4 % 2 == 1 then codes "power low"
+    else if status % 4 == 0 then []
+    else application_name status
+
+abbrev pub reported_in : Option ℕ → List ℕ
+reported_in None = []
+reported_in (Some status) = reported status
+
+-- the number of the failure of the last readout since the meter was heard
+abbrev pub failure_since : Option ℕ → ℕ → Option ℕ
+failure_since None number = None
+failure_since (Some moment) number = Some number
+
+abbrev pub failure_in : Option Told → Option ℕ
+failure_in None = None
+failure_in (Some told) = failure_since told.failed told.number
+
+abbrev pub state_by : Bool → Option ℕ → Option ℕ → List ℕ
+state_by true failure status = codes "SILENT"
+state_by false (Some number) status = codes "FAILED"
+state_by false None status = reported_in status
+
+-- how long ago: in minutes below two hours, in hours below two days, else in days
+abbrev pub seconds_of : ℕ → ℕ
+seconds_of age = if nat_lt age 7200 then 60 else if nat_lt age 172800 then 3600 else 86400
+
+abbrev pub name_of : ℕ → List ℕ
+name_of age = if nat_lt age 7200 then codes " min" else if nat_lt age 172800 then codes " h" else codes " d"
+
+unfoldable pub ago_words : ℕ → List ℕ
+ago_words age = decimal (age / seconds_of age) ++ name_of age
+
+abbrev pub age_words : Option ℕ → List ℕ
+age_words None = codes "never"
+age_words (Some age) = ago_words age
+
+abbrev pub failure_words : Option ℕ → List ℕ
+failure_words None = codes "\n"
+failure_words (Some number) = codes ", " ++ (failure_name number ++ codes "\n")
+
+-- ---- the table
+
+unfoldable pub place_cells : Place → List ℕ
+place_cells place = at_left 8 place.flat ++ (at_left 8 (take 8 (text_of place.meter))
+    ++ at_left 11 (medium_name place.meter.kind))
+
+unfoldable pub state_cells : Row → List ℕ
+state_cells row = at_left 15 (state_by row.is_silent (failure_in row.told) row.status)
+    ++ (age_words row.age ++ failure_words (failure_in row.told))
+
+-- the line of a meter: its place, what it stands at, its state, and when it was heard
+unfoldable pub overview_line : ℕ → ℕ → Notes → State → Place → List ℕ
+overview_line patience now journal s place = place_cells place
+    ++ (value_cells place.meter.kind (shown_of journal s place.meter)
+    ++ state_cells (row_at patience now journal s place))
+
+unfoldable pub overview_lines : ℕ → ℕ → Notes → State → List ℕ
+overview_lines patience now journal s = flat_map (overview_line patience now journal s) (by_flat s.meters)
+
+-- THE TABLE at a clock, where a meter is silent after so many seconds
+unfoldable pub overview_text : ℕ → ℕ → Notes → State → List ℕ
+overview_text patience now journal s = titles ++ overview_lines patience now journal s
