@@ -24,10 +24,11 @@ def changed(text: str, choose: Callable[[str, str, list[str]], list[str]]) -> st
 
 
 def for_tests(text: str) -> str:
-    """The text whose plain values all derive what tests compare and print; `std::io::Error` isn't compared."""
+    """The text whose plain values all derive what tests compare and print. `std::io::Error` isn't compared, nor what refers to a type."""
 
     def choose(name: str, rest: str, names: list[str]) -> list[str]:
-        is_plain = "Copy" in names and "Drop" not in names and not re.match(r"<(?!'\w+>)", rest) and not re.search(r"\bio::Error\b", rest)
+        is_plain = "Copy" in names and "Drop" not in names and not re.match(r"<(?!'\w+>)", rest) \
+            and not re.search(r"\bio::Error\b|&'\w+ [A-Z]", rest)
         if not is_plain:
             return names
         by_hand = re.findall(rf"(?m)^impl (\w+) for {name}\b", text)

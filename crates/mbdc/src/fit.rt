@@ -1,14 +1,13 @@
 //! The command `fit`: the meters of a list, added to the register of an image in a file.
 
-use crate::columns::in_order;
 use crate::journal::Noting;
 use dc_meters::House;
 use dc_sectors::{Disk, FileDisk};
 use mbdc_commands::fit_over;
 use mbdc_ending::{Ending, ProgramFault};
 use mbdc_files::{Host, Noted, open_disk};
-use mbdc_fit::list::Wish;
-use mbdc_io::{CHUNK, MOST, ReadSource, Source, read_input, room};
+use mbdc_fit::list::{Wish, read_list};
+use mbdc_io::{CHUNK, MOST, NoMemory, ReadSource, Source, read_input, room};
 use mbdc_log::Greatest;
 use mbdc_looks::register_of;
 use std::alloc::Global;
@@ -35,11 +34,11 @@ where
         Err(fault) => return host.why.ended(Err(fault), list),
     };
     let house = house_in(host.rt.alloc(), &mut disk);
-    let rows = match in_order(host.rt, rows, house.as_ref()) {
-        Ok(rows) => rows,
-        Err(_) => return Ending::Memory,
+    let list = match read_list(host.rt.alloc(), rows.as_slice(), house.as_ref()) {
+        Ok(list) => list,
+        Err(NoMemory) => return Ending::Memory,
     };
-    wished(host, disk, image, house, &Wish::List(rows.as_slice()))
+    wished(host, disk, image, house, &Wish::List(&list))
 }
 
 /// The register of an image on that disk. One that doesn't open is refused next.

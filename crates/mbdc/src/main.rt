@@ -4,7 +4,6 @@
 
 mod bench;
 mod clock;
-mod columns;
 mod connecting;
 mod demo;
 mod ending;

@@ -11,8 +11,8 @@ use Rattle.mbdc_change.specs.declared.command.Command.TheVariants.{Swap as Swapp
 use Rattle.mbdc_change.specs.declared.fault.ChangeFault.{ChangeFault}
 use Rattle.mbdc_change.specs.declared.fault.ChangeFault.TheVariants.{Unknown, Known, AddressTaken}
 use Rattle.mbdc_change.specs.declared.fault.ChangeFault.TheVariants.{Beyond, Full}
-use Rattle.mbdc_fit.specs.Plan.{Outcome, full_words, is_at_words, is_spent, is_wrong_verdict, nothing, numbered}
-use Rattle.mbdc_fit.specs.Plan.{spent_words, taken_words, unless_refused}
+use Rattle.mbdc_fit.specs.Plan.{Outcome, fine_text, full_words, is_at_words, is_spent, is_wrong_verdict, nothing, numbered}
+use Rattle.mbdc_fit.specs.Plan.{spent_words, taken_words, unless_refused, wrong_text}
 use Rattle.mbdc_fit.specs.declared.list.order.Order.{Order}
 use Rattle.mbdc_fit.specs.declared.list.order.Order.TheVariants.{Swap, Move, Out}
 use Rattle.mbdc_fit.specs.declared.list.verdict.Verdict.{Verdict}
@@ -73,6 +73,9 @@ order_text Stands order s = []
 order_text Spent order s = spent_words
 order_text (Refused fault) order s = order_refusal fault order s
 
+abbrev pub order_said : Verdict → Order → State → List ℕ
+order_said verdict order s = order_text verdict order s ++ codes "\n"
+
 -- ---- what it comes to
 
 -- the line of its command
@@ -94,11 +97,15 @@ pub record IsOrderedBy (verdict : Verdict) (order : Order) (s : State) (before o
   pub commands_are : outcome.commands ≡ before.commands ++ lines_by verdict order s
   pub payload_is : outcome.payload ≡ before.payload ++ encoded_by verdict order s
   pub wrong_is : before ≡ nothing → outcome.wrong ≡ is_wrong_verdict verdict
-  pub text_is : outcome.text ≡ before.text ++ (order_text verdict order s ++ codes "\n")
+  pub text_is : outcome.text ≡ before.text ++ fine_text verdict (order_said verdict order s)
+  pub refusals_are : outcome.refusals ≡ before.refusals ++ wrong_text verdict (order_said verdict order s)
 
 -- WHAT AN ORDER COMES TO on a register: exactly its command, or, where that is refused, nothing.
 pub record IsOrdered (order : Order) (house : Held) (outcome : Outcome) : Type 0 where
   pub commands_are : outcome.commands ≡ lines_by (verdict_for house.budget order house.state) order house.state
   pub payload_is : outcome.payload ≡ encoded_by (verdict_for house.budget order house.state) order house.state
   pub wrong_is : outcome.wrong ≡ is_wrong_verdict (verdict_for house.budget order house.state)
-  pub text_is : outcome.text ≡ order_text (verdict_for house.budget order house.state) order house.state ++ codes "\n"
+  pub text_is : outcome.text ≡ fine_text (verdict_for house.budget order house.state)
+      (order_said (verdict_for house.budget order house.state) order house.state)
+  pub refusals_are : outcome.refusals ≡ wrong_text (verdict_for house.budget order house.state)
+      (order_said (verdict_for house.budget order house.state) order house.state)

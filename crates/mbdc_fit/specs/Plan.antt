@@ -1,7 +1,7 @@
 -- What a list of meters asks of a register (this product): the rows in order, each on the register that those before
 -- it leave.
-use Rattle.std.specs.Prelude.{◌≡◌, ◌≢◌, ◌⊎◌, ℕ, ◌+◌, ◌==◌, Bool, true, false, ◌||◌, ◌&&◌, if◌then◌else◌, List, []}
-use Rattle.std.specs.Prelude.{◌∷◌, ◌++◌, codes, nat_le, Option, Some, None}
+use Rattle.std.specs.Prelude.{◌≡◌, ℕ, ◌+◌, ◌==◌, Bool, true, false, ◌||◌, ◌&&◌, if◌then◌else◌, List, []}
+use Rattle.std.specs.Prelude.{◌∷◌, ◌++◌, codes, nat_le, Option, Some, None, Result, Ok, Err}
 use Rattle.std.specs.Str.{bytes_eq}
 use Rattle.mbdc_io.specs.Words.{number_word}
 use Rattle.dc_address.specs.Text.{text_of}
@@ -24,15 +24,16 @@ use Rattle.mbdc_change.specs.declared.fault.ChangeFault.{ChangeFault}
 use Rattle.mbdc_change.specs.declared.fault.ChangeFault.TheVariants.{Unknown, Known, AddressTaken}
 use Rattle.mbdc_change.specs.declared.fault.ChangeFault.TheVariants.{Beyond, Full}
 use Rattle.mbdc_fit.specs.declared.list.row.Row.{Row}
-use Rattle.mbdc_fit.specs.declared.list.row.RowFault.{RowFault}
-use Rattle.mbdc_fit.specs.declared.list.row.RowFault.TheVariants.{Columns, Meter, Line, Address, Flat}
-use Rattle.mbdc_fit.specs.declared.list.row.Entry.{Entry}
-use Rattle.mbdc_fit.specs.declared.list.row.Entry.TheVariants.{Blank, Bad, Row as Spelled}
+use Rattle.mbdc_fit.specs.declared.list.listed.Column.{Column}
+use Rattle.mbdc_fit.specs.declared.list.listed.Column.TheVariants.{Meter, Line, Address, Flat}
+use Rattle.mbdc_fit.specs.declared.list.listed.Listing.{Listing}
+use Rattle.mbdc_fit.specs.declared.list.listed.Listing.TheVariants.{Rows, Lacks}
+use Rattle.mbdc_fit.specs.declared.list.listed.Listed.{Listed}
 use Rattle.mbdc_fit.specs.declared.list.verdict.Mark.{Mark}
 use Rattle.mbdc_fit.specs.declared.list.verdict.Mark.TheVariants.{WithAddress, WithFlat, IsAt, AnAddress, IsThatOf}
 use Rattle.mbdc_fit.specs.declared.list.verdict.Verdict.{Verdict}
 use Rattle.mbdc_fit.specs.declared.list.verdict.Verdict.TheVariants.{Stands, Refused, Spent, New}
-use Rattle.mbdc_fit.specs.Rows.{AreReadAs, IsReadAs, header_text, row_text}
+use Rattle.mbdc_fit.specs.Rows.{AreReadAs, Entry, Fields, column_name, field_of, fields_in}
 
 -- ---- the verdict on a row
 
@@ -83,10 +84,9 @@ after_verdict Stands row s = s
 after_verdict Spent row s = s
 after_verdict (Refused fault) row s = s
 
-abbrev pub after_entry : ℕ → Entry → State → State
-after_entry budget Blank s = s
-after_entry budget (Bad fault) s = s
-after_entry budget (Spelled row) s = after_verdict (verdict_on budget row s) row s
+abbrev pub after_read : ℕ → Result Row Column → State → State
+after_read budget (Err column) s = s
+after_read budget (Ok row) s = after_verdict (verdict_on budget row s) row s
 
 -- the line of a new meter's command
 abbrev pub order_of : Verdict → Row → State → List (List ℕ)
@@ -95,10 +95,9 @@ order_of Stands row s = []
 order_of Spent row s = []
 order_of (Refused fault) row s = []
 
-abbrev pub entry_orders : ℕ → Entry → State → List (List ℕ)
-entry_orders budget Blank s = []
-entry_orders budget (Bad fault) s = []
-entry_orders budget (Spelled row) s = order_of (verdict_on budget row s) row s
+abbrev pub read_orders : ℕ → Result Row Column → State → List (List ℕ)
+read_orders budget (Err column) s = []
+read_orders budget (Ok row) s = order_of (verdict_on budget row s) row s
 
 -- the change of a new meter's command, and its encoding
 abbrev pub changes_by : Verdict → Row → State → List Change
@@ -107,10 +106,9 @@ changes_by Stands row s = []
 changes_by Spent row s = []
 changes_by (Refused fault) row s = []
 
-abbrev pub entry_changes : ℕ → Entry → State → List Change
-entry_changes budget Blank s = []
-entry_changes budget (Bad fault) s = []
-entry_changes budget (Spelled row) s = changes_by (verdict_on budget row s) row s
+abbrev pub read_changes : ℕ → Result Row Column → State → List Change
+read_changes budget (Err column) s = []
+read_changes budget (Ok row) s = changes_by (verdict_on budget row s) row s
 
 abbrev pub bytes_by : Verdict → Row → State → List ℕ
 bytes_by New row s = change_bytes (change_of row s)
@@ -118,10 +116,9 @@ bytes_by Stands row s = []
 bytes_by Spent row s = []
 bytes_by (Refused fault) row s = []
 
-abbrev pub entry_bytes : ℕ → Entry → State → List ℕ
-entry_bytes budget Blank s = []
-entry_bytes budget (Bad fault) s = []
-entry_bytes budget (Spelled row) s = bytes_by (verdict_on budget row s) row s
+abbrev pub read_bytes : ℕ → Result Row Column → State → List ℕ
+read_bytes budget (Err column) s = []
+read_bytes budget (Ok row) s = bytes_by (verdict_on budget row s) row s
 
 abbrev pub is_wrong_verdict : Verdict → Bool
 is_wrong_verdict New = false
@@ -129,15 +126,13 @@ is_wrong_verdict Stands = false
 is_wrong_verdict Spent = true
 is_wrong_verdict (Refused fault) = true
 
-abbrev pub is_wrong : ℕ → Entry → State → Bool
-is_wrong budget Blank s = false
-is_wrong budget (Bad fault) s = true
-is_wrong budget (Spelled row) s = is_wrong_verdict (verdict_on budget row s)
+abbrev pub is_wrong : ℕ → Result Row Column → State → Bool
+is_wrong budget (Err column) s = true
+is_wrong budget (Ok row) s = is_wrong_verdict (verdict_on budget row s)
 
 -- ---- the text of a row
 
-abbrev pub fault_words : RowFault → List ℕ
-fault_words Columns = codes "a row has four fields: meter, line, address, flat"
+abbrev pub fault_words : Column → List ℕ
 fault_words Meter = codes "a meter is its identity, as 12345678.PAD.01.07"
 fault_words Line = codes "a line is a number from 1 to 8"
 fault_words Address = codes "an address is a number from 1 to 250, or S"
@@ -208,32 +203,57 @@ verdict_words (Refused fault) row s = refusal_words fault row s
 unfoldable pub said : ℕ → List ℕ → List ℕ
 said number words = codes "line" ++ (number_word number ++ (codes ": " ++ (words ++ codes "\n")))
 
-abbrev pub entry_text : ℕ → ℕ → Entry → State → List ℕ
-entry_text budget number Blank s = []
-entry_text budget number (Bad fault) s = said number (fault_words fault)
-entry_text budget number (Spelled row) s =
-    said number (verdict_words (verdict_on budget row s) row s)
+-- what is said of a row, where nothing is wrong with it, and where something is
+abbrev pub fine_text : Verdict → List ℕ → List ℕ
+fine_text New text = text
+fine_text Stands text = text
+fine_text Spent text = []
+fine_text (Refused fault) text = []
+
+abbrev pub wrong_text : Verdict → List ℕ → List ℕ
+wrong_text New text = []
+wrong_text Stands text = []
+wrong_text Spent text = text
+wrong_text (Refused fault) text = text
+
+abbrev pub row_text : ℕ → Verdict → Row → State → List ℕ
+row_text number verdict row s = said number (verdict_words verdict row s)
+
+-- a field that doesn't spell what it has to, as it is spelled, and what it has to be
+unfoldable pub field_words : Column → Fields → List ℕ
+field_words column f = codes "\"" ++ (field_of column f ++ (codes "\": " ++ fault_words column))
+
+-- what is said of a row of a list
+abbrev pub fine_words : ℕ → ℕ → Result Row Column → State → List ℕ
+fine_words budget number (Err column) s = []
+fine_words budget number (Ok row) s =
+    fine_text (verdict_on budget row s) (row_text number (verdict_on budget row s) row s)
+
+abbrev pub wrong_words : ℕ → Listed → Result Row Column → State → List ℕ
+wrong_words budget listed (Err column) s = said listed.number (field_words column (fields_in listed))
+wrong_words budget listed (Ok row) s =
+    wrong_text (verdict_on budget row s) (row_text listed.number (verdict_on budget row s) row s)
 
 -- ---- all rows, one after the other
 
 abbrev pub after_all : ℕ → List Entry → State → State
 after_all budget [] s = s
-after_all budget (entry ∷ entries) s = after_all budget entries (after_entry budget entry s)
+after_all budget (entry ∷ entries) s = after_all budget entries (after_read budget entry.read s)
 
 abbrev pub orders : ℕ → List Entry → State → List (List ℕ)
 orders budget [] s = []
 orders budget (entry ∷ entries) s =
-    entry_orders budget entry s ++ orders budget entries (after_entry budget entry s)
+    read_orders budget entry.read s ++ orders budget entries (after_read budget entry.read s)
 
 abbrev pub changes : ℕ → List Entry → State → List Change
 changes budget [] s = []
 changes budget (entry ∷ entries) s =
-    entry_changes budget entry s ++ changes budget entries (after_entry budget entry s)
+    read_changes budget entry.read s ++ changes budget entries (after_read budget entry.read s)
 
 abbrev pub payload : ℕ → List Entry → State → List ℕ
 payload budget [] s = []
 payload budget (entry ∷ entries) s =
-    entry_bytes budget entry s ++ payload budget entries (after_entry budget entry s)
+    read_bytes budget entry.read s ++ payload budget entries (after_read budget entry.read s)
 
 -- each is a change, and accepted in the state after those before it
 abbrev pub AreOrdered : ℕ → State → List Change → Type 0
@@ -244,60 +264,70 @@ AreOrdered budget s (change ∷ changes) =
 abbrev pub any_wrong : ℕ → List Entry → State → Bool
 any_wrong budget [] s = false
 any_wrong budget (entry ∷ entries) s =
-    is_wrong budget entry s || any_wrong budget entries (after_entry budget entry s)
+    is_wrong budget entry.read s || any_wrong budget entries (after_read budget entry.read s)
 
--- the lines of the list are numbered from this one on
-abbrev pub texts : ℕ → ℕ → List Entry → State → List ℕ
-texts budget number [] s = []
-texts budget number (entry ∷ entries) s = entry_text budget number entry s
-    ++ texts budget (number + 1) entries (after_entry budget entry s)
+abbrev pub texts : ℕ → List Entry → State → List ℕ
+texts budget [] s = []
+texts budget (entry ∷ entries) s = fine_words budget entry.listed.number entry.read s
+    ++ texts budget entries (after_read budget entry.read s)
+
+abbrev pub refusals : ℕ → List Entry → State → List ℕ
+refusals budget [] s = []
+refusals budget (entry ∷ entries) s = wrong_words budget entry.listed entry.read s
+    ++ refusals budget entries (after_read budget entry.read s)
 
 -- ---- a list
 
--- what a list comes to: the lines of the commands and the encoding of their changes, whether a row is wrong, and what
--- is said of each row
+-- what a list comes to: the lines of the commands and the encoding of their changes, whether a row is wrong, and what is
+-- said of the rows that are fine, and of those that are wrong
 pub record Outcome : Type 0 where
   pub commands : List (List ℕ)
   pub payload : List ℕ
   pub wrong : Bool
   pub text : List ℕ
+  pub refusals : List ℕ
 
 -- the last line where a row is wrong
 abbrev pub nothing_done : List ℕ
 nothing_done = codes "nothing is done\n"
 
--- what is printed: what is said of each row or of the command and, where one is wrong, that nothing is done
+-- what is printed: what is said of each row or of the command; where one is wrong, what is wrong and that nothing is done
 abbrev pub fit_text : Outcome → List ℕ
-fit_text plan = if plan.wrong then plan.text ++ nothing_done else plan.text
+fit_text plan = if plan.wrong then plan.refusals ++ nothing_done else plan.text
 
-abbrev pub header_words : List ℕ
-header_words = codes "the first line has to be meter,line,address,flat"
+-- the first line doesn't name this column
+abbrev pub lacking_words : Column → List ℕ
+lacking_words column = codes "no column " ++ column_name column
 
--- the first line isn't the header
-abbrev pub no_header : Outcome
-no_header = record { commands = []; payload = []; wrong = true; text = said 1 header_words }
+abbrev pub lacking : Column → Outcome
+lacking column = record {
+  commands = [];
+  payload = [];
+  wrong = true;
+  text = [];
+  refusals = said 1 (lacking_words column);
+}
 
 abbrev pub outcome_of : ℕ → List Entry → State → Outcome
 outcome_of budget entries s = record {
   commands = orders budget entries s;
   payload = payload budget entries s;
   wrong = any_wrong budget entries s;
-  text = texts budget 2 entries s;
+  text = texts budget entries s;
+  refusals = refusals budget entries s;
 }
 
 -- what the rows come to
-pub record ArePlanned (rows : List (List ℕ)) (house : Held) (outcome : Outcome) : Type 0 where
+pub record ArePlanned (rows : List Listed) (house : Held) (outcome : Outcome) : Type 0 where
   pub entries : List Entry
   pub rows_are : AreReadAs rows entries
   pub outcome_is : outcome ≡ outcome_of house.budget entries house.state
   pub ordered : AreOrdered house.budget house.state (changes house.budget entries house.state)
 
--- WHAT A LIST COMES TO on a register: its first line is the header, and the others are its rows.
-abbrev pub IsPlanned : List (List ℕ) → Held → Outcome → Type 0
-IsPlanned [] house outcome = outcome ≡ no_header
-IsPlanned (header ∷ rows) house outcome =
-    ((row_text header ≡ header_text) × ArePlanned rows house outcome)
-    ⊎ ((row_text header ≢ header_text) × (outcome ≡ no_header))
+-- WHAT A LIST COMES TO on a register: what its rows come to, where its first line names all columns.
+abbrev pub IsPlanned : Listing → Held → Outcome → Type 0
+IsPlanned (Lacks column) house outcome = outcome ≡ lacking column
+IsPlanned (Rows rows) house outcome = ArePlanned rows.items house outcome
 
 -- ---- the steps: what rows make of a register and of what was planned before
 
@@ -309,35 +339,33 @@ pub record IsStepBy (verdict : Verdict) (row : Row) (number : ℕ) (old new : He
   pub commands_are : outcome.commands ≡ before.commands ++ order_of verdict row old.state
   pub payload_is : outcome.payload ≡ before.payload ++ bytes_by verdict row old.state
   pub wrong_is : outcome.wrong ≡ (before.wrong || is_wrong_verdict verdict)
-  pub text_is : outcome.text ≡ before.text ++ said number (verdict_words verdict row old.state)
+  pub text_is : outcome.text ≡ before.text ++ fine_text verdict (row_text number verdict row old.state)
+  pub refusals_are : outcome.refusals ≡ before.refusals ++ wrong_text verdict (row_text number verdict row old.state)
 
-pub record IsStep (entry : Entry) (number : ℕ) (old new : Held) (before outcome : Outcome)
+-- the step of a row of a list that is read so
+pub record IsStep (listed : Listed) (read : Result Row Column) (old new : Held) (before outcome : Outcome)
     : Type 0 where
-  pub house_is : new ≡ record old { state = after_entry old.budget entry old.state }
-  pub ordered : AreOrdered old.budget old.state (entry_changes old.budget entry old.state)
-  pub commands_are : outcome.commands ≡ before.commands ++ entry_orders old.budget entry old.state
-  pub payload_is : outcome.payload ≡ before.payload ++ entry_bytes old.budget entry old.state
-  pub wrong_is : outcome.wrong ≡ (before.wrong || is_wrong old.budget entry old.state)
-  pub text_is : outcome.text ≡ before.text ++ entry_text old.budget number entry old.state
+  pub house_is : new ≡ record old { state = after_read old.budget read old.state }
+  pub ordered : AreOrdered old.budget old.state (read_changes old.budget read old.state)
+  pub commands_are : outcome.commands ≡ before.commands ++ read_orders old.budget read old.state
+  pub payload_is : outcome.payload ≡ before.payload ++ read_bytes old.budget read old.state
+  pub wrong_is : outcome.wrong ≡ (before.wrong || is_wrong old.budget read old.state)
+  pub text_is : outcome.text ≡ before.text ++ fine_words old.budget listed.number read old.state
+  pub refusals_are : outcome.refusals ≡ before.refusals ++ wrong_words old.budget listed read old.state
 
--- a line is read as an entry, and that is the step
-abbrev pub IsLineStep : List ℕ → ℕ → Held → Held → Outcome → Outcome → Type 0
-IsLineStep line number old new before outcome =
-    (entry : Entry) × IsReadAs line entry × IsStep entry number old new before outcome
-
-pub record AreSteps (lines : List (List ℕ)) (number : ℕ) (old new : Held)
-    (before outcome : Outcome) : Type 0 where
+pub record AreSteps (rows : List Listed) (old new : Held) (before outcome : Outcome) : Type 0 where
   pub entries : List Entry
-  pub lines_are : AreReadAs lines entries
+  pub rows_are : AreReadAs rows entries
   pub house_is : new ≡ record old { state = after_all old.budget entries old.state }
   pub ordered : AreOrdered old.budget old.state (changes old.budget entries old.state)
   pub commands_are : outcome.commands ≡ before.commands ++ orders old.budget entries old.state
   pub payload_is : outcome.payload ≡ before.payload ++ payload old.budget entries old.state
   pub wrong_is : outcome.wrong ≡ (before.wrong || any_wrong old.budget entries old.state)
-  pub text_is : outcome.text ≡ before.text ++ texts old.budget number entries old.state
+  pub text_is : outcome.text ≡ before.text ++ texts old.budget entries old.state
+  pub refusals_are : outcome.refusals ≡ before.refusals ++ refusals old.budget entries old.state
 
 abbrev pub nothing : Outcome
-nothing = record { commands = []; payload = []; wrong = false; text = [] }
+nothing = record { commands = []; payload = []; wrong = false; text = []; refusals = [] }
 
 -- THE PAYLOAD OF A PLAN spells changes that are accepted in turn on the register: it is one group of the store.
 pub record IsOneGroup (house : Held) (outcome : Outcome) : Type 0 where

@@ -5,7 +5,7 @@ ghost use Rattle.mbdc_io.specs.Written.{Wrote};
 ghost use Rattle.mbdc_change.specs.Accepts.{Accepts};
 ghost use Rattle.mbdc_change.specs.Valid.{IsChange};
 ghost use Rattle.mbdc_fit.specs.Order.{IsOrdered, IsOrderedBy, address_of, command_for, newcomer_of};
-ghost use Rattle.mbdc_fit.specs.Order.{order_refusal, order_text, subject_of, taken_by};
+ghost use Rattle.mbdc_fit.specs.Order.{order_refusal, order_said, order_text, subject_of, taken_by};
 ghost use Rattle.mbdc_fit.specs.Order.{verdict_for};
 ghost use Rattle.mbdc_fit.specs.Plan.{IsOneGroup, numbered};
 
@@ -165,6 +165,21 @@ fn put_order<A: Allocator + Copy, W: Sink>(
     }
 }
 
+// Writes the line of an order.
+#[tactic(auto, using(mbdc_io::proofs::Pieces::written))]
+fn put_said<A: Allocator + Copy, W: Sink>(
+    out: &mut W,
+    verdict: Verdict,
+    order: &Order,
+    house: &House<A>,
+) -> Result<(), IoFault>
+    requires { verdict ≡ Verdict.New → IsChange (numbered (command_for order.now) house.now.state) }
+    ensures { Wrote W.Sink result out.old out.new (order_said verdict order.now house.now.state) }
+{
+    put_order(out, verdict, order, house)?;
+    out.put(b"\n")
+}
+
 impl<A: Allocator + Copy> Plan<A> {
     // Adds an order, and does its command to the house.
     fn add_order(
@@ -179,14 +194,15 @@ impl<A: Allocator + Copy> Plan<A> {
             house.old.state }
         ensures { OnOk result (IsOrderedBy verdict order.now house.old.state self.old self.new) }
     {
-        kept(put_order(&mut self.text, verdict, order, house))?;
-        kept(self.text.put(b"\n"))?;
         match verdict {
-            Verdict::New => self.order(order.command(), house),
-            Verdict::Stands => Ok(()),
+            Verdict::New => {
+                kept(put_said(&mut self.text, verdict, order, house))?;
+                self.order(order.command(), house)
+            }
+            Verdict::Stands => kept(put_said(&mut self.text, verdict, order, house)),
             Verdict::Spent | Verdict::Refused(_) => {
                 self.is_wrong = true;
-                Ok(())
+                kept(put_said(&mut self.refusals, verdict, order, house))
             }
         }
     }

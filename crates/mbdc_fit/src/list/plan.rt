@@ -1,28 +1,27 @@
 //! The plan of a list: its commands, and what is said of each row.
 
-ghost use Rattle.std.specs.Prelude.{◌≡◌, ◌+◌, ◌++◌, ◌∷◌, ◌↔◌, [], IfOk, IsOk, IsTrue, OnOk};
-ghost use Rattle.mbdc_io.specs.Lines.{lines_of};
+ghost use Rattle.std.specs.Prelude.{◌≡◌, ◌+◌, ◌++◌, ◌∷◌, ◌↔◌, [], Ok, Err, IfOk, IsOk, OnOk};
 ghost use Rattle.mbdc_io.specs.Written.{Wrote};
 ghost use Rattle.mbdc_change.specs.State.{Held};
-ghost use Rattle.mbdc_fit.specs.Rows.{IsRow, header_text};
+ghost use Rattle.mbdc_fit.specs.Rows.{IsReadAs, IsRow};
 ghost use Rattle.mbdc_change.specs.Accepts.{Accepts};
 ghost use Rattle.mbdc_change.specs.Apply.{applied};
 ghost use Rattle.mbdc_change.specs.Encoding.{change_bytes};
 ghost use Rattle.mbdc_change.specs.Command.{line_of};
 ghost use Rattle.mbdc_change.specs.Valid.{IsChange};
 ghost use Rattle.mbdc_fit.specs.Plan.{change_of, fit_text, numbered};
-ghost use Rattle.mbdc_fit.specs.Plan.{AreSteps, IsLineStep, IsOneGroup, IsPlanned, IsStep, IsStepBy, no_header, nothing};
-ghost use Rattle.mbdc_fit.specs.declared.list.row.Entry.TheVariants.{Row as Spelled, Bad};
+ghost use Rattle.mbdc_fit.specs.Plan.{AreSteps, IsOneGroup, IsPlanned, IsStep, IsStepBy, nothing};
 
-use crate::list::row::{Entry, Row, RowFault, read_line, row_text};
-use crate::list::verdict::{Verdict, command_of, fault_words, put_row, put_said, verdict_on};
+use crate::list::listed::{Column, Listed, Listing};
+use crate::list::row::{Row, read_row};
+use crate::list::verdict::{
+    Verdict, command_of, lacking_words, put_row, put_said, put_wrong, verdict_on,
+};
 use dc_meters::House;
 use mbdc_change::{Change, Command, CommandLine, encode_change};
-use mbdc_io::{Bytes, IoFault, NoMemory, Sink, first_line};
+use mbdc_io::{Bytes, IoFault, NoMemory, Sink};
 use std::alloc::Allocator;
 use std::marker::Model;
-
-const NO_HEADER: &str = "the first line has to be meter,line,address,flat";
 
 /// What a list of meters comes to on a register.
 #[derive(Drop)]
@@ -31,6 +30,7 @@ pub struct Plan<A: Allocator> {
     changes: Bytes<A>,
     pub(crate) is_wrong: bool,
     pub(crate) text: Bytes<A>,
+    pub(crate) refusals: Bytes<A>,
 }
 
 impl<A: Allocator> Model for Plan<A> {
@@ -43,6 +43,7 @@ impl<A: Allocator> Model for Plan<A> {
       payload = p.changes.bytes;
       wrong = p.is_wrong;
       text = p.text.bytes;
+      refusals = p.refusals.bytes;
     } };
 }
 
@@ -78,7 +79,7 @@ impl<A: Allocator + Copy> Plan<A> {
         self.is_wrong
     }
 
-    /// Prints what is said of each row, a line each, and where one is wrong that nothing is done.
+    /// Prints what is said of each row, a line each; where one is wrong, what is wrong and that nothing is done.
     #[tactic(auto, using(mbdc_io::proofs::Pieces::written))]
     pub fn print<W: Sink>(&self, out: &mut W) -> Result<(), IoFault>
         ensures { Wrote W.Sink result out.old out.new (fit_text self.now) }
@@ -86,7 +87,7 @@ impl<A: Allocator + Copy> Plan<A> {
         if !self.is_wrong {
             return out.put(self.text.as_slice());
         }
-        out.put(self.text.as_slice())?;
+        out.put(self.refusals.as_slice())?;
         out.put(b"nothing is done\n")
     }
 
@@ -99,26 +100,26 @@ impl<A: Allocator + Copy> Plan<A> {
             changes: Bytes::new(alloc),
             is_wrong: false,
             text: Bytes::new(alloc),
+            refusals: Bytes::new(alloc),
         }
     }
 
-    // Adds a row that names no command.
-    fn add_fault(&mut self, number: u64, fault: RowFault) -> Result<(), NoMemory>
+    // Adds a row with a field that is wrong.
+    fn add_wrong(&mut self, listed: &Listed, column: Column) -> Result<(), NoMemory>
         ensures { OnOk result ((house : Held)
-            → IsStep (Bad fault) number house house self.old self.new) }
+            → IsStep listed.now (Err column) house house self.old self.new) }
     {
         self.is_wrong = true;
-        kept(put_said(&mut self.text, number, fault_words(fault)))
+        kept(put_wrong(&mut self.refusals, listed, column))
     }
 
     // Adds a row, and does its command to the house.
-    fn add_row(&mut self, number: u64, row: &Row, house: &mut House<A>) -> Result<(), NoMemory>
+    fn add_row(&mut self, listed: &Listed, row: &Row, house: &mut House<A>) -> Result<(), NoMemory>
         requires { IsRow row.now }
-        ensures { OnOk result (IsStep (Spelled row.now) number house.old house.new self.old
-            self.new) }
+        ensures { OnOk result (IsStep listed.now (Ok row.now) house.old house.new self.old self.new) }
     {
         let verdict = verdict_on(row, house);
-        self.add_verdict(number, verdict, row, house)?;
+        self.add_verdict(listed.number, verdict, row, house)?;
         Ok(())
     }
 
@@ -135,13 +136,15 @@ impl<A: Allocator + Copy> Plan<A> {
         ensures { OnOk result (IsStepBy verdict row.now number house.old house.new self.old
             self.new) }
     {
-        kept(put_row(&mut self.text, number, verdict, row, house))?;
         match verdict {
-            Verdict::New => self.order(command_of(row), house),
-            Verdict::Stands => Ok(()),
+            Verdict::New => {
+                kept(put_row(&mut self.text, number, verdict, row, house))?;
+                self.order(command_of(row), house)
+            }
+            Verdict::Stands => kept(put_row(&mut self.text, number, verdict, row, house)),
             Verdict::Spent | Verdict::Refused(_) => {
                 self.is_wrong = true;
-                Ok(())
+                kept(put_row(&mut self.refusals, number, verdict, row, house))
             }
         }
     }
@@ -167,41 +170,32 @@ impl<A: Allocator + Copy> Plan<A> {
         house.apply(&change)
     }
 
-    // Adds a line of the list.
-    fn add_line(
+    // Adds a row of a list that is read so.
+    fn add_read(
         &mut self,
-        alloc: A,
-        number: u64,
-        line: &[u8],
+        listed: &Listed,
+        read: Result<Row, Column>,
         house: &mut House<A>,
     ) -> Result<(), NoMemory>
-        ensures { OnOk result (IsLineStep line.now number house.old house.new self.old self.new) }
+        requires { IsReadAs listed.now read }
+        ensures { OnOk result (IsStep listed.now read house.old house.new self.old self.new) }
     {
-        let entry = read_line(alloc, line)?;
-        match entry {
-            Entry::Blank => Ok(()),
-            Entry::Bad(fault) => {
-                self.add_fault(number, fault)?;
-                Ok(())
-            }
-            Entry::Row(row) => {
-                self.add_row(number, &row, house)?;
+        match read {
+            Ok(row) => self.add_row(listed, &row, house),
+            Err(column) => {
+                self.add_wrong(listed, column)?;
                 Ok(())
             }
         }
     }
 
-    // Adds the rows of the list, whose first is line 2.
-    fn add_rows(&mut self, alloc: A, rows: &[u8], house: &mut House<A>) -> Result<(), NoMemory>
-        ensures { OnOk result (AreSteps (lines_of rows.now) 2 house.old house.new self.old
-            self.new) }
+    // Adds the rows of a list.
+    fn add_rows(&mut self, rows: &[Listed], house: &mut House<A>) -> Result<(), NoMemory>
+        ensures { OnOk result (AreSteps rows.now house.old house.new self.old self.new) }
     {
-        let mut number: u64 = 2;
         let mut rest = rows;
-        'lines: while !rest.is_empty() {
-            let (line, after) = first_line(rest);
-            self.add_line(alloc, number, line, house)?;
-            number += 1;
+        'rows: while let Some((listed, after)) = rest.split_first() {
+            self.add_read(listed, read_row(listed), house)?;
             rest = after;
         }
         Ok(())
@@ -211,40 +205,23 @@ impl<A: Allocator + Copy> Plan<A> {
 /// What a list of meters comes to on a house, which isn't used any more.
 pub fn plan_on<A: Allocator + Copy>(
     alloc: A,
-    list: &[u8],
+    list: &Listing,
     house: House<A>,
 ) -> Result<Plan<A>, NoMemory>
-    ensures planned { IfOk result (λ plan. IsPlanned (lines_of list.now) house plan) }
+    ensures planned { IfOk result (λ plan. IsPlanned list.now house plan) }
     ensures one_group { IfOk result (λ plan. IsOneGroup house plan) }
 {
-    if list.is_empty() {
-        let plan = without_header(alloc)?;
-        return Ok(plan);
-    }
-    let (header, rows) = first_line(list);
-    let text = row_text(alloc, header)?;
-    if !is_header(text.as_slice()) {
-        let plan = without_header(alloc)?;
-        return Ok(plan);
-    }
     let mut plan = Plan::empty(alloc);
-    let mut house = house;
-    plan.add_rows(alloc, rows, &mut house)?;
-    Ok(plan)
-}
-
-fn is_header(text: &[u8]) -> bool
-    ensures { IsTrue result ↔ (text.now ≡ header_text) }
-{
-    text == b"meter line address flat".as_slice()
-}
-
-// The plan of a list that has no header.
-fn without_header<A: Allocator + Copy>(alloc: A) -> Result<Plan<A>, NoMemory>
-    ensures { IfOk result (λ plan. plan ≡ no_header) }
-{
-    let mut plan = Plan::empty(alloc);
-    plan.is_wrong = true;
-    kept(put_said(&mut plan.text, 1, NO_HEADER))?;
-    Ok(plan)
+    match list {
+        Listing::Lacks(column) => {
+            plan.is_wrong = true;
+            kept(put_said(&mut plan.refusals, 1, lacking_words(*column)))?;
+            Ok(plan)
+        }
+        Listing::Rows(rows) => {
+            let mut house = house;
+            plan.add_rows(rows.as_slice(), &mut house)?;
+            Ok(plan)
+        }
+    }
 }

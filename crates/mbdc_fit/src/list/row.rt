@@ -1,24 +1,19 @@
 //! The rows of a list of meters.
 
-ghost use Rattle.std.specs.Prelude.{◌≡◌, ℕ, List, Option, Some, None, IfSome, IfOk, IfErr, MatchOption, map, filter};
-ghost use Rattle.std.specs.Prelude.{not};
-ghost use Rattle.std.specs.List.{list_all};
+ghost use Rattle.std.specs.Prelude.{◌≡◌, ℕ, Option, Some, IfSome, IfOk, IfErr};
 ghost use Rattle.std.specs.Fmt.{decimal};
 ghost use Rattle.dc_address.specs.Primary.{IsPrimary};
 ghost use Rattle.dc_address.specs.Text.{text_of};
 ghost use Rattle.dc_address.specs.declared.identity.Identity.{Identity};
 ghost use Rattle.mbdc_change.specs.Fields.{IsOfBytes};
 ghost use Rattle.mbdc_change.specs.Fields.{IsAddress, IsBusLine};
-ghost use Rattle.mbdc_change.specs.Words.{IsWord, is_space, is_inside};
 ghost use Rattle.dc_meters.specs.Name.{capitals};
-ghost use Rattle.mbdc_fit.specs.Rows.{Fields, HasFields, IsEntryOf, IsReadAs, Lacks, SpellsAddress};
-ghost use Rattle.mbdc_fit.specs.Rows.{SpellsRow, is_blank, is_kept, is_dropped, row_text, spaced, is_separator};
+ghost use Rattle.mbdc_fit.specs.Rows.{IsReadAs, Lacks, SpellsAddress, SpellsRow, fields_in};
 
+use crate::list::listed::{Column, Listed};
 use dc_address::{Identity, Primary};
 use dc_meters::named::identity_of;
-use mbdc_change::{Flat, parse_number, split_word};
-use mbdc_io::NoMemory;
-use std::alloc::Allocator;
+use mbdc_change::{Flat, parse_number};
 
 /// A meter and its place.
 #[derive(Clone, Copy)]
@@ -33,32 +28,6 @@ pub struct Row {
     pub flat: Flat,
 }
 
-/// What a row doesn't spell.
-#[derive(Clone, Copy)]
-pub enum RowFault {
-    /// Four fields.
-    Columns,
-    /// An identity.
-    Meter,
-    /// A bus line.
-    Line,
-    /// A primary address, `S` or nothing.
-    Address,
-    /// A flat.
-    Flat,
-}
-
-/// What a line of the list is read as.
-#[derive(Clone, Copy)]
-pub enum Entry {
-    /// Nothing but separators.
-    Blank,
-    /// No row, and why.
-    Bad(RowFault),
-    /// A row.
-    Row(Row),
-}
-
 // The four fields of a row.
 #[derive(Clone, Copy)]
 struct Words<'a> {
@@ -68,76 +37,20 @@ struct Words<'a> {
     flat: &'a [u8],
 }
 
-fn is_dropped(byte: u8) -> bool
-    ensures { result ≡ is_dropped byte }
+fn words_of(listed: &Listed) -> Words<'_>
+    ensures { (record {
+      meter = result.meter.now;
+      line = result.line.now;
+      address = result.address.now;
+      flat = result.flat.now;
+    }) ≡ fields_in listed.now }
 {
-    matches!(byte, b'\r' | 0xEF | 0xBB | 0xBF)
-}
-
-fn is_separator(byte: u8) -> bool
-    ensures { result ≡ is_separator byte }
-{
-    matches!(byte, b',' | b';' | b'\t' | b' ')
-}
-
-fn spaced(byte: u8) -> u8
-    ensures { result ≡ spaced byte }
-{
-    if is_separator(byte) { b' ' } else { byte }
-}
-
-// A line's text: separators are spaces, and what isn't text is dropped.
-pub(crate) fn row_text<A: Allocator + Copy>(alloc: A, line: &[u8]) -> Result<Vec<u8, A>, NoMemory>
-    ensures { IfOk result (λ text. text.items ≡ row_text line.now) }
-{
-    let mut text = Vec::new(alloc);
-    'bytes: for byte in line {
-        if !is_dropped(*byte) {
-            text.push(spaced(*byte))?;
-        }
+    Words {
+        meter: listed.meter.as_slice(),
+        line: listed.line.as_slice(),
+        address: listed.address.as_slice(),
+        flat: listed.flat.as_slice(),
     }
-    Ok(text)
-}
-
-fn is_blank(text: &[u8]) -> bool
-    ensures { result ≡ is_blank text.now }
-{
-    text.iter().all(|byte| *byte == b' ')
-}
-
-fn is_word(text: &[u8]) -> bool
-    ensures { result ≡ list_all is_inside text.now }
-{
-    text.iter().all(|byte| *byte != b' ')
-}
-
-// The four fields of a text.
-fn words_of(text: &[u8]) -> Option<Words<'_>>
-    ensures found { IfSome result (λ w. HasFields text.now (record {
-      meter = w.meter.now;
-      line = w.line.now;
-      address = w.address.now;
-      flat = w.flat.now;
-    })) }
-    ensures only { (f : Fields) → HasFields text.now f → MatchOption result ⊥ (λ w. f ≡ record {
-      meter = w.meter.now;
-      line = w.line.now;
-      address = w.address.now;
-      flat = w.flat.now;
-    }) }
-{
-    let (meter, rest) = split_word(text)?;
-    let (line, rest) = split_word(rest)?;
-    let (address, flat) = split_word(rest)?;
-    if !is_word(flat) {
-        return None;
-    }
-    Some(Words {
-        meter,
-        line,
-        address,
-        flat,
-    })
 }
 
 fn parse_meter(word: &[u8]) -> Option<Identity>
@@ -187,15 +100,15 @@ fn parse_address(word: &[u8]) -> Option<Option<Primary>>
     }
 }
 
-// The row that the fields spell, or what one of them doesn't.
-fn read_words(words: &Words<'_>) -> Result<Row, RowFault>
+// The row that the fields spell, or the first of them that doesn't.
+fn read_words(words: &Words<'_>) -> Result<Row, Column>
     ensures found { IfOk result (λ row. SpellsRow (record {
       meter = words.now.meter.now;
       line = words.now.line.now;
       address = words.now.address.now;
       flat = words.now.flat.now;
     }) row) }
-    ensures fault { IfErr result (λ fault. Lacks fault (record {
+    ensures fault { IfErr result (λ column. Lacks column (record {
       meter = words.now.meter.now;
       line = words.now.line.now;
       address = words.now.address.now;
@@ -203,16 +116,16 @@ fn read_words(words: &Words<'_>) -> Result<Row, RowFault>
     })) }
 {
     let Some(meter) = parse_meter(words.meter) else {
-        return Err(RowFault::Meter);
+        return Err(Column::Meter);
     };
     let Some(line) = parse_bus_line(words.line) else {
-        return Err(RowFault::Line);
+        return Err(Column::Line);
     };
     let Some(address) = parse_address(words.address) else {
-        return Err(RowFault::Address);
+        return Err(Column::Address);
     };
     let Some(flat) = Flat::new(words.flat) else {
-        return Err(RowFault::Flat);
+        return Err(Column::Flat);
     };
     Ok(Row {
         meter,
@@ -222,26 +135,12 @@ fn read_words(words: &Words<'_>) -> Result<Row, RowFault>
     })
 }
 
-// The entry that a text spells.
-fn entry_of(text: &[u8]) -> Entry
-    ensures { IsEntryOf text.now result }
+/// Reads a row of a list.
+///
+/// # Errors
+/// The first column whose field doesn't spell what it has to.
+pub fn read_row(listed: &Listed) -> Result<Row, Column>
+    ensures { IsReadAs listed.now result }
 {
-    if is_blank(text) {
-        return Entry::Blank;
-    }
-    let Some(words) = words_of(text) else {
-        return Entry::Bad(RowFault::Columns);
-    };
-    match read_words(&words) {
-        Ok(row) => Entry::Row(row),
-        Err(fault) => Entry::Bad(fault),
-    }
-}
-
-/// Reads a line of the list, given without its line feed.
-pub fn read_line<A: Allocator + Copy>(alloc: A, line: &[u8]) -> Result<Entry, NoMemory>
-    ensures { IfOk result (λ entry. IsReadAs line.now entry) }
-{
-    let text = row_text(alloc, line)?;
-    Ok(entry_of(text.as_slice()))
+    read_words(&words_of(listed))
 }

@@ -5,13 +5,15 @@ ghost use Rattle.mbdc_io.specs.Written.{Wrote};
 ghost use Rattle.mbdc_io.specs.Words.{number_word};
 ghost use Rattle.mbdc_change.specs.Accepts.{Accepts, occupies};
 ghost use Rattle.mbdc_change.specs.Valid.{IsChange, IsMeter};
-ghost use Rattle.mbdc_fit.specs.Rows.{IsRow};
-ghost use Rattle.mbdc_fit.specs.Plan.{address_text, change_of, command_of, fault_words, holder_in, holder_words};
+ghost use Rattle.mbdc_fit.specs.Rows.{IsRow, field_of, fields_in};
+ghost use Rattle.mbdc_fit.specs.Plan.{address_text, change_of, command_of, fault_words, field_words, holder_in};
+ghost use Rattle.mbdc_fit.specs.Plan.{holder_words, lacking_words, row_text};
 ghost use Rattle.mbdc_fit.specs.Plan.{is_at_place, known_words, mark_words, place_words};
 ghost use Rattle.mbdc_fit.specs.Plan.{refusal_words, said, same_address, stands, verdict_on};
 ghost use Rattle.mbdc_fit.specs.Plan.{is_at_words, taken_words, verdict_words};
 
-use crate::list::row::{Row, RowFault};
+use crate::list::listed::{Column, Listed};
+use crate::list::row::Row;
 use dc_address::{Identity, Primary};
 use dc_meters::{House, Meter};
 use mbdc_change::{Change, ChangeFault, Command, END_OF_NUMBERS};
@@ -104,16 +106,38 @@ pub fn verdict_on<A: Allocator + Copy>(row: &Row, house: &House<A>) -> Verdict
 
 // ---- texts
 
-/// What is said of a row that isn't one.
-pub(crate) fn fault_words(fault: RowFault) -> &'static str
-    ensures { result.now ≡ fault_words fault }
+// What a field of a column has to be.
+fn fault_words(column: Column) -> &'static str
+    ensures { result.now ≡ fault_words column }
 {
-    match fault {
-        RowFault::Columns => "a row has four fields: meter, line, address, flat",
-        RowFault::Meter => "a meter is its identity, as 12345678.PAD.01.07",
-        RowFault::Line => "a line is a number from 1 to 8",
-        RowFault::Address => "an address is a number from 1 to 250, or S",
-        RowFault::Flat => "a flat is 1 to 12 of A-Z a-z 0-9 . - / _",
+    match column {
+        Column::Meter => "a meter is its identity, as 12345678.PAD.01.07",
+        Column::Line => "a line is a number from 1 to 8",
+        Column::Address => "an address is a number from 1 to 250, or S",
+        Column::Flat => "a flat is 1 to 12 of A-Z a-z 0-9 . - / _",
+    }
+}
+
+/// What is said of a first line that doesn't name a column.
+pub(crate) fn lacking_words(column: Column) -> &'static str
+    ensures { result.now ≡ lacking_words column }
+{
+    match column {
+        Column::Meter => "no column meter",
+        Column::Line => "no column line",
+        Column::Address => "no column address",
+        Column::Flat => "no column flat",
+    }
+}
+
+fn field_of(column: Column, listed: &Listed) -> &[u8]
+    ensures { result.now ≡ field_of column (fields_in listed.now) }
+{
+    match column {
+        Column::Meter => listed.meter.as_slice(),
+        Column::Line => listed.line.as_slice(),
+        Column::Address => listed.address.as_slice(),
+        Column::Flat => listed.flat.as_slice(),
     }
 }
 
@@ -303,11 +327,28 @@ pub(crate) fn put_row<A: Allocator + Copy, W: Sink>(
     house: &House<A>,
 ) -> Result<(), IoFault>
     requires { verdict ≡ Verdict.New → IsChange (change_of row.now house.now.state) }
-    ensures { Wrote W.Sink result out.old out.new
-        (said number (verdict_words verdict row.now house.now.state)) }
+    ensures { Wrote W.Sink result out.old out.new (row_text number verdict row.now house.now.state) }
 {
     put_head(out, number)?;
     put_verdict(out, verdict, row, house)?;
+    out.put(b"\n")
+}
+
+// Writes a line of the list, its field that is wrong, and what that has to be.
+#[tactic(auto, using(mbdc_io::proofs::Pieces::written), unfolding(crate::specs::Plan::said, crate::specs::Plan::field_words))]
+pub(crate) fn put_wrong<W: Sink>(
+    out: &mut W,
+    listed: &Listed,
+    column: Column,
+) -> Result<(), IoFault>
+    ensures { Wrote W.Sink result out.old out.new
+        (said listed.now.number (field_words column (fields_in listed.now))) }
+{
+    put_head(out, listed.number)?;
+    out.put(b"\"")?;
+    out.put(field_of(column, listed))?;
+    out.put(b"\": ")?;
+    out.put(fault_words(column).as_bytes())?;
     out.put(b"\n")
 }
 

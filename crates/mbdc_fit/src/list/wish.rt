@@ -4,6 +4,7 @@ ghost use Rattle.std.specs.Prelude.{IfOk};
 ghost use Rattle.mbdc_fit.specs.Plan.{IsOneGroup};
 ghost use Rattle.mbdc_fit.specs.Wish.{IsMetBy};
 
+use crate::list::listed::Listing;
 use crate::list::order::{Order, plan_for};
 use crate::list::plan::{Plan, plan_on};
 use dc_meters::House;
@@ -14,7 +15,7 @@ use std::alloc::Allocator;
 #[derive(Clone, Copy)]
 pub enum Wish<'a> {
     /// The meters of a list.
-    List(&'a [u8]),
+    List(&'a Listing),
     /// One command.
     One(Order),
 }
