@@ -1,13 +1,12 @@
 """What may be printed of a month: what was published of it, and is in the audit files of it and of earlier months."""
 
 import datetime
-import re
 from typing import Dict, Iterable, List, Optional, Set, Tuple
 
 from database import Cursor
 from drafts import Reader
 from periods import later_month
-from published import NONE, Printed, Published, reading_key
+from published import KEY, NONE, Key, Printed, Published, reading_key
 
 CHARTED = 13  # months
 # Of these houses the audit of a month
@@ -15,25 +14,24 @@ AUDITS = """
 SELECT n.house, n.id, a.says FROM audits_now n JOIN audits a ON a.id = n.id WHERE n.house = ANY (%s) AND n.month = %s"""
 # What was published of a month, and of earlier ones and their users: for charts and where a month has no evidence any
 # more
-NUMBERS = """
-SELECT p.audit, p.tenancy, p.key, p.text, p.mark FROM published p JOIN audits_now a ON a.id = p.audit
+NUMBERS = f"""
+SELECT p.audit, p.tenancy, {KEY}, p.text, p.mark FROM published p JOIN audits_now a ON a.id = p.audit
 WHERE a.house = %s AND (a.month = %s OR a.month >= %s AND a.month < %s AND p.tenancy IS NOT NULL
-                        AND p.key LIKE '%% ' || to_char(a.month, 'YYYY-MM') || ' %%')
+                        AND p.kind IN ('month', 'chart') AND p.period = to_char(a.month, 'YYYY-MM'))
 ORDER BY a.month, p.id"""
 FILE = "SELECT file FROM audits WHERE id = %s AND file IS NOT NULL"
-# What only the database knows: which meter a reading is of, and which place of a flat's use
-READING, PLACE = re.compile(r"reading \d+ (\d+)"), re.compile(r"(.+) \d+ (\d{6,} \d{6,} \S+)")
-Number = Tuple[Optional[int], str, str, str]  # tenancy, key, text, mark
+Number = Tuple[Optional[int], Key, str, str]  # tenancy, key, text, mark
 
 
 class Facts(Reader):
-    """All numbers of an audit file, by keys without what only the database knows."""
+    """All numbers of an audit file, by keys without what only the database knows: which meter a reading is of, and
+    which place of a flat's use."""
 
     def __init__(self) -> None:
         super().__init__([])
         self.all: Set[Number] = set()
 
-    def put(self, user: str, key: str, text: str, mark: str) -> None:
+    def put(self, user: str, key: Key, text: str, mark: str) -> None:
         self.all.add((None if user == NONE else int(user), key, text, mark))
 
     def take_place(self, _: str, flat: str, use: str, __: str) -> None:
@@ -41,19 +39,6 @@ class Facts(Reader):
 
     def take_value(self, run: str, moment: str, text: str, _: str) -> None:
         self.put(NONE, reading_key(0, int(moment)), text, "reading")
-
-
-def neutral(key: str) -> str:
-    """A key without what only the database knows.
-
-    >>> neutral("reading 170000 1738364400"), neutral("A1 warm water 2 1735686000 1738364400 m3")
-    ('reading 0 1738364400', 'A1 warm water 0 1735686000 1738364400 m3')
-    """
-    for pattern, form in ((READING, r"reading 0 \1"), (PLACE, r"\1 0 \2")):
-        found = pattern.fullmatch(key)
-        if found:
-            return found.expand(form)
-    return key
 
 
 def file_of(cursor: Cursor, audit: Optional[int]) -> Optional[List[str]]:
@@ -72,9 +57,9 @@ def unknown(cursor: Cursor, audit: Optional[int], numbers: Iterable[Number]) -> 
     facts.read(lines)
     nobodys = {it[1:] for it in facts.all}
     for tenancy, key, text, mark in numbers:
-        number = (neutral(key), text, mark)
+        number = (key._replace(place=0), text, mark)
         if (tenancy, *number) not in facts.all and (tenancy is not None or number not in nobodys):
-            return f"{key} {text}"
+            return " ".join(map(str, (*filter(None, key), text)))
     return None
 
 
@@ -87,8 +72,8 @@ def published_of(cursor: Cursor, houses: List[str], month: datetime.date) -> Tup
     for house, published in list(found.items()):
         cursor.execute(NUMBERS, (house, month, later_month(month, 1 - CHARTED), month))
         of_audits: Dict[int, List[Number]] = {}
-        for audit, *number in cursor:
-            of_audits.setdefault(audit, []).append((number[0], number[1], number[2], number[3]))
+        for audit, tenancy, *key, text, mark in cursor:
+            of_audits.setdefault(audit, []).append((tenancy, Key(*key), text, mark))
         wrong = [it for it in (unknown(cursor, audit, numbers) for audit, numbers in of_audits.items()) if it]
         if wrong:
             refused.append(f"{house}: {wrong[0]} isn't in its audit file")

@@ -8,6 +8,7 @@ import psycopg2
 from database import Cursor, insert, one, plain
 from exporting import File
 from program import LONGEST, AtFault, audited, content_of, filled, program
+from published import Key
 
 AUDIT = """
 INSERT INTO audits (house, month, days, version, file, sha256, program, program_sha256, says)
@@ -18,7 +19,7 @@ HOLDS = """
 SELECT EXISTS (SELECT FROM audits_now n JOIN audits a ON a.id = n.id WHERE n.house = %s
   AND n.month IS NOT DISTINCT FROM %s
                AND n.days IS NOT DISTINCT FROM %s::daterange AND (a.sha256, a.program_sha256) = (%s, %s))"""
-PUBLISHED = "published (audit, house, month, days, version, tenancy, key, text, mark)"
+PUBLISHED = f"published (audit, house, month, days, version, tenancy, {', '.join(Key._fields)}, text, mark)"
 REFUSAL = """
 INSERT INTO refusals (house, period, says) VALUES (%(house)s, %(period)s, %(says)s)
 ON CONFLICT (house, period) DO UPDATE SET says = excluded.says, at = now()"""
@@ -55,7 +56,7 @@ def publish(cursor: Cursor, of: Of, file: File) -> Optional[str]:
     cursor.execute(AUDIT, (of.house, of.month, of.days, of.version, psycopg2.Binary(content), sha256, *program(),
                            found.lines[-1]))
     audit = one(cursor)[0]
-    insert(cursor, PUBLISHED,
-           [(audit, of.house, of.month, of.days, of.version, *row) for row in dict.fromkeys(file.read(made.lines))])
+    insert(cursor, PUBLISHED, [(audit, of.house, of.month, of.days, of.version, tenancy, *key, text, mark)
+                               for tenancy, key, text, mark in dict.fromkeys(file.read(made.lines))])
     cursor.execute("DELETE FROM refusals WHERE (house, period) = (%s, %s)", (of.house, of.period))
     return None

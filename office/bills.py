@@ -2,7 +2,7 @@
 
 import datetime
 import zoneinfo
-from typing import Dict, Iterable, Iterator, List, NamedTuple, Optional, Set, Tuple
+from typing import Any, Dict, Iterable, Iterator, List, NamedTuple, Optional, Set, Tuple
 
 from psycopg2.extras import DateRange, Json
 
@@ -14,7 +14,7 @@ from grading import PROVISIONAL, Period, around, graded
 from months import Split, differences, kept_month, lock, shown_line, splits_of, window_at
 from periods import begin_of, later_month
 from program import AtFault, NotComputed, filled
-from published import NONE
+from published import KEY, NONE, Key
 from supply import Entry, seconds
 
 HEADER = ("house", "flat", "use", "place", "tenancy", "user", "from", "to", "amount", "smallest_unit", "consumption",
@@ -29,9 +29,9 @@ SMALLEST = "smallest"
 # by unit of the audit file
 COLUMNS = {SMALLEST: "amount", "HCA": "HCA", **{unit: "consumption" for _, unit in SHOWN.values()}}
 HELD = "held"
-PRINTED = """
-SELECT p.tenancy, p.key, p.text FROM published p JOIN bills b ON (b.house, b.days, b.version) = (p.house, p.days,
-    p.version)
+PRINTED = f"""
+SELECT p.tenancy, {KEY}, p.text FROM published p
+JOIN bills b ON (b.house, b.days, b.version) = (p.house, p.days, p.version)
 WHERE (p.house, p.days, p.version) = (%s, %s, %s) AND p.audit IS NOT DISTINCT FROM b.audit ORDER BY p.id"""
 IS_OUT = "SELECT EXISTS (SELECT FROM bills WHERE (house, days, version) = (%s, %s, %s) AND out_at IS NOT NULL)"
 VERSION = "SELECT version, out_at IS NOT NULL FROM bills_now WHERE (house, days) = (%s, %s)"
@@ -54,6 +54,10 @@ class Row(NamedTuple):
     @property
     def name(self) -> str:
         return " ".join(self.cells[name] for name in NAMES)
+
+    def key(self, column: str) -> Key:
+        flat, use, place, begins, ends = (self.cells[name] for name in NAMES)
+        return Key(column, flat, use, int(place), f"{begins} {ends}")
 
 
 class Held(NamedTuple):
@@ -97,7 +101,7 @@ class Bill(NamedTuple):
 
     def read(self, lines: List[str]) -> List[Published]:
         """What the filled file publishes."""
-        return [(row.tenancy, f"{row.name} {column}", text, row.cells["grade"]) for row in self.filled(lines)
+        return [(row.tenancy, row.key(column), text, row.cells["grade"]) for row in self.filled(lines)
                 for column, text in row.cells.items()]
 
 
@@ -250,12 +254,11 @@ def local(moment: int, zone: zoneinfo.ZoneInfo) -> str:
     return f"{datetime.datetime.fromtimestamp(moment, zone):%Y-%m-%dT%H:%M}"
 
 
-def rows_in(cells: Iterable[Tuple[Optional[int], str, str]]) -> List[Row]:
-    """Rows from their cells, whose keys end with the column."""
-    rows: Dict[str, Row] = {}
-    for tenancy, key, text in cells:
-        name, _, column = key.rpartition(" ")
-        rows.setdefault(name, Row(tenancy, {})).cells[column] = text
+def rows_in(cells: Iterable[Tuple[Any, ...]]) -> List[Row]:
+    """Rows from their cells: tenancy, key and text, where the column is the kind."""
+    rows: Dict[Tuple[str, ...], Row] = {}
+    for tenancy, column, *name, text in cells:
+        rows.setdefault(tuple(name), Row(tenancy, {})).cells[column] = text
     return list(rows.values())
 
 
@@ -280,7 +283,7 @@ def accepted(cursor: Cursor, house: str, days: DateRange) -> Optional[List[Row]]
     row = cursor.fetchone()
     if row is None:
         return None
-    cursor.execute("SELECT tenancy, key, text FROM published WHERE audit = %s ORDER BY id", row)
+    cursor.execute(f"SELECT p.tenancy, {KEY}, p.text FROM published p WHERE p.audit = %s ORDER BY p.id", row)
     rows = rows_in(cursor)
     compare(cursor, house, row[0], rows)
     return rows

@@ -11,7 +11,7 @@ from typing import Callable, Dict, Iterator, List, NamedTuple, Optional, Set, Tu
 from catalogue import DECIMALS
 from house_data import House
 from periods import begin_of, day_after, later_month, next_month
-from published import NONE, flat_key, house_key, reading_key, use_key
+from published import NONE, Key, flat_key, house_key, reading_key, use_key
 from sheet_data import Number, Sheet, Use
 from supply import seconds
 
@@ -23,7 +23,7 @@ BESIDE = {"mean": "average", "change": "change", "carbon": "carbon", "weather": 
 DECLARED = "declared"  # the mark of what no audit computes
 CHARTED_WHOLE = 100  # from here on a chart's number has no decimals
 Spans = Dict[datetime.date, int]
-Published = Tuple[Optional[int], str, str, str]  # tenancy, key, text, mark
+Published = Tuple[Optional[int], Key, str, str]  # tenancy, key, text, mark
 
 
 class Asked(NamedTuple):
@@ -108,7 +108,7 @@ class Reader:
     def __init__(self, places: List[Tuple[int, List[int]]]) -> None:
         self.places: Iterator[Tuple[int, List[int]]] = iter(places)
         self.runs: List[int] = []
-        self.found: Dict[Tuple[Optional[int], str], Published] = {}
+        self.found: Dict[Tuple[Optional[int], Key], Published] = {}
         self.months: Dict[str, str] = {}  # by span
         self.flats: Dict[str, str] = {}  # by user
         self.facts: Dict[Tuple[str, ...], str] = {}
@@ -126,7 +126,7 @@ class Reader:
                 take(*fields)
         return list(self.found.values())
 
-    def put(self, user: str, key: str, text: str, mark: str) -> None:
+    def put(self, user: str, key: Key, text: str, mark: str) -> None:
         """A number of a user, or of nobody."""
         tenancy = None if user == NONE else int(user)
         self.found.setdefault((tenancy, key), (tenancy, key, text, mark))
@@ -168,7 +168,7 @@ class Reader:
     def take_shown(self, _: str, begins: str, ends: str, unit: str, text: str, mark: str) -> None:
         flat, use, number = self.place
         self.put(self.parts.get((begins, ends), NONE),
-                 use_key(flat, use, f"{number} {begins} {ends}", SHOWN_UNITS[unit]), text, mark)
+                 Key("place", flat, use, number, f"{begins} {ends}", SHOWN_UNITS[unit]), text, mark)
 
     def take_value(self, run: str, moment: str, text: str, _: str) -> None:
         self.put(NONE, reading_key(self.runs[int(run) - 1], int(moment)), text, "reading")
@@ -176,10 +176,10 @@ class Reader:
     def take_of_user(self, span: str, user: str, use: str, of_file: str, text: str, mark: str) -> None:
         unit, month, decimals = SHOWN_UNITS[of_file], self.months[span], len(text.partition(".")[2])
         if decimals == DECIMALS[unit] or text == NONE:
-            self.put(user, use_key(self.flats[user], use, month, unit), text, mark)
+            self.put(user, use_key(self.flats[user], use, f"month {month}", unit), text, mark)
         # 99.7 comes before its 100
         if span == NOW and (text == NONE or decimals == (decimal.Decimal(text) < CHARTED_WHOLE)):
-            self.put(user, use_key(self.flats[user], use, f"{month} chart", unit), text, mark)
+            self.put(user, use_key(self.flats[user], use, f"chart {month}", unit), text, mark)
         for what in ("factor", "price") if span == NOW else ():
             self.put_of(user, use, what, self.facts.get((what, use, of_file, span), NONE), DECLARED)
 

@@ -20,38 +20,51 @@ class Printed(NamedTuple):
         return self.text != NONE
 
 
-Numbers = Dict[str, Printed]
+class Key(NamedTuple):
+    """Which number it is: columns of `published`. place: its number, or of a reading the meter. period: a month, the
+    ends of a part of one, or the moment of a reading."""
+    kind: str
+    flat: str = ""
+    use: str = ""
+    place: int = 0
+    period: str = ""
+    unit: str = ""
 
 
-def use_key(flat: str, use: str, what: str, unit: str = "") -> str:
-    """The key of a number of a user's use."""
-    return f"{flat} {use} {what} {unit}".rstrip(" ")
+KEY = ", ".join(f"p.{it}" for it in Key._fields)  # of published p
+Numbers = Dict[Key, Printed]
 
 
-def month_key(flat: str, use: Any, month: datetime.date) -> str:
-    return use_key(flat, use.use, f"{month:%Y-%m}", use.unit)
+def use_key(flat: str, use: str, what: str, unit: str = "") -> Key:
+    """The key of a number of a user's use. what: its kind, and perhaps a month."""
+    kind, _, period = what.partition(" ")
+    return Key(kind, flat, use, 0, period, unit)
 
 
-def chart_key(flat: str, use: Any, month: datetime.date) -> str:
-    return use_key(flat, use.use, f"{month:%Y-%m} chart", use.unit)
+def month_key(flat: str, use: Any, month: datetime.date) -> Key:
+    return use_key(flat, use.use, f"month {month:%Y-%m}", use.unit)
 
 
-def place_key(flat: str, use: Any, place: Any) -> str:
-    return use_key(flat, use.use, f"{place.number} {seconds(place.amount.begins)} {seconds(place.amount.ends)}",
-                   use.unit)
+def chart_key(flat: str, use: Any, month: datetime.date) -> Key:
+    return use_key(flat, use.use, f"chart {month:%Y-%m}", use.unit)
 
 
-def reading_key(meter: int, moment: int) -> str:
+def place_key(flat: str, use: Any, place: Any) -> Key:
+    return Key("place", flat, use.use, place.number,
+               f"{seconds(place.amount.begins)} {seconds(place.amount.ends)}", use.unit)
+
+
+def reading_key(meter: int, moment: int) -> Key:
     """The key of a reading, which is of no user."""
-    return f"reading {meter} {moment}"
+    return Key("reading", place=meter, period=str(moment))
 
 
-def flat_key(flat: str, use: str) -> str:
-    return f"flat {flat} {use}"
+def flat_key(flat: str, use: str) -> Key:
+    return Key("flat", flat, use)
 
 
-def house_key(use: str) -> str:
-    return f"house {use}"
+def house_key(use: str) -> Key:
+    return Key("house", use=use)
 
 
 class Published(NamedTuple):
@@ -65,7 +78,7 @@ class Published(NamedTuple):
         return {**self.of_house, **self.of_users.get(tenancy, {})}
 
 
-def as_published(audit: Optional[int], rows: Iterable[Tuple[Optional[int], str, str, str]]) -> Published:
+def as_published(audit: Optional[int], rows: Iterable[Tuple[Optional[int], Key, str, str]]) -> Published:
     """Rows of tenancy, key, text and mark."""
     found = Published(audit, {}, {})
     for tenancy, key, text, mark in rows:

@@ -19,7 +19,7 @@ from codes import code_of
 from database import plain
 from periods import day_before, later_month, next_month
 from drafts import DECLARED, is_whole
-from published import Numbers, Printed, Published, chart_key, month_key, place_key, use_key
+from published import Key, Numbers, Printed, Published, chart_key, month_key, place_key, use_key
 from sheet_data import MARKED, MONTHS, Number, Sheet, Use
 from sheet_facts import carbon, comparisons, corrected, costs, days_in, estimates, factors, weather
 
@@ -66,10 +66,10 @@ def html_of(name: str, words: Catalogue, **values: Any) -> str:
     return str(environment().get_template(name).render(words=words, style=style(), plain=shown, marked=MARKED, **values))
 
 
-def printed_in(numbers: Numbers, words: Catalogue) -> Callable[[str], Optional[Printed]]:
+def printed_in(numbers: Numbers, words: Catalogue) -> Callable[..., Optional[Printed]]:
     """What a page's macro prints of a key: the number as the reader writes it, and its mark. It has no other source."""
-    def number(key: str) -> Optional[Printed]:
-        found = numbers.get(key)
+    def number(key: Any, *parts: Any) -> Optional[Printed]:
+        found = numbers.get(Key(key, *parts) if parts else key)
         return None if found is None else found._replace(text=words.printed(found.text))
     return number
 
@@ -103,7 +103,7 @@ def audited_of(audit: Optional[int], says: str, words: Catalogue) -> str:
     return words.word("audited", id=audit, sources=words.word("and").join([", ".join(before), last] if before else [last]))
 
 
-def is_estimated(numbers: Numbers, key: str) -> bool:
+def is_estimated(numbers: Numbers, key: Key) -> bool:
     return key in numbers and numbers[key].mark == "estimated"
 
 

@@ -7,7 +7,7 @@ from typing import Any, Dict, Iterable, Iterator, List, NamedTuple, Optional, Se
 from catalogue import Catalogue
 from database import Cursor
 from periods import later_month, next_month
-from published import Numbers, month_key, place_key, use_key
+from published import KEY, Key, Numbers, month_key, place_key, use_key
 
 LONGEST_GAP = datetime.timedelta(hours=48)  # between the readings around an end of what counts as measured
 PRICES = "SELECT house, use, unit, cents FROM prices WHERE house = ANY (%s) AND months @> %s"
@@ -19,8 +19,8 @@ WHERE h.house = ANY (%s) AND d.month = ANY (%s)"""
 VERSIONS = """
 SELECT v.house, v.version, v.why, coalesce(v.out_at, now()) FROM versions v
 WHERE v.house = ANY (%(houses)s) AND v.month = %(month)s AND v.version > 1 AND v.version = version_of(v.house, v.month)"""
-BEFORE = """
-SELECT p.tenancy, p.key, p.text FROM published p
+BEFORE = f"""
+SELECT p.tenancy, {KEY}, p.text FROM published p
 LEFT JOIN versions v ON (v.house, v.month, v.version) = (p.house, p.month, p.version)
 WHERE p.house = ANY (%(houses)s) AND p.month = %(month)s AND p.version = version_of(p.house, p.month) - 1 AND p.tenancy IS NOT NULL
   AND p.audit IS NOT DISTINCT FROM v.audit"""
@@ -34,7 +34,7 @@ class Correction(NamedTuple):
     version: int
     why: str
     at: datetime.datetime
-    before: Dict[Tuple[int, str], str]
+    before: Dict[Tuple[int, Key], str]
 
 
 class Facts(NamedTuple):
@@ -59,7 +59,7 @@ def facts_of(cursor: Cursor, houses: List[str], month: datetime.date, values: It
              for house in houses}
     of_month = {"houses": houses, "month": month}
     cursor.execute(BEFORE, of_month)
-    before = {(tenancy, key): text for tenancy, key, text in cursor}
+    before = {(tenancy, Key(*key)): text for tenancy, *key, text in cursor}
     cursor.execute(VERSIONS, of_month)
     for house, version, why, at in cursor:
         found[house] = found[house]._replace(correction=Correction(version, why, at, before))

@@ -35,7 +35,8 @@ STEPS: Tuple[Tuple[Tuple[str, ...], bool], ...] = (
     (("publish", "-", "2024-01"), False), (("publish", "-", "2024-12"), False), (("estimate", MONTH), False), (("publish", "-", MONTH), False),
     (("publish", "-", MONTH, "--bill"), False), (("publish", "-", "2024-12-01..2025-01-31", "--bill"), False),
     (("bill", "elm-1", MONTH), True), (("bill", "elm-1", "2024-12-01..2025-01-31"), True))
-PUBLISHED = "SELECT coalesce(month::text, days::text), tenancy, key, text, mark FROM published"
+PUBLISHED = """
+SELECT coalesce(month::text, days::text), tenancy, kind, flat, use, place, period, unit, text, mark FROM published"""
 
 
 class Played(NamedTuple):

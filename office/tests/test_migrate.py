@@ -25,7 +25,22 @@ SELECT id, '2025-01-01', 'html', 'x', repeat('0', 64), true FROM tenancies;
 INSERT INTO versions (house, month, version, why, out_at, is_before_audits) VALUES ('elm', '2025-01-01', 1, 'first', now(), true);
 INSERT INTO versions (house, month, version, why) VALUES ('elm', '2025-01-01', 2, 'late');
 INSERT INTO jobs (what, words) VALUES ('release', '2025-01');
+INSERT INTO published (house, month, days, version, key, text, mark)
+SELECT 'elm', CASE WHEN NOT is_bill THEN date '2025-01-01' END,
+    CASE WHEN is_bill THEN daterange('2025-01-01', '2025-02-01') END, 1, key, '1', 'measured'
+FROM (VALUES (false, 'A1 warm water 2025-01 kWh'), (false, 'A1 warm water 2025-01 chart kWh'),
+    (false, 'A1 heat average kWh'), (false, 'A1 heat change 2024-12'), (false, 'A1 heat co2'),
+    (false, 'A1 warm water 2 1735686000 1738364400 m³'),
+    (false, 'reading 17 1738364400'), (false, 'flat A1 warm water'), (false, 'house heat'),
+    (true, 'A1 warm water 1 2025-01-01T00:00 2025-02-01T00:00 consumption')) AS k (is_bill, key);
 """
+KEYS = [  # of these published numbers, as columns
+    ("average", "A1", "heat", 0, "", "kWh"), ("change", "A1", "heat", 0, "2024-12", ""),
+    ("chart", "A1", "warm water", 0, "2025-01", "kWh"), ("co2", "A1", "heat", 0, "", ""),
+    ("consumption", "A1", "warm water", 1, "2025-01-01T00:00 2025-02-01T00:00", ""),
+    ("flat", "A1", "warm water", 0, "", ""), ("house", "", "heat", 0, "", ""),
+    ("month", "A1", "warm water", 0, "2025-01", "kWh"),
+    ("place", "A1", "warm water", 2, "1735686000 1738364400", "m³"), ("reading", "", "", 17, "1738364400", "")]
 OURS = "IN ('public'::regnamespace, 'desk'::regnamespace)"
 FUNCTIONS = f"FROM pg_proc p JOIN pg_language l ON l.oid = prolang WHERE pronamespace {OURS} AND lanname IN ('sql', 'plpgsql')"
 CATALOGUE = (
@@ -42,7 +57,8 @@ CATALOGUE = (
     f"""SELECT 'right', k.what, a.grantee::regrole::text, a.privilege_type FROM (
         SELECT oid::regclass::text, coalesce(relacl, acldefault('r', relowner)) FROM pg_class WHERE relnamespace {OURS}
         UNION ALL SELECT attrelid::regclass || '.' || attname, attacl FROM pg_attribute JOIN pg_class c ON c.oid = attrelid
-        WHERE relnamespace {OURS} UNION ALL SELECT nspname, nspacl FROM pg_namespace WHERE nspname = 'desk'
+        WHERE relnamespace {OURS} AND NOT attisdropped
+        UNION ALL SELECT nspname, nspacl FROM pg_namespace WHERE nspname = 'desk'
         UNION ALL SELECT p.oid::regprocedure::text, coalesce(proacl, acldefault('f', proowner)) {FUNCTIONS}
         ) AS k (what, acl), aclexplode(k.acl) a""",
     *(f"SELECT '{table}', to_jsonb(k)::text FROM {table} k" for table in ("uses", "units", "device_types", "limits", "box_commands")))
@@ -80,6 +96,7 @@ def test_a_filled_database_of_0_2_0(older: Office, office: Office) -> None:
     assert shape(older) ^ shape(office) == set()
     assert older.sql("SELECT version, is_before_audits FROM versions ORDER BY 1") == [(1, True), (2, False)]
     assert older.sql("SELECT flat, mail FROM tenancies") == [("A1", None)]
+    assert older.sql("SELECT kind, flat, use, place, period, unit FROM published ORDER BY kind") == KEYS
     assert older.sql("UPDATE sheets SET sent_at = now() RETURNING is_before_audits") == [(True,)]
     for query in ("UPDATE versions SET out_at = now() WHERE version = 2", "UPDATE sheets SET is_before_audits = false",
                   "INSERT INTO sheets (tenancy, month, form, path, sha256) SELECT id, '2025-01-01', 'pdf', 'x', repeat('0', 64)"
@@ -97,7 +114,7 @@ def test_a_filled_database_of_0_2_0(older: Office, office: Office) -> None:
 def test_each_function_is_whole(office: Office) -> None:
     """They are laid in any order, unread; here the database reads each."""
     for language, validator in (("sql", "fmgr_sql_validator"), ("plpgsql", "plpgsql_validator")):
-        assert office.sql(f"SELECT count({validator}(p.oid)) > 40 {FUNCTIONS} AND lanname = %s", language) == [(True,)]
+        assert office.sql(f"SELECT count({validator}(p.oid)) > 20 {FUNCTIONS} AND lanname = %s", language) == [(True,)]
 
 
 def test_a_second_call_does_nothing(office: Office) -> None:
