@@ -198,6 +198,7 @@ def brief(kind: str, facts: Dict[str, Any]) -> str:
     """An item in a line, in English, for terminals and logs."""
     words = Words("en", "UTC")
     where = f" (flat {facts['flat']})" if facts.get("flat") else ""
+    where = f" ({len(facts['houses'])} houses)" if "houses" in facts else where
     return f"{title(kind, facts, words)}{where}: {body(kind, facts, words)}"
 
 
@@ -267,6 +268,7 @@ def offers_of(item: Item, readings: List[Reading]) -> List[Offer]:
         "month")})], "changed": [Offer("correct_month", {"house": item.house, "month": facts.get("month")}), Offer(
         "leave_month", {"house": item.house, "month": facts.get("month")})], "not sent": [Offer("address", {
         "house": item.house, "flat": item.flat}), Offer("send", {"month": facts.get("month")})],}.get(key, [])
+    found = [it for it in found if "houses" not in facts or it.action == "send"]  # what many houses have
     return [*found, Offer("hand_back" if item.known_by else "take_over", {"item": item.id})]
 
 

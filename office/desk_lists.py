@@ -12,7 +12,7 @@ from importing import in_words
 MOST, FARTHEST = 500, 10**9  # rows of a page, and before it
 HOUSES = """
 SELECT h.house, h.address, h.zone, (SELECT count(*) FROM flats f WHERE f.house = h.house),
-       (SELECT count(*) FROM alarms a WHERE a.house = h.house AND a.ended_at IS NULL)
+       (SELECT count(*) FROM alarms a WHERE (a.house = h.house OR a.facts -> 'houses' ? h.house) AND a.ended_at IS NULL)
 FROM houses h WHERE concat_ws(' ', h.house, h.address, h.postcode) ILIKE %(like)s
    OR EXISTS (SELECT FROM fittings f WHERE f.house = h.house AND f.identity ILIKE %(like)s)
    OR EXISTS (SELECT FROM flats f WHERE f.house = h.house AND h.house || ' ' || f.flat ILIKE %(like)s) {names}

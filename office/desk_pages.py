@@ -91,7 +91,12 @@ def morning_of(cursor: Cursor, words: Words) -> Morning:
     row = cursor.fetchone()
     cursor.execute(RELEASING)
     return Morning(Counts(*row) if row else None, [(name, cards[name]) for name in SECTIONS if cards[name]],
-                   len({item.house for item in items if item.ended_at is None and item.house}), cursor.fetchone()[0])
+                   len({house for item in items if item.ended_at is None for house in houses_of(item)}),
+                   cursor.fetchone()[0])
+
+
+def houses_of(item: Item) -> List[str]:
+    return [item.house] if item.house else list(item.facts.get("houses", []))
 
 
 def page(name: str, words: Words, viewer: Optional[Viewer], **values: Any) -> str:
@@ -136,5 +141,7 @@ def mail_text(morning: Morning, words: Words) -> str:
         for card in cards:
             where = " ".join(filter(None, (card.item.house, card.item.flat)))
             lines += [plain(f"- {where}: {card.title}. {card.body}", LONGEST)]
+            if "houses" in card.item.facts:
+                lines += [f"  {words.page('houses')}: {', '.join(houses_of(card.item))}"]
         lines += [""]
     return "\n".join(lines) or words.page("nothing")

@@ -16,6 +16,10 @@ NIGHTS = 7
 WAITING_DAYS = 95  # sheets of older months aren't waited for
 STEP_DAYS = 5  # after a month until a person is asked for a step after its end
 MANY = 3  # places of a house without a value in a month are one item
+MANY_HOUSES = 10  # of one cause are one item
+# The kinds of items that may have one cause over all houses, and the facts that tell one cause from another
+OVER_HOUSES = ("box", "clock", "late", "talks", "no number.many", "audit", "not sent")
+CAUSE = ("why", "grade", "month", "period", "text", "failed")
 Facts = Dict[str, Any]
 Key = Tuple[str, str]  # kind and subject
 COLLECTORS = ("collector", "office/collect")
@@ -167,7 +171,7 @@ def seen_at(cursor: Cursor, moment: datetime.datetime) -> Iterator[Seen]:
         for row in cursor:
             found.setdefault((row[0], row[2]), Seen(*row))
     cursor.execute(NO_NUMBER, values)
-    yield from folded(found.values(), [Seen(*row) for row in cursor])
+    yield from over_houses(folded(found.values(), [Seen(*row) for row in cursor]))
 
 
 def folded(causes: Iterable[Seen], numberless: List[Seen]) -> List[Seen]:
@@ -194,6 +198,34 @@ def folded(causes: Iterable[Seen], numberless: List[Seen]) -> List[Seen]:
     return list(items.values())
 
 
+def over_houses(items: Iterable[Seen]) -> Iterator[Seen]:
+    """A cause that many houses have is one item, which names them."""
+    causes: Dict[Tuple[str, ...], List[Seen]] = {}
+    for one in items:
+        is_of_all = one.kind in OVER_HOUSES or f"{one.kind}.{one.facts.get('grade')}" in OVER_HOUSES
+        what = (str(one.facts[it]) for it in CAUSE if one.facts.get(it)) if is_of_all else (one.subject,)
+        causes.setdefault((one.kind, *what), []).append(one)
+    for (kind, *what), found in causes.items():
+        houses = houses_in(found)
+        if len(houses) < MANY_HOUSES:
+            yield from found
+        else:
+            names = [name for name in found[0].facts if name not in ("box", "flat")]
+            facts = {name: added([one.facts.get(name) for one in found]) for name in names}
+            yield Seen(kind, None, " ".join(["many houses", *what]), {**facts, "houses": houses},
+                       sum(one.waits for one in found))
+
+
+def houses_in(items: Iterable[Seen]) -> List[str]:
+    return sorted({one.house for one in items if one.house is not None})
+
+
+def added(values: List[Any]) -> Any:
+    """Numbers are added; of texts and moments the first one counts."""
+    known = [it for it in values if it is not None]
+    return sum(known) if known and all(isinstance(it, int) for it in known) else min(known, default=None)
+
+
 def of_the_collector(items: Dict[Key, Seen]) -> List[Optional[str]]:
     """Where no collection ends, the boxes that the last one reached are counted at that, and are no items; their houses."""
     collector = items.get(COLLECTORS)
@@ -204,7 +236,8 @@ def of_the_collector(items: Dict[Key, Seen]) -> List[Optional[str]]:
               and datetime.datetime.fromisoformat(one.facts["since"]) >= first]
     gone = [items.pop(key) for key in behind]
     if gone:
-        facts = {"why": "boxes", "boxes": len(gone), "meters": sum(one.facts["meters"] for one in gone)}
+        facts = {"why": "boxes", "boxes": len(gone), "meters": sum(one.facts["meters"] for one in gone),
+                 "houses": houses_in(gone)}
         items[COLLECTORS] = collector._replace(facts={**collector.facts, **facts})
     return [one.house for one in gone]
 
