@@ -1,6 +1,7 @@
 """A PostgreSQL server in a temporary folder, a database of the office for each test, and boxes."""
 
 import dataclasses
+import importlib
 import json
 import os
 import pathlib
@@ -16,8 +17,9 @@ import pytest
 
 OFFICE = pathlib.Path(__file__).resolve().parent.parent
 TESTS = OFFICE / "tests"
-sys.path.insert(0, str(OFFICE))
 ROOT = OFFICE.parent
+sys.path[:0] = [str(OFFICE), str(ROOT / "demo")]
+answer = importlib.import_module("world.frames").answer
 # The program that decodes and audits: MBDC names it, else ./mbdc builds it once, without a proof where none is proved
 BUILT = ("./mbdc decode /dev/null >/dev/null && root=$PWD && . tools/built.sh"
          " && { is_built && echo $built/mbdc || echo $built/unproved/mbdc; }")
@@ -25,6 +27,7 @@ MBDC = os.environ.get("MBDC") or subprocess.check_output(["bash", "-euc", BUILT]
 os.environ["MBDC"] = MBDC  # of the modules that a test calls
 PROGRAMS = sorted(pathlib.Path("/usr/lib/postgresql").glob("*/bin/pg_ctl"), key=lambda path: int(path.parts[4]))
 OWNER, TEMPLATE = "office", "migrated"
+MORE, SELECTED = 0x1F, 253  # the end of a telegram that another one follows; the address of a selected meter
 MOMENT = 1_735_689_600  # 2025-01-01, UTC
 SECONDS = 900  # at most, of a command, also on a machine with much to do
 Meter = Tuple[str, int, str, str]
@@ -89,17 +92,18 @@ class Office:
         self.connection = server.connect(database)
         (folder / "bin").mkdir(exist_ok=True)
         if not (folder / "bin/mbdc").exists():
-            (folder / "bin/mbdc").symlink_to(TESTS / "fake_mbdc")
+            (folder / "bin/mbdc").symlink_to(pathlib.Path(MBDC).resolve())
         self.environment = {**os.environ, "PYTHONPATH": ""}
 
-    def sql(self, query: str, *values: Any) -> List[Tuple[Any, ...]]:
+    def sql(self, query: str, *values: Any, role: str = OWNER) -> List[Tuple[Any, ...]]:
         with self.connection.cursor() as cursor:
+            cursor.execute(f"SET ROLE {role}")
             cursor.execute(query, values or None)
             return list(cursor.fetchall()) if cursor.description else []
 
-    def box(self, name: str, room: int = 100) -> "Box":
+    def box(self, name: str) -> "Box":
         self.sql("INSERT INTO boxes (name, command) VALUES (%s, %s)", name, f"{TESTS}/way {self.folder} {{box}}")
-        return Box(self.folder, name, room)
+        return Box(self.folder, name)
 
     def run(self, program: str, *words: str, **environment: str) -> Ended:
         done = subprocess.run([self.programs / program, "--database", self.name, *words], capture_output=True,
@@ -115,24 +119,35 @@ class Office:
 
 
 class Box:
-    """A simulated box, and what was done there."""
+    """A box: an image of the program, and what was done there."""
 
-    def __init__(self, folder: pathlib.Path, name: str, room: int) -> None:
+    def __init__(self, folder: pathlib.Path, name: str) -> None:
         self.folder, self.name, self.image = folder, name, folder / f"{name}.image"
         self.journal = folder / f"{name}.image.journal"
         (folder / f"{name}.conf").write_text(f"IMAGE={self.image}\n", encoding="ascii")
-        self.write({"number": 0, "line": "", "confirmed": 0, "serial": 0, "room": room, "meters": {}, "readings": []})
+        self.image.unlink(missing_ok=True)
+        subprocess.run([MBDC, "format", self.image, "1000"], check=True)
 
-    def state(self) -> Dict[str, Any]:
-        return dict(json.loads(self.image.read_text(encoding="ascii")))
+    def run(self, *lines: str) -> List[str]:
+        """Does a script at the image."""
+        script = self.folder / "script"
+        script.write_text("".join(f"{it}\n" for it in lines), encoding="ascii")
+        done = subprocess.run([MBDC, "run", self.image, script], capture_output=True, text=True, check=True)
+        return done.stdout.splitlines()
 
-    def write(self, state: Dict[str, Any]) -> None:
-        self.image.write_text(json.dumps(state), encoding="ascii")
+    def last(self) -> int:
+        """The number of the last command that was done."""
+        return int(self.run("OFFICE 999999999999999999 CONFIRM 0")[0].split()[2])
 
-    def done(self) -> List[str]:
-        """The commands that changed the image, with their numbers."""
-        path = self.folder / f"{self.image.name}.done"
-        return path.read_text(encoding="ascii").splitlines() if path.exists() else []
+    def confirmed(self) -> int:
+        said = self.run("OFFICE WINDOW 1 1")[0].split()
+        return int(said[2]) if said[:2] == ["ERR", "GONE"] else 0
+
+    def numbers(self) -> List[Tuple[int, str]]:
+        """The commands that changed the image, with their numbers, by its journal."""
+        rows = map(json.loads, self.journal.read_text(encoding="ascii").splitlines() if self.journal.exists() else [])
+        lines = [row["line"].partition(" ") for row in rows if row["event"] == "command"]
+        return [(int(number), line) for number, _, line in lines]
 
     def faults(self, *words: str) -> None:
         (self.folder / f"{self.name}.faults").write_text("".join(f"{it}\n" for it in words), encoding="ascii")
@@ -146,21 +161,27 @@ class Box:
 
     def hears(self, count: int, first: int = 1, moment: int = MOMENT) -> None:
         """Readings of the registered meters, one after the other."""
-        state = self.state()
-        for litres in range(first, first + count):
-            state["serial"] += 1
-            identity = sorted(state["meters"])[litres % len(state["meters"])]
-            state["readings"].append([state["serial"], identity, state["meters"][identity][2],
-                                      [[moment + litres, telegram(litres)]]])
-        self.write(state)
+        meters = [line.split()[1] for line in self.run("OFFICE REGISTER")[:-1]]
+        self.tells(*((meters[it % len(meters)], moment + it, [telegram(it)]) for it in range(first, first + count)))
 
-    def numbers(self) -> List[Tuple[int, str]]:
-        return [(int(number), rest) for number, _, rest in (line.partition(" ") for line in self.done())]
+    def tells(self, *readings: Tuple[str, float, List[str]]) -> None:
+        """Readings of registered meters: identity, moment, and the telegrams, which get the identity of the meter."""
+        meters = {it[1]: it[2:4] for it in (line.split() for line in self.run("OFFICE REGISTER")[:-1])}
+        script = []
+        for identity, moment, telegrams in readings:
+            (line, address), (number, _, version, medium) = meters[identity], identity.split(".")
+            script += [f"AT {int(moment)}", f"START {line} {identity}", *[f"HEAR {line} E5"] * (1 + (address == "S"))]
+            for place, it in enumerate(telegrams, 1):
+                more = f"{MORE:X}" if place < len(telegrams) else ""
+                body = bytes.fromhex(number)[::-1] + bytes.fromhex(f"{it[8:12]}{version}{medium}{it[16:]}{more}")
+                script += [f"HEAR {line} {answer(SELECTED if address == 'S' else int(address), body).hex()}", "COMMIT"]
+        said = self.run(*script)
+        assert not any(it.startswith(("REFUSED", "FAILED")) for it in said), said
 
 
-def telegram(litres: int, status: int = 0, due: str = "") -> str:
+def telegram(litres: int, status: int = 0, due: str = "", number: str = "12345678") -> str:
     """A telegram without its frame, in hex digits: header and volume, and a due date (type G) with a litre at it."""
-    header = bytes.fromhex("785634122440010701") + bytes([status, 0, 0])
+    header = bytes.fromhex(number)[::-1] + bytes.fromhex("2440010701") + bytes([status, 0, 0])
     stored = f"426C{due}4C1301000000" if due else ""
     return (header + bytes.fromhex("0C13") + bytes.fromhex(f"{litres:08}")[::-1] + bytes.fromhex(stored)).hex().upper()
 
@@ -187,6 +208,13 @@ def office(server: Server, tmp_path: pathlib.Path) -> Iterator[Office]:
     name = made.connection.info.dbname
     made.connection.close()
     server.drop(name)
+
+
+@pytest.fixture
+def elm(office: Office) -> Any:
+    """A house with one box, and without a meter."""
+    from supplied import Supplied
+    return Supplied(office)
 
 
 FITS = ["FIT 11111111.PAD.01.07 1 1 A1", "FIT 22222222.PAD.01.07 1 2 A2"]

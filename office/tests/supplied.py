@@ -12,6 +12,7 @@ import months
 BERLIN = zoneinfo.ZoneInfo("Europe/Berlin")
 FITTED = datetime.datetime(2024, 1, 1, tzinfo=BERLIN)
 HEAT, WATER, COLD, ALLOCATOR = "04", "06", "07", "08"
+WH = 3_600_000  # millijoules
 UNITS = {HEAT: "Wh", WATER: "m3", COLD: "m3", ALLOCATOR: "HCA"}
 VIBS = {"Wh": "03", "MWh": "FB00", "GJ": "FB08", "J": "08", "m3": "13", "HCA": "6E"}
 DIGITS = {"MWh": 10, "GJ": 10, "m3": 1000}  # of a telegram's value; of others 1
@@ -87,6 +88,19 @@ class Supplied:
             self.office.sql("INSERT INTO due_readings (box, identity, due, serial, month) VALUES (%s, %s, %s, %s, %s)"
                             " ON CONFLICT (box, identity, due) DO UPDATE SET serial = excluded.serial,"
                             " month = excluded.month", box, identity, due[0], self.serial, month)
+
+    def exchange(self, old: int, number: int, moment: datetime.datetime, last: Any, first: Any = 0,
+                 unit: str = "Wh") -> int:
+        """A meter's place gets another one; what both stood at is noted. Returns the new one's fitting."""
+        sql = self.office.sql
+        identity, = sql("SELECT identity FROM fittings WHERE id = %s", old)[0]
+        sql("UPDATE meters SET identity = %s WHERE (box, identity) = (%s, %s)", f"{number:08}{identity[8:]}",
+            self.house, identity)
+        new = int(sql("SELECT max(id) FROM fittings")[0][0])
+        for fitting, during, value in ((old, "lower(during), %s", last), (new, "%s, NULL", first)):
+            sql(f"UPDATE fittings SET during = tstzrange({during}), {'first_value' if fitting == new else 'last_value'}"
+                " = %s, unit = %s WHERE id = %s", moment, value, unit, fitting)
+        return new
 
     def values(self, fitting: int, values: Dict[str, Any], unit: str = "Wh") -> None:
         """Values at the ends of days, as the meter stored them, with their telegrams."""

@@ -7,17 +7,9 @@ import io
 import pathlib
 from typing import Dict, List
 
-import pytest
 from conftest import Office
-from supplied import COLD, HEAT, WATER, Supplied, at
+from supplied import COLD, HEAT, WATER, WH, Supplied, at
 from test_sheets import published
-
-WH = 3_600_000
-
-
-@pytest.fixture
-def elm(office: Office) -> Supplied:
-    return Supplied(office)
 
 
 def billed(office: Office, *words: str, status: int = 0) -> List[Dict[str, str]]:
@@ -32,15 +24,7 @@ def test_a_bill(office: Office, elm: Supplied) -> None:
     """A row a user and meter; the rows add up, and each names its readings."""
     old = elm.meter(1, HEAT, "A1", since=at("2023-12-01T00:00"))
     elm.days(old, "2023-12-30", 100, 1000, 10)
-    office.sql("UPDATE meters SET identity = '00000002.PAD.01.04' WHERE box = 'elm-1'")
-    new = office.sql("SELECT max(id) FROM fittings")[0][0]
-    moment = at("2024-04-08T12:00")
-    office.sql(
-        "UPDATE fittings SET during = tstzrange(lower(during), %s), unit = 'Wh', last_value = 1997 WHERE id = %s",
-        moment, old)
-    office.sql("UPDATE fittings SET during = tstzrange(%s, NULL), unit = 'Wh', first_value = 2 WHERE id = %s", moment,
-               new)
-    elm.days(new, "2024-04-08", 300, 10, 10)
+    elm.days(elm.exchange(old, 2, at("2024-04-08T12:00"), 1997, 2), "2024-04-08", 300, 10, 10)
     one, other = elm.tenancy("A1", "2023-05-01", "2024-03-01", "=cmd()"), elm.tenancy("A1", "2024-03-01", None)
     rows = billed(office, "elm-1", "2024")
     assert [(row["tenancy"], row["meter"][:8], row["from"], row["to"]) for row in rows] == [
@@ -172,9 +156,7 @@ def test_statistics(office: Office, elm: Supplied) -> None:
     elm.days(elm.meter(1, HEAT, "A1"), "2022-01-01", 1000, 1000, 10)
     assert ("day_values",) in office.sql("SELECT analyze_days()")
     assert ("day_values",) not in office.sql("SELECT analyze_days()")
-    office.sql("SET ROLE closer")
-    office.sql("SELECT analyze_days()")
-    office.sql("RESET ROLE")
+    office.sql("SELECT analyze_days()", role="closer")
 
 
 def test_a_user_is_forgotten(office: Office, elm: Supplied, tmp_path: pathlib.Path) -> None:
@@ -223,8 +205,6 @@ def test_what_is_kept(office: Office, elm: Supplied) -> None:
 def test_who_struck_a_value(office: Office, elm: Supplied) -> None:
     meter = elm.meter(1, HEAT, "A1")
     elm.values(meter, {"2025-01-31": 1300})
-    office.sql("SET ROLE clerk")
-    value = office.sql("SELECT put_value(%s, '2025-01-31', 1299, 'Wh', 'read at the meter')", meter)[0][0]
-    office.sql("SELECT strike(%s, 'a mistake')", value)
-    office.sql("RESET ROLE")
+    value = office.sql("SELECT put_value(%s, '2025-01-31', 1299, 'Wh', 'read at the meter')", meter, role="clerk")[0][0]
+    office.sql("SELECT strike(%s, 'a mistake')", value, role="clerk")
     assert office.sql("SELECT struck_by, struck_why FROM day_values WHERE id = %s", value) == [("office", "a mistake")]

@@ -1,16 +1,8 @@
 """A meter keeps its place: under a box with a new name, and where two boxes hear it."""
 
-import pytest
 from conftest import FITS, Box, Office
-from supplied import HEAT, Supplied, at
+from supplied import HEAT, WH, Supplied, at
 from test_fittings import fitted, housed
-
-WH = 3_600_000
-
-
-@pytest.fixture
-def elm(office: Office) -> Supplied:
-    return Supplied(office)
 
 
 def test_a_box_is_replaced(office: Office, box: Box) -> None:

@@ -4,17 +4,10 @@ import subprocess
 import time
 from typing import Any, List, Tuple
 
-import pytest
 from conftest import OFFICE, Office
-from supplied import HEAT, Supplied, at
+from supplied import HEAT, WH, Supplied, at
 
-WH = 3_600_000
 MONTHS = "SELECT to_char(month, 'YYYY-MM'), amount, grade::text FROM month_use WHERE part = 0 AND month >= '2024-12-01' ORDER BY 1"
-
-
-@pytest.fixture
-def elm(office: Office) -> Supplied:
-    return Supplied(office)
 
 
 def closed(office: Office, *words: str, status: int = 0, **environment: str) -> List[str]:

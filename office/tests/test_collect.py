@@ -14,7 +14,7 @@ import types
 from typing import Any, List
 
 import pytest
-from conftest import FITS, OFFICE, Box, Office, telegram
+from conftest import FITS, MOMENT, OFFICE, Box, Office, telegram
 
 import database
 import decoding
@@ -30,7 +30,7 @@ def test_readings_are_stored_once_and_confirmed(office: Office, box: Box) -> Non
     assert "house-1: 250 readings, confirmed up to 250" in ended.printed
     assert office.sql("SELECT count(*), min(serial), max(serial) FROM readings") == [(250, 1, 250)]
     assert office.sql("SELECT count(*) FROM points WHERE value = 0.25") == [(1,)]
-    assert box.state()["confirmed"] == 250 and not box.state()["readings"]
+    assert box.confirmed() == 250 and box.run("OFFICE WINDOW 251 1") == ["END 0"]
     assert office.sql("SELECT boxes, failed, readings, ended_at IS NOT NULL FROM collections") == [(1, 0, 250, True)]
     assert office.collect().status == 0
     assert office.sql("SELECT count(*) FROM readings") == [(250,)]
@@ -69,10 +69,10 @@ def test_without_a_decoder(office: Office, box: Box) -> None:
     box.hears(2)
     other = office.box("house-2")
     ended = office.collect(MBDC="/nowhere/mbdc")
-    assert ended.status == 1 and "house-2: 0 readings" in ended.printed and other.state()["number"] == 0
+    assert ended.status == 1 and "house-2: 0 readings" in ended.printed and other.last() == 0
     assert office.sql("SELECT fault LIKE 'FAILED: no decoder%%' FROM boxes WHERE name = 'house-1'") == [(True,)]
-    assert box.state()["confirmed"] == 0
-    assert office.collect().status == 0 and box.state()["confirmed"] == 2
+    assert box.confirmed() == 0
+    assert office.collect().status == 0 and box.confirmed() == 2
 
 
 def started(office: Office, *words: str) -> "subprocess.Popen[str]":
@@ -183,7 +183,7 @@ def test_processes_are_killed_again_and_again(office: Office) -> None:
     ended = office.collect()
     assert ended.status == 0, ended.printed
     assert office.sql("SELECT count(*), count(DISTINCT (box, serial)) FROM readings") == [(720, 720)]
-    assert [box.state()["confirmed"] for box in boxes] == [120] * 6
+    assert [box.confirmed() for box in boxes] == [120] * 6
 
 
 def test_few_records_are_in_memory_at_once(office: Office, box: Box, monkeypatch: pytest.MonkeyPatch) -> None:
@@ -193,11 +193,7 @@ def test_few_records_are_in_memory_at_once(office: Office, box: Box, monkeypatch
     def points_of(bodies: List[bytes]) -> Any:
         counts.append(len(bodies))
         return decoding.points_of(bodies)
-    box.hears(9)
-    state = box.state()
-    for reading in state["readings"]:
-        reading[3] *= 3
-    box.write(state)
+    box.tells(*((FITS[number % 2].split()[1], MOMENT + number, [telegram(number)] * 3) for number in range(9)))
     monkeypatch.setattr(storing, "points_of", points_of)
     monkeypatch.setattr(storing, "TELEGRAMS_A_TURN", 10)
     reached = visit.Visit(database.Database(office.name, 10), "house-1", 10)
@@ -227,13 +223,13 @@ def test_two_boxes_exchange_their_addresses_within_a_visit(office: Office, monke
         raise AssertionError("the CONFIRM went to the other box")
     finally:
         reached.database.close()
-    assert [box.state()["confirmed"] for box in boxes] == [0, 0]
+    assert [box.confirmed() for box in boxes] == [0, 0]
     ended = office.collect()
     assert ended.printed.count("STOPPED: another box answers") == 2, ended.printed
     for box in boxes:
         (office.folder / f"{box.name}.address").unlink()
     assert office.collect().status == 0
-    assert [box.state()["confirmed"] for box in boxes] == [3, 3]
+    assert [box.confirmed() for box in boxes] == [3, 3]
     assert office.sql("SELECT count(*) FROM readings") == [(6,)]
 
 
@@ -247,12 +243,12 @@ def test_two_names_of_one_box(office: Office, box: Box) -> None:
 def test_a_box_that_was_formatted_anew(office: Office, box: Box) -> None:
     box.hears(3)
     assert office.collect().status == 0
-    new = Box(office.folder, "house-1", 100)
+    new = Box(office.folder, "house-1")
     new.says(*(f"{number} {line}" for number, line in enumerate(FITS, 1)))
     new.hears(2, first=7)
     ended = office.collect()
     assert ended.status == 1 and "STOPPED: the box's last order is 2, the database's 3" in ended.printed
-    assert office.sql("SELECT count(*) FROM readings") == [(3,)] and new.state()["confirmed"] == 0
+    assert office.sql("SELECT count(*) FROM readings") == [(3,)] and new.confirmed() == 0
 
 
 # A box that shows 100 more readings whenever it is asked, each as if it were its last

@@ -11,12 +11,8 @@ from test_schema import ORDER, refused
 from box_commands import BOX_COMMANDS
 
 FORM = re.compile(r"^\* `n ([A-Z]+)((?: [a-z]+)*)`:", re.MULTILINE)  # an item of docs/COMMANDS.md
-READDRESSED = "READDRESS 11111111.PAD.01.07 9"
-ROW = '''BOX_COMMANDS["READDRESS"] = BoxCommand(
-    ["identity", "address"], "UPDATE meters SET address = %(address)s WHERE box = %(box)s AND identity = %(identity)s")
-'''
-AT_THE_BOX = ('    elif verb == "OUT":\n',
-              '    elif verb == "READDRESS":\n        meters[words[0]][1] = words[1]\n    elif verb == "OUT":\n')
+CHANGED = "CHANGE 11111111.PAD.01.07 55555555.PAD.01.07 9"  # what a box knows as SWAP
+ROW = 'BOX_COMMANDS["CHANGE"] = BOX_COMMANDS["SWAP"]\n'
 
 
 @pytest.fixture
@@ -26,12 +22,7 @@ def newer(office: Office, box: Box, server: Server, tmp_path: pathlib.Path) -> O
     shutil.copytree(OFFICE, programs)
     with open(programs / "box_commands.py", "a", encoding="ascii") as file:
         file.write(ROW)
-    double = programs / "tests/fake_mbdc"
-    text = double.read_text(encoding="ascii")
-    assert text.count(AT_THE_BOX[0]) == 1
-    double.write_text(text.replace(*AT_THE_BOX), encoding="ascii")
-    (tmp_path / "bin/mbdc").unlink()
-    (tmp_path / "bin/mbdc").symlink_to(double)
+    (tmp_path / "verbs").write_text("s/ CHANGE / SWAP /\n", encoding="ascii")
     return Office(server, office.connection.info.dbname, tmp_path, programs)
 
 
@@ -49,28 +40,28 @@ def test_the_rows_are_the_commands_of_the_documentation() -> None:
 
 def test_a_new_command_is_a_row(office: Office, box: Box, newer: Office) -> None:
     """Order, the database and the register take it."""
-    asked = office.order("house-1", READDRESSED)
+    asked = office.order("house-1", CHANGED)
     assert asked.status == 2 and "no order" in asked.printed
-    assert "is_a_command" in refused(office, ORDER, READDRESSED)
-    early = newer.order("--tries", "1", "house-1", READDRESSED)
+    assert "is_a_command" in refused(office, ORDER, CHANGED)
+    early = newer.order("--tries", "1", "house-1", CHANGED)
     assert early.status == 4 and "is_a_command" in early.printed
-    assert migrated(newer) == "command READDRESS\n"
+    assert migrated(newer) == "command CHANGE\n"
     assert migrated(newer) == ""
-    done = newer.order("house-1", READDRESSED)
+    done = newer.order("house-1", CHANGED)
     assert done.status == 0, done.printed
-    assert box.numbers()[2:] == [(3, READDRESSED)]
-    assert office.sql("SELECT address FROM meters ORDER BY identity") == [("9",), ("2",)]
-    assert "is_a_command" in refused(office, ORDER, f"{READDRESSED} 9")
+    assert box.numbers()[2:] == [(3, CHANGED.replace("CHANGE", "SWAP"))]
+    assert office.sql("SELECT address FROM meters ORDER BY identity") == [("2",), ("9",)]
+    assert "is_a_command" in refused(office, ORDER, f"{CHANGED} 9")
     assert newer.collect().status == 0
 
 
 def test_an_order_that_an_older_office_doesnt_know(office: Office, box: Box, newer: Office) -> None:
     """It stops at that box, and the newer one goes on."""
     migrated(newer)
-    office.sql(ORDER, READDRESSED)
+    office.sql(ORDER, CHANGED)
     stopped = office.collect()
-    assert stopped.status == 1 and f"STOPPED: order 3 {READDRESSED} is none that this office knows" in stopped.printed
+    assert stopped.status == 1 and f"STOPPED: order 3 {CHANGED} is none that this office knows" in stopped.printed
     again = newer.collect()
     assert again.status == 0, again.printed
-    assert box.numbers()[2:] == [(3, READDRESSED)]
-    assert office.sql("SELECT address FROM meters ORDER BY identity") == [("9",), ("2",)]
+    assert box.numbers()[2:] == [(3, CHANGED.replace("CHANGE", "SWAP"))]
+    assert office.sql("SELECT address FROM meters ORDER BY identity") == [("2",), ("9",)]

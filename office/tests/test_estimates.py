@@ -1,15 +1,7 @@
 """office/estimate: what no meter gave, marked, and out of force when the meter is read again."""
 
-import pytest
 from conftest import Office
-from supplied import HEAT, WATER, Supplied
-
-WH = 3_600_000
-
-
-@pytest.fixture
-def elm(office: Office) -> Supplied:
-    return Supplied(office)
+from supplied import HEAT, WATER, WH, Supplied
 
 
 def test_by_the_year_before(office: Office, elm: Supplied) -> None:

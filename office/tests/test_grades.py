@@ -2,22 +2,16 @@
 
 import datetime
 import pathlib
-from typing import Any, List, Tuple
+from typing import Any, List
 
 import pytest
 from conftest import Office
-from supplied import ALLOCATOR, COLD, HEAT, Supplied, at
+from supplied import ALLOCATOR, COLD, HEAT, WH, Supplied, at
 from test_bills import billed
 from test_schema import refused
-from test_sheets import checked, published, sheet_of, written
+from test_sheets import checked, published, read_sheet, sheet_of, written
 
-WH = 3_600_000
 FEBRUARY = ("2025-01", "2025-02", "2025-03")
-
-
-@pytest.fixture
-def elm(office: Office) -> Supplied:
-    return Supplied(office)
 
 
 def grades(elm: Supplied, *months: str) -> List[str]:
@@ -62,7 +56,7 @@ def test_a_number_is_provisional_until_the_next_step(office: Office, elm: Suppli
     assert elm.month("2025-01") == [("A1", 0, 310 * WH, "provisional")]
     assert billed(office, "elm-1", "2025-01", status=1)[0]["amount"] == ""
     written(office, tmp_path, "--pdf", "none")
-    cell = checked(sheet_of(office, tmp_path, tenancy).read_text(encoding="utf-8")).cells["heat", "2025-01-01"]
+    cell = read_sheet(office, tmp_path, tenancy).cells["heat", "2025-01-01"]
     assert cell.split()[:2] == ["0,3", "vorläufig:"]
     elm.values(meter, {"2025-02-01": 1380})
     assert elm.month("2025-01") == [("A1", 0, 310 * WH, "measured")]
@@ -97,9 +91,7 @@ def test_a_turn(office: Office, elm: Supplied) -> None:
     assert grades(elm, "2025-01") == ["disturbed"]
     printed = office.run("alarms", "--at", "2025-02-02T23:30+00:00").printed
     assert "NEW turn elm-1 00000001.PAD.01.07: Has the counter rolled over? (flat A1): " in printed and "a counter of 8 digits" in printed
-    office.sql("SET ROLE clerk")
-    office.sql("SELECT declare_counter('elm-1', '00000001.PAD.01.07', 8)")
-    office.sql("RESET ROLE")
+    office.sql("SELECT declare_counter('elm-1', '00000001.PAD.01.07', 8)", role="clerk")
     assert office.sql("SELECT size FROM fittings") == [(10 ** 8 * 1000,)]
     assert office.run("close").status == 0
     assert office.sql("SELECT grade, amount BETWEEN 5000000 AND 5200000 FROM month_use WHERE month = '2025-01-01'") == [
@@ -134,10 +126,7 @@ def test_an_allocator_begins_its_year(office: Office, elm: Supplied) -> None:
     read_daily(elm, meter, "2025-02-01", [221, 228])
     assert office.run("close").status == 0
     assert office.sql("SELECT last, first, why, at FROM restarts") == [(930, 0, "due date", at("2025-01-01T00:00"))]
-    rows: List[Tuple[Any,
-                     ...]] = office.sql(
-        "SELECT month::text, amount, grade FROM month_use WHERE month BETWEEN '2024-12-01' AND"
-        " '2025-01-01' ORDER BY 1")
+    rows = office.sql("SELECT month, amount, grade FROM month_use WHERE month >= '2024-12-01' ORDER BY 1 LIMIT 2")
     assert [row[2] for row in rows] == ["measured", "measured"]
     assert rows[1][1] == 214_000 + 7_000 * 4 // 24 and 930_000 - 721_000 < rows[0][1] < 930_000 - 707_000
     elm.reads(meter, at("2025-02-03T20:00"), 235, ("2024-12-31", 930))
@@ -151,16 +140,13 @@ def test_a_restart_that_a_person_declares(office: Office, elm: Supplied) -> None
     elm.days(meter, "2024-12-25", 20, 1000, 10)  # to 13 January: 1190
     elm.days(meter, "2025-01-14", 40, 5, 10)
     assert grades(elm, "2025-01") == ["disturbed"]
-    office.sql("SET ROLE clerk")
-    office.sql("SELECT restart('elm-1', '00000001.PAD.01.04', %s, 1195, 0, 'Wh', 'a new board')",
-               at("2025-01-14T12:00"))
-    office.sql("RESET ROLE")
+    begun = "SELECT restart('elm-1', '00000001.PAD.01.04', '2025-01-14 11:00Z', %s, 0, 'Wh', 'a new board')"
+    office.sql(begun, 1195, role="clerk")
     assert elm.month("2025-01") == [("A1", 0, (1195 - 1060 + 175) * WH, "hand")]
     office.sql("UPDATE restarts SET last = 1100")  # below the value before it
     assert grades(elm, "2025-01") == ["disturbed"]
     office.sql("DELETE FROM restarts")
-    office.sql("SELECT restart('elm-1', '00000001.PAD.01.04', %s, NULL, 0, 'Wh', 'a new board')",
-               at("2025-01-14T12:00"))
+    office.sql(begun, None)
     assert elm.month("2025-01") == [("A1", 0, (1190 - 1060 + 175) * WH, "estimated")]
     assert "no meter" in refused(office, "SELECT restart('elm-1', '00000001.PAD.01.04', now(), 1, 0, 'm3', 'x')")
 
@@ -173,18 +159,15 @@ def test_a_number_is_held_until_a_person_says_why(office: Office, elm: Supplied,
     elm.days(meter, "2025-01-19", 60, 60, 1, "m3")
     assert elm.month("2025-01")[0][2:] == (51_000_000, "measured")
     written(office, tmp_path, "--pdf", "none")
-    cell = checked(sheet_of(office, tmp_path, tenancy).read_text(encoding="utf-8")).cells["cold water", "2025-01-01"]
+    cell = read_sheet(office, tmp_path, tenancy).cells["cold water", "2025-01-01"]
     assert "auffällig hoch" in cell and not any(it.isdigit() for it in cell)
     assert office.sql("SELECT grade, amount FROM month_kwh") == [("held", None)]
     printed = office.run("alarms", "--at", "2025-02-02T23:30+00:00").printed
     assert "NEW no number elm-1/A1/cold water/1 2025-01: Unusually high consumption (flat A1)" in printed
-    office.sql("SET ROLE clerk")
-    assert office.sql("SELECT see_number('2025-01-01', place, 'a burst pipe') FROM fittings") == [(1,)]
-    office.sql("RESET ROLE")
+    assert office.sql("SELECT see_number('2025-01-01', place, 'a burst pipe') FROM fittings", role="clerk") == [(1,)]
     assert office.sql("SELECT why, made_by FROM seen") == [("a burst pipe", "office")]
     written(office, tmp_path, "--pdf", "none")
-    assert checked(sheet_of(office, tmp_path, tenancy).read_text(encoding="utf-8")).cells[
-        "cold water", "2025-01-01"].split() == ["51,00"]
+    assert read_sheet(office, tmp_path, tenancy).cells["cold water", "2025-01-01"].split() == ["51,00"]
     elm.tells(meter, {str(day): value + 1 for day,
                       value in office.sql("SELECT day, value FROM day_values WHERE day >= '2025-01-19'")}, "m3")
     elm.month("2025-01")
@@ -250,14 +233,7 @@ def test_a_leap_in_a_house_that_is_read_weekly_is_held(office: Office, elm: Supp
 def test_a_typing_error_at_an_exchange_is_held(office: Office, elm: Supplied) -> None:
     old = elm.meter(1, HEAT, "A1")
     elm.days(old, "2024-12-20", 25, 1000, 10)
-    office.sql("UPDATE meters SET identity = '00000002.PAD.01.04' WHERE box = 'elm-1'")
-    new, moment = office.sql("SELECT max(id) FROM fittings")[0][0], at("2025-01-14T12:00")
-    office.sql(
-        "UPDATE fittings SET during = tstzrange(lower(during), %s), unit = 'Wh', last_value = 1345 WHERE id = %s",
-        moment, old)
-    office.sql("UPDATE fittings SET during = tstzrange(%s, NULL), unit = 'Wh', first_value = 0 WHERE id = %s", moment,
-               new)
-    elm.days(new, "2025-01-14", 30, 5, 10)
+    elm.days(elm.exchange(old, 2, at("2025-01-14T12:00"), 1345), "2025-01-14", 30, 5, 10)
     elm.month("2025-01")
     assert office.sql("SELECT is_held FROM month_use") == [(True,)]
     office.sql("UPDATE fittings SET last_value = 1245 WHERE id = %s", old)

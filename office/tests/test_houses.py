@@ -3,11 +3,10 @@
 import pathlib
 from typing import List
 
-import pytest
 from conftest import Office
 from supplied import ALLOCATOR, HEAT, WATER, Supplied
 from test_bills import billed
-from test_sheets import checked, published, sheet_of, written
+from test_sheets import checked, published, read_sheet, written
 
 FLATS = 2000
 HOUSE = """
@@ -22,11 +21,6 @@ FROM fittings f JOIN places p ON p.id = f.place, (VALUES (date '2024-12-31', 0),
 INSERT INTO tenancies (house, flat, days, person) SELECT house, flat, '[2024-01-01,)', 'A. Person' FROM flats"""
 
 UNREAD = ["–", "kein", "Wert:", "der", "Zähler", "wurde", "nicht", "gelesen"]  # what stands in the cell
-
-
-@pytest.fixture
-def elm(office: Office) -> Supplied:
-    return Supplied(office)
 
 
 def page_of(out: pathlib.Path, house: str = "elm-1") -> str:
@@ -64,7 +58,7 @@ def test_a_month_without_a_reading(office: Office, elm: Supplied, tmp_path: path
     assert elm.month("2025-01") == [(f"A{number}", 0, None, "missing") for number in (1, 2)]
     assert office.run("estimate", "2025-01").printed.count("not estimated") == 2
     written(office, tmp_path, "--pdf", "none")
-    cell = checked(sheet_of(office, tmp_path, tenancy).read_text(encoding="utf-8")).cells["heat", "2025-01-01"]
+    cell = read_sheet(office, tmp_path, tenancy).cells["heat", "2025-01-01"]
     assert cell.split() == UNREAD
     text = page_of(tmp_path)
     assert "–" in foot_of(text) and "2 Messstellen ohne Wert" in text and "0,0" not in text
@@ -80,7 +74,7 @@ def test_a_month_without_a_value_keeps_its_unit(office: Office, elm: Supplied, t
     for month in ("2024-12", "2025-01"):
         elm.month(month)
     written(office, tmp_path, "--pdf", "none")
-    cells = checked(sheet_of(office, tmp_path, tenancy).read_text(encoding="utf-8")).cells
+    cells = read_sheet(office, tmp_path, tenancy).cells
     assert cells["allocator", "2025-01-01"].split() == UNREAD
     assert cells["allocator", "2024-12-01"].split() == ["620,0"]
     assert cells["warm water", "2024-12-01"].split() == ["31,00"]
@@ -93,8 +87,7 @@ def test_what_has_no_end_in_decimals_adds_up(office: Office, elm: Supplied, tmp_
     tenancy = elm.tenancy("A1", "2024-01-01", None)
     elm.month("2025-01")
     written(office, tmp_path, "--pdf", "none")
-    assert checked(sheet_of(office, tmp_path, tenancy).read_text(encoding="utf-8")).cells[
-        "heat", "2025-01-01"].split() == ["0,1"]
+    assert read_sheet(office, tmp_path, tenancy).cells["heat", "2025-01-01"].split() == ["0,1"]
     assert "0,1" in foot_of(page_of(tmp_path))
 
 

@@ -44,7 +44,7 @@ def test_a_pending_order_was_done_and_another_one_after_it(office: Office, box: 
     assert box.says(f"4 {SWAPPED}") == ["OK 4"]
     again = office.order("--key", "next", "house-1", THIRD)
     assert again.status == 0 and f"3 {THIRD}: OK 3" in again.printed
-    assert office.collect().status == 0 and len(box.done()) == 4
+    assert office.collect().status == 0 and box.last() == 4
 
 
 def test_a_queued_order_was_done_at_the_box(office: Office, box: Box) -> None:
@@ -52,7 +52,7 @@ def test_a_queued_order_was_done_at_the_box(office: Office, box: Box) -> None:
     assert office.order("--later", "house-1", MOVED).status == 6
     assert box.says(f"3 {MOVED}", f"4 {SWAPPED}") == ["OK 3", "OK 4"]
     assert office.collect().status == 0
-    assert len(box.done()) == 4
+    assert box.last() == 4
     assert office.sql("SELECT number, state::text FROM orders WHERE id > 2 ORDER BY id") == [(3, "done"), (4, "done")]
 
 
@@ -95,4 +95,4 @@ def test_a_lie_of_the_journal(office: Office, box: Box, lie: str) -> None:
     ended = office.collect("--tries", "1")
     assert ended.status == 1 and STOP in ended.printed, ended.printed
     assert before == [office.sql(f"SELECT * FROM {table} ORDER BY 1, 2") for table in ("orders", "meters")]
-    assert len(box.done()) == 4
+    assert box.last() == 4

@@ -2,17 +2,9 @@
 
 import datetime
 
-import pytest
 from conftest import Office
-from supplied import COLD, HEAT, WATER, Supplied, at
+from supplied import COLD, HEAT, WATER, WH, Supplied, at
 from test_schema import refused
-
-WH = 3_600_000  # millijoules
-
-
-@pytest.fixture
-def elm(office: Office) -> Supplied:
-    return Supplied(office)
 
 
 def days_of(office: Office) -> object:
@@ -94,16 +86,13 @@ def test_an_exchange(office: Office, elm: Supplied) -> None:
     """SWAP ends a fitting and begins one at the same place; without their values the month is unclear."""
     old = elm.meter(1, HEAT, "A1")
     elm.days(old, "2024-12-25", 20, 1000, 10)
-    office.sql("UPDATE meters SET identity = '00000002.PAD.01.04' WHERE box = 'elm-1'")
-    fittings = office.sql("SELECT id, place, upper_inf(during) FROM fittings ORDER BY id")
-    assert [row[1:] for row in fittings] == [(fittings[0][1], False), (fittings[0][1], True)]
-    new, moment = fittings[1][0], at("2025-01-15T11:00")
-    office.sql("UPDATE fittings SET during = tstzrange(lower(during), %s) WHERE id = %s", moment, old)
-    office.sql("UPDATE fittings SET during = tstzrange(%s, NULL) WHERE id = %s", moment, new)
+    new = elm.exchange(old, 2, at("2025-01-15T11:00"), None, None)
+    fittings = office.sql("SELECT place, upper_inf(during) FROM fittings ORDER BY id")
+    assert fittings == [(fittings[0][0], False), (fittings[0][0], True)]
     elm.days(new, "2025-01-15", 20, 5, 10)
     assert elm.month("2025-01") == [("A1", 0, None, "unclear")]
-    office.sql("UPDATE fittings SET unit = 'Wh', last_value = 1205 WHERE id = %s", old)
-    office.sql("UPDATE fittings SET unit = 'Wh', first_value = 0 WHERE id = %s", new)
+    office.sql("UPDATE fittings SET last_value = 1205 WHERE id = %s", old)
+    office.sql("UPDATE fittings SET first_value = 0 WHERE id = %s", new)
     assert elm.month("2025-01") == [("A1", 0, (1205 - 1060 + 165) * WH, "hand")]
     sources = [it["source"] for it in office.sql("SELECT basis FROM month_use")[0][0]]
     assert sources == ["stored", "removed", "fitted", "stored"]
@@ -112,13 +101,7 @@ def test_an_exchange(office: Office, elm: Supplied) -> None:
 def test_two_meters_read_in_turns_are_unclear(office: Office, elm: Supplied) -> None:
     """What fittings say is one exchange; the entries have more."""
     old = elm.meter(1, COLD, "A1")
-    office.sql("UPDATE meters SET identity = '00000002.PAD.01.07' WHERE box = 'elm-1'")
-    (old,), (new,) = office.sql("SELECT id FROM fittings ORDER BY id")
-    moment = at("2025-01-10T12:00")
-    office.sql("UPDATE fittings SET during = tstzrange(lower(during), %s), unit = 'm3', last_value = 9 WHERE id = %s",
-               moment, old)
-    office.sql("UPDATE fittings SET during = tstzrange(%s, NULL), unit = 'm3', first_value = 0 WHERE id = %s",
-               moment, new)
+    new = elm.exchange(old, 2, at("2025-01-10T12:00"), 9, 0, "m3")
     elm.values(old, {"2024-12-30": 4, "2024-12-31": 5, "2025-01-20": 8}, "m3")  # read after it was removed
     elm.values(new, {"2025-01-31": 7, "2025-02-01": 7}, "m3")
     assert elm.month("2025-01") == [("A1", 0, None, "unclear")]

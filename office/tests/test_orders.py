@@ -29,7 +29,7 @@ def test_an_order_for_a_box_that_isnt_reached(office: Office, box: Box) -> None:
 def test_later(office: Office, box: Box) -> None:
     """Put into the table alone; the collection sends it."""
     assert office.order("--later", "house-1", MOVED).status == 6
-    assert len(box.done()) == 2
+    assert box.last() == 2
     assert office.collect().status == 0
     assert box.numbers()[2:] == [(3, MOVED)]
 
@@ -42,10 +42,9 @@ def test_a_refused_number_is_used_again(office: Office, box: Box) -> None:
 
 def full(office: Office, box: Box) -> None:
     """The box had no room for a third meter; then it has, and a copy of the order that was on its way arrives."""
-    box.write({**box.state(), "room": 2})
+    box.faults("", "full")
     ended = office.order("--key", "third", "house-1", THIRD)
     assert ended.status == 3 and "ERR FULL" in ended.printed
-    box.write({**box.state(), "room": 9})
 
 
 def test_a_refused_order_that_is_done_late(office: Office, box: Box) -> None:
@@ -96,7 +95,7 @@ def test_a_number_that_nobody_gave(office: Office, box: Box) -> None:
     box.journal.unlink()
     ended = office.order("house-1", MOVED)
     assert ended.status == 5 and "the box's last order is 3, the database's 2" in ended.printed
-    assert len(box.done()) == 3
+    assert box.last() == 3
 
 
 def test_the_cure_after_an_older_dump_ends_what_was_queued(office: Office, box: Box) -> None:
@@ -115,6 +114,6 @@ def test_the_cure_after_an_older_dump_ends_what_was_queued(office: Office, box: 
                         " WHERE b.fault LIKE 'STOPPED: the box''s last order is %%'")
     assert listed == [("house-1", MOVED, "given up")]
     assert office.collect().status == 0
-    assert box.numbers()[3:] == [(4, "MOVE 11111111.PAD.01.07 C1")]
+    assert box.last() == 4
     assert office.sql("SELECT flat FROM meters ORDER BY identity") == [("C1",), ("A2",)]
     assert office.sql("SELECT key, state::text FROM orders WHERE state = 'given_up'") == [("one.1", "given_up")]

@@ -21,6 +21,7 @@ from catalogue import Catalogue
 from database import Database
 from drafts import Reader
 from exporting import month_file
+from published import Key
 
 Lie = Callable[[List[str]], List[str]]
 GAS = "03"
@@ -93,16 +94,21 @@ def test_a_key_says_what_its_line_says() -> None:
              "shown,1,10,20,kWh,348.3,measured", "shown,1,20,30,kWh,1.0,hand", "value,1,20,412,kWh", "totals", "of_user,1,7,heat,kWh,348,measured",
              "of_user,1,7,heat,kWh,348.3,measured", "of_user,2,7,heat,kWh,99,measured", "of_user,2,7,heat,kWh,99.0,measured",
              "of_flat,1,A1,heat,kWh,349.3,hand", "of_house,1,heat,kWh,349.3,1,2", "mean,1,7,heat,kWh,-", "change,1,2,7,heat,kWh,252", "end"]
+    chart = Key("chart", "A1", "heat", 0, "2025-01", "kWh")
     assert sorted(Reader([(3, [9])]).read(lines), key=str) == [
-        (7, "A1 heat 2024-12 kWh", "99.0", "measured"), (7, "A1 heat 2025-01 chart kWh", "348", "measured"),
-        (7, "A1 heat 2025-01 kWh", "348.3", "measured"), (7, "A1 heat 3 10 20 kWh", "348.3", "measured"),
-        (7, "A1 heat change 2024-12", "252", "change"), (7, "A1 heat price", "11.5", "declared"),
-        (None, "A1 heat 3 20 30 kWh", "1.0", "hand"), (None, "flat A1 heat", "349.3", "hand"), (None, "house heat", "349.3", "1 2"),
-        (None, "reading 9 20", "412", "reading")]
+        (7, Key("change", "A1", "heat", 0, "2024-12"), "252", "change"), (7, chart, "348", "measured"),
+        (7, Key("month", "A1", "heat", 0, "2024-12", "kWh"), "99.0", "measured"),
+        (7, Key("month", "A1", "heat", 0, "2025-01", "kWh"), "348.3", "measured"),
+        (7, Key("place", "A1", "heat", 3, "10 20", "kWh"), "348.3", "measured"),
+        (7, Key("price", "A1", "heat"), "11.5", "declared"),
+        (None, Key("flat", "A1", "heat"), "349.3", "hand"), (None, Key("house", use="heat"), "349.3", "1 2"),
+        (None, Key("place", "A1", "heat", 3, "20 30", "kWh"), "1.0", "hand"),
+        (None, Key("reading", place=9, period="20"), "412", "reading")]
     edge = [line.replace(",348.3,", ",99.7,").replace(",348,", ",100,") for line in (*lines[:14], lines[15], lines[14], *lines[16:])]
-    assert (7, "A1 heat 2025-01 chart kWh", "99.7", "measured") in Reader([(3, [9])]).read(edge)
+    assert (7, chart, "99.7", "measured") in Reader([(3, [9])]).read(edge)
     small = [line.replace("348", "9") for line in lines if line != "of_user,1,7,heat,kWh,348,measured"]
-    assert (7, "A1 heat 2025-01 chart kWh", "9.3", "measured") in Reader([(3, [9])]).read([*small[:14], "of_user,1,7,heat,kWh,9,measured", *small[14:]])
+    small.insert(14, "of_user,1,7,heat,kWh,9,measured")
+    assert (7, chart, "9.3", "measured") in Reader([(3, [9])]).read(small)
 
 
 def test_each_digit_was_accepted(office: Office, elm: Supplied, tmp_path: pathlib.Path) -> None:
@@ -119,7 +125,7 @@ def test_each_digit_was_accepted(office: Office, elm: Supplied, tmp_path: pathli
         words = Catalogue(language, "Europe/Berlin")
         known = {words.printed(row[0].lstrip("-")) for row in office.sql(
             "SELECT text FROM published WHERE tenancy IS NULL OR tenancy = %s UNION SELECT unnest(string_to_array(mark, ' ')) FROM published"
-            " WHERE key LIKE 'house %%'", tenancy)}
+            " WHERE kind = 'house'", tenancy)}
         declared = {words.exact(row[0]) for row in office.sql("SELECT co2_g_per_kwh FROM houses")}
         digits = digits_of(path.read_text(encoding="utf-8").replace("10115", ""), audit)
         assert len(digits) > 10 and digits <= known | declared | {"1"}, (path, digits - known)  # "1 m³ = .."
@@ -242,7 +248,7 @@ def test_an_average_over_several_houses(office: Office, elm: Supplied, tmp_path:
     lines = bytes(office.sql("SELECT file FROM audits WHERE house = 'elm-1'")[0][0]).decode().splitlines()
     assert sorted(line for line in lines if line.startswith("average,")) == [
         "average,allocator,HCA,1,2.822632", "average,heat,kWh,1,12.629074"]  # (3 * 93 * 1.7 + 62) / 190, (6 * 31 * 11.234 + 310) / 190
-    assert office.sql("SELECT mark, count(*) FROM published WHERE key LIKE '%% average%%' GROUP BY mark") == [("declared", 2)]
+    assert office.sql("SELECT mark, count(*) FROM published WHERE kind = 'average' GROUP BY mark") == [("declared", 2)]
     assert office.run("sheets", "2025-01", "--out", str(tmp_path), "--pdf", "none").status == 0
     assert "It covers several houses. Your property manager states it;" in sheet_of(office, tmp_path, tenancy).read_text(encoding="utf-8")
 
@@ -256,7 +262,7 @@ def test_nothing_goes_out_without_an_audit(office: Office, elm: Supplied) -> Non
     assert office.run("bill", "elm-1", "2025-01").status == 5
     published(office)
     for query in ("UPDATE audits SET says = 'numbers 1, differ 0, refused 0,'", "DELETE FROM audits", "UPDATE audits SET file = 'x'"):
-        assert "is made" in refused(office, query), query
+        assert "is out" in refused(office, query), query
 
 
 def test_a_draft_says_so(office: Office, elm: Supplied, tmp_path: pathlib.Path) -> None:
@@ -274,12 +280,10 @@ def test_a_draft_says_so(office: Office, elm: Supplied, tmp_path: pathlib.Path) 
 
 def exchanged(office: Office, elm: Supplied, number: int, moment: datetime.datetime, last: int) -> int:
     """A meter of heat is exchanged; returns the new one's fitting."""
-    office.sql("UPDATE meters SET identity = %s WHERE identity = %s", f"0000009{number}.PAD.01.04", f"0000000{number}.PAD.01.04")
-    old, new = (office.sql("SELECT id FROM fittings WHERE identity = %s", f"000000{it}{number}.PAD.01.04")[0][0] for it in "09")
-    office.sql("UPDATE fittings SET during = tstzrange(lower(during), %s), unit = 'Wh', last_value = %s WHERE id = %s", moment, last, old)
-    office.sql("UPDATE fittings SET during = tstzrange(%s, NULL), unit = 'Wh', first_value = 3 WHERE id = %s", moment, new)
+    old = office.sql("SELECT id FROM fittings WHERE identity = %s", f"0000000{number}.PAD.01.04")[0][0]
+    new = elm.exchange(old, 90 + number, moment, last, 3)
     office.sql("DELETE FROM day_values WHERE fitting = %s AND at > %s", old, moment)
-    return int(new)
+    return new
 
 
 def furnish(office: Office, elm: Supplied) -> None:
@@ -343,9 +347,9 @@ def test_the_audit_accepts(office: Office, elm: Supplied) -> None:
 AGAIN = """
 WITH a AS (INSERT INTO audits (house, month, days, version, file, sha256, program, program_sha256, says)
            SELECT house, month, days, version, file, sha256, program, program_sha256, says FROM audits WHERE id = %s RETURNING id)
-INSERT INTO published (audit, house, month, days, version, tenancy, key, text, mark)
-SELECT a.id, p.house, p.month, p.days, p.version, p.tenancy, p.key, CASE WHEN p.key = %s THEN '4444.4' ELSE p.text END, p.mark FROM published p, a
-WHERE p.audit = %s"""
+INSERT INTO published (audit, house, month, days, version, tenancy, kind, flat, use, place, period, unit, text, mark)
+SELECT a.id, p.house, p.month, p.days, p.version, p.tenancy, p.kind, p.flat, p.use, p.place, p.period, p.unit,
+       CASE WHEN p.id = %s THEN '4444.4' ELSE p.text END, p.mark FROM published p, a WHERE p.audit = %s"""
 
 
 def test_a_number_that_its_audit_file_does_not_have(office: Office, elm: Supplied, tmp_path: pathlib.Path) -> None:
@@ -358,20 +362,19 @@ def test_a_number_that_its_audit_file_does_not_have(office: Office, elm: Supplie
     assert office.run("publish", "elm-1", "2025-01", "--bill").status == 0
     assert office.run(*words).status == 0
     files = {path: path.stat().st_mtime_ns for path in tmp_path.rglob("*.*")}
-    for month, like in (("2025-01-01", "A1 heat 2025-01 %"), ("2025-01-01", "A1 heat 1 %"), ("2025-01-01", "reading %"), ("2025-01-01", "house heat"),
-                        ("2024-12-01", "% 2024-12 chart %")):
-        (audit, key), = office.sql("SELECT p.audit, min(p.key) FROM published p JOIN audits_now a ON a.id = p.audit WHERE a.month = %s"
-                                   " AND p.key LIKE %s GROUP BY 1", month, like)
-        office.sql("SET ROLE publisher")
-        office.sql(AGAIN, audit, key, audit)
-        office.sql("RESET ROLE")
+    for month, kind, period in (("2025-01", "month", "2025-01"), ("2025-01", "place", "1735686000 1738364400"),
+                                ("2025-01", "reading", "%"), ("2025-01", "house", ""), ("2024-12", "chart", "2024-12")):
+        (audit, number), = office.sql(
+            "SELECT p.audit, min(p.id) FROM published p JOIN audits_now a ON a.id = p.audit"
+            " WHERE a.month = %s AND p.kind = %s AND p.period LIKE %s GROUP BY 1", f"{month}-01", kind, period)
+        office.sql(AGAIN, audit, number, audit, role="publisher")
         ended = office.run(*words)
-        assert ended.status == 3 and "4444.4 isn't in its audit file" in ended.printed, (key, ended.printed)
+        assert ended.status == 3 and "4444.4 isn't in its audit file" in ended.printed, (kind, ended.printed)
         assert {path: path.stat().st_mtime_ns for path in tmp_path.rglob("*.*")} == files
         office.sql("UPDATE audits SET void_at = now() WHERE id = (SELECT max(id) FROM audits)")
     assert office.run(*words).status == 0
-    (audit, key), = office.sql("SELECT audit, min(key) FROM published WHERE days IS NOT NULL AND key LIKE '%% last_value' GROUP BY 1")
-    for number in (key, key.replace("last_value", "amount"), key.replace("last_value", "consumption")):
+    for audit, number in office.sql("SELECT audit, min(id) FROM published WHERE days IS NOT NULL"
+                                    " AND kind IN ('last_value', 'amount', 'consumption') GROUP BY 1, kind"):
         office.sql(AGAIN, audit, number, audit)
         ended = office.run("bill", "elm-1", "2025-01")
         assert ended.status == 3 and "4444.4" in ended.printed and "A1,heat" not in ended.printed, (number, ended.printed)

@@ -1,5 +1,6 @@
 """Each login of the package tries what isn't its work, and the owner of the database can't become more than that."""
 
+import datetime
 import pathlib
 import subprocess
 from typing import Any, Iterator, Tuple
@@ -31,7 +32,12 @@ OWNER = (
     "UPDATE schema_versions SET version = 1", "CREATE FUNCTION f() RETURNS int LANGUAGE sql AS 'SELECT 1'",
     "CREATE TABLE houses_too (house text)", "SELECT end_fitting('elm-1', 'elm-1', 'x')",
     "UPDATE tenancies SET token = 'x'", "UPDATE day_values SET struck_by = 'another'", "UPDATE boxes SET house = NULL",
-    "DELETE FROM sheets")
+    "DELETE FROM sheets", "INSERT INTO versions DEFAULT VALUES", "INSERT INTO bills DEFAULT VALUES",
+    "DELETE FROM versions", "UPDATE versions SET out_at = NULL", "DELETE FROM bills", "UPDATE bills SET out_at = NULL",
+    "UPDATE month_use SET out_at = now()", "INSERT INTO box_commands VALUES ('HIDE', 1)", "SELECT take_as_it_is('x')",
+    "INSERT INTO orders (box, key, line, made_by) VALUES ('elm-1', 'l', 'OUT x', 'another')", "DELETE FROM orders",
+    "SELECT drop_months_before('2030-01-01')", "UPDATE boxes SET stored = 9", "UPDATE readings SET flat = 'x'",
+    "TRUNCATE readings", f"INSERT INTO readings_{datetime.date.today():%Y_%m} DEFAULT VALUES")
 # What a publisher may beside
 PUBLISHER = (
     "SELECT release_month('elm-1', '2025-01-01')", "SELECT correct_month('elm-1', '2025-01-01', 'x')",
@@ -41,7 +47,7 @@ PUBLISHER = (
     "INSERT INTO sheets (tenancy, month, form, path, sha256) VALUES (1, '2025-01-01', 'html', 'x', 'x')",
     "INSERT INTO audits (house, month, version, sha256, program, program_sha256, says) VALUES ('elm-1', "
     "'2025-01-01', 1, 'x', 'x', 'x', 'x')",
-    "INSERT INTO published (house, key, text, mark) VALUES ('elm-1', 'x', '4444.4', 'x')",
+    "INSERT INTO published (house, kind, text, mark) VALUES ('elm-1', 'x', '4444.4', 'x')",
     "SELECT desk.release('2025-01-01', 'x')", "SELECT desk.send('2025-01-01', 'x')",
     "SELECT desk.correct_month('elm-1', '2025-01-01', 'x')", "UPDATE jobs SET status = 0")
 # What a clerk may beside
@@ -49,15 +55,17 @@ CLERK = (
     "SELECT person FROM tenancies", "SELECT token FROM tenancies", "UPDATE tenancies SET days = days",
     "SELECT strike(1, 'x')", "SELECT put_value(1, '2025-01-31', 1, 'Wh', 'x')", "SELECT desk.strike(1, 'x')",
     "SELECT see_number('2025-01-01', 1, 'x')", "UPDATE fittings SET vib = '06'", "SELECT file FROM audits",
-    "UPDATE houses SET address = 'x'", "UPDATE places SET weight = 2", "SELECT path FROM sheets", "SELECT * FROM log")
+    "UPDATE houses SET address = 'x'", "UPDATE places SET weight = 2", "SELECT leave_month('elm-1', '2025-01-01', 'x')",
+    "SELECT leave_bill('elm-1', '[2025-01-01,2026-01-01)', 'x')", "SELECT path FROM sheets", "SELECT * FROM log")
 COLLECTOR = (
+    "INSERT INTO orders (box, key, line, state, number) VALUES ('elm-1', 'l', 'OUT x', 'pending', 9)",
     "INSERT INTO orders (box, line, confirms) VALUES ('elm-1', 'CONFIRM 1', 1)", "INSERT INTO readings DEFAULT VALUES",
     "UPDATE orders SET state = 'queued'", "INSERT INTO meters DEFAULT VALUES", "INSERT INTO points DEFAULT VALUES",
     "UPDATE boxes SET number = 1", "UPDATE boxes SET fault = NULL", "SELECT make_months('2026-01-01', 1)")
 CLOSER = (
     "SELECT close_houses('{elm-1}')", "INSERT INTO month_use DEFAULT VALUES", "DELETE FROM month_use",
     "DELETE FROM frozen_values", "SELECT put_estimate(1, '2025-01-31', now(), 1, 'Wh', 'x')",
-    "INSERT INTO alarms DEFAULT VALUES", "UPDATE alarms SET ended_at = now()")
+    "INSERT INTO alarms DEFAULT VALUES", "UPDATE alarms SET ended_at = now()", "DELETE FROM changes")
 REFUSED = {
     ("mbdc-billing", ""): NOBODY,
     ("mbdc-collect", ""): (*NOBODY, *OWNER, *PUBLISHER[:-1], *CLERK, *CLOSER),

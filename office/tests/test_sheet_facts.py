@@ -57,10 +57,10 @@ def test_what_stands_beside_the_numbers(office: Office, elm: Supplied, tmp_path:
     assert "Heizung: 35,50 € (11,45 Cent je kWh)" in said and sum("€" in it for it in said) == 1  # the price of water is of another unit
     assert "Heizung: Januar 2024 hätte beim Wetter dieses Monats 297,6 kWh gebraucht" in said
     assert office.run("sheets", "2025-01", "--out", str(tmp_path), "--pdf", "none", "--release").status == 0
-    assert office.sql("SELECT key, text, mark FROM published WHERE mark IN ('cost', 'carbon', 'weather')"
-                      " AND audit = (SELECT audit FROM versions) ORDER BY key") == [
-        ("A1 heat co2", "62.5", "carbon"), ("A1 heat cost", "35.50", "cost"), ("A1 heat weather", "297.6", "weather"),
-        ("A1 warm water co2", "88.2", "carbon")]
+    assert office.sql("SELECT use, kind, text, mark FROM published WHERE mark IN ('cost', 'carbon', 'weather')"
+                      " AND audit = (SELECT audit FROM versions) ORDER BY use, kind") == [
+        ("heat", "co2", "62.5", "carbon"), ("heat", "cost", "35.50", "cost"), ("heat", "weather", "297.6", "weather"),
+        ("warm water", "co2", "88.2", "carbon")]
 
 
 def test_a_part_of_a_month_has_no_percentage(office: Office, elm: Supplied, tmp_path: pathlib.Path) -> None:

@@ -111,6 +111,10 @@ def sheet_of(office: Office, out: pathlib.Path, tenancy: int, month: str = "2025
     return out / "ready" / path if (out / "ready" / path).exists() else out / path
 
 
+def read_sheet(office: Office, out: pathlib.Path, tenancy: int, month: str = "2025-01") -> Page:
+    return checked(sheet_of(office, out, tenancy, month).read_text(encoding="utf-8"))
+
+
 def published(office: Office, month: str = "2025-01", *words: str) -> None:
     """The numbers of all houses are audited."""
     ended = office.run("publish", "-", month, *words)
@@ -149,7 +153,7 @@ def test_an_english_sheet_and_its_pdf(office: Office, elm: Supplied, tmp_path: p
     office.sql("UPDATE houses SET contact = 'Elm Office, 030 1234'")
     elm.month("2025-01")
     written(office, tmp_path, "--link", "https://example.org/sheets")
-    page = checked(sheet_of(office, tmp_path, tenancy).read_text(encoding="utf-8"))
+    page = read_sheet(office, tmp_path, tenancy)
     assert page.cells["heat", "2025-01-01"].split() == ["1,240.0"]
     pdf = sheet_of(office, tmp_path, tenancy, form="pdf")
     text = subprocess.run(["pdftotext", "-layout", pdf, "-"], capture_output=True, text=True, check=True).stdout
@@ -166,7 +170,7 @@ def test_users_of_a_part_of_the_month(office: Office, elm: Supplied, tmp_path: p
     for month in ("2024-01", "2024-12", "2025-01"):
         elm.month(month)
     written(office, tmp_path, "--pdf", "none")
-    pages = [checked(sheet_of(office, tmp_path, it).read_text(encoding="utf-8")) for it in (one, other)]
+    pages = [read_sheet(office, tmp_path, it) for it in (one, other)]
     assert pages[0].cells["heat", "2025-01-01"].split()[0] == "200,0" and "01.01.2025" in pages[0].cells["heat", "2025-01-01"]
     assert pages[1].cells["heat", "2025-01-01"].split()[0] == "420,0"
     assert pages[0].cells["heat", "2024-12-01"].split() == ["620,0"]
@@ -182,7 +186,7 @@ def test_what_is_no_number_and_what_is_estimated(office: Office, elm: Supplied, 
     elm.values(meter, {"2025-01-20": 5})
     elm.month("2025-01")
     written(office, tmp_path, "--pdf", "none")
-    cells = [checked(sheet_of(office, tmp_path, it).read_text(encoding="utf-8")).cells for it in tenancies]
+    cells = [read_sheet(office, tmp_path, it).cells for it in tenancies]
     assert "nicht gelesen" in cells[0]["heat", "2025-01-01"] and "geprüft" in cells[1]["heat", "2025-01-01"]
     assert not re.search(r"\d", cells[0]["heat", "2025-01-01"] + cells[1]["heat", "2025-01-01"])
     assert cells[2]["heat", "2025-01-01"].split() == ["930,0"]
@@ -220,7 +224,7 @@ def test_links_lead_to_the_very_telegrams(office: Office, elm: Supplied, tmp_pat
     assert office.run("close").status == 0
     elm.month("2025-01")
     written(office, tmp_path)
-    page = checked(sheet_of(office, tmp_path, tenancy).read_text(encoding="utf-8"))
+    page = read_sheet(office, tmp_path, tenancy)
     links = [link for link in page.links if "decode.html" in link[0]]
     frame = "680F0F6808007278563412244001070100000000001616"
     assert len(links) == 2 and all(label.startswith("Telegramm prüfen: Zähler 00000040.PAD.01.04") for _, label in links)
@@ -236,10 +240,10 @@ def test_allocators_and_missing_factors(office: Office, tmp_path: pathlib.Path) 
     tenancy = oak.tenancy("A1", "2024-01-01", None)
     oak.month("2025-01")
     written(office, tmp_path, "--pdf", "none")
-    assert checked(sheet_of(office, tmp_path, tenancy).read_text()).cells["allocator", "2025-01-01"].split() == ["542,5"]
+    assert read_sheet(office, tmp_path, tenancy).cells["allocator", "2025-01-01"].split() == ["542,5"]
     office.sql("INSERT INTO factors (house, use, months, kwh_per_unit) VALUES ('oak-2', 'allocator', '[2025-01-01,)', 1.1)")
     written(office, tmp_path, "--pdf", "none")
-    assert checked(sheet_of(office, tmp_path, tenancy).read_text()).cells["allocator", "2025-01-01"].split() == ["596,8"]
+    assert read_sheet(office, tmp_path, tenancy).cells["allocator", "2025-01-01"].split() == ["596,8"]
 
 
 def test_a_sheet_has_its_file(office: Office, elm: Supplied, tmp_path: pathlib.Path) -> None:

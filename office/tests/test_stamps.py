@@ -60,11 +60,7 @@ def is_rising(stamps: List[datetime.datetime], chosen: int) -> bool:
 
 def heard(box: Box, *stamps: float) -> None:
     """Readings of a meter with these stamps."""
-    state = box.state()
-    for stamp in stamps:
-        state["serial"] += 1
-        state["readings"].append([state["serial"], METER, "A1", [[int(stamp), telegram(state["serial"])]]])
-    box.write(state)
+    box.tells(*((METER, stamp, [telegram(number)]) for number, stamp in enumerate(stamps)))
 
 
 def test_a_collection_notes_a_wrong_clock(office: Office, box: Box) -> None:
@@ -108,11 +104,6 @@ def test_pages_of_one_collection(office: Office, box: Box) -> None:
     assert office.sql("SELECT serial FROM readings WHERE at IS NULL AND serial > 150") == [(it,) for it in range(151, 161)]
     assert office.sql("SELECT count(*) FROM (SELECT at < lag(at) OVER (ORDER BY serial) AS falls FROM readings"
                       " WHERE at IS NOT NULL) AS k WHERE falls") == [(0,)]
-
-
-@pytest.fixture
-def elm(office: Office) -> Supplied:
-    return Supplied(office)
 
 
 def day_of(office: Office) -> List[Tuple[Any, ...]]:

@@ -3,20 +3,13 @@
 import pathlib
 from typing import Dict, List, Optional
 
-import pytest
 from conftest import Box, Office
-from supplied import ALLOCATOR, COLD, HEAT, WATER, Supplied, at
+from supplied import ALLOCATOR, COLD, HEAT, WATER, WH, Supplied, at
 from test_fittings import housed
 from test_schema import refused
 from test_sheets import published, sheet_of
 
-WH = 3_600_000
 NOON = ("alarms", "--at", "2025-02-01T12:00+00:00")
-
-
-@pytest.fixture
-def elm(office: Office) -> Supplied:
-    return Supplied(office)
 
 
 def told(office: Office, kind: str) -> List[str]:
@@ -92,10 +85,8 @@ def test_a_device_type_that_nobody_knows(office: Office, box: Box) -> None:
     lines = [f"no use elm 0000000{number}.PAD.01.{medium}" for number, medium in ((3, "0E"), (4, "0F"))]
     assert told(office, "no use") == [f"NEW {line}: What does this meter count? (flat A1): Device type {line[-2:]} has no use. The meter is read and"
                                        " counts nowhere." for line in lines]
-    office.sql("SET ROLE clerk")
-    office.sql("SELECT decide_use('elm', '00000003.PAD.01.0E', 'heat')")
-    office.sql("SELECT decide_use('elm', '00000004.PAD.01.0F', NULL)")
-    office.sql("RESET ROLE")
+    for identity, use in (("00000003.PAD.01.0E", "heat"), ("00000004.PAD.01.0F", None)):
+        office.sql("SELECT decide_use('elm', %s, %s)", identity, use, role="clerk")
     assert told(office, "no use") == [f"END {line}" for line in lines]
     assert office.sql("SELECT p.use, p.flat, f.identity FROM fittings f JOIN places p ON p.id = f.place WHERE f.identity >= '0'"
                       " AND f.identity < '1'") == [("heat", "A1", "00000003.PAD.01.0E")]
