@@ -20,7 +20,8 @@ WHY = "readings came late"
 # What is out, but who it was of: months, what was printed, and versions with their reasons
 OUT = ("SELECT 'month', u.month::text, u.place, u.part, u.version, u.amount, u.grade, u.is_held, u.begins, u.ends FROM month_use u"
        " WHERE u.out_at IS NOT NULL",
-       "SELECT 'printed', id, house, coalesce(month::text, days::text), version, key, text, mark FROM published",
+       "SELECT 'printed', id, house, coalesce(month::text, days::text), version, kind, flat, use, place, period, unit,"
+       " text, mark FROM published",
        "SELECT 'version', house, month::text, version, why, out_at FROM versions WHERE out_at IS NOT NULL",
        "SELECT 'bill', house, days::text, version, why, out_at FROM bills WHERE out_at IS NOT NULL")
 CHANGED = "SELECT house, to_char(month, 'YYYY-MM') FROM changes WHERE left_why IS NULL AND month > %s ORDER BY 1, 2"
@@ -34,7 +35,7 @@ WHERE (version = 1) <> (why = 'first')"""
 
 
 class Cron:
-    """What a cron of the office runs, and what was out after each of its steps."""
+    """What a cron of the office runs, and what was out after its steps."""
 
     def __init__(self, office: Office, out: pathlib.Path) -> None:
         self.office, self.out = office, out
@@ -50,52 +51,52 @@ class Cron:
         self.problems += [f"{step}: not there as it was: {row}" for row in sorted(map(str, lost))[:5]]
         self.known = now
 
-    def run(self, *words: str, statuses: Tuple[int, ...] = (0,)) -> str:
-        printed = self.office.run(*words, statuses=statuses)
-        self.same(" ".join(words))
-        return printed
-
     def release(self, month: datetime.date, *words: str) -> None:
-        self.run("publish", "-", f"{month:%Y-%m}")
+        self.office.run("publish", "-", f"{month:%Y-%m}")
         sheets = ("sheets", f"{month:%Y-%m}", "--out", str(self.out), "--pdf", "none", "--release", *words)
-        self.run(*sheets, statuses=(0, 5))
+        self.office.run(*sheets, statuses=(0, 5))
         if self.office.sql(WAITING, month):  # of meters that weren't heard since: a person takes the number as it is
-            self.run(*sheets)
+            self.office.run(*sheets)
 
     def correct(self, month: datetime.date) -> None:
         """In the month after this one a person corrects what would be another now, as far as its days are there."""
         kept = shifted(month, -KEPT_MONTHS)
         for house, changed in self.office.sql(CHANGED, kept):
-            self.run("correct", house, changed, "--why", WHY)
-            self.run("publish", house, changed)
-            self.run("sheets", changed, "--out", str(self.out), "--pdf", "none", "--release", "--house", house)
+            self.office.run("correct", house, changed, "--why", WHY)
+            self.office.run("publish", house, changed)
+            self.office.run("sheets", changed, "--out", str(self.out), "--pdf", "none", "--release", "--house", house)
             self.corrected += 1
         for house, period in self.office.sql(CHANGED_BILLS, kept):
-            self.run("correct", house, period, "--bill", "--why", WHY)
+            self.office.run("correct", house, period, "--bill", "--why", WHY)
             self.bill(house, period)
             self.corrected += 1
+        self.same(f"{month} corrected")
 
     def bill(self, house: str, period: str) -> None:
-        self.run("publish", house, period, "--bill")
-        self.bills[house, period] = self.run("bill", house, period, "--release", statuses=(0, 1))
+        self.office.run("publish", house, period, "--bill")
+        self.bills[house, period] = self.office.run("bill", house, period, "--release", statuses=(0, 1))
 
     def after(self, month: datetime.date) -> None:
         """Once a month is compared: it goes out, and with it each third one the bill of its quarter; what is old goes."""
         self.release(month)
+        self.same(f"{month} released")
         present = next_month(month)
         if (month.month - 1) % QUARTER == QUARTER - 1:
             first = shifted(month, 1 - QUARTER)
             for house in self.office.houses:
                 self.bill(house.name, f"{first}..{present - datetime.timedelta(days=1)}")
-        self.run("close", "--month", f"{month:%Y-%m}")
-        self.run("alarms", statuses=(0, 1))
+            self.same(f"{month} billed")
+        self.office.run("close", "--month", f"{month:%Y-%m}")
+        self.office.run("alarms", statuses=(0, 1))
         today = datetime.date.today()
         age = (today.year - present.year) * 12 + today.month - present.month + KEPT_MONTHS
-        self.run("retain", "--days", str(age), "--readings", str(age), "--alarms", str(age))
+        self.office.run("retain", "--days", str(age), "--readings", str(age), "--alarms", str(age))
+        self.same(f"{month} retained")
         for tenancy, in self.office.sql(LEFT, shifted(month, -1)):
-            self.run("forget", str(tenancy))
+            self.office.run("forget", str(tenancy))
             self.forgotten += 1
-        self.run("close")
+        self.office.run("close")
+        self.same(f"{month} forgotten")
 
     def end(self) -> None:
         """Each bill is printed as it was, but for who was forgotten; and no version is without a reason."""

@@ -10,7 +10,7 @@ import datetime
 import functools
 import random
 import zoneinfo
-from typing import Dict, Iterator, List, NamedTuple, Optional, Tuple
+from typing import Any, Dict, Iterator, List, NamedTuple, Optional, Tuple
 
 from world.frames import bcd, type_g
 
@@ -43,6 +43,7 @@ SHOWN_DIGIT = {0x03: ("Wh", 1, 0), 0x0E: ("J", 1_000_000, 0), 0x13: ("m3", 1, 3)
 GAP_DAYS = 6
 LEAP = 53_000_000  # millilitres
 KEPT = 4096  # places of which a moment's values are kept
+BESIDE = 12  # entries: three moments, of each at most a stored one, a false one, and two of an exchange
 WRONG = datetime.datetime(2000, 1, 1, 0, 7, tzinfo=UTC)  # of a clock that began anew
 COMPANY = bytes([0x24, 0x40])
 STATUS = bytes([0, 0, 0, 0])  # access number, status, configuration
@@ -151,7 +152,7 @@ class Place:
     def consumed(self, moment: Moment, now: Moment) -> Optional[Consumed]:
         """What was consumed up to a moment as it can be known; None where no knot lies before or after it."""
         known = self.known(now)
-        place = bisect.bisect_right([knot.at for knot in known], moment)
+        place = bisect.bisect_right(known, moment, key=moment_of)
         if place == 0 or (place == len(known) and known[-1].at != moment):
             return None
         before = known[place - 1]
@@ -182,7 +183,8 @@ class Place:
 
     def marked(self, entries: List["Entry"], begins: Moment, ends: Moment) -> bool:
         """Whether a step that touches a period falls or rises by more than the meter can count, or is beside such a step."""
-        steps = list(zip(entries, entries[1:]))
+        near = around(entries, begins, ends)
+        steps = list(zip(near, near[1:]))
         doubts = [False, *(self.is_doubtful(*step) for step in steps), False]
         return any(any(doubts[place:place + 3]) and begins < other.at and (one.at < ends or other.at <= ends)
                    for place, (one, other) in enumerate(steps))
@@ -209,15 +211,27 @@ class Place:
         return any(use >= 10 * median and use > little or use >= 5 * median and (one.is_put or other.is_put) for one, other, use, _ in touching)
 
 
+def moment_of(one: Any) -> Moment:
+    return one.at
+
+
+def around(entries: List["Entry"], begins: Moment, ends: Moment) -> List["Entry"]:
+    """The entries of a period, with enough of those before and after it."""
+    first, last = bisect.bisect_left(entries, begins, key=moment_of), bisect.bisect_right(entries, ends, key=moment_of)
+    return entries[max(first - BESIDE, 0):last + BESIDE]
+
+
 def steps_around(entries: List["Entry"], begins: Moment, ends: Moment) -> List[Tuple["Entry", "Entry", float, float]]:
     """The steps of the month of a period and around it: what was used a day in each, and how many days it has."""
     month = begins.astimezone(BERLIN).date().replace(day=1)
     first, after = begin_of(month), max(begin_of(next_month(month)), ends)
+    entries = around(entries, first, after)
     before = sorted({entry.at for entry in entries if entry.at <= first})[-3:]
     later = sorted({entry.at for entry in entries if entry.at >= after})[:2]
-    around = [entry for entry in entries if (not before or entry.at >= before[0]) and (not later or entry.at <= later[-1])]
+    chosen = [entry for entry in entries if (not before or entry.at >= before[0])
+              and (not later or entry.at <= later[-1])]
     return [(one, other, max(other.amount - one.amount, 0) * 86400 / max(seconds(other.at - one.at), 43200), seconds(other.at - one.at) / 86400)
-            for one, other in zip(around, around[1:]) if one.meter == other.meter and one.at < other.at]
+            for one, other in zip(chosen, chosen[1:]) if one.meter == other.meter and one.at < other.at]
 
 
 class Entry(NamedTuple):

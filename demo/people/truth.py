@@ -36,7 +36,15 @@ class Truth:
         self.houses, self.factors = houses, factors
         self.now = begin_of(datetime.date(2000, 1, 1))
         self.estimated: Set[Tuple[Place_, datetime.date]] = set()  # places that office/estimate gave a value
-        self.averages: Dict[Tuple[str, str, datetime.date], Tuple[Optional[Fraction], Set[str]]] = {}  # as long as nothing more is known
+        self.names = {name_of(place): place for house in houses for place in house.places}
+        # As long as nothing more is known
+        self.averages: Dict[Tuple[str, str, datetime.date], Tuple[Optional[Fraction], Set[str]]] = {}
+        self.numbers: Dict[Tuple[Place, Moment, Moment, Optional[str]], Number] = {}
+
+    def forget(self) -> None:
+        """More is known now."""
+        self.averages.clear()
+        self.numbers.clear()
 
     def unit(self, house: str, use: str) -> str:
         if use == "heat" or (house, use) in self.factors:
@@ -52,6 +60,12 @@ class Truth:
 
     def of_place(self, place: Place, begins: Moment, ends: Moment, unit: Optional[str] = None) -> Number:
         """What a place consumed in a period, as far as it can be known now, in the unit of its sheet or another."""
+        key = place, begins, ends, unit
+        if key not in self.numbers:
+            self.numbers[key] = self.computed(*key)
+        return self.numbers[key]
+
+    def computed(self, place: Place, begins: Moment, ends: Moment, unit: Optional[str]) -> Number:
         entries = place.entries(self.now)
         if place.marked(entries, begins, ends):
             return Number(DISTURBED, None, "", begins, ends)
@@ -84,8 +98,7 @@ class Truth:
         return statistics.median([day for day in days if day > 0] or [0])
 
     def estimated_places(self) -> Iterable[Tuple[Place, datetime.date]]:
-        names = {name_of(place): place for house in self.houses for place in house.places}
-        return [(names[name], month) for name, month in self.estimated]
+        return [(self.names[name], month) for name, month in self.estimated]
 
     def of_places(self, places: List[Place], begins: Moment, ends: Moment, unit: Optional[str] = None) -> Number:
         """Their sum."""
