@@ -6,16 +6,13 @@ from typing import Any, Dict, Iterable, Iterator, List, NamedTuple, Optional, Se
 
 from psycopg2.extras import DateRange, Json
 
-from accepted import file_of
-from database import Cursor, Database, one
-from drafts import Published
-from exporting import Readings, Writer, bodies_of, span_line, struck_of, use_lines, user_lines
-from grading import PROVISIONAL, Period, around, graded
-from months import Split, differences, kept_month, lock, shown_line, splits_of, window_at
+from database import Cursor, Database, Row as DatabaseRow, row_of, rows_of, value_of
+from exporting import NONE, Readings, Writer, bodies_of, file_of, span_line, struck_of, use_lines, user_lines
+from months import (PROVISIONAL, Period, Split, around, differences, graded, kept_month, lock, shown_line, splits_of,
+                    window_at)
 from periods import begin_of, later_month
-from program import AtFault, NotComputed, filled
-from published import KEY, NONE, Key
-from supply import Entry, seconds
+from program import KEY, AtFault, Key, NotComputed, Published, filled
+from supply import Value, seconds
 
 HEADER = ("house", "flat", "use", "place", "tenancy", "user", "from", "to", "amount", "smallest_unit", "consumption",
           "unit", "meter", "first_at", "first_value", "last_at", "last_value", "value_unit", "serials", "grade",
@@ -33,8 +30,9 @@ PRINTED = f"""
 SELECT p.tenancy, {KEY}, p.text FROM published p
 JOIN bills b ON (b.house, b.days, b.version) = (p.house, p.days, p.version)
 WHERE (p.house, p.days, p.version) = (%s, %s, %s) AND p.audit IS NOT DISTINCT FROM b.audit ORDER BY p.id"""
-IS_OUT = "SELECT EXISTS (SELECT FROM bills WHERE (house, days, version) = (%s, %s, %s) AND out_at IS NOT NULL)"
+OUT = "SELECT audit FROM bills WHERE (house, days, version) = (%s, %s, %s) AND out_at IS NOT NULL"
 VERSION = "SELECT version, out_at IS NOT NULL FROM bills_now WHERE (house, days) = (%s, %s)"
+ZONE = "SELECT zone FROM houses WHERE house = %s"
 # The months of a period with a number that a person has to see first
 HELD_MONTHS = """
 SELECT place, begins, ends FROM month_kwh WHERE house = %s AND part = 0 AND grade = 'held'
@@ -60,19 +58,12 @@ class Row(NamedTuple):
         return Key(column, flat, use, int(place), f"{begins} {ends}")
 
 
-class Held(NamedTuple):
-    """A month of a place with a number that is held."""
-    place: int
-    begins: datetime.datetime
-    ends: datetime.datetime
-
-
 class Asked(NamedTuple):
     """A row whose amounts are asked for: its other cells, by column the lines that ask, and the values at its ends."""
     tenancy: Optional[int]
     cells: Dict[str, str]
     lines: Dict[str, str]
-    ends: Dict[str, Entry]
+    ends: Dict[str, Value]
     zone: zoneinfo.ZoneInfo
 
     def row(self, lines: List[str], ends: Dict[str, str]) -> Row:
@@ -105,73 +96,58 @@ class Bill(NamedTuple):
                 for column, text in row.cells.items()]
 
 
-def key_of(entry: Entry) -> Tuple[int, int]:
-    """The run and the moment of a value."""
-    return entry.line.meter, entry.line.moment
-
-
-def ends_in(one: Split, period: Period) -> Tuple[List[Entry], List[Entry], List[Entry]]:
-    """The entries of the meter of a row, and those at or around its ends."""
-    entries = [entry for entry in one.entries if entry.fitting.begins <= period.begins
-               and (entry.fitting.ends is None or period.begins < entry.fitting.ends)]
-    return entries, around(entries, period.begins)[:1], around(entries, period.ends)[-1:]
-
-
-def asked_row(one: Split, period: Period, is_held: bool) -> Asked:
-    """A row, whose amounts aren't asked for where they are held."""
+def asked_row(one: Split, period: Period, held: List[DatabaseRow]) -> Asked:
+    """A row, whose amounts aren't asked for where a month of the place is held."""
     smallest, unit = SHOWN[one.place.quantity]
     zone = zoneinfo.ZoneInfo(one.place.zone)
-    entries, first, last = ends_in(one, period)
+    entries = [entry for entry in one.entries if entry.fitting.begins <= period.begins
+               and (entry.fitting.ends is None or period.begins < entry.fitting.ends)]
+    ends = {"first": around(entries, period.begins)[0], "last": around(entries, period.ends)[-1]} if entries else {}
+    serials = [str(it.telegram[2]) for it in ends.values() if it.telegram is not None]
     cells = {"house": one.place.house, "flat": one.place.flat, "use": one.place.use, "place": str(one.place.number),
-             "from": f"{period.begins.astimezone(zone):%Y-%m-%dT%H:%M}",
-             "to": f"{period.ends.astimezone(zone):%Y-%m-%dT%H:%M}", "smallest_unit": smallest, "unit": unit,
-             "meter": entries[0].fitting.identity if entries else "", "value_unit": entries[0].value.unit if entries
-             else "", "serials": " ".join(str(it.value.telegram[1]) for it in first + last
-                                          if it.value.telegram is not None), "weight": f"{one.place.weight:f}"}
+             "from": local(seconds(period.begins), zone), "to": local(seconds(period.ends), zone),
+             "smallest_unit": smallest, "unit": unit, "meter": entries[0].fitting.identity if entries else "",
+             "value_unit": entries[0].unit if entries else "", "serials": " ".join(serials),
+             "weight": f"{one.place.weight:f}"}
     units = {"amount": (SMALLEST, 0), "consumption": (unit, DECIMALS),
              **({"HCA": ("HCA", DECIMALS)} if unit == "count" else {})}
-    ends = {name: end[0] for name, end in (("first", first), ("last", last)) if end}
+    is_held = any(it.place == one.place.id and it.begins < period.ends and period.begins < it.ends for it in held)
     return Asked(period.tenancy, cells, {} if is_held
                  else {column: shown_line(period, *of_unit) for column, of_unit in units.items()}, ends, zone)
 
 
-def days_of(period: Tuple[datetime.date, datetime.date]) -> DateRange:
-    """The days of a period, which is its first one and its last one, as the database has them."""
-    return DateRange(period[0], period[1] + datetime.timedelta(days=1))
+def is_dropped(cursor: Cursor, days: DateRange) -> Optional[datetime.date]:
+    """The month up to which values of days were dropped, where a bill needs some of them."""
+    kept = kept_month(cursor)
+    return kept if kept is not None and days.lower.replace(day=1) <= kept else None
 
 
 def bill_of(cursor: Cursor, house: str, days: DateRange) -> Bill:
-    """A bill by what is known now, by flat, use and place.
-
-    Raises LookupError where values of its days were dropped."""
-    kept = kept_month(cursor)
-    if kept is not None and days.lower.replace(day=1) <= kept:
+    """A bill by what is known now, by flat, use and place. Raises LookupError where values of its days were dropped."""
+    dropped = is_dropped(cursor, days)
+    if dropped is not None:
         raise LookupError(
-            f"the values of days up to {kept:%Y-%m} were dropped: a bill can't be computed from what is left")
+            f"the values of days up to {dropped:%Y-%m} were dropped: a bill can't be computed from what is left")
     splits = sorted(splits_of(cursor, [house], days.lower, days.upper, at_exchanges=True),
                     key=lambda it: (it.place.flat, it.place.use, it.place.number))
-    cursor.execute(HELD_MONTHS, (house, days))
-    held = [Held(*row) for row in cursor]
-    cursor.execute("SELECT zone FROM houses WHERE house = %s", (house,))
-    zone = one(cursor)[0]
+    held, zone = rows_of(cursor, HELD_MONTHS, house, days), value_of(cursor, ZONE, house)
     windows = [window_at(it, days.lower, days.upper) for it in splits]
     writer = Writer(bodies_of(cursor, windows),
                     struck_of(cursor, house, seconds(begin_of(days.lower, zone)), seconds(begin_of(days.upper, zone))))
     writer.lines += [f"audit,1,{days.lower:%Y-%m}", span_line(1, days.lower, days.upper, zone), *use_lines(
         cursor, {it.use for it in windows}), *user_lines(cursor, house, windows, days.lower, days.upper)]
-    rows: List[Tuple[int, Dict[str, int], Asked]] = []
+    found: List[Tuple[int, Dict[str, int], Asked]] = []
     for split, window in zip(splits, windows):
-        periods = split.periods[1:] or split.periods
-        asked = [asked_row(split, it, any(month.place == window.place and month.begins < it.ends
-                                          and it.begins < month.ends for month in held)) for it in periods]
-        lines, readings = [line for row in asked for line in row.lines.values()], readings_of(split, periods)
+        asked = [asked_row(split, period, held) for period in split.parts]
+        readings: Readings = {it.key: (it.shown, it.unit) for row in asked for it in row.ends.values()}
+        lines = [line for row in asked for line in row.lines.values()]
         at = writer.window(1, window, lines, readings)
         places = {key: place for place, key in enumerate(readings, at + len(lines))}
         for row in asked:
-            rows.append((at, {name: places[key_of(end)] for name, end in row.ends.items()}, row))
+            found.append((at, {name: places[end.key] for name, end in row.ends.items()}, row))
             at += len(row.lines)
     writer.lines += ["totals", "end"]
-    return Bill(writer.lines, rows)
+    return Bill(writer.lines, found)
 
 
 def computed(cursor: Cursor, house: str, days: DateRange) -> List[Row]:
@@ -180,72 +156,60 @@ def computed(cursor: Cursor, house: str, days: DateRange) -> List[Row]:
     return bill.filled(filled(bill.lines).lines)
 
 
-def readings_of(split: Split, periods: List[Period]) -> Readings:
-    """The meters' values that a place's rows name."""
-    found: Readings = {}
-    for period in periods:
-        _, first, last = ends_in(split, period)
-        found.update({key_of(it): (it.value.shown, it.value.unit) for it in first + last})
-    return found
-
-
 def printed(cursor: Cursor, house: str, days: DateRange, version: int) -> List[Row]:
     """The rows of a version that is out, as they were printed.
 
-    Raises LookupError where it isn't out, and NotComputed, as compare."""
-    cursor.execute(IS_OUT, (house, days, version))
-    if not one(cursor)[0]:
+    Raises LookupError where it isn't out, and NotComputed, as compared."""
+    out = row_of(cursor, OUT, house, days, version)
+    if out is None:
         raise LookupError(f"version {version} of this bill isn't out")
-    cursor.execute(PRINTED, (house, days, version))
-    rows = rows_in(cursor)
-    cursor.execute("SELECT audit FROM bills WHERE (house, days, version) = (%s, %s, %s)", (house, days, version))
-    compare(cursor, house, one(cursor)[0], rows)
-    return rows
+    return compared(cursor, house, out.audit, rows_in(rows_of(cursor, PRINTED, house, days, version)))
 
 
-def compare(cursor: Cursor, house: str, audit: Optional[int], rows: List[Row]) -> None:
-    """Raises NotComputed where a row has a number that the bill's audit file doesn't have, as long as that is kept."""
+def accepted(cursor: Cursor, house: str, days: DateRange) -> Optional[List[Row]]:
+    """The rows of the present version as they were audited; None without an audit. Raises NotComputed, as compared."""
+    audit = value_of(cursor, "SELECT id FROM audits_now WHERE (house, days) = (%s, %s)", house, days)
+    return None if audit is None else compared(cursor, house, audit, rows_in(
+        rows_of(cursor, f"SELECT p.tenancy, {KEY}, p.text FROM published p WHERE p.audit = %s ORDER BY p.id", audit)))
+
+
+def compared(cursor: Cursor, house: str, audit: Optional[int], found: List[Row]) -> List[Row]:
+    """These rows. Raises NotComputed where one has a number that the bill's audit file doesn't have, as long as that is
+    kept."""
     lines = file_of(cursor, audit)
-    if lines is None:
-        return
-    cursor.execute("SELECT zone FROM houses WHERE house = %s", (house,))
-    facts = facts_of(lines, zoneinfo.ZoneInfo(one(cursor)[0]))
-    for row in rows:
-        wrong = next((it for it in numbers_of(row) if it not in facts), None)
-        if wrong:
-            raise NotComputed(f"the bill isn't printed: {' '.join(map(str, wrong))} isn't in its audit file")
+    facts = set() if lines is None else facts_of(lines, zoneinfo.ZoneInfo(value_of(cursor, ZONE, house)))
+    wrong = next((it for row in found for it in numbers_of(row) if it not in facts), None)
+    if wrong and lines is not None:
+        raise NotComputed(f"the bill isn't printed: {' '.join(map(str, wrong))} isn't in its audit file")
+    return found
 
 
 def numbers_of(row: Row) -> Iterator[Tuple[str, ...]]:
     """What a row says that an audit file has to say."""
     cells, place = row.cells, (row.cells["flat"], row.cells["use"])
-    period = (cells["from"], cells["to"])
-    yield from ((*place, *period, column, cells[column]) for column in dict.fromkeys(COLUMNS.values())
-                if column in cells)
+    period = (*place, cells["from"], cells["to"])
+    yield from ((*period, column, cells[column]) for column in dict.fromkeys(COLUMNS.values()) if column in cells)
     yield from ((*place, cells[f"{name}_at"], cells[f"{name}_value"]) for name in ("first", "last")
                 if f"{name}_value" in cells)
     if "amount" in cells:
-        yield (*place, *period, "grade", cells["grade"])
+        yield (*period, "grade", cells["grade"])
         if row.tenancy is not None:
-            yield (*place, *period, "user", str(row.tenancy))
+            yield (*period, "user", str(row.tenancy))
 
 
 def facts_of(lines: List[str], zone: zoneinfo.ZoneInfo) -> Set[Tuple[str, ...]]:
     """What a bill's audit file says of periods of places and of meters' values, with moments as a row has them."""
     found: Set[Tuple[str, ...]] = set()
     place: Tuple[str, ...] = ()
-    for line in lines:
-        kind, *fields = line.split(",")
+    for kind, *fields in (line.split(",") for line in lines):
         if kind == "place":
             place = (fields[1], fields[2])
-        elif kind == "part":
-            found.add((*place, *(local(int(it), zone) for it in fields[1:3]), "user", fields[3]))
         elif kind == "value":
             found.add((*place, local(int(fields[1]), zone), fields[2]))
-        elif kind == "shown":
+        elif kind in ("part", "shown"):
             period = (*place, *(local(int(it), zone) for it in fields[1:3]))
-            found.add((*period, COLUMNS[fields[3]], fields[4]))
-            if fields[3] == SMALLEST:
+            found.add((*period, "user", fields[3]) if kind == "part" else (*period, COLUMNS[fields[3]], fields[4]))
+            if kind == "shown" and fields[3] == SMALLEST:
                 found.add((*period, "grade", graded(*fields[4:]).grade))
     return found
 
@@ -256,17 +220,16 @@ def local(moment: int, zone: zoneinfo.ZoneInfo) -> str:
 
 def rows_in(cells: Iterable[Tuple[Any, ...]]) -> List[Row]:
     """Rows from their cells: tenancy, key and text, where the column is the kind."""
-    rows: Dict[Tuple[str, ...], Row] = {}
+    found: Dict[Tuple[str, ...], Row] = {}
     for tenancy, column, *name, text in cells:
-        rows.setdefault(tuple(name), Row(tenancy, {})).cells[column] = text
-    return list(rows.values())
+        found.setdefault(tuple(name), Row(tenancy, {})).cells[column] = text
+    return list(found.values())
 
 
 def present(cursor: Cursor, house: str, days: DateRange) -> Tuple[int, bool]:
     """The present version of a bill, and whether it is out."""
-    cursor.execute(VERSION, (house, days))
-    row = cursor.fetchone()
-    return (1, False) if row is None else (row[0], row[1])
+    version, is_out = row_of(cursor, VERSION, house, days) or (1, False)
+    return version, is_out
 
 
 def lock_bill(cursor: Cursor, house: str, days: DateRange) -> None:
@@ -277,23 +240,10 @@ def lock_bill(cursor: Cursor, house: str, days: DateRange) -> None:
         month = later_month(month, 1)
 
 
-def accepted(cursor: Cursor, house: str, days: DateRange) -> Optional[List[Row]]:
-    """The rows of the present version as they were audited; None without an audit. Raises NotComputed, as compare."""
-    cursor.execute("SELECT id FROM audits_now WHERE (house, days) = (%s, %s)", (house, days))
-    row = cursor.fetchone()
-    if row is None:
-        return None
-    cursor.execute(f"SELECT p.tenancy, {KEY}, p.text FROM published p WHERE p.audit = %s ORDER BY p.id", row)
-    rows = rows_in(cursor)
-    compare(cursor, house, row[0], rows)
-    return rows
-
-
 def check(database: Database, houses: List[str]) -> None:
     """Of these houses' bills that are out and of which a month was computed since: notes which would be another now."""
     with database.transaction() as cursor:
-        cursor.execute(TO_CHECK, (houses,))
-        bills = cursor.fetchall()
+        bills = rows_of(cursor, TO_CHECK, houses)
     for house, days, version in bills:
         with database.transaction() as cursor:
             lock_bill(cursor, house, days)
@@ -304,14 +254,13 @@ def check(database: Database, houses: List[str]) -> None:
 def changed(cursor: Cursor, house: str, days: DateRange, version: int) -> Optional[Json]:
     """How a bill that is out would be another now.
     A row without a user isn't compared: a user may have been forgotten."""
-    kept = kept_month(cursor)
-    if kept is not None and days.lower.replace(day=1) <= kept:
+    if is_dropped(cursor, days) is not None:
         return None
     try:
         bills = printed(cursor, house, days, version), computed(cursor, house, days)
     except AtFault as fault:
         return Json({"text": str(fault)})
-    quantities = {row.name: QUANTITIES[row.cells["smallest_unit"]] for rows in bills for row in rows}
+    quantities = {row.name: QUANTITIES[row.cells["smallest_unit"]] for bill in bills for row in bill}
     out, now = ({row.name: (int(row.cells["amount"]) if "amount" in row.cells else None, row.cells["grade"])
-                 for row in rows if row.tenancy is not None} for rows in bills)
+                 for row in bill if row.tenancy is not None} for bill in bills)
     return differences(out, now, lambda name: (name, quantities[name]))

@@ -14,18 +14,14 @@ class BoxCommand(NamedTuple):
     statement: str  # does to the table `meters` what the box does to its register
 
 
-BOX_COMMANDS: Dict[str, BoxCommand] = {
-    "FIT": BoxCommand(["identity", "line", "address", "flat"],
+METER = "box = %(box)s AND identity = %(identity)s"
+BOX_COMMANDS: Dict[str, BoxCommand] = {"FIT": BoxCommand(["identity", "line", "address", "flat"],
                       "INSERT INTO meters (box, identity, line, address, flat)"
                       " VALUES (%(box)s, %(identity)s, %(line)s, %(address)s, %(flat)s)"),
-    "MOVE": BoxCommand(["identity", "flat"],
-                       "UPDATE meters SET flat = %(flat)s WHERE box = %(box)s AND identity = %(identity)s"),
-    "OUT": BoxCommand(["identity"],
-                      "DELETE FROM meters WHERE box = %(box)s AND identity = %(identity)s"),
-    "SWAP": BoxCommand(["old", "new", "address"],
+    "MOVE": BoxCommand(["identity", "flat"], f"UPDATE meters SET flat = %(flat)s WHERE {METER}"),
+    "OUT": BoxCommand(["identity"], f"DELETE FROM meters WHERE {METER}"), "SWAP": BoxCommand(["old", "new", "address"],
                        "UPDATE meters SET identity = %(new)s, address = %(address)s, since = now(), serial = NULL,"
-                       " heard = NULL, stored_at = NULL, status = NULL WHERE box = %(box)s AND identity = %(old)s"),
-}
+                       " heard = NULL, stored_at = NULL, status = NULL WHERE box = %(box)s AND identity = %(old)s"),}
 
 
 def change_of(box: str, line: str) -> Optional[Tuple[str, Dict[str, str]]]:

@@ -3,19 +3,20 @@
 import datetime
 import decimal
 import json
-import os
 import re
 import subprocess
 from typing import Any, Dict, List, NamedTuple, Optional, Sequence
 
-MBDC = os.environ.get("MBDC", "mbdc")  # an installed program
+from periods import DAY
+from program import MBDC
+
 FRAMES_A_RUN = 1500  # of at most 523 bytes each, below the 1 MiB that an input may have
 DECODE_SECONDS = 60  # at most, of one run of the decoder
 RSP_UD, CI_VARIABLE = 0x08, 0x72  # EN 13757-2 and -3
 FUNCTIONS = ("instantaneous", "maximum", "minimum", "error")
 TIME_POINT_VIFS = (0x6C, 0x6D)  # a date; a date and time (EN 13757-3)
 NUMBER = re.compile(r"-?\d+(\.\d+)?")
-DAY = re.compile(r"(\d{4}-\d\d-\d\d)(T.*)?")
+MOMENT = re.compile(r"(\d{4}-\d\d-\d\d)(T.*)?")
 MIDNIGHT = re.compile(r"T00:00(:00)?")  # which ends the day before
 FLAGS, OTHER = "flags", "other"
 NO_ERROR = ["no error"]  # VIFE 00, which says no more than its absence (EN 13757-3)
@@ -56,15 +57,11 @@ class Point(NamedTuple):
     @property
     def day(self) -> Optional[str]:
         """The day at whose end a time point lies: a moment at 00:00 ends the day before it."""
-        found = DAY.fullmatch(self.shown)
+        found = MOMENT.fullmatch(self.shown)
         if not found or not self.is_time_point:
             return None
         is_day_before = found[2] and MIDNIGHT.fullmatch(found[2]) and found[1] > FIRST_DAY
-        return day_before(found[1]) if is_day_before else found[1]
-
-
-def day_before(day: str) -> str:
-    return (datetime.date.fromisoformat(day) - datetime.timedelta(days=1)).isoformat()
+        return str(datetime.date.fromisoformat(found[1]) - DAY) if is_day_before else found[1]
 
 
 def frame_of(body: bytes) -> str:
@@ -74,9 +71,7 @@ def frame_of(body: bytes) -> str:
 
 
 def decoded(text: str) -> str:
-    """What the decoder prints of a text, as JSON Lines.
-
-    Raises NoDecoder and Undecoded."""
+    """What the decoder prints of a text, as JSON Lines. Raises NoDecoder and Undecoded."""
     try:
         done = subprocess.run([MBDC, "decode", "--json"], input=text, capture_output=True, text=True,
                               timeout=DECODE_SECONDS, check=False)
@@ -87,17 +82,6 @@ def decoded(text: str) -> str:
     if done.returncode != 0:
         raise Undecoded(f"{MBDC} decode ended with status {done.returncode}")
     return done.stdout
-
-
-def points_of_json(text: str) -> List[List[Point]]:
-    """The records of each frame, from the decoder's JSON Lines."""
-    return [[point_of_object(record) for record in json.loads(line).get("records", [])] for line in text.splitlines()]
-
-
-def is_plain_count(record: Dict[str, Any]) -> bool:
-    """Whether a record's only qualifier says that there is no error, and its value is a count."""
-    return (record["reading"] == "qualified" and record["qualifiers"] == NO_ERROR and record["value"] is not None
-            and record["quantity"] in COUNTED)
 
 
 def without_no_error(vib: str) -> str:
@@ -117,21 +101,21 @@ def point_of_object(record: Dict[str, Any]) -> Point:
     function = next(number for number, word in enumerate(FUNCTIONS) if word in record["function"])
     quantity = ", ".join([record["quantity"], *record.get("qualifiers", [])])
     value = OTHER if record["reading"] == OTHER else record["value"] or "none"
-    is_count = is_plain_count(record)
+    is_count = (record["reading"] == "qualified" and record["qualifiers"] == NO_ERROR and record["value"] is not None
+                and record["quantity"] in COUNTED)  # whose only qualifier says that there is no error
     vib = without_no_error(record["vib"]) if is_count else record["vib"]
     return Point(record["storage"], function, record["tariff"], record["subunit"], vib, quantity, value, record["unit"],
                  is_count or record["reading"] == "point")
 
 
 def points_of(bodies: Sequence[bytes]) -> List[List[Point]]:
-    """The records of each telegram.
-
-    Raises NoDecoder and Undecoded."""
+    """The records of each telegram. Raises NoDecoder and Undecoded."""
     frames: List[List[Point]] = []
     for begin in range(0, len(bodies), FRAMES_A_RUN):
         text = "".join(f"{frame_of(body)}\n" for body in bodies[begin:begin + FRAMES_A_RUN])
         try:
-            frames += points_of_json(decoded(text))
+            frames += [[point_of_object(record) for record in json.loads(line).get("records", [])]
+                       for line in decoded(text).splitlines()]
         except (KeyError, IndexError, StopIteration, TypeError, ValueError) as fault:
             raise Undecoded(f"{MBDC} decode printed what can't be read: {fault!r}") from fault
     if len(frames) != len(bodies):

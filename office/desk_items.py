@@ -1,20 +1,22 @@
-"""The items of the manager's page: their words, the readings behind them, and what a person can do about each."""
+"""The manager's morning: its items with their words, the readings behind them, and what a person can do about each."""
 
 import collections
+import csv
 import datetime
 import decimal
+import io
 import re
 import shlex
 import urllib.parse
-from typing import Any, Dict, Iterable, List, NamedTuple, Optional, Tuple
+from typing import Any, Callable, Dict, List, NamedTuple, Optional, Tuple
 
+import psycopg2
 import psycopg2.extras
 
-from catalogue import Catalogue
-from database import Cursor, plain
-from desk_words import ACTIONS as ACTION_WORDS
-from desk_words import APPLICATION, FAILURES, FIELDS, ITEMS, PAGE, STATUS
-from periods import next_month
+from catalogue import Catalogue, texts
+from database import Cursor, Row, grouped, plain, row_of, rows_of, value_of
+from periods import DAY, next_month
+from rendering import html_of
 
 LONGEST = 300  # characters of what people and boxes wrote
 MORNING = """
@@ -22,15 +24,23 @@ SELECT id, kind, house, address, zone, flat, subject, facts, waits, since, is_ne
     ended_at
 FROM morning ORDER BY waits DESC, since DESC, id"""
 VALUES = """
-SELECT k.item, d.id, d.day, d.at, d.value, d.unit, d.amount, d.source
+SELECT k.item, d.id, d.day, d.at, d.value, d.unit, d.amount, d.source, NULL::numeric AS used, false AS is_marked
 FROM (VALUES %s) AS k (item, fitting, first, last) JOIN day_values d ON d.fitting = k.fitting::bigint
  AND d.day BETWEEN k.first::date AND k.last::date AND d.struck_at IS NULL ORDER BY k.item, d.day"""
+ZONE = "SELECT coalesce(mode() WITHIN GROUP (ORDER BY zone), 'UTC') FROM houses"
+COUNTS = ("SELECT at, houses, meters, read, month, ready, waiting, released, on_paper FROM mornings"
+          " ORDER BY at DESC LIMIT 1")
+RELEASING = "SELECT EXISTS (SELECT FROM jobs WHERE what IN ('release', 'send') AND ended_at IS NULL)"
 BEFORE, AFTER = 2, 2  # readings that are shown around a fall or a leap
 DAYS = datetime.timedelta(days=6)
 # of what is shown
 SMALLEST = {"volume": (1_000_000, "m³"), "allocation": (1000, "HCA"), "energy": (3_600_000_000, "kWh")}
 DEVICE_USES = {"0A": "cooling", "0B": "cooling", "04": "heat", "0C": "heat", "06": "warm water", "07": "cold water"}
+STATUS_BITS, APPLICATION = (4, 8, 16), 3  # of a status byte (EN 13757-3)
+SECTIONS = ("holds", "new", "open", "known", "done", "ended")
 
+
+# ---- what a person can do
 
 class Action(NamedTuple):
     """A function of the database's schema `desk`: its parameters but the last one, `why`, with their types."""
@@ -38,80 +48,38 @@ class Action(NamedTuple):
     role: str = "clerk"
 
 
-METER = {"house": "text", "meter": "text"}
-ACTIONS: Dict[str, Action] = {"strike": Action({"value": "bigint"}), "put_value": Action(
-    {**METER, "day": "date", "value": "numeric",
-     "unit": "text"}), "see_number": Action({"place": "bigint", "month": "date"}), "declare_counter": Action(
-    {**METER,
-     "digits": "integer"}), "restart": Action(
-    {**METER, "at": "timestamp", "last": "numeric", "first": "numeric",
-     "unit": "text"}), "exchange": Action(
-    {"house": "text", "old": "text", "new": "text", "at": "timestamp", "last": "numeric", "first": "numeric",
-     "unit": "text"}), "decide_use": Action({**METER, "use": "text", "vib": "text"}), "meter": Action(
-    {**METER, "line": "integer", "address": "text", "flat": "text"}), "house": Action(
-    {"house": "text", "address": "text", "postcode": "text", "zone": "text", "category": "text", "contact": "text",
-     "advice": "text",
-     "complaints": "text"}), "flat": Action({"house": "text", "flat": "text", "area": "numeric"}), "tenant": Action(
-    {"house": "text", "flat": "text", "since": "date", "until": "date", "person": "text", "language": "text",
-     "wants": "text", "mail": "text"}), "take_over": Action({"item": "bigint"}), "hand_back": Action(
-    {"item": "bigint"}), "collect": Action({"box": "text"}), "leave_month": Action({"house": "text", "month": "date"}),
-                              "address": Action({"house": "text", "flat": "text", "wants": "text", "mail": "text"}),
-                              "returned": Action({"house": "text", "flat": "text", "month": "date"}),
-                              "release": Action({"month": "date"}, "publisher"), "send": Action(
-    {"month": "date"}, "publisher"), "correct_month": Action({"house": "text", "month": "date"}, "publisher"),}
+TYPES = {"value": "numeric", "day": "date", "place": "bigint", "month": "date", "digits": "integer", "at": "timestamp",
+         "last": "numeric", "first": "numeric", "line": "integer", "area": "numeric", "since": "date", "until": "date",
+         "item": "bigint"}  # of those that aren't text
+
+
+def action(names: str, role: str = "clerk", **types: str) -> Action:
+    return Action({name: types.get(name, TYPES.get(name, "text")) for name in names.split()}, role)
+
+
+ACTIONS: Dict[str, Action] = {
+    "strike": action("value", value="bigint"), "put_value": action("house meter day value unit"),
+    "see_number": action("place month"), "declare_counter": action("house meter digits"),
+    "restart": action("house meter at last first unit"), "exchange": action("house old new at last first unit"),
+    "decide_use": action("house meter use vib"), "meter": action("house meter line address flat"),
+    "house": action("house address postcode zone category contact advice complaints"),
+    "flat": action("house flat area"), "tenant": action("house flat since until person language wants mail"),
+    "take_over": action("item"), "hand_back": action("item"), "collect": action("box"),
+    "leave_month": action("house month"), "address": action("house flat wants mail"),
+    "returned": action("house flat month"), "release": action("month", "publisher"),
+    "send": action("month", "publisher"), "correct_month": action("house month", "publisher")}
 # The words of lines of a CSV (office/import) by their functions; a line has the function's parameters, and may have a
 # reason
 LINES = {"house": "house", "flat": "flat", "user": "tenant", "meter": "meter", "value": "put_value",
          "counter": "declare_counter", "restart": "restart", "exchange": "exchange"}
 
 
-class Words(Catalogue):
-    """The page's words, besides those of sheets."""
-
-    def page(self, key: str, **values: object) -> str:
-        return chosen(PAGE[key], self.language).format(**values) if values else chosen(PAGE[key], self.language)
-
-    def field(self, name: str) -> str:
-        return chosen(FIELDS[name], self.language)
-
-    def action(self, name: str) -> str:
-        return chosen(ACTION_WORDS[name], self.language)
-
-    def whole(self, number: int) -> str:
-        return self.marked(f"{number:,}")
-
-
-class Item(NamedTuple):
-    """A row of `morning`."""
-    id: int
-    kind: str
-    house: Optional[str]
-    address: Optional[str]
-    zone: Optional[str]
-    flat: Optional[str]
-    subject: str
-    facts: Dict[str, Any]
-    waits: int
-    since: datetime.datetime
-    is_new: bool
-    known_by: Optional[str]
-    note: Optional[str]
-    done_at: Optional[datetime.datetime]
-    done_by: Optional[str]
-    ended_at: Optional[datetime.datetime]
-
-
-class Reading(NamedTuple):
-    """A value of a day, what was used on the way to it, and whether it is the one to look at."""
-    id: int
-    day: datetime.date
-    at: datetime.datetime
-    value: decimal.Decimal
-    unit: str
-    amount: int
-    source: str
-    used: Optional[decimal.Decimal] = None
-    is_marked: bool = False
+def act(cursor: Cursor, name: str, values: Dict[str, str], why: str) -> None:
+    """Does what a person wants: one function of the database, which checks the role and writes the log."""
+    fields = ACTIONS[name].fields
+    placed = ", ".join(f"{field} => %s::{kind}" for field, kind in [*fields.items(), ("why", "text")])
+    cursor.execute(f"SELECT desk.{name}({placed})",
+                   [*((values.get(field) or "").strip() or None for field in fields), why.strip()])
 
 
 class Offer(NamedTuple):
@@ -123,61 +91,56 @@ class Offer(NamedTuple):
         words = [str(self.values.get(name) or name.upper()) for name in ACTIONS[self.action].fields]
         return " ".join(["office/act", self.action, *map(shlex.quote, words), "--why", "'...'"])
 
-    def query(self, item: int) -> str:
+    def query(self, **others: Any) -> str:
         """Of the form's link."""
-        return urllib.parse.urlencode({**{name: value for name, value in self.values.items() if value is not None},
-                                       "item": item})
+        return urllib.parse.urlencode({**{name: it for name, it in self.values.items() if it is not None}, **others})
 
 
-def chosen(pair: Tuple[str, str], language: str) -> str:
-    return pair[0 if language == "de" else 1]
-
-
-def items_of(cursor: Cursor) -> List[Item]:
-    cursor.execute(MORNING)
-    return [Item(*row) for row in cursor]
-
+# ---- the words of items
 
 def key_of(kind: str, facts: Dict[str, Any]) -> str:
     """Under which the words of an item are."""
     detail = facts.get("grade") if kind == "no number" else facts.get("why")
-    return f"{kind}.{detail}" if f"{kind}.{detail}" in ITEMS else kind if kind in ITEMS else "changed"
+    return next(it for it in (f"item.{kind}.{detail}", f"item.{kind}", "item.changed") if it in texts())
 
 
-def title(kind: str, facts: Dict[str, Any], words: Words) -> str:
-    return chosen(ITEMS[key_of(kind, facts)][:2], words.language)
+def title(kind: str, facts: Dict[str, Any], words: Catalogue) -> str:
+    return words.word(key_of(kind, facts))
 
 
-def body(kind: str, facts: Dict[str, Any], words: Words) -> str:
+def body(kind: str, facts: Dict[str, Any], words: Catalogue) -> str:
     """Why it is an item."""
-    return chosen(ITEMS[key_of(kind, facts)][2:], words.language).format_map(values_of(facts, words)).strip()
+    return words.explained(key_of(kind, facts)).format_map(values_of(facts, words)).strip()
 
 
-def values_of(facts: Dict[str, Any], words: Words) -> Dict[str, str]:
+def brief(kind: str, facts: Dict[str, Any]) -> str:
+    """An item in a line, in English, for terminals and logs."""
+    words = Catalogue("en", "UTC")
+    where = f" (flat {facts['flat']})" if facts.get("flat") else ""
+    where = f" ({len(facts['houses'])} houses)" if "houses" in facts else where
+    return plain(f"{title(kind, facts, words)}{where}: {body(kind, facts, words)}", LONGEST)
+
+
+def values_of(facts: Dict[str, Any], words: Catalogue) -> Dict[str, str]:
     """The facts as the reader writes them."""
-    said = {key: plain(str(value), LONGEST) for key, value in facts.items() if value is not None}
-    for key in ("since", "heard"):
-        said[key] = words.moment(datetime.datetime.fromisoformat(facts[key])) if facts.get(key) else words.page(
-            "never_before")
-    if facts.get("day"):
-        said["day"] = words.day(datetime.date.fromisoformat(facts["day"]))
-    if facts.get("month"):
-        said["month"] = words.month(datetime.date.fromisoformat(facts["month"]))
-    if facts.get("use"):
-        said["use"] = words.use(facts["use"])
-    if re.fullmatch(r"\S+ \S+", str(facts.get("value"))):
-        said["value"] = words.reading(*facts["value"].split())
-    said["fault"] = words.page("fault", fault=said["fault"]) if "fault" in said else ""
-    if "status" in facts:
-        bits = [STATUS[bit] for bit in STATUS if facts["status"] & bit]
-        bits += [APPLICATION[facts["status"] & 3]] if facts["status"] & 3 else []
-        said["status"] = ", ".join(chosen(pair, words.language) for pair in bits) or f"{facts['status']:02X}h"
-    said["failed"] = chosen(FAILURES.get(facts.get("failed", ""), (said.get("failed", ""),) * 2), words.language)
-    said["change"] = changes(facts["change"], words) if "change" in facts else ""
-    return collections.defaultdict(str, said)
+    forms: Dict[str, Callable[[Any], str]] = {"since": lambda it: words.moment(datetime.datetime.fromisoformat(it)),
+        "heard": lambda it: words.moment(datetime.datetime.fromisoformat(it)),
+        "day": lambda it: words.day(datetime.date.fromisoformat(it)),
+        "month": lambda it: words.month(datetime.date.fromisoformat(it)), "use": words.use,
+        "value": lambda it: words.reading(*it.split()) if re.fullmatch(r"\S+ \S+", it) else plain(it, LONGEST),
+        "fault": lambda it: words.page("fault", fault=plain(it, LONGEST)), "status": lambda it: status_words(it, words),
+        "failed": lambda it: words.use(plain(it, LONGEST)), "change": lambda it: changes(it, words)}
+    said = {key: forms.get(key, lambda it: plain(it, LONGEST))(it) for key, it in facts.items() if it not in (None, "")}
+    never = words.page("never_before")
+    return collections.defaultdict(str, {"since": never, "heard": never, **said})
 
 
-def changes(change: Dict[str, Any], words: Words) -> str:
+def status_words(status: int, words: Catalogue) -> str:
+    bits = [bit for bit in (*STATUS_BITS, status & APPLICATION) if status & bit]
+    return ", ".join(words.word(f"status.{bit}") for bit in bits) or f"{status:02X}h"
+
+
+def changes(change: Dict[str, Any], words: Catalogue) -> str:
     """The numbers of a month or bill that would be others (months.differences), or why it can't be computed."""
     if "text" in change:
         return plain(change["text"], LONGEST)
@@ -186,7 +149,7 @@ def changes(change: Dict[str, Any], words: Words) -> str:
     return " ".join([*parts, words.page("more_changes", count=change["more"])] if change["more"] else parts)
 
 
-def amount_of(number: Optional[Tuple[Optional[int], str]], quantity: str, words: Words) -> str:
+def amount_of(number: Optional[Tuple[Optional[int], str]], quantity: str, words: Catalogue) -> str:
     """A number of smallest units with its grade, or that there is none."""
     if number is None or number[0] is None:
         return words.page("not")
@@ -194,96 +157,262 @@ def amount_of(number: Optional[Tuple[Optional[int], str]], quantity: str, words:
     return f"{words.amount(decimal.Decimal(number[0]) / smallest, unit)} {words.word(unit)} ({words.use(number[1])})"
 
 
-def brief(kind: str, facts: Dict[str, Any]) -> str:
-    """An item in a line, in English, for terminals and logs."""
-    words = Words("en", "UTC")
-    where = f" (flat {facts['flat']})" if facts.get("flat") else ""
-    where = f" ({len(facts['houses'])} houses)" if "houses" in facts else where
-    return f"{title(kind, facts, words)}{where}: {body(kind, facts, words)}"
+# ---- the readings behind items
 
-
-def readings_of(cursor: Cursor, items: Iterable[Item]) -> Dict[int, List[Reading]]:
+def readings_of(cursor: Cursor, items: List[Row]) -> Dict[int, List[Row]]:
     """The readings around what is wrong, of the items that are of readings."""
-    wanted: Dict[int, Item] = {item.id: item for item in items if item.ended_at is None and item.facts.get(
-        "fitting") and (item.kind in ("disturbed", "turn", "leap") or item.facts.get("grade") in ("held", "disturbed"))}
-    if not wanted:
-        return {}
-    rows = psycopg2.extras.execute_values(cursor, VALUES, [(item.id, item.facts["fitting"], *window_of(
-        item)) for item in wanted.values()], fetch=True, page_size=len(wanted))
-    found: Dict[int, List[Reading]] = {}
-    for number, *values in rows:
-        found.setdefault(number, []).append(Reading(*values))
-    return {number: around(readings, wanted[number]) for number, readings in found.items()}
+    wanted = {item.id: item for item in items if item.ended_at is None and item.facts.get("fitting") and (
+        item.kind in ("disturbed", "turn", "leap") or item.facts.get("grade") in ("held", "disturbed"))}
+    windows = [(item.id, item.facts["fitting"], *window_of(item.facts)) for item in wanted.values()]
+    found = psycopg2.extras.execute_values(cursor, VALUES, windows, fetch=True, page_size=len(wanted)) if wanted else []
+    return {item: around(of_item, wanted[item]) for item, of_item in grouped((it.item, it) for it in found).items()}
 
 
-def window_of(item: Item) -> Tuple[datetime.date, datetime.date]:
+def window_of(facts: Dict[str, Any]) -> Tuple[datetime.date, datetime.date]:
     """The days in which the item's readings are."""
-    if item.facts.get("day"):
-        day = datetime.date.fromisoformat(item.facts["day"])
-        return day - DAYS, day + DAYS
-    month = datetime.date.fromisoformat(item.facts["month"])
-    return month - DAYS, next_month(month) + DAYS
+    first = datetime.date.fromisoformat(facts.get("day") or facts["month"])
+    return first - DAYS, (first if facts.get("day") else next_month(first)) + DAYS
 
 
-def around(readings: List[Reading], item: Item) -> List[Reading]:
+def around(readings: List[Row], item: Row) -> List[Row]:
     """The readings before and after the greatest fall, or the greatest step; the one that doesn't fit is marked."""
     steps = [(other.amount - one.amount) for one, other in zip(readings, readings[1:])]
     if not steps:
         return readings
     falls = min(steps) < 0 and item.kind != "leap" and item.facts.get("grade") != "held"
     place = (steps.index(min(steps)) if falls else steps.index(max(steps))) + 1
-    marked = place
-    if falls:  # the first is false where the second one fits what is before it
-        marked = place - 1 if place >= 2 and readings[place - 2].amount <= readings[place].amount else place
+    # of a fall the first is false where the second one fits what is before it
+    is_first = falls and place >= 2 and readings[place - 2].amount <= readings[place].amount
     shown = [one._replace(used=None if number == 0 else one.value - readings[number - 1].value,
-                          is_marked=number == marked) for number, one in enumerate(readings)]
+                          is_marked=number == place - is_first) for number, one in enumerate(readings)]
     return shown[max(place - BEFORE, 0):place + AFTER]
 
 
-def offers_of(item: Item, readings: List[Reading]) -> List[Offer]:
-    """What can be done about an item, the first one first."""
-    facts = item.facts
-    meter = {"house": item.house, "meter": facts.get("identity")}
-    last = readings[-1] if readings else None
-    day = next((one for one in readings if one.is_marked), last)
-    value = Offer("put_value", {**meter, "day": day.day if day else facts.get("month") and month_end(facts["month"]),
-                                "unit": day.unit if day else None})
-    strike = [Offer("strike", {"value": day.id})] if day else []
-    exchange = Offer("exchange", {"house": item.house, "old": facts.get("identity")})
-    key = key_of(item.kind, facts)
-    found = {"box.never collected": [Offer("collect", {"box": facts.get("box")})], "box.not collected": [
-        Offer("collect", {"box": facts.get("box")})], "talks": [Offer("collect", {"box": facts.get("box")})],
-             "box.failed": [Offer("collect", {"box": facts.get("box")})], "silent": [exchange, value], "error": [
-        exchange, value], "power": [exchange], "disturbed": [
-        *strike, value, Offer("restart", {**meter, "unit": day.unit if day else None})],
-             "turn": [Offer("declare_counter", {**meter, "digits": facts.get("digits")}), *strike],
-             "too large": [exchange], "no use.type": [Offer("decide_use", {
-        **meter, "use": DEVICE_USES.get(str(facts.get("type")), "-")})], "no use.two energies": [Offer("decide_use", {
-        **meter, "use": "heat"})], "no use.no record": [Offer("decide_use", {**meter, "use": "-"})],
-             "no number.missing": [value], "no number.disturbed": [*strike, value],
-             "no number.unclear": [Offer("exchange", {"house": item.house, **pair(facts.get("meters"))})],
-             "no number.held": [Offer("see_number", {"place": facts.get("place"), "month": facts.get(
-        "month")}), *strike],
-             "no number.provisional": [value, Offer("see_number", {"place": facts.get("place"), "month": facts.get(
-        "month")})], "changed": [Offer("correct_month", {"house": item.house, "month": facts.get("month")}), Offer(
-        "leave_month", {"house": item.house, "month": facts.get("month")})], "not sent": [Offer("address", {
-        "house": item.house, "flat": item.flat}), Offer("send", {"month": facts.get("month")})],}.get(key, [])
-    found = [it for it in found if "houses" not in facts or it.action == "send"]  # what many houses have
+# ---- what can be done about items
+
+class About:
+    """An item, with the readings behind it, and what is known for forms."""
+
+    def __init__(self, item: Row, readings: List[Row]) -> None:
+        self.item, self.facts = item, item.facts
+        self.day = next((one for one in readings if one.is_marked), readings[-1] if readings else None)
+        self.month = {"house": item.house, "month": self.facts.get("month")}
+
+    def of_meter(self, action: str, **values: Any) -> Offer:
+        return Offer(action, {"house": self.item.house, "meter": self.facts.get("identity"), **values})
+
+    def collect(self) -> List[Offer]:
+        return [Offer("collect", {"box": self.facts.get("box")})]
+
+    def put(self) -> List[Offer]:
+        month = self.facts.get("month")
+        day = self.day.day if self.day else month and next_month(datetime.date.fromisoformat(month)) - DAY
+        return [self.of_meter("put_value", day=day, unit=self.day.unit if self.day else None)]
+
+    def strike(self) -> List[Offer]:
+        return [Offer("strike", {"value": self.day.id})] if self.day else []
+
+    def exchange(self) -> List[Offer]:
+        """Of the last two meters of a place, where they are known."""
+        meters = (self.facts.get("meters") or [])[-2:]
+        old, new = meters if len(meters) == 2 else (self.facts.get("identity"), None)
+        return [Offer("exchange", {"house": self.item.house, "old": old, "new": new})]
+
+    def see(self) -> List[Offer]:
+        return [Offer("see_number", {"place": self.facts.get("place"), "month": self.facts.get("month")})]
+
+    def decide(self, use: str = "-") -> List[Offer]:
+        return [self.of_meter("decide_use", use=use)]
+
+    def turn(self) -> List[Offer]:
+        return [self.of_meter("declare_counter", digits=self.facts.get("digits"))]
+
+    def restart(self) -> List[Offer]:
+        return [self.of_meter("restart", unit=self.day.unit if self.day else None)]
+
+
+# By the key of an item, the first one first
+OFFERS: Dict[str, Callable[[About], List[Offer]]] = {
+    **dict.fromkeys(("box.never collected", "box.not collected", "box.failed", "talks"), About.collect),
+    **dict.fromkeys(("silent", "error"), lambda it: it.exchange() + it.put()),
+    **dict.fromkeys(("power", "too large", "no number.unclear"), About.exchange),
+    "disturbed": lambda it: it.strike() + it.put() + it.restart(), "turn": lambda it: it.turn() + it.strike(),
+    "no use.type": lambda it: it.decide(DEVICE_USES.get(str(it.facts.get("type")), "-")),
+    "no use.two energies": lambda it: it.decide("heat"), "no use.no record": About.decide,
+    "no number.missing": About.put, "no number.disturbed": lambda it: it.strike() + it.put(),
+    "no number.held": lambda it: it.see() + it.strike(), "no number.provisional": lambda it: it.put() + it.see(),
+    "changed": lambda it: [Offer("correct_month", it.month), Offer("leave_month", it.month)],
+    "not sent": lambda it: [Offer("address", {"house": it.item.house, "flat": it.item.flat}),
+                            Offer("send", {"month": it.facts.get("month")})]}
+
+
+def offers_of(item: Row, readings: List[Row]) -> List[Offer]:
+    """What can be done about an item."""
+    offers = OFFERS.get(key_of(item.kind, item.facts).removeprefix("item."))
+    found = offers(About(item, readings)) if offers else []
+    found = [it for it in found if "houses" not in item.facts or it.action == "send"]  # what many houses have
     return [*found, Offer("hand_back" if item.known_by else "take_over", {"item": item.id})]
 
 
-def month_end(month: str) -> datetime.date:
-    return next_month(datetime.date.fromisoformat(month)) - datetime.timedelta(days=1)
+# ---- the page
+
+class Viewer(NamedTuple):
+    """Who looks at a page: none where it is a file."""
+    person: str
+    role: str
+    root: str  # the path of the pages
+
+    def may(self, action: str) -> bool:
+        return self.role == "publisher" or self.role == ACTIONS[action].role == "clerk"
 
 
-def pair(meters: Any) -> Dict[str, str]:
-    """The last two meters of a place."""
-    return {"old": meters[-2], "new": meters[-1]} if isinstance(meters, list) and len(meters) > 1 else {}
+# An item as it is shown.
+Card = NamedTuple("Card", [("item", Row), ("title", str), ("body", str), ("readings", List[Row]),
+    ("offers", List[Offer]), ("words", Catalogue)])
 
 
-def act(cursor: Cursor, name: str, values: Dict[str, str], why: str) -> None:
-    """Does what a person wants: one function of the database, which checks the role and writes the log."""
-    fields = ACTIONS[name].fields
-    placed = ", ".join(f"{field} => %s::{kind}" for field, kind in [*fields.items(), ("why", "text")])
-    cursor.execute(f"SELECT desk.{name}({placed})",
-                   [*((values.get(field) or "").strip() or None for field in fields), why.strip()])
+Morning = NamedTuple("Morning", [("counts", Optional[Row]), ("sections", List[Tuple[str, List[Card]]]), ("houses", int),
+    ("is_releasing", bool)])
+
+
+def words_for(cursor: Cursor, language: str) -> Catalogue:
+    return Catalogue(language, value_of(cursor, ZONE))
+
+
+def section_of(item: Row) -> str:
+    if item.ended_at is not None or item.done_at is not None:
+        return "done" if item.ended_at is None else "ended"
+    return "known" if item.known_by is not None else "holds" if item.waits else "new" if item.is_new else "open"
+
+
+def morning_of(cursor: Cursor, words: Catalogue) -> Morning:
+    """What is to be done, in the order in which it is looked at."""
+    items = rows_of(cursor, MORNING)
+    readings = readings_of(cursor, items)
+    cards: Dict[str, List[Card]] = {section: [] for section in SECTIONS}
+    for item in items:
+        own, shown = Catalogue(words.language, item.zone or words.zone), readings.get(item.id, [])
+        cards[section_of(item)].append(Card(item, title(item.kind, item.facts, own), body(item.kind, item.facts, own),
+                                            shown, offers_of(item, shown), own))
+    houses = {house for item in items if item.ended_at is None for house in houses_of(item)}
+    return Morning(row_of(cursor, COUNTS), [(name, of_section) for name, of_section in cards.items() if of_section],
+                   len(houses), value_of(cursor, RELEASING))
+
+
+def houses_of(item: Row) -> List[str]:
+    return [item.house] if item.house else list(item.facts.get("houses", []))
+
+
+def page(name: str, words: Catalogue, viewer: Optional[Viewer], **values: Any) -> str:
+    return html_of(name, words, ("desk.css",), viewer=viewer, **values)
+
+
+def morning_page(morning: Morning, words: Catalogue, viewer: Optional[Viewer], said: str = "") -> str:
+    return page("desk_morning.html", words, viewer, morning=morning, said=said, here="today")
+
+
+def mail_text(morning: Morning, words: Catalogue) -> str:
+    """The items in lines."""
+    lines = []
+    for name, cards in morning.sections:
+        lines += [f"{words.page(f'section_{name}')} ({len(cards)})"]
+        for card in cards:
+            where = " ".join(filter(None, (card.item.house, card.item.flat)))
+            lines += [plain(f"- {where}: {card.title}. {card.body}", LONGEST)]
+            if "houses" in card.item.facts:
+                lines += [f"  {words.page('houses')}: {', '.join(houses_of(card.item))}"]
+        lines += [""]
+    return "\n".join(lines) or words.page("nothing")
+
+
+# ---- lines of a CSV
+
+GERMAN_DAY = re.compile(r"(\d{1,2})\.(\d{1,2})\.(\d{4})")
+DONE = "SELECT id, subject, before, after FROM log WHERE id > %s ORDER BY id LIMIT 1"
+FALLBACK = "windows-1252"  # of spreadsheets that don't write UTF-8
+
+
+class Line(NamedTuple):
+    """A line of the file: what it does, or why it can't be."""
+    number: int
+    action: str = ""
+    subject: str = ""
+    before: str = ""
+    after: str = ""
+    fault: str = ""
+
+
+def decoded(content: bytes) -> str:
+    try:
+        return content.decode("utf-8-sig")
+    except UnicodeDecodeError:
+        return content.decode(FALLBACK, "replace")
+
+
+def imported(cursor: Cursor, text: str, why: str) -> List[Line]:
+    """Does each line of the text; those with a fault aren't done.
+    Whoever calls it commits only where no line has one."""
+    head = text.partition("\n")[0]
+    separator = ";" if head.count(";") > head.count(",") else ","
+    last, lines, rows = value_of(cursor, "SELECT coalesce(max(id), 0) FROM log"), [], csv.reader(
+        io.StringIO(text), delimiter=separator)
+    try:
+        for row in rows:
+            if not any(map(str.strip, row)) or row[0].startswith("#"):
+                continue
+            cursor.execute("SAVEPOINT line")
+            try:
+                action = done(cursor, row, why, separator)
+            except (ValueError, psycopg2.Error) as fault:
+                cursor.execute("ROLLBACK TO SAVEPOINT line")
+                lines.append(Line(rows.line_num, fault=fault_of(fault)))
+                continue
+            last, subject, before, after = row_of(cursor, DONE, last) or (last, "", None, None)
+            lines.append(Line(rows.line_num, action, subject, *said(before, after)))
+    except csv.Error as fault:
+        lines.append(Line(rows.line_num, fault=str(fault)))
+    return lines
+
+
+def done(cursor: Cursor, row: List[str], why: str, separator: str) -> str:
+    """Does a line; the function that did it. Raises ValueError and psycopg2.Error."""
+    action = LINES.get(row[0].strip().lower())
+    if action is None:
+        raise ValueError(f"no line begins with {row[0]!r}")
+    fields = ACTIONS[action].fields
+    *values, reason = [*(it.strip() for it in row[1:]), *([""] if len(row) == len(fields) + 1 else [])] or [""]
+    if len(values) != len(fields):
+        raise ValueError(f"{len(fields)} words after {row[0]!r}, and perhaps a reason: {', '.join(fields)}")
+    given = {name: normal(value, kind, separator) for (name, kind), value in zip(fields.items(), values)}
+    act(cursor, action, given, reason or why)
+    return action
+
+
+def normal(value: str, kind: str, separator: str) -> str:
+    """A day and a number as the database reads them; German ones are taken, too."""
+    found = GERMAN_DAY.fullmatch(value)
+    if kind == "date" and found:
+        return str(datetime.date(int(found[3]), int(found[2]), int(found[1])))
+    if kind == "numeric" and separator == ";":
+        return value.replace(".", "").replace(",", ".") if "," in value else value
+    return value
+
+
+def fault_of(fault: Exception) -> str:
+    """The first line of what the database says, without where."""
+    primary: Optional[str] = getattr(getattr(fault, "diag", None), "message_primary", None)
+    return plain(primary or str(fault), LONGEST)
+
+
+def said(before: Any, after: Any) -> List[str]:
+    """What differs, in words."""
+    if isinstance(before, dict) and isinstance(after, dict):
+        keys = [key for key in after if before.get(key) != after[key]]
+        before, after = {key: before.get(key) for key in keys}, {key: after[key] for key in keys}
+    return [in_words(before), in_words(after)]
+
+
+def in_words(value: Any) -> str:
+    if isinstance(value, dict):
+        return ", ".join(f"{key}: {it}" for key, it in value.items() if it not in (None, ""))
+    return "" if value is None else str(value)

@@ -2,8 +2,8 @@
 
     gunicorn --bind unix:/run/mbdc-desk/socket --preload 'desk_web:application()'
 
-The web server names who is there (X-Remote-User) and where the pages are (X-Script-Name). The connection's role is a member of
-`desk`; each request becomes the role of its person. Nothing is written but by the functions of the schema `desk`.
+The web server names who is there (X-Remote-User) and where the pages are (X-Script-Name). The connection's role is a
+member of `desk`; each request becomes the role of its person. Only the functions of the schema `desk` write.
 """
 
 import contextlib
@@ -14,7 +14,7 @@ import os
 import secrets
 import sys
 import urllib.parse
-from typing import Any, Dict, Iterator, List, NamedTuple, Optional, Tuple
+from typing import Any, Dict, Iterable, Iterator, List, NamedTuple, Optional, Tuple
 
 sys.dont_write_bytecode = True
 import flask
@@ -22,11 +22,196 @@ import psycopg2
 import psycopg2.errors
 from werkzeug.exceptions import HTTPException, RequestEntityTooLarge
 
-from database import Cursor, Database
-from desk_items import ACTIONS, LINES, Words, act, title
-from desk_lists import Asked, house_list, houses_list, log_list, meter_list, months_list
-from desk_pages import Viewer, fields_of, morning_of, morning_page, page, words_for
-from importing import decoded, fault_of, imported
+from catalogue import Catalogue
+from database import Cursor, Database, Row as DatabaseRow, column_of, grouped, row_of, rows_of
+from desk_items import (ACTIONS, LINES, Offer, Viewer, act, decoded, fault_of, imported, in_words, morning_of,
+                        morning_page, page, title, words_for)
+from sheet_data import natural
+
+MOST, FARTHEST = 500, 10**9  # rows of a page, and before it
+READER = "reader"  # a role that sees no names
+HOUSES = """
+SELECT h.house, h.address, (SELECT count(*) FROM flats f WHERE f.house = h.house) AS flats,
+       (SELECT count(*) FROM alarms a
+        WHERE (a.house = h.house OR a.facts -> 'houses' ? h.house) AND a.ended_at IS NULL) AS items
+FROM houses h WHERE concat_ws(' ', h.house, h.address, h.postcode) ILIKE %(like)s
+   OR EXISTS (SELECT FROM fittings f WHERE f.house = h.house AND f.identity ILIKE %(like)s)
+   OR EXISTS (SELECT FROM flats f WHERE f.house = h.house AND h.house || ' ' || f.flat ILIKE %(like)s) {names}
+ORDER BY h.house LIMIT %(most)s OFFSET %(skipped)s"""
+NAMES = "OR EXISTS (SELECT FROM tenancies t WHERE t.house = h.house AND t.person ILIKE %(like)s)"
+HOUSE = "SELECT house, address, postcode, zone, category, contact, advice, complaints FROM houses WHERE house = %s"
+BOXES = "SELECT name, collected_at, coalesce(fault, '') AS fault FROM boxes WHERE house = %s AND active ORDER BY name"
+FLATS = "SELECT flat, area_m2 FROM flats WHERE house = %s"
+USERS = """
+SELECT house, flat, person, lower(days) AS since, upper(days) - 1 AS until, language, wants, coalesce(mail, '') AS mail
+FROM tenancies WHERE house = %s AND coalesce(upper(days) > current_date - 400, true) ORDER BY flat, days"""
+METERS = """
+SELECT f.identity, p.flat, p.use, d.at, d.value::text, d.unit FROM fittings f JOIN places p ON p.id = f.place
+LEFT JOIN LATERAL (SELECT * FROM day_values k WHERE k.fitting = f.id AND k.struck_at IS NULL
+                   ORDER BY k.day DESC LIMIT 1) d ON true
+WHERE f.house = %s AND upper_inf(f.during) ORDER BY p.flat, p.use, f.identity"""
+READINGS = """
+SELECT d.id, d.at, d.value::text, d.unit, d.source, d.struck_why, d.struck_by FROM day_values d
+JOIN fittings f ON f.id = d.fitting WHERE (f.house, f.identity) = (%(house)s, %(meter)s)
+ORDER BY d.day DESC, d.struck_at DESC NULLS FIRST, d.id LIMIT %(most)s OFFSET %(skipped)s"""
+MONTHS = """
+SELECT v.month, v.version, count(*) AS houses, count(v.out_at) AS out, max(v.out_at) AS at FROM versions v
+GROUP BY v.month, v.version ORDER BY v.month DESC, v.version DESC LIMIT %(most)s OFFSET %(skipped)s"""
+SENDING = """
+SELECT s.month, s.version, count(DISTINCT s.tenancy) FILTER (WHERE s.sent_at IS NOT NULL) AS sent,
+       count(DISTINCT s.tenancy) FILTER (WHERE s.failed_at IS NOT NULL) AS failed
+FROM sheets s WHERE s.out_at IS NOT NULL GROUP BY s.month, s.version"""
+JOBS = ("SELECT what, words, asked_at, asked_by, ended_at, status, coalesce(says, '') AS says FROM jobs"
+        " ORDER BY id DESC LIMIT 20")
+LOG = """
+SELECT at, who, what, house, subject, why{details} FROM log
+WHERE concat_ws(' ', who, what, house, subject, why) ILIKE %(like)s
+ORDER BY id DESC LIMIT %(most)s OFFSET %(skipped)s"""
+
+
+class Cell(NamedTuple):
+    text: str
+    path: Optional[str] = None
+
+
+class Row(NamedTuple):
+    cells: List[Cell]
+    is_marked: bool = False
+
+
+Table = NamedTuple("Table", [("caption", str), ("heads", List[str]), ("rows", List[Row])])
+
+
+def path_of(*parts: str) -> str:
+    return "/".join(urllib.parse.quote(part, safe="") for part in parts)
+
+
+def form_path(action: str, **values: Any) -> str:
+    return f"do/{action}?{Offer(action, values).query()}"
+
+
+def cells(*values: object) -> List[Cell]:
+    return [it if isinstance(it, Cell) else Cell("" if it is None else str(it)) for it in values]
+
+
+class Lists(NamedTuple):
+    """The lists as pages for a viewer: what is looked for, and from which row on."""
+    cursor: Cursor
+    words: Catalogue
+    viewer: Viewer
+    query: str
+    first: int
+
+    def found(self, query: str, **others: str) -> List[DatabaseRow]:
+        """The rows of a page, and one more where there is a next one."""
+        safe = self.query.replace("\0", "").replace("\\", "\\\\").replace("%", "\\%").replace("_", "\\_")
+        skipped = min(max(self.first, 0), FARTHEST)
+        return rows_of(self.cursor, query, like=f"%{safe}%", most=MOST + 1, skipped=skipped, **others)
+
+    def shown(self, here: str, heading: str, tables: List[Table], is_searched: bool = False,
+              links: Iterable[Tuple[str, str]] = ()) -> str:
+        """A page of tables, with a link to the next one where a table has more rows."""
+        has_next = any(len(it.rows) > MOST for it in tables)
+        after = urllib.parse.urlencode({"q": self.query, "from": self.first + MOST}) if has_next else ""
+        return page("desk_list.html", self.words, self.viewer, here=here, heading=heading, tables=tables, most=MOST,
+                    after=after, query=self.query if is_searched else None, links=list(links))
+
+    def heads(self, names: str) -> List[str]:
+        return [self.words.page(name) for name in names.split()]
+
+    def links(self, names: str, **values: Any) -> List[Tuple[str, str]]:
+        """The forms that the viewer may use."""
+        may = filter(self.viewer.may, names.split())
+        return [(f"{self.words.action(name)} …", form_path(name, **values)) for name in may]
+
+    def moment(self, at: Any, otherwise: str = "–") -> str:
+        return self.words.moment(at) if at else otherwise
+
+    def houses(self) -> str:
+        rows = [Row(cells(Cell(it.house, path_of("houses", it.house)), it.address, it.flats, it.items or "–"))
+                for it in self.found(HOUSES.format(names="" if self.viewer.role == READER else NAMES))]
+        links = [(self.words.action("house"), "do/house")] if self.viewer.may("house") else []
+        found = self.words.page("found", count=f"{self.first + len(rows[:MOST])}{'+' * (len(rows) > MOST)}")
+        table = Table(found, self.heads("house address flats items"), rows)
+        return self.shown("houses", self.words.page("houses"), [table], True, links)
+
+    def house(self, house: str) -> str:
+        """A house: boxes, flats with their users, meters. Raises LookupError."""
+        row = row_of(self.cursor, HOUSE, house)
+        if row is None:
+            raise LookupError(house)
+        own = self._replace(words=self.words._replace(zone=row.zone))
+        tables = [of(house) for of in (own.boxes, own.flats, own.meters)]
+        tables = [it._replace(rows=it.rows[self.first:]) for it in tables]
+        links = [*own.links("house", **row._asdict()),
+                 *own.links("flat tenant address returned meter exchange put_value", house=house)]
+        return own.shown("houses", f"{house}, {row.address}", tables, False, links)
+
+    def boxes(self, house: str) -> Table:
+        never = self.words.word("never")
+        return Table(self.words.word("box"), self.heads("box collected") + [self.words.word("fault")],
+                     [Row(cells(it.name, self.moment(it.collected_at, never), it.fault))
+                      for it in rows_of(self.cursor, BOXES, house)])
+
+    def flats(self, house: str) -> Table:
+        """With the users, where the role may see them."""
+        seen = rows_of(self.cursor, USERS, house) if self.viewer.role != READER else []
+        users = grouped((it.flat, it) for it in seen)
+        rows = []
+        for flat, area in sorted(rows_of(self.cursor, FLATS, house), key=lambda it: natural(it.flat)):
+            edit = Cell(flat, form_path("flat", house=house, flat=flat, area=area) if self.viewer.may("flat") else None)
+            rows += [Row(cells(edit, area, *self.user_cells(user))) for user in users.get(flat, [])]
+            rows += [Row(cells(edit, area, "–", "", ""))] if flat not in users else []
+        return Table(self.words.word("flats"), [*self.heads("flat area user period"), self.words.field("wants")], rows)
+
+    def user_cells(self, it: DatabaseRow) -> List[Cell]:
+        period = f"{self.words.day(it.since)} – {self.words.day(it.until) if it.until else ''}"
+        wanted = self.words.page(WANTED[it.wants])
+        return cells(Cell(it.person, form_path("tenant", **it._asdict())), period, f"{wanted} {it.mail}".strip())
+
+    def meters(self, house: str) -> Table:
+        rows = [Row(cells(Cell(it.identity, path_of("houses", house, it.identity)), it.flat, self.words.use(it.use),
+                          self.words.reading(it.value, it.unit) if it.value else "–", self.moment(it.at)))
+                for it in rows_of(self.cursor, METERS, house)]
+        return Table(self.words.word("meters"), self.heads("meter flat use last_value moment"), rows)
+
+    def meter(self, house: str, meter: str) -> str:
+        """The readings of a meter, each with a link to strike it. Raises LookupError."""
+        rows = []
+        for it in self.found(READINGS, house=house, meter=meter):
+            strike = Cell(self.words.action("strike"), form_path("strike", value=it.id))
+            last = (self.words.page("struck", why=it.struck_why, person=it.struck_by) if it.struck_why
+                    else strike if self.viewer.may("strike") else "")
+            value, source = self.words.reading(it.value, it.unit), self.words.word(it.source)
+            rows.append(Row(cells(self.words.moment(it.at), value, source, last), bool(it.struck_why)))
+        links = self.links("put_value exchange restart declare_counter decide_use", house=house, meter=meter, old=meter)
+        return self.shown("houses", f"{house}, {meter}", [
+            Table(self.words.page("values"), [*self.heads("day reading source"), ""], rows)], False, links)
+
+    def months(self) -> str:
+        sent = {it[:2]: it[2:] for it in rows_of(self.cursor, SENDING)} if self.viewer.role != READER else {}
+        rows = [Row(cells(self.words.month(it.month), it.version, f"{it.out} / {it.houses}",
+                          self.moment(it.at, self.words.page("open")), *sent.get(it[:2], ("–", "–"))))
+                for it in self.found(MONTHS)]
+        running = self.words.page("running")
+        jobs = [Row(cells(it.what, it.words, self.words.moment(it.asked_at), it.asked_by,
+                          running if it.ended_at is None else f"{it.status} {it.says}".strip()), bool(it.status))
+                for it in rows_of(self.cursor, JOBS)]
+        asked, who, result = self.heads("asked who result")
+        return self.shown("months", self.words.page("months"), [
+            Table(self.words.page("sheets_of"), self.heads("month version houses out_at sent failed"), rows),
+            Table(self.words.page("jobs"), [self.words.page("job"), "", asked, who, result], jobs)])
+
+    def log(self) -> str:
+        details = "" if self.viewer.role == READER else ", before, after"
+        rows = [Row(cells(self.words.moment(it.at), it.who, self.words.action(it.what),
+                          Cell(it.house or "", path_of("houses", it.house) if it.house else None), it.subject, it.why,
+                          *map(in_words, it[6:]))) for it in self.found(LOG.format(details=details))]
+        heads = self.heads("moment who what house subject reason" + details.replace(",", ""))
+        return self.shown("log", self.words.page("log"), [Table("", heads, rows)], True)
+
+
+# ---- the application
 
 SECRET = secrets.token_bytes(32)  # of the forms; the processes share it (--preload), and a new start makes another
 FORM_SECONDS = 12 * 3600
@@ -37,9 +222,19 @@ POLICY = ("default-src 'none'; style-src 'unsafe-inline'; form-action 'self'; fr
 HEADERS = {"Content-Security-Policy": POLICY, "Referrer-Policy": "same-origin", "X-Content-Type-Options": "nosniff",
            "Cache-Control": "no-store", "X-Frame-Options": "DENY"}
 USES = "SELECT use FROM uses ORDER BY position"
-LISTS = {"/houses": houses_list, "/houses/<house>": house_list, "/houses/<house>/<meter>": meter_list, "/months": months_list, "/log": log_list}
+LISTS = {"/houses": Lists.houses, "/houses/<house>": Lists.house, "/houses/<house>/<meter>": Lists.meter,
+         "/months": Lists.months, "/log": Lists.log}
 ITEM = "SELECT house, kind, facts FROM morning WHERE id = %s"
-VALUE = "SELECT f.identity, d.at, d.value::text, d.unit FROM day_values d JOIN fittings f ON f.id = d.fitting WHERE d.id = %s"
+VALUE = """
+SELECT f.identity, d.at, d.value::text, d.unit FROM day_values d JOIN fittings f ON f.id = d.fitting WHERE d.id = %s"""
+UNITS = ("Wh", "MWh", "J", "GJ", "m3", "HCA")
+WANTED = {"paper": "post", "link": "link", "nothing": "none_wanted"}
+# How a field is asked for: the type of an input, or what may be chosen
+INPUTS = {"date": "date", "timestamp": "datetime-local", "bigint": "hidden"}
+CHOICES = {"unit": dict.fromkeys(UNITS, ""), "language": {"de": "", "en": ""}, "wants": WANTED}  # with their words
+OPTIONAL = ("vib", "postcode", "zone", "category", "contact", "advice", "complaints", "area", "until", "language",
+            "wants", "mail", "last", "first")
+WIDE = ("address", "contact", "advice", "complaints", "person")
 
 
 class Refused(Exception):
@@ -50,11 +245,8 @@ class Refused(Exception):
         self.status, self.key = status, key
 
 
-class Desk(NamedTuple):
-    """A request: the transaction in which it runs, who it is of, and the words."""
-    cursor: Cursor
-    viewer: Viewer
-    words: Words
+# A request: the transaction in which it runs, who it is of, and the words.
+Desk = NamedTuple("Desk", [("cursor", Cursor), ("viewer", Viewer), ("words", Catalogue)])
 
 
 def token_of(person: str) -> str:
@@ -68,9 +260,7 @@ def signed(person: str, said: str) -> str:
 
 
 def check_form(person: str) -> str:
-    """The token of a form of this page, sent from this page.
-
-    Raises Refused."""
+    """The token of a form of this page, sent from this page. Raises Refused."""
     request = flask.request
     site = request.headers.get("Sec-Fetch-Site")
     origin = request.headers.get("Origin")
@@ -92,26 +282,22 @@ def language_of(known: str) -> str:
 
 @contextlib.contextmanager
 def desk(database: Database) -> Iterator[Desk]:
-    """The transaction of a request, as the person's role.
-
-    Raises Refused where the person isn't known."""
+    """The transaction of a request, as the person's role. Raises Refused where the person isn't known."""
     person = flask.request.headers.get("X-Remote-User", "")
     with database.transaction() as cursor:
-        cursor.execute("SELECT role, language FROM people WHERE person = %s", (person,))
-        row = cursor.fetchone()
+        row = row_of(cursor, "SELECT role, language FROM people WHERE person = %s", person)
         if row is None:
             raise Refused(403, "nobody")
-        cursor.execute(ROLES[row[0]])
+        cursor.execute(ROLES[row.role])
+        item = flask.request.form.get("item", "")
         cursor.execute("SELECT set_config('office.person', %s, true), set_config('office.item', %s, true)",
-                       (person, flask.request.form.get("item", "") if flask.request.form.get("item", "").isdecimal() else ""))
-        words = words_for(cursor, language_of(row[1]))
-        yield Desk(cursor, Viewer(person, row[0], flask.request.script_root), words)
+                       (person, item if item.isdecimal() else ""))
+        viewer = Viewer(person, row.role, flask.request.script_root)
+        yield Desk(cursor, viewer, words_for(cursor, language_of(row.language)))
 
 
 def use_form(cursor: Cursor, person: str) -> None:
-    """Takes a form, once.
-
-    Raises Refused."""
+    """Takes a form, once. Raises Refused."""
     token = check_form(person)
     try:
         cursor.execute("SELECT desk.use_form(%s)", (token,))
@@ -126,45 +312,57 @@ def morning(database: Database) -> str:
         return morning_page(morning_of(it.cursor, it.words), it.words, it.viewer, said)
 
 
+# A field of a form: `kind` is that of an input, or `choice`.
+Field = NamedTuple("Field", [("name", str), ("label", str), ("kind", str), ("value", str),
+    ("choices", List[Tuple[str, str]]), ("is_needed", bool), ("is_wide", bool)])
+
+
+def fields_of(it: Desk, action: str, values: Dict[str, str]) -> Iterator[Field]:
+    """The fields of a form, filled with what is known."""
+    for name, kind in ACTIONS[action].fields.items():
+        choices = [(one, it.words.page(of) if of else one) for one, of in CHOICES.get(name, {}).items()]
+        if name == "use":
+            uses = column_of(it.cursor, USES)
+            choices = [*((use, it.words.use(use)) for use in uses), ("-", it.words.page("no_use"))]
+        yield Field(name, it.words.field(name), "choice" if choices else INPUTS.get(kind, "text"), values.get(name, ""),
+                    choices, name not in OPTIONAL, name in WIDE)
+
+
 def form(database: Database, action: str) -> Any:
     """A form, and what it does."""
     if action not in ACTIONS:
         raise Refused(404, "not_found")
-    is_sent = flask.request.method == "POST"
-    given = {name: value.replace("\0", "") for name, value in (flask.request.form if is_sent else flask.request.args).items()}
-    fault = ""
-    if is_sent:
+    request, fault = flask.request, ""
+    sent = request.form if request.method == "POST" else request.args
+    given = {name: value.replace("\0", "") for name, value in sent.items()}
+    if request.method == "POST":
         try:
             with desk(database) as it:
                 use_form(it.cursor, it.viewer.person)
                 act(it.cursor, action, given, given.get("why", ""))
-            return flask.redirect(f"{flask.request.script_root}/?done={action}#main", 303)
+            return flask.redirect(f"{request.script_root}/?done={action}#main", 303)
         except psycopg2.errors.InsufficientPrivilege:
             raise Refused(403, "no_right") from None
-        except (psycopg2.DataError, psycopg2.IntegrityError, psycopg2.errors.NoDataFound, psycopg2.errors.RaiseException) as error:
+        except (psycopg2.DataError, psycopg2.IntegrityError, psycopg2.errors.NoDataFound,
+                psycopg2.errors.RaiseException) as error:
             fault = fault_of(error)
     with desk(database) as it:
         if not it.viewer.may(action):
             raise Refused(403, "no_right")
-        it.cursor.execute(USES)
-        uses = [row[0] for row in it.cursor]
         about = about_of(it, given.get("item", "")[:18], given.get("value", "") if action == "strike" else "")
-        text = page("desk_form.html", it.words, it.viewer, here="", action=action, about=about, fault=fault, token=token_of(it.viewer.person),
-                    fields=fields_of(action, given, uses, it.words), item=given.get("item", ""), why=given.get("why", ""))
+        text = page("desk_form.html", it.words, it.viewer, here="", action=action, about=about, fault=fault,
+                    token=token_of(it.viewer.person), fields=list(fields_of(it, action, given)),
+                    item=given.get("item", ""), why=given.get("why", ""))
     return text, 422 if fault else 200
 
 
 def about_of(it: Desk, item: str, value: str) -> str:
     """The item that a form is of, and the reading."""
     parts: List[str] = []
-    if item.isdecimal():
-        it.cursor.execute(ITEM, (item,))
-        for house, kind, facts in it.cursor:
-            parts += [house or "", facts.get("flat") or "", title(kind, facts, it.words)]
-    if value.isdecimal():
-        it.cursor.execute(VALUE, (value,))
-        for identity, at, shown, unit in it.cursor:
-            parts += [identity, it.words.moment(at), it.words.reading(shown, unit)]
+    for one in rows_of(it.cursor, ITEM, item) if item.isdecimal() else ():
+        parts += [one.house or "", one.facts.get("flat") or "", title(one.kind, one.facts, it.words)]
+    for one in rows_of(it.cursor, VALUE, value) if value.isdecimal() else ():
+        parts += [one.identity, it.words.moment(one.at), it.words.reading(one.value, one.unit)]
     return " · ".join(filter(None, parts))
 
 
@@ -187,27 +385,20 @@ def csv_import(database: Database) -> "str | Tuple[str, int]":
                 it.cursor.connection.rollback()
             fault = it.words.page("import_faults", count=faults) if faults else ""
             said = it.words.page("applied", count=len(lines)) if is_applied else ""
-        html = page("desk_import.html", it.words, it.viewer, here="import", said=said, fault=fault, lines=lines, text="" if is_applied else text,
-                    is_right=bool(lines) and not fault and not is_applied, token=token_of(it.viewer.person),
+        html = page("desk_import.html", it.words, it.viewer, here="import", said=said, fault=fault, lines=lines,
+                    text="" if is_applied else text, is_right=bool(lines) and not fault and not is_applied,
+                    token=token_of(it.viewer.person),
                     forms=[(name, list(ACTIONS[action].fields)) for name, action in LINES.items()])
     return html, 422 if fault else 200
 
 
-def refusal(status: int, key: str) -> Tuple[str, int]:
-    words = Words(language_of("de"), "UTC")
+def refusal(fault: Any) -> Tuple[str, int]:
+    """The page that says why a request isn't done."""
+    is_large = isinstance(fault, HTTPException) and fault.code == 413
+    status = 404 if isinstance(fault, LookupError) else getattr(fault, "status", None) or fault.code or 500
+    key = fault.key if isinstance(fault, Refused) else "too_large" if is_large else "not_found"
+    words = Catalogue(language_of("de"), "UTC")
     return page("desk_form_refused.html", words, None, text=words.page(key)), status
-
-
-def refused(fault: Refused) -> Tuple[str, int]:
-    return refusal(fault.status, fault.key)
-
-
-def missing(_: LookupError) -> Tuple[str, int]:
-    return refusal(404, "not_found")
-
-
-def wrong(fault: Any) -> Tuple[str, int]:
-    return refusal(fault.code or 500, "too_large" if fault.code == 413 else "not_found")
 
 
 def sized() -> None:
@@ -240,8 +431,8 @@ def listed(database: Database, function: Any) -> Any:
     """A list as an answer."""
     def shown(**words: str) -> str:
         with desk(database) as it:
-            asked = Asked(flask.request.args.get("q", ""), flask.request.args.get("from", 0, int))
-            return str(function(it.cursor, it.words, it.viewer, asked, **words))
+            asked = flask.request.args.get("q", ""), flask.request.args.get("from", 0, int)
+            return str(function(Lists(it.cursor, it.words, it.viewer, *asked), **words))
     return shown
 
 
@@ -257,7 +448,7 @@ def application(name: Optional[str] = None) -> Any:
         app.add_url_rule(rule, function.__name__, listed(database, function))
     app.before_request(sized)
     app.after_request(headed)
-    for kind, handler in ((Refused, refused), (LookupError, missing), (HTTPException, wrong)):
-        app.register_error_handler(kind, handler)
+    for kind in (Refused, LookupError, HTTPException):
+        app.register_error_handler(kind, refusal)
     app.wsgi_app = Mounted(app.wsgi_app)  # type: ignore[assignment,method-assign]
     return app

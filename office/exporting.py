@@ -1,4 +1,4 @@
-"""Writes audit files (docs/OFFICE.md): telegrams of a house and its months, what people declared, `?` for each number.
+"""Audit files (docs/OFFICE.md): telegrams of a house and its months, what people declared, and `?` for each number.
 
 `mbdc audit` fills them in, and judges them: those are published.
 
@@ -7,23 +7,319 @@ computed with.
 """
 
 import datetime
+import decimal
 import zoneinfo
-from typing import Any, Callable, Dict, Iterable, List, NamedTuple, Optional, Sequence, Set, Tuple
+from typing import Any, Callable, Dict, Iterable, Iterator, List, NamedTuple, Optional, Sequence, Set, Tuple
 
-from database import Cursor, plain
-from drafts import AUDIT_UNITS, Asked, Published, Reader, Spans, of_house, of_sheet, printed_reading
-from house_data import House, house_of
-from periods import begin_of, later_month, next_month
-from sheet_data import Averages, Sheet, declared_average, sheets_of
-from sheet_facts import facts_of
-from supply import (BY_HAND, DUE_DATE, ENDED, ESTIMATED, FITTED, REMOVED, RESTARTED, RUNS, Entry, Place, Run,
-                    plain_number, seconds)
+from catalogue import DECIMALS, printed_reading
+from database import Cursor, grouped, plain, rows_of, value_of
+from periods import DAY, begin_of, later_month, next_month
+from program import KEY, File, Key, Published
+from sheet_data import Averages, House, Number, Sheet, Use, declared_average, facts_of, house_of, sheets_of
+from supply import (BY_HAND, DUE_DATE, ENDED, ESTIMATED, FITTED, READ, REMOVED, RESTARTED, RUNS, STORED, Place, Run,
+                    Telegram, Value, plain_number, seconds)
 
-STORED, READ = "stored", "read"
+NONE = "-"
+
+
+class Printed(NamedTuple):
+    """A number as it is printed, with a point; `-` where there is none; and its mark."""
+    text: str
+    mark: str
+
+    @property
+    def is_number(self) -> bool:
+        return self.text != NONE
+
+
+Numbers = Dict[Key, Printed]
+
+
+def use_key(flat: str, use: str, what: str, unit: str = "") -> Key:
+    """The key of a number of a user's use. what: its kind, and perhaps a month."""
+    kind, _, period = what.partition(" ")
+    return Key(kind, flat, use, 0, period, unit)
+
+
+def month_key(flat: str, use: Any, month: datetime.date, kind: str = "month") -> Key:
+    """The key of a month of a use, or of its chart's."""
+    return use_key(flat, use.use, f"{kind} {month:%Y-%m}", use.unit)
+
+
+def place_key(flat: str, use: Any, place: Any) -> Key:
+    return Key("place", flat, use.use, place.number,
+               f"{seconds(place.amount.begins)} {seconds(place.amount.ends)}", use.unit)
+
+
+def reading_key(meter: int, moment: int) -> Key:
+    """The key of a reading, which is of no user."""
+    return Key("reading", place=meter, period=str(moment))
+
+
+class Printable(NamedTuple):
+    """Of a house in a month: the audit, the numbers of each user, and those that are nobody's."""
+    audit: Optional[int]
+    of_users: Dict[int, Numbers]
+    of_house: Numbers
+    says: str = ""  # the audit's last line
+
+    def of(self, tenancy: int) -> Numbers:
+        return {**self.of_house, **self.of_users.get(tenancy, {})}
+
+
+def printable(audit: Optional[int], found: Iterable[Published], says: str = "") -> Printable:
+    made = Printable(audit, {}, {}, says)
+    for tenancy, key, text, mark in found:
+        numbers = made.of_house if tenancy is None else made.of_users.setdefault(tenancy, {})
+        numbers[key] = Printed(text, mark)
+    return made
+
+AUDIT_UNITS = {"kWh": "kWh", "m³": "m3", "HCA": "HCA"}
+SHOWN_UNITS = {of_file: unit for unit, of_file in AUDIT_UNITS.items()}
+NOW = "1"  # the span of the file's month
+# marks of what is said beside amounts
+BESIDE = {"mean": "average", "change": "change", "carbon": "carbon", "weather": "weather", "cost": "cost"}
+DECLARED = "declared"  # the mark of what no audit computes
+CHARTED_WHOLE = 100  # from here on a chart's number has no decimals
+Spans = Dict[datetime.date, int]
+
+
+class Asked(NamedTuple):
+    """A line that asks for a number."""
+    line: str
+    place: str = ""  # flat, use and number, where it stands with the place
+
+
+def asked(decimals: int) -> str:
+    """A number that is asked for with so many decimals."""
+    return f"?.{'0' * decimals}" if decimals else "?"
+
+
+# ---- what is asked
+
+def of_sheet(sheet: Sheet, spans: Spans) -> Iterator[Asked]:
+    """The numbers of a sheet."""
+    user, now = sheet.user, spans[sheet.month]
+    for use in sheet.uses:
+        name, shown = f"{user.id},{use.use},{AUDIT_UNITS[use.unit]}", asked(DECIMALS[use.unit])
+        if use.is_charted and not use.months[sheet.month].why:
+            yield from (Asked(f"of_user,{now},{name},{asked(decimals)},?") for decimals in (1, 0))
+        for month, span in spans.items():
+            if month in use.months and not use.months[month].why:
+                yield Asked(f"of_user,{span},{name},{shown},?")
+        for place in use.places:
+            if not place.amount.why:
+                period = f"{seconds(place.amount.begins)},{seconds(place.amount.ends)}"
+                yield Asked(f"shown,{now},{period},{AUDIT_UNITS[use.unit]},{shown},?",
+                            f"{user.flat} {use.use} {place.number}")
+        yield from of_use(sheet, use, spans, name)
+
+
+def of_use(sheet: Sheet, use: Use, spans: Spans, name: str) -> Iterator[Asked]:
+    """What is said beside the amounts of a use."""
+    user, now, shown = sheet.user, spans[sheet.month], asked(DECIMALS[use.unit])
+    if user.area_m2 is not None and use.use not in sheet.facts.held:
+        yield Asked(f"mean,{now},{name},{shown}")
+    if use.months[sheet.month].why:
+        return
+    last = later_month(sheet.month, -12)
+    for month in (later_month(sheet.month, -1), last):
+        if is_compared(sheet, use, spans, month):
+            yield Asked(f"change,{now},{spans[month]},{name},{asked(0)}")
+    if user.co2_g_per_kwh is not None and use.use in sheet.facts.carbon_uses and use.unit == "kWh":
+        yield Asked(f"carbon,{now},{user.id},{use.use},{asked(1)}")
+    if (use.use in sheet.facts.heating_uses and use.unit == "kWh" and {sheet.month, last} <= sheet.facts.degrees.keys()
+            and is_compared(sheet, use, spans, last)):
+        yield Asked(f"weather,{now},{spans[last]},{user.id},{use.use},{shown}")
+    if sheet.price_of(use) is not None:
+        yield Asked(f"cost,{now},{name},{asked(2)}")
+
+
+def is_compared(sheet: Sheet, use: Use, spans: Spans, month: datetime.date) -> bool:
+    """Whether the sheet's month is compared with another: both are whole, and something is said of both."""
+    now, then = use.months[sheet.month], use.months.get(month)
+    return (month in spans and then is not None and not then.why and is_whole(now, sheet.month, sheet.user.zone)
+            and is_whole(then, month, sheet.user.zone))
+
+
+def is_whole(number: Number, month: datetime.date, zone: str) -> bool:
+    return number.begins == begin_of(month, zone) and number.ends == begin_of(next_month(month), zone)
+
+
+def of_house(page: House, held: Set[str], span: int) -> Iterator[Asked]:
+    """The numbers of a house page. Where one is held, its use has no sum."""
+    for use, unit in page.uses.items():
+        of_unit = f"{use},{AUDIT_UNITS[unit]},{asked(DECIMALS[unit])}"
+        for flat, numbers in page.flats.items():
+            if use in numbers and not numbers[use].why:
+                yield Asked(f"of_flat,{span},{flat},{of_unit},?")
+        if use not in held:
+            yield Asked(f"of_house,{span},{of_unit},?,?")
+
+
+# ---- what is published
+
+class Reader:
+    """Reads a filled file.
+    places: in its order the number of each among those of its flat and use, and its meters' numbers."""
+
+    def __init__(self, places: List[Tuple[int, List[int]]]) -> None:
+        self.places: Iterator[Tuple[int, List[int]]] = iter(places)
+        self.runs: List[int] = []
+        self.found: Dict[Tuple[Optional[int], Key], Published] = {}
+        self.months: Dict[str, str] = {}  # by span
+        self.flats: Dict[str, str] = {}  # by user
+        self.facts: Dict[Tuple[str, ...], str] = {}  # what is declared, by its other fields
+        self.parts: Dict[Tuple[str, str], str] = {}  # the user of each
+        self.place: Tuple[str, str, int] = ("", "", 0)
+
+    def read(self, lines: List[str]) -> List[Published]:
+        """What the lines publish, each key once."""
+        for line in lines:
+            kind, *fields = line.split(",")
+            take: Optional[Callable[..., None]] = getattr(self, f"take_{kind}", None)
+            if kind in BESIDE:
+                self.take_beside(kind, *fields)
+            elif kind in ("price", "average"):
+                self.facts[(kind, *fields[:-1])] = fields[-1]
+            elif take is not None:
+                take(*fields)
+        return list(self.found.values())
+
+    def put(self, user: str, key: Key, text: str, mark: str) -> None:
+        """A number of a user, or of nobody."""
+        tenancy = None if user == NONE else int(user)
+        self.found.setdefault((tenancy, key), (tenancy, key, text, mark))
+
+    def put_of(self, user: str, use: str, what: str, text: str, mark: str, unit: str = "") -> None:
+        """A number of a user, if there is one."""
+        if text != NONE:
+            self.put(user, use_key(self.flats[user], use, what, unit), text, mark)
+
+    def take_beside(self, kind: str, _: str, *fields: str) -> None:
+        then, user, use = (self.months[fields[0]], *fields[1:3]) if kind in ("change", "weather") else ("", *fields[:2])
+        what = {"mean": "average", "change": f"change {then}", "carbon": "co2"}.get(kind, kind)
+        is_declared = kind == "mean" and ("average", use, fields[2], NOW) in self.facts
+        self.put_of(user, use, what, fields[-1], DECLARED if is_declared else BESIDE[kind],
+                    SHOWN_UNITS[fields[2]] if kind == "mean" else "")
+
+    def take_span(self, span: str, day: str, *_: str) -> None:
+        self.months[span] = f"{(datetime.date.fromisoformat(day) + DAY):%Y-%m}"
+
+    def take_user(self, user: str, flat: str, _: str) -> None:
+        self.flats[user] = flat
+
+    def take_factor(self, use: str, span: str, factor: str) -> None:
+        self.facts["factor", use, "kWh", span] = factor
+
+    def take_place(self, _: str, flat: str, use: str, __: str) -> None:
+        number, self.runs = next(self.places)
+        self.place, self.parts = (flat, use, number), {}
+
+    def take_part(self, _: str, begins: str, ends: str, user: str) -> None:
+        self.parts[begins, ends] = user
+
+    def take_shown(self, _: str, begins: str, ends: str, unit: str, text: str, mark: str) -> None:
+        flat, use, number = self.place
+        self.put(self.parts.get((begins, ends), NONE),
+                 Key("place", flat, use, number, f"{begins} {ends}", SHOWN_UNITS[unit]), text, mark)
+
+    def take_value(self, run: str, moment: str, text: str, _: str) -> None:
+        self.put(NONE, reading_key(self.runs[int(run) - 1], int(moment)), text, "reading")
+
+    def take_of_user(self, span: str, user: str, use: str, of_file: str, text: str, mark: str) -> None:
+        unit, month, decimals = SHOWN_UNITS[of_file], self.months[span], len(text.partition(".")[2])
+        if decimals == DECIMALS[unit] or text == NONE:
+            self.put(user, use_key(self.flats[user], use, f"month {month}", unit), text, mark)
+        # 99.7 comes before its 100
+        if span == NOW and (text == NONE or decimals == (decimal.Decimal(text) < CHARTED_WHOLE)):
+            self.put(user, use_key(self.flats[user], use, f"chart {month}", unit), text, mark)
+        for what in ("factor", "price") if span == NOW else ():
+            self.put_of(user, use, what, self.facts.get((what, use, of_file, span), NONE), DECLARED)
+
+    def take_of_flat(self, _: str, flat: str, use: str, __: str, text: str, mark: str) -> None:
+        self.put(NONE, Key("flat", flat, use), text, mark)
+
+    def take_of_house(self, _: str, use: str, __: str, text: str, none: str, count: str) -> None:
+        self.put(NONE, Key("house", use=use), text, f"{none} {count}")
+
+
+# ---- what may be printed
+
+CHARTED = 13  # months
+# Of these houses the audit of a month
+AUDITS = """
+SELECT n.house, n.id, a.says FROM audits_now n JOIN audits a ON a.id = n.id WHERE n.house = ANY (%s) AND n.month = %s"""
+# What was published of a month, and of earlier ones and their users: for charts and where a month has no evidence any
+# more
+NUMBERS = f"""
+SELECT p.audit, p.tenancy, {KEY}, p.text, p.mark FROM published p JOIN audits_now a ON a.id = p.audit
+WHERE a.house = %s AND (a.month = %s OR a.month >= %s AND a.month < %s AND p.tenancy IS NOT NULL
+                        AND p.kind IN ('month', 'chart') AND p.period = to_char(a.month, 'YYYY-MM'))
+ORDER BY a.month, p.id"""
+FILE = "SELECT file FROM audits WHERE id = %s AND file IS NOT NULL"
+
+
+class Facts(Reader):
+    """All numbers of an audit file, by keys without what only the database knows: which meter a reading is of, and
+    which place of a flat's use."""
+
+    def __init__(self) -> None:
+        super().__init__([])
+        self.all: Set[Published] = set()
+
+    def put(self, user: str, key: Key, text: str, mark: str) -> None:
+        self.all.add((None if user == NONE else int(user), key, text, mark))
+
+    def take_place(self, _: str, flat: str, use: str, __: str) -> None:
+        self.place, self.parts = (flat, use, 0), {}
+
+    def take_value(self, run: str, moment: str, text: str, _: str) -> None:
+        self.put(NONE, reading_key(0, int(moment)), text, "reading")
+
+
+def file_of(cursor: Cursor, audit: Optional[int]) -> Optional[List[str]]:
+    """The lines of an audit's file; None once it was dropped."""
+    file = value_of(cursor, FILE, audit)
+    return None if file is None else bytes(file).decode().splitlines()
+
+
+def unknown(cursor: Cursor, audit: int, numbers: Iterable[Published]) -> Optional[str]:
+    """The first of an audit's numbers that its file doesn't have. A user who was forgotten has none."""
+    lines = file_of(cursor, audit)
+    if lines is None:
+        return None
+    facts = Facts()
+    facts.read(lines)
+    nobodys = {it[1:] for it in facts.all}
+    for tenancy, key, text, mark in numbers:
+        number = (key._replace(place=0), text, mark)
+        if (tenancy, *number) not in facts.all and (tenancy is not None or number not in nobodys):
+            return " ".join(map(str, (*filter(None, key), text)))
+    return None
+
+
+def published_of(cursor: Cursor, houses: List[str], month: datetime.date) -> Tuple[Dict[str, Printable], List[str]]:
+    """What may be printed of a month of these houses, and which have a number that isn't in its audit file.
+    Nothing of a house without an audit."""
+    found, refused = {}, []
+    for house, audit, says in rows_of(cursor, AUDITS, houses, month):
+        of_audits = grouped((of, (tenancy, Key(*key), text, mark)) for of, tenancy, *key, text, mark in rows_of(
+            cursor, NUMBERS, house, month, later_month(month, 1 - CHARTED), month))
+        wrong = next((it for of, numbers in of_audits.items() if (it := unknown(cursor, of, numbers))), None)
+        if wrong:
+            refused.append(f"{house}: {wrong} isn't in its audit file")
+        else:
+            found[house] = printable(audit, (it for numbers in of_audits.values() for it in numbers), says)
+    return found, refused
+
+
+# ---- files
 NO_TELEGRAM = b"\0"  # in the place of one that isn't there any more: no evidence
 MARGIN = 3 * 86_400  # around a span, in which struck values are named
 NOBODY = 10**17  # users of this number and above are flats that nobody uses
 AT_ENDS = {FITTED: "first", RESTARTED: "first", REMOVED: "last", ENDED: "last"}
+PUT = {BY_HAND: "hand", ESTIMATED: "estimated"}
 LONGEST_WHY = 60
 FROZEN = """
 SELECT v.month, p.id, p.flat, p.use, p.number, p.weight, h.zone, v.entries, v.evidence, v.meters
@@ -35,17 +331,19 @@ SELECT month, place, begins, ends, tenancy FROM month_parts WHERE house = %s AND
 ORDER BY month, place, begins"""
 USERS = """
 SELECT t.id, t.flat, f.area_m2 FROM tenancies t JOIN flats f ON (f.house, f.flat) = (t.house, t.flat)
-WHERE t.house = %(house)s AND (t.id = ANY (%(users)s) OR t.days && daterange(%(first)s, %(after)s)) ORDER BY t.id"""
+WHERE t.house = %(house)s AND (t.id = ANY (%(users)s) OR t.days && daterange(%(begin)s, %(after)s)) ORDER BY t.id"""
 EMPTY = "SELECT flat, area_m2 FROM flats WHERE house = %s AND area_m2 IS NOT NULL ORDER BY flat"
 STRUCK = """
-SELECT f.place, f.id, d.at, coalesce(d.struck_why, 'struck') FROM day_values d JOIN fittings f ON f.id = d.fitting
+SELECT f.place, f.id, d.at, coalesce(d.struck_why, 'struck') AS why
+FROM day_values d JOIN fittings f ON f.id = d.fitting
 WHERE f.house = %s AND d.struck_at IS NOT NULL AND d.at BETWEEN %s AND %s ORDER BY d.at, d.id"""
 BODIES = """
 SELECT month::text, box, serial, bodies FROM readings WHERE (month, box, serial) IN (
     SELECT k.month::date, k.box, k.serial
 FROM unnest(%s::text[], %s::text[], %s::bigint[]) AS k (month, box, serial))"""
-USES = ("SELECT use, CASE quantity WHEN 'allocation' THEN 'units' ELSE quantity END FROM uses WHERE use = ANY (%s)"
-        " ORDER BY position, use")
+USES = """
+SELECT use, CASE quantity WHEN 'allocation' THEN 'units' ELSE quantity END AS quantity FROM uses WHERE use = ANY (%s)
+ORDER BY position, use"""
 FACTORS = "SELECT use, kwh_per_unit FROM factors WHERE house = %s AND months @> %s ORDER BY use"
 DEGREES = ("SELECT d.days FROM degree_days d JOIN houses h ON h.postcode = d.postcode"
            " WHERE (h.house, d.month) = (%s, %s)")
@@ -55,22 +353,12 @@ class NoEvidence(Exception):
     """A telegram that a number rests on isn't there any more."""
 
 
-class Evidence(NamedTuple):
-    """A value that decides a period, and where it comes from."""
-    run: int
-    moment: int
-    amount: int
-    source: str
-    value: str
-    unit: str
-    is_estimated: bool
-    telegram: Optional[Tuple[str, str, int, int]]  # month, box, serial, part
+# A value that decides a period, and where it comes from.
+Evidence = NamedTuple("Evidence", [("run", int), ("moment", int), ("amount", int), ("source", str), ("value", str),
+    ("unit", str), ("is_estimated", bool), ("telegram", Optional[Telegram])])
 
 
-class Part(NamedTuple):
-    begins: int
-    ends: int
-    user: Optional[int]
+Part = NamedTuple("Part", [("begins", int), ("ends", int), ("user", Optional[int])])
 
 
 class Window(NamedTuple):
@@ -98,22 +386,10 @@ Readings = Dict[Tuple[int, int], Tuple[str, str]]  # by run and moment: text and
 Declared = Dict[Tuple[str, ...], str]
 
 
-class File(NamedTuple):
-    """An audit file in which numbers are asked for, and what the filled one publishes."""
-    lines: List[str]
-    read: Callable[[List[str]], List[Published]]
-
-
-def offset_of(moment: datetime.datetime, zone: str) -> int:
-    """Minutes ahead of UTC."""
-    length = moment.astimezone(zoneinfo.ZoneInfo(zone)).utcoffset()
-    return int(length.total_seconds()) // 60 if length is not None else 0
-
-
 def end_fields(moment: datetime.datetime, zone: str) -> str:
-    """The day that ends at a moment, and its offset."""
-    day = moment.astimezone(zoneinfo.ZoneInfo(zone)).date() - datetime.timedelta(days=1)
-    return f"{day},{offset_of(moment, zone)}"
+    """The day that ends at a moment, and its offset: minutes ahead of UTC."""
+    local = moment.astimezone(zoneinfo.ZoneInfo(zone))
+    return f"{local.date() - DAY},{(local.utcoffset() or 0 * DAY) // datetime.timedelta(minutes=1)}"
 
 
 def span_line(number: int, first: datetime.date, after: datetime.date, zone: str) -> str:
@@ -126,46 +402,31 @@ def utc(moment: int) -> datetime.datetime:
 
 # ---- windows
 
-def evidence_of(entries: Sequence[int], sources: List[List[Any]]) -> List[Evidence]:
-    """Entries as `frozen_values` has them."""
-    fives = [tuple(entries[at:at + 5]) for at in range(0, len(entries), 5)]
-    return [Evidence(meter, moment, amount, source, value, unit, is_estimated,
-                     (telegram[0], box, telegram[1], telegram[2]) if telegram else None) for (
-        meter, moment, amount, _, _), (source, value, unit, is_estimated, box, *telegram) in zip(fives, sources)]
+def evidence_of(entries: Sequence[Any], sources: List[List[Any]]) -> List[Evidence]:
+    """Entries as `frozen_values` has them: five numbers of each, and where it comes from."""
+    return [Evidence(*entries[at:at + 3], *it[:4], (it[5], it[4], it[6], it[7]) if it[5:] else None)
+            for at, it in zip(range(0, len(entries), 5), sources)]
 
 
-def evidence_at(entry: Entry) -> Evidence:
-    """An entry of a place."""
-    value, line = entry.value, entry.line
-    telegram = None if value.telegram is None or value.box is None else (value.telegram[0], value.box,
-                                                                         value.telegram[1], value.telegram[2])
-    return Evidence(line.meter, line.moment, line.value, value.source, value.shown, value.unit, value.is_estimated,
-                    telegram)
-
-
-def window_of(place: Place, entries: Sequence[Entry], parts: List[Part], begins: int, ends: int) -> Window:
+def window_of(place: Place, entries: Sequence[Value], parts: List[Part], begins: int, ends: int) -> Window:
     """What decides the periods of a place, as it is known now."""
-    return Window(begins, ends, place.id, place.flat, place.use, place.number, plain_number(place.weight), place.zone, [
-        run for fitting in place.fittings for run in fitting.runs()], [evidence_at(it) for it in entries], parts)
+    values = [Evidence(*it.line[:3], it.source, it.shown, it.unit, it.is_estimated, it.telegram) for it in entries]
+    return Window(begins, ends, place.id, place.flat, place.use, place.number, plain_number(place.weight), place.zone,
+                  [run for fitting in place.fittings for run in fitting.runs()], values, parts)
 
 
 def windows_of(cursor: Cursor, house: str, months: List[datetime.date]) -> Dict[datetime.date, List[Window]]:
     """What the present versions of months were computed from.
     A month that was computed before there were audits has none."""
-    cursor.execute(PARTS, (house, months))
-    parts: Dict[Tuple[datetime.date, int], List[Part]] = {}
-    for month, place, begins, ends, tenancy in cursor:
-        parts.setdefault((month, place), []).append(Part(seconds(begins), seconds(ends), tenancy))
-    cursor.execute(FROZEN, (house, months))
-    found: Dict[datetime.date, List[Window]] = {}
-    unknown = set()
-    for month, place, flat, use, number, weight, zone, entries, sources, meters in cursor:
-        unknown |= {month} if sources is None else set()
-        if (month, place) in parts and sources is not None:
-            found.setdefault(month, []).append(Window(seconds(begin_of(month, zone)), seconds(
-                begin_of(next_month(month), zone)), place, flat, use, number, plain_number(weight), zone, [
-                Run(*it) for it in meters], evidence_of(entries, sources), parts[month, place]))
-    return {month: windows for month, windows in found.items() if month not in unknown}
+    parts = grouped(((it.month, it.place), Part(seconds(it.begins), seconds(it.ends), it.tenancy))
+                    for it in rows_of(cursor, PARTS, house, months))
+    frozen = rows_of(cursor, FROZEN, house, months)
+    unknown = {it.month for it in frozen if it.evidence is None}
+    return grouped((it.month, Window(
+        seconds(begin_of(it.month, it.zone)), seconds(begin_of(next_month(it.month), it.zone)), it.id, it.flat, it.use,
+        it.number, plain_number(it.weight), it.zone, [Run(*run) for run in it.meters],
+        evidence_of(it.entries, it.evidence), parts[it.month, it.id]))
+        for it in frozen if (it.month, it.id) in parts and it.month not in unknown)
 
 
 def has_evidence(windows: List[Window], bodies: Bodies) -> bool:
@@ -186,8 +447,8 @@ def needed_runs(window: Window) -> List[Run]:
 def bodies_of(cursor: Cursor, windows: Iterable[Window]) -> Bodies:
     """The telegrams behind windows."""
     keys = sorted({it.telegram[:3] for window in windows for it in window.values if it.telegram is not None})
-    cursor.execute(BODIES, ([it[0] for it in keys], [it[1] for it in keys], [it[2] for it in keys]))
-    return {(month, box, serial): [bytes(body) for body in bodies] for month, box, serial, bodies in cursor}
+    found = rows_of(cursor, BODIES, *([key[at] for key in keys] for at in range(3)))
+    return {(it.month, it.box, it.serial): [bytes(body) for body in it.bodies] for it in found}
 
 
 class Writer:
@@ -204,9 +465,8 @@ class Writer:
         number = {run.number: at for at, run in enumerate(runs, 1)}
         self.places.append((window.number, list(number)))
         self.lines.append(f"place,{len(self.places)},{window.flat},{window.use},{window.weight}")
-        self.lines += [f"meter,{number[run.number]},{run.identity},{run.begins},"
-                       f"{'-' if run.ends is None else run.ends},{run.most},{run.size},"
-                       f"{run.vib or '-'}" for run in runs]
+        self.lines += [f"meter,{number[it.number]},{it.identity},{it.begins},{'-' if it.ends is None else it.ends},"
+                       f"{it.most},{it.size},{it.vib or '-'}" for it in runs]
         self.lines.append(f"window,{span}")
         for at, value in enumerate(window.values):
             later = window.values[at + 1] if at + 1 < len(window.values) else None
@@ -217,19 +477,16 @@ class Writer:
         self.lines += [f"struck,{number[fitting * RUNS]},{moment},{why}" for fitting, moment, why in self.struck.get(
             window.place, []) if window.begins - MARGIN <= moment <= window.ends + MARGIN
             and fitting * RUNS in number and (fitting * RUNS, moment) not in told]
-        self.lines += [f"part,{span},{part.begins},{part.ends},{'-' if part.user is None else part.user}"
-                       for part in window.parts]
-        first = len(self.lines)
+        self.lines += [f"part,{span},{part.begins},{part.ends},{part.user or '-'}" for part in window.parts]
         self.lines += numbers
-        self.lines += [f"value,{number[run]},{moment},{text},{unit}" for (run, moment),
-                       (text, unit) in readings.items()]
-        return first
+        self.lines += [f"value,{number[run]},{moment},{','.join(shown)}" for (run, moment), shown in readings.items()]
+        return len(self.lines) - len(readings) - len(numbers)
 
     def value(self, value: Evidence, number: Dict[int, int], zone: str, before: Optional[Evidence]) -> None:
         """The line of a value."""
-        run, how = number[value.run], "estimated" if value.is_estimated else "hand"
-        ends = end_fields(utc(value.moment), zone)
+        run, ends = number[value.run], end_fields(utc(value.moment), zone)
         if value.source in AT_ENDS:
+            how = "estimated" if value.is_estimated else "hand"
             line = f"{AT_ENDS[value.source]},{run},{value.value},{value.unit},{how}"
         elif value.source == DUE_DATE and before is not None and before.run != value.run:
             line = f"zero,{run}"
@@ -238,9 +495,8 @@ class Writer:
                                                                                               STORED)
             line = (f"ended,{run},{ends},{self.hex(before)}" if is_stored and before is not None
                     else f"last,{run},{value.value},{value.unit},estimated")
-        elif value.source in (BY_HAND, ESTIMATED):
-            kind = "hand" if value.source == BY_HAND else "estimated"
-            line = f"{kind},{run},{value.moment},{value.value},{value.unit}"
+        elif value.source in PUT:
+            line = f"{PUT[value.source]},{run},{value.moment},{value.value},{value.unit}"
         else:
             line = (f"stored,{run},{ends},{self.hex(value)}" if value.source == STORED
                     else f"read,{run},{value.moment},{self.hex(value)}")
@@ -256,11 +512,8 @@ class Writer:
 
 def struck_of(cursor: Cursor, house: str, begins: int, ends: int) -> Struck:
     """The values that people struck, by place."""
-    cursor.execute(STRUCK, (house, utc(begins - MARGIN), utc(ends + MARGIN)))
-    found: Struck = {}
-    for place, fitting, at, why in cursor:
-        found.setdefault(place, []).append((fitting, seconds(at), plain(why.replace(",", " "), LONGEST_WHY)))
-    return found
+    return grouped((it.place, (it.id, seconds(it.at), plain(it.why.replace(",", " "), LONGEST_WHY)))
+                   for it in rows_of(cursor, STRUCK, house, utc(begins - MARGIN), utc(ends + MARGIN)))
 
 
 # ---- a month
@@ -269,25 +522,24 @@ def month_file(cursor: Cursor, house: str, month: datetime.date, averages: Avera
     """The audit file of a house's month, beside those before it, and of the year before, that have their evidence.
 
     Raises NoEvidence where the month hasn't, and LookupError where it isn't computed."""
-    page = house_of(cursor, house, month, next_month(month))
+    page = house_of(cursor, house, month)
     if not page.uses:
         raise LookupError(f"{month:%Y-%m} of {house} isn't computed")
     windows = windows_of(cursor, house, [month, later_month(month, -1), later_month(month, -12)])
     bodies = bodies_of(cursor, [it for of_month in windows.values() for it in of_month])
-    spans = {one: number for number,
-             one in enumerate(sorted((it for it in windows if has_evidence(windows[it], bodies)), reverse=True), 1)}
+    known = sorted((it for it in windows if has_evidence(windows[it], bodies)), reverse=True)
+    spans = {one: number for number, one in enumerate(known, 1)}
     if month not in spans:
         raise NoEvidence(f"{month:%Y-%m} was computed before there were audits, or a telegram isn't there any more")
-    sheets = sheets_of(cursor, [house], month)
+    sheets, of_spans = sheets_of(cursor, [house], month), [it for one in spans for it in windows[one]]
     declared, readings = declared_of(cursor, page, spans, sheets, averages), readings_of(sheets, page)
     writer = Writer(bodies, struck_of(cursor, house, min(it[0].begins for it in windows.values()),
                                       max(it[0].ends for it in windows.values())))
     writer.lines += [f"audit,1,{month:%Y-%m}",
-                     *(span_line(number, one, next_month(one), page.zone) for one, number in spans.items()), *use_lines(
-        cursor, {it.use for one in spans for it in windows[one]} | {key[1] for key in declared})]
+                     *(span_line(number, one, next_month(one), page.zone) for one, number in spans.items()),
+                     *use_lines(cursor, {it.use for it in of_spans} | {key[1] for key in declared})]
     writer.lines += [f"{','.join(key)},{number}" for key, number in declared.items()]
-    writer.lines += user_lines(cursor, house, [it for one in spans for it in windows[one]], min(spans),
-                               next_month(month))
+    writer.lines += user_lines(cursor, house, of_spans, min(spans), next_month(month))
     asked = [it for sheet in sheets for it in of_sheet(sheet, spans)]
     asked += of_house(page, facts_of(cursor, [house], month, [])[house].held, spans[month])
     shown = [(span, window, one == month) for one, span in spans.items() for window in windows[one]]
@@ -297,66 +549,54 @@ def month_file(cursor: Cursor, house: str, month: datetime.date, averages: Avera
 
 def write(writer: Writer, windows: List[Tuple[int, Window, bool]], asked: List[Asked], readings: Readings) -> None:
     """Writes the windows, those of the month with what is asked there, and the sums."""
-    of_places: Dict[str, List[str]] = {}
-    for it in asked:
-        of_places.setdefault(it.place, []).append(it.line)
+    of_places = grouped((it.place, it.line) for it in asked)
     for span, window, is_now in windows:
-        named = {key: readings[key] for key in keys_of(window) if is_now and key in readings}
+        keys = [(it.run, it.moment) for it in window.values] if is_now else []
+        named = {key: readings[key] for key in keys if key in readings}
         writer.window(span, window, of_places.get(window.name, []) if is_now else [], named)
     writer.lines += ["totals", *of_places.get("", []), "end"]
-
-
-def keys_of(window: Window) -> List[Tuple[int, int]]:
-    return [(it.run, it.moment) for it in window.values]
 
 
 def declared_of(cursor: Cursor, page: House, spans: Spans, sheets: List[Sheet], averages: Averages) -> Declared:
     """What people declared of a house: factors, prices, emissions, degree days, and averages over several houses."""
     found: Declared = {}
     for month, span in spans.items():
-        cursor.execute(FACTORS, (page.house, month))
-        found.update({("factor", use, str(span)): plain_number(kwh) for use, kwh in cursor})
-        cursor.execute(DEGREES, (page.house, month))
-        found.update({("degrees", "-", str(span)): plain_number(days) for days, in cursor})
+        found.update({("factor", it.use, str(span)): plain_number(it.kwh_per_unit)
+                      for it in rows_of(cursor, FACTORS, page.house, month)})
+        found.update({("degrees", "-", str(span)): plain_number(it.days)
+                      for it in rows_of(cursor, DEGREES, page.house, month)})
     now = str(min(spans.values()))
-    for sheet in sheets:
-        for use in sheet.uses:
-            unit, average = AUDIT_UNITS[use.unit], averages.get((sheet.user.category, use.use))
-            if sheet.user.co2_g_per_kwh is not None and use.use in sheet.facts.carbon_uses:
-                found["co2", use.use, now] = plain_number(sheet.user.co2_g_per_kwh)
-            if sheet.user.shows_costs and sheet.facts.prices.get(use.use, ("",))[0] == use.unit:
-                found["price", use.use, unit, now] = plain_number(sheet.facts.prices[use.use][1])
-            declared = None if average is None else declared_average(page.house, use.unit, average)
-            if declared is not None:
-                found["average", use.use, unit, now] = declared
+    for sheet, use in ((sheet, use) for sheet in sheets for use in sheet.uses):
+        unit, average = AUDIT_UNITS[use.unit], averages.get((sheet.user.category, use.use))
+        price = sheet.price_of(use)
+        if sheet.user.co2_g_per_kwh is not None and use.use in sheet.facts.carbon_uses:
+            found["co2", use.use, now] = plain_number(sheet.user.co2_g_per_kwh)
+        if price is not None:
+            found["price", use.use, unit, now] = plain_number(price)
+        declared = None if average is None else declared_average(page.house, use.unit, average)
+        if declared is not None:
+            found["average", use.use, unit, now] = declared
     return found
 
 
 def use_lines(cursor: Cursor, uses: Set[str]) -> List[str]:
     """What each of these uses counts."""
-    cursor.execute(USES, (list(uses),))
-    return [f"use,{use},{quantity}" for use, quantity in cursor]
+    return [f"use,{it.use},{it.quantity}" for it in rows_of(cursor, USES, list(uses))]
 
 
 def user_lines(cursor: Cursor, house: str, windows: List[Window], first: datetime.date,
                after: datetime.date) -> List[str]:
     """The users of the parts and the days of a file, and the areas of flats that nobody uses."""
     users = {part.user for window in windows for part in window.parts if part.user is not None}
-    cursor.execute(USERS, {"house": house, "users": list(users), "first": first, "after": after})
-    rows = cursor.fetchall()
-    used = {row[1] for row in rows}
-    cursor.execute(EMPTY, (house,))
-    rows += [(NOBODY + at, flat, area) for at, (flat, area) in enumerate(cursor) if flat not in used]
+    rows = rows_of(cursor, USERS, house=house, users=list(users), begin=first, after=after)
+    used = {it.flat for it in rows}
+    areas = enumerate(rows_of(cursor, EMPTY, house), NOBODY)
+    rows += [(user, flat, area) for user, (flat, area) in areas if flat not in used]
     return [f"user,{user},{flat},{'-' if area is None else plain_number(area)}" for user, flat, area in rows]
 
 
 def readings_of(sheets: List[Sheet], page: House) -> Readings:
     """The meters' values that are named on sheets, and on the house's page."""
-    found: Readings = {}
-    for reading in (it for sheet in sheets for use in sheet.uses for place in use.places for it in place.readings):
-        if reading.entry is not None:
-            found[reading.entry.meter, reading.entry.moment] = printed_reading(reading.shown, reading.unit)
-    for meter in page.meters:
-        if meter.entry is not None and meter.value is not None and meter.unit is not None:
-            found[meter.entry.meter, meter.entry.moment] = printed_reading(meter.value, meter.unit)
-    return found
+    named = [it for sheet in sheets for use in sheet.uses for place in use.places for it in place.readings]
+    known = [it for it in (*named, *page.meters) if it.run is not None]
+    return {(it.run, it.moment): printed_reading(it.shown, it.unit) for it in known}

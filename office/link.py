@@ -9,7 +9,7 @@ import shlex
 import signal
 import subprocess
 import time
-from typing import Iterator, List, NamedTuple, Optional, Tuple
+from typing import Iterator, List, NamedTuple, Optional, Tuple, TypeVar
 
 PAGE = 100  # the most readings that one WINDOW shows
 # Bytes of one run at a box, of one of its lines, and of what is kept of its complaints. A page of readings of 32
@@ -18,11 +18,13 @@ LONGEST_ANSWER, LONGEST_LINE, LAST_COMPLAINT = 3 << 20, 1024, 4096
 CHUNK = 1 << 16
 # A numbered line that no box accepts, since its number isn't the next one's: it is answered `ERR ORDER last`.
 PROBE = "999999999999999999 CONFIRM 0"
+LOOK = (PROBE, "WINDOW 1 1", "REGISTER")  # shows the last number, the confirmed serial and the register
 REPLY_ENDS = ("OK", "ERR", "END")
 # The first line of each script names the box that it is for, or asks, and its last one is END: packaging/office-line
 # does nothing where another box is meant, or where the script isn't whole.
 ASKING = "?"
 NAMED = re.compile(r"(BOX|ERR BOX) ([0-9a-f]{32})")
+COMMAND = re.compile(r"COMMAND ([0-9]+) (.*)")
 UTC = datetime.timezone.utc
 
 
@@ -51,12 +53,8 @@ class Reading(NamedTuple):
     bodies: Tuple[bytes, ...]  # the telegrams without their frames
 
 
-class Meter(NamedTuple):
-    """A row of the box's register."""
-    identity: str
-    line: int
-    address: str
-    flat: str
+# A row of the box's register.
+Meter = NamedTuple("Meter", [("identity", str), ("line", int), ("address", str), ("flat", str)])
 
 
 class Seen(NamedTuple):
@@ -69,13 +67,11 @@ class Seen(NamedTuple):
     is_all: bool  # there are no further ones
 
 
-class Command(NamedTuple):
-    """A numbered line that a box has done."""
-    number: int
-    line: str
+Command = NamedTuple("Command", [("number", int), ("line", str)])  # that a box has done
 
 
 Reply = List[str]
+Shown = TypeVar("Shown")
 
 
 class Link:
@@ -92,10 +88,8 @@ class Link:
         self.words = [word.replace("{box}", box) for word in words]
 
     def run(self, lines: List[str]) -> List[Reply]:
-        """The replies to these office lines, each a list of lines.
-
-        Raises Unreached where the command failed, took too long, or a reply isn't whole, and Disagreement where
-        another box answers, which has done nothing then."""
+        """The replies to these office lines, each a list of lines. Raises Unreached where the command failed, took too
+        long, or a reply isn't whole, and Disagreement where another box answers, which has done nothing then."""
         script = "".join([f"BOX {self.identity or ASKING}\n", *(f"OFFICE {line}\n" for line in lines), "END\n"])
         first, _, rest = self.printed(script).decode("ascii", "replace").partition("\n")
         named = NAMED.fullmatch(first)
@@ -169,17 +163,14 @@ class Link:
         """The commands with these numbers, as the journal beside the box's image has them; none of a box without one.
 
         Raises Unreached and Disagreement."""
-        rows = [line.split(" ", 2) for line in self.run([f"JOURNAL {first}"])[0][:-1]]
-        found = [Command(int(row[1]), row[2]) for row in rows if row[0] == "COMMAND" and len(row) == 3
-                 and row[1].isdecimal()]
-        return [command for command in found if command.number <= last]
+        found = map(COMMAND.fullmatch, self.run([f"JOURNAL {first}"])[0][:-1])
+        return [Command(int(it[1]), it[2]) for it in found if it is not None and int(it[1]) <= last]
 
     def seen_from(self, first: int) -> Seen:
-        order, mark, register, window = self.run([PROBE, "WINDOW 1 1", "REGISTER", f"WINDOW {first} {PAGE}"])
+        order, mark, register, window = self.run([*LOOK, f"WINDOW {first} {PAGE}"])
         confirmed = gone(mark)
         if gone(window):
-            first = confirmed + 1
-            order, mark, register, window = self.run([PROBE, "WINDOW 1 1", "REGISTER", f"WINDOW {first} {PAGE}"])
+            order, mark, register, window = self.run([*LOOK, f"WINDOW {confirmed + 1} {PAGE}"])
         number = re.fullmatch(r"ERR ORDER (\d+)", order[0])
         if number is None or self.identity is None or gone(mark) != confirmed or gone(window):
             raise Unreached(f"unexpected answers: {order[0]}, {mark[0]}, {window[0]}")
@@ -214,12 +205,6 @@ def gone(window: Reply) -> int:
     return int(found[1]) if found else 0
 
 
-def counted(reply: Reply, count: int) -> None:
-    """Raises Unreached where the END of a reply has another count."""
-    if reply[-1] != f"END {count}":
-        raise Unreached(f"{count} rows before {reply[-1]}")
-
-
 def readings_of(window: Reply) -> List[Reading]:
     """The readings of a WINDOW's reply."""
     readings: List[Reading] = []
@@ -228,14 +213,18 @@ def readings_of(window: Reply) -> List[Reading]:
         _, serial, identity, flat, count = line.split(" ")
         parts = [next(rest).split(" ") for _ in range(int(count))]
         heard = tuple(datetime.datetime.fromtimestamp(int(part[2]), UTC) for part in parts)
-        bodies = tuple(bytes.fromhex(part[3]) for part in parts)
-        readings.append(Reading(int(serial), identity, flat, heard, bodies))
-    counted(window, len(readings))
-    return readings
+        readings.append(Reading(int(serial), identity, flat, heard, tuple(bytes.fromhex(part[3]) for part in parts)))
+    return counted(window, readings)
 
 
 def meters_of(register: Reply) -> List[Meter]:
     """The meters of a REGISTER's reply."""
-    rows = [line.split(" ") for line in register[:-1]]
-    counted(register, len(rows))
-    return [Meter(identity, int(line), address, flat) for _, identity, line, address, flat, _ in rows]
+    fields = [line.split(" ") for line in register[:-1]]
+    return counted(register, [Meter(it[1], int(it[2]), it[3], it[4]) for it in fields])
+
+
+def counted(reply: Reply, found: List[Shown]) -> List[Shown]:
+    """What a reply shows. Raises Unreached where its END has another count."""
+    if reply[-1] != f"END {len(found)}":
+        raise Unreached(f"{len(found)} rows before {reply[-1]}")
+    return found

@@ -1,31 +1,119 @@
 """The consumption of a month: its parts by users, computed and graded by `mbdc audit`, and written to `month_use`."""
 
+import bisect
 import collections
+import contextlib
 import datetime
+import functools
 import itertools
-import multiprocessing.pool
+import multiprocessing
 import statistics
 from typing import Any, Callable, Dict, Iterator, List, Mapping, NamedTuple, Optional, Sequence, Tuple
 
 from psycopg2.extras import Json
 
 from command import SECONDS
-from database import Cursor, Database, insert
-from drafts import asked
-from exporting import Part, Window, Writer, bodies_of, span_line, use_lines, window_of
-from grading import UNCLEAR, Graded, Period, basis_of, graded, is_held, steps_of
+from database import Cursor, Database, Row, column_of, grouped, insert, rows_of, value_of
+from exporting import NONE, Part, Window, Writer, asked, bodies_of, span_line, use_lines, window_of
 from periods import begin_of, later_month, next_month
 from program import AtFault, filled
-from supply import Entry, Place, Tenancy, needed, places_of, seconds, tenancies_of
+from supply import DUE_DATE, ENDED, FITTED, REMOVED, RESTARTED, Place, Value, needed, places_of, seconds, tenancies_of
+
+LEAP, LEAP_AT_EXCHANGE = 10, 5  # times the usual day
+FEWEST_DAYS, FEWEST_STEPS = 10, 3  # of what is usual at a place
+# A day's use that is never held where it is known what is usual at the place: 100 kWh, a cubic metre, 60 units. By
+# other places, a tenth.
+LITTLE = {"energy": 360_000_000_000, "volume": 1_000_000, "allocation": 60_000}
+MEASURED, ZERO, PROVISIONAL, UNCLEAR = "measured", "zero", "provisional", "unclear"
+AT_EXCHANGES = (FITTED, REMOVED, RESTARTED, ENDED, DUE_DATE)
+
+
+class Period(NamedTuple):
+    """A part of a month at a place, or the whole (part 0), and whose it is."""
+    part: int
+    begins: datetime.datetime
+    ends: datetime.datetime
+    tenancy: Optional[int]
+
+
+Graded = NamedTuple("Graded", [("amount", Optional[int]), ("grade", str)])  # an amount only of a grade that is a number
+
+
+def graded(text: str, mark: str) -> Graded:
+    """An amount of the smallest unit and its mark, as an audit file has them."""
+    amount = None if text == NONE else int(text)
+    return Graded(amount, ZERO if (amount, mark) == (0, MEASURED) else mark)
+
+
+def around(entries: List[Value], moment: datetime.datetime) -> List[Value]:
+    """The last entry at a moment or before it and, where that one is before it, the next."""
+    after = bisect.bisect_right(entries, moment, key=lambda entry: entry.at)
+    is_at = after > 0 and entries[after - 1].at == moment
+    return entries[max(after - 1, 0):after + (0 if is_at else 1)]
+
+
+def basis_of(entries: List[Value], period: Period) -> List[Value]:
+    """The entries around both boundaries, and those at exchanges between them, in order."""
+    chosen = {id(entry) for moment in (period.begins, period.ends) for entry in around(entries, moment)}
+    return [entry for entry in entries if id(entry) in chosen
+            or entry.source in AT_EXCHANGES and period.begins < entry.at <= period.ends]
+
+
+class Step(NamedTuple):
+    """What a meter counted from an entry to the next one."""
+    one: Value
+    other: Value
+
+    @property
+    def days(self) -> float:
+        return (self.other.at - self.one.at).total_seconds() / 86400
+
+    @property
+    def use(self) -> float:
+        """A day; nothing of a fall, which is another matter."""
+        return max(self.other.amount - self.one.amount, 0) / max(self.days, 0.5)
+
+    @property
+    def is_at_exchange(self) -> bool:
+        return self.one.source in (FITTED, RESTARTED) or self.other.source in (REMOVED, ENDED)
+
+
+def steps_of(entries: Sequence[Value]) -> List[Step]:
+    return [Step(one, other) for one, other in zip(entries, entries[1:])
+            if one.key[0] == other.key[0] and one.at < other.at]
+
+
+def usual_day(steps: List[Step]) -> float:
+    """The median of the days of steps, each as often as it has days; 0 where there are too few."""
+    days = sum(step.days for step in steps)
+    if len(steps) < FEWEST_STEPS or days < FEWEST_DAYS:
+        return 0
+    ordered = sorted(steps, key=lambda step: step.use)
+    before = itertools.accumulate(step.days for step in ordered)
+    return next(step.use for step, until in zip(ordered, before) if until >= days / 2)
+
+
+def is_held(place: Place, entries: List[Value], period: Period, elsewhere: float) -> bool:
+    """Whether a person has to say why a step of the period is right. It is ten times a usual day of the place, per day
+    of its length, or five times at an exchange. Where nothing is usual there, as in an empty flat: ten times a day of
+    the year before or of other flats (`elsewhere`), or more than is never held where that isn't known either."""
+    steps, little = steps_of(entries), LITTLE[place.quantity]
+    usual = usual_day(steps)
+    touching = [step for step in steps if period.begins < step.other.at and step.one.at < period.ends]
+    if usual == 0:
+        return any(step.use > little / 10 and step.use >= LEAP * elsewhere if elsewhere > 0 else step.use > little
+                   for step in touching)
+    return any(step.use >= LEAP * usual and step.use > little or step.use >= LEAP_AT_EXCHANGE * usual
+               and step.is_at_exchange for step in touching)
 
 HOUSES_A_TURN = 25  # whose values are in memory at once
 MONTH_USE = "month_use (month, place, part, begins, ends, tenancy, amount, grade, is_held, basis, version)"
 FROZEN = "frozen_values (month, place, version, entries, evidence, meters)"
 # Of these houses: the present version of a month, and whether it is out
 VERSIONS = """
-SELECT h.house, version_of(h.house, %(month)s), EXISTS (
+SELECT h.house, version_of(h.house, %(month)s) AS version, EXISTS (
     SELECT FROM versions v WHERE (v.house, v.month, v.version) = (h.house, %(month)s, version_of(h.house, %(month)s))
-      AND v.out_at IS NOT NULL)
+      AND v.out_at IS NOT NULL) AS is_out
 FROM houses h WHERE h.house = ANY (%(houses)s) ORDER BY h.house"""
 OPEN_ROWS = (
     "DELETE FROM {} k USING places p WHERE p.id = k.place AND k.month = %s AND k.version = version_of(p.house, %s)"
@@ -65,69 +153,73 @@ WHERE c.house = ANY (%s) AND day_begins((c.month + interval '1 month')::date, h.
 # Whoever adds a row waits for this, or is waited for
 TAKEN = ("SELECT FROM to_compute WHERE month = %s AND house = ANY (%s) ORDER BY house FOR UPDATE",
          "DELETE FROM to_compute WHERE month = %s AND house = ANY (%s)")
-PLACES = """
-SELECT p.id, concat_ws('/', p.house, p.flat, p.use, p.number), u.quantity FROM places p JOIN uses u ON u.use = p.use
-WHERE p.house = %s"""
-Job = Tuple[str, datetime.date, List[str]]
+PLACE_NAMES = """
+SELECT p.id, concat_ws('/', p.house, p.flat, p.use, p.number) AS place, u.quantity FROM places p
+JOIN uses u ON u.use = p.use WHERE p.house = %s"""
+Counts = Dict[str, int]  # of places, by grade
+Work = Callable[[Database, List[str]], Any]  # over some houses
 Number = Tuple[Optional[int], str]  # amount in the smallest unit, and grade
 
 
 class Split(NamedTuple):
     """A place, its entries around a month, and the month's periods: the whole, then each user's part."""
     place: Place
-    entries: List[Entry]
+    entries: List[Value]
     periods: List[Period]
 
+    @property
+    def parts(self) -> List[Period]:
+        """Those that add up to the whole."""
+        return self.periods[1:] or self.periods
 
-def split(place: Place, first: datetime.date, after: datetime.date, tenancies: List[Tenancy],
+
+def split(place: Place, first: datetime.date, after: datetime.date, tenancies: List[Row],
           at_exchanges: bool = False) -> Split:
     """The periods of these days in which the place had a meter: by users and, if wanted, by meters."""
     last = place.fittings[-1].ends
     begins = max(begin_of(first, place.zone), place.fittings[0].begins)
     ends = begin_of(after, place.zone)
     ends = min(ends, last) if last is not None else ends
-    users = [tenancy for tenancy in tenancies if begin_of(tenancy.begins, place.zone) < ends
-             and (tenancy.ends is None or begin_of(tenancy.ends, place.zone) > begins)]
-    cuts = {begins, ends}
-    for tenancy in users:
-        cuts |= {begin_of(day, place.zone) for day in (tenancy.begins, tenancy.ends) if day is not None}
+    users = [(begin_of(it.begins, place.zone), begin_of(it.ends, place.zone) if it.ends else None, it.id)
+             for it in tenancies]
+    cuts = {begins, ends, *(moment for user in users for moment in user[:2] if moment is not None)}
     if at_exchanges:
         cuts |= {fitting.begins for fitting in place.fittings}
     moments = [moment for moment in sorted(cuts) if begins <= moment <= ends]
-    parts = [Period(number, one, other, user_at(users, one, place.zone))
+    parts = [Period(number, one, other, user_at(users, one))
              for number, (one, other) in enumerate(zip(moments, moments[1:]), 1)]
     whole = Period(0, begins, ends, parts[0].tenancy if len(parts) == 1 else None)
-    return Split(place, needed(place.entries(), begins, ends), [whole, *parts] if len(parts) > 1 else [whole])
+    entries = place.entries()
+    earliest, latest = needed((entry.at for entry in entries), begins, ends)
+    return Split(place, [entry for entry in entries if earliest <= entry.at <= latest],
+                 [whole, *parts] if len(parts) > 1 else [whole])
 
 
-def user_at(users: List[Tenancy], moment: datetime.datetime, zone: str) -> Optional[int]:
-    return next((user.id for user in users if begin_of(user.begins, zone) <= moment
-                 and (user.ends is None or moment < begin_of(user.ends, zone))), None)
+def user_at(users: List[Tuple[datetime.datetime, Optional[datetime.datetime], int]],
+            moment: datetime.datetime) -> Optional[int]:
+    return next((user for begins, ends, user in users if begins <= moment and (ends is None or moment < ends)), None)
 
 
 def window_at(one: Split, first: datetime.date, after: datetime.date) -> Window:
     """What decides a split of the days from the first one to the one before `after`."""
-    zone, parts = one.place.zone, one.periods[1:] or one.periods
-    return window_of(one.place, one.entries, [Part(seconds(it.begins), seconds(it.ends), it.tenancy) for it in parts],
-                     seconds(begin_of(first, zone)), seconds(begin_of(after, zone)))
+    parts = [Part(seconds(it.begins), seconds(it.ends), it.tenancy) for it in one.parts]
+    return window_of(one.place, one.entries, parts, *(seconds(begin_of(day, one.place.zone)) for day in (first, after)))
 
 
 def graded_periods(cursor: Cursor, splits: List[Split], first: datetime.date,
                    after: datetime.date) -> Iterator[Tuple[Split, Period, Graded]]:
-    """Each period of the days from the first one to the one before `after`, with its amount and grade.
-    Where a house's file is at fault, all of it is unclear.
-
-    Raises NotComputed."""
+    """Each period of the days from the first one to the one before `after`, with its amount and grade. Where a house's
+    file is at fault, all of it is unclear. Raises NotComputed."""
     windows = {one.place.id: window_at(one, first, after) for one in splits}
+    # whose parts are nobody's: amounts and grades don't depend on it
+    nobodys = {place: window._replace(parts=[part._replace(user=None) for part in window.parts])
+               for place, window in windows.items()}
     bodies = bodies_of(cursor, windows.values())
-    of_houses: Dict[str, List[Split]] = {}
-    for one in splits:
-        of_houses.setdefault(one.place.house, []).append(one)
-    for of_house in of_houses.values():
+    for of_house in grouped((one.place.house, one) for one in splits).values():
         writer = Writer(bodies, {})
         writer.lines += [f"audit,1,{first:%Y-%m}", span_line(1, first, after, of_house[0].place.zone),
                          *use_lines(cursor, {it.place.use for it in of_house})]
-        begins = [writer.window(1, nobodys(windows[it.place.id]),
+        begins = [writer.window(1, nobodys[it.place.id],
                                 [shown_line(period, "smallest", 0) for period in it.periods], {}) for it in of_house]
         try:
             lines = filled([*writer.lines, "totals", "end"]).lines
@@ -136,11 +228,6 @@ def graded_periods(cursor: Cursor, splits: List[Split], first: datetime.date,
         for one, begin in zip(of_house, begins):
             for at, period in enumerate(one.periods, begin):
                 yield one, period, graded(*lines[at].split(",")[-2:]) if lines else Graded(None, UNCLEAR)
-
-
-def nobodys(window: Window) -> Window:
-    """A window whose parts are nobody's: amounts and grades don't depend on it."""
-    return window._replace(parts=[part._replace(user=None) for part in window.parts])
 
 
 def shown_line(period: Period, unit: str, decimals: int) -> str:
@@ -156,39 +243,30 @@ def splits_of(cursor: Cursor, houses: List[str], first: datetime.date, after: da
             for place in places_of(cursor, houses, first, after)]
 
 
-def write_month(cursor: Cursor, month: datetime.date, houses: List[str]) -> "collections.Counter[str]":
-    """Computes a month of these houses.
-    Where it is open its rows are written anew; where it is out, and would be another now, that is noted (`changes`).
-    Counts the grades."""
+def write_month(cursor: Cursor, month: datetime.date, houses: List[str]) -> Counts:
+    """Computes a month of these houses. Where it is open its rows are written anew; where it is out, and would be
+    another now, that is noted (`changes`). Counts the grades."""
     lock(cursor, month, houses)
-    cursor.execute(VERSIONS, {"month": month, "houses": houses})
-    versions = {house: (version, is_out) for house, version, is_out in cursor}
-    open_houses = [house for house, (_, is_out) in versions.items() if not is_out]
+    versions = {it.house: it for it in rows_of(cursor, VERSIONS, month=month, houses=houses)}
+    open_houses = [house for house, it in versions.items() if not it.is_out]
     splits = splits_of(cursor, houses, month, next_month(month))
+    found = list(graded_periods(cursor, splits, month, next_month(month)))
     elsewhere = days_elsewhere(cursor, month, splits)
-    rows: List[Tuple[Any, ...]] = []
-    now: Dict[str, List[Tuple[Any, ...]]] = {house: [] for house in houses}
-    counts: "collections.Counter[str]" = collections.Counter()
-    for one, period, found in graded_periods(cursor, splits, month, next_month(month)):
-        version, is_out = versions[one.place.house]
-        counts[found.grade] += period.part == 0
-        now[one.place.house].append((one.place.id, *period, found.amount, found.grade))
-        if not is_out:
-            held = is_held(one.place, one.entries, period, elsewhere.get(one.place.id, 0))
-            rows.append((month, one.place.id, period.part, period.begins, period.ends, period.tenancy, found.amount,
-                         found.grade, held, Json(basis_of(one.entries, period)), version))
     for table in ("frozen_values", "month_use"):
         cursor.execute(OPEN_ROWS.format(table), (month, month, open_houses))
-    insert(cursor, MONTH_USE, rows)
-    insert(cursor, FROZEN, [(month, one.place.id, versions[one.place.house][0], frozen(one), Json(evidence(one)),
-                             Json([run for fitting in one.place.fittings for run in fitting.runs()]))
-                            for one in splits if not versions[one.place.house][1]])
+    insert(cursor, MONTH_USE, [(month, one.place.id, *period, number.amount, number.grade,
+         is_held(one.place, one.entries, period, elsewhere.get(one.place.id, 0)),
+         Json([it.basis() for it in basis_of(one.entries, period)]), versions[one.place.house].version)
+        for one, period, number in found if not versions[one.place.house].is_out])
+    insert(cursor, FROZEN, [(month, one.place.id, versions[one.place.house].version, *frozen(one))
+                            for one in splits if not versions[one.place.house].is_out])
     cursor.execute(VOID, (month, open_houses))
     for house in versions.keys() - set(open_houses):
-        note_change(cursor, month, house, now[house])
+        note_change(cursor, month, house, [(one.place.id, *period, *number) for one, period, number in found
+                                           if one.place.house == house])
     for query in (BILLS, VOID_BILLS):
         cursor.execute(query, (houses, month, next_month(month)))
-    return counts
+    return collections.Counter(number.grade for _, period, number in found if period.part == 0)
 
 
 def days_elsewhere(cursor: Cursor, month: datetime.date, splits: List[Split]) -> Dict[int, float]:
@@ -200,8 +278,8 @@ def days_elsewhere(cursor: Cursor, month: datetime.date, splits: List[Split]) ->
         means[one.place.house, one.place.use][one.place.id] = mean
     others = {place: [it for other, it in of_use.items() if other != place and it > 0] for of_use in means.values()
               for place in of_use}
-    cursor.execute(BEFORE, (later_month(month, -12), list(others)))
-    return {**{place: statistics.median(days) for place, days in others.items() if days}, **dict(cursor.fetchall())}
+    before = dict(rows_of(cursor, BEFORE, later_month(month, -12), list(others)))
+    return {**{place: statistics.median(days) for place, days in others.items() if days}, **before}
 
 
 def lock(cursor: Cursor, month: datetime.date, houses: List[str]) -> None:
@@ -209,24 +287,18 @@ def lock(cursor: Cursor, month: datetime.date, houses: List[str]) -> None:
     cursor.execute(LOCKED, (f" {month:%Y-%m}", houses))
 
 
-def frozen(one: Split) -> str:
-    """The entries that a place's month is computed from, one after the other, as an array of the database."""
-    return f"{{{','.join(str(number) for entry in one.entries for number in entry.line)}}}"
+def frozen(one: Split) -> Tuple[str, Json, Json]:
+    """What a place's month is computed from: entries, one after the other; where each comes from; and the runs."""
+    entries = ",".join(str(number) for entry in one.entries for number in entry.line)
+    runs = [run for fitting in one.place.fittings for run in fitting.runs()]
+    return f"{{{entries}}}", Json([entry.evidence for entry in one.entries]), Json(runs)
 
 
-def evidence(one: Split) -> List[List[Any]]:
-    """Where each of these entries comes from: source, value, unit, whether it is an estimate, and its telegram."""
-    values = [entry.value for entry in one.entries]
-    return [[it.source, it.shown, it.unit, it.is_estimated, it.box, *(it.telegram or [])] for it in values]
-
-
-def note_change(cursor: Cursor, month: datetime.date, house: str, rows: List[Tuple[Any, ...]]) -> None:
+def note_change(cursor: Cursor, month: datetime.date, house: str, now: List[Tuple[Any, ...]]) -> None:
     """Notes whether a month that is out would be another."""
-    cursor.execute(OUT, (month, house))
-    out, now = by_period(cursor.fetchall()), by_period(rows)
-    cursor.execute(PLACES, (house,))
-    places = {place: (name, quantity) for place, name, quantity in cursor}
-    found = differences(out, now, lambda key: places[key[0]])
+    places = {it.id: it for it in rows_of(cursor, PLACE_NAMES, house)}
+    found = differences(by_period(rows_of(cursor, OUT, month, house)), by_period(now),
+                        lambda key: (places[key[0]].place, places[key[0]].quantity))
     if found is None:
         cursor.execute("DELETE FROM changes WHERE (house, month) = (%s, %s)", (house, month))
     else:
@@ -242,63 +314,61 @@ def differences(out: Mapping[Any, Number], now: Mapping[Any, Number],
     return Json({"numbers": first, "more": len(wrong) - len(first)}) if wrong else None
 
 
-def by_period(rows: List[Tuple[Any, ...]]) -> Dict[Any, Number]:
+def by_period(found: Sequence[Tuple[Any, ...]]) -> Dict[Any, Number]:
     """Amount and grade of each place's month and of each user's part, by place, begin and end.
     (Who was forgotten has none.)"""
-    return {(place, begins, ends): (amount, grade) for place, part, begins, ends, tenancy, amount, grade in rows
+    return {(place, begins, ends): (amount, grade) for place, part, begins, ends, tenancy, amount, grade in found
             if part == 0 or tenancy is not None}
 
 
 def kept_month(cursor: Cursor) -> Optional[datetime.date]:
     """The first month of which the values of all days are there; None where none were dropped."""
-    cursor.execute(KEPT)
-    row = cursor.fetchone()
-    return None if row is None else row[0]
+    month: Optional[datetime.date] = value_of(cursor, KEPT)
+    return month
 
 
 def waiting(cursor: Cursor, houses: List[str]) -> Dict[datetime.date, List[str]]:
     """The months that are to be computed, with their houses, of these."""
-    cursor.execute(WAITING, (houses,))
-    return {month: of_month for month, of_month in cursor}
+    return dict(rows_of(cursor, WAITING, houses))
 
 
-def work(job: Job) -> "collections.Counter[str]":
-    """Writes a month of some houses, in a transaction of its own."""
-    name, month, houses = job
-    database = Database(name, SECONDS)
-    with database.transaction() as cursor:
-        counts = taken(cursor, month, houses)
-    database.close()
-    return counts
-
-
-def taken(cursor: Cursor, month: datetime.date, houses: List[str]) -> "collections.Counter[str]":
+def taken(cursor: Cursor, month: datetime.date, houses: List[str]) -> Counts:
     """Takes a month of some houses out of what is to be computed, and writes it."""
     for statement in TAKEN:
         cursor.execute(statement, (month, houses))
     return write_month(cursor, month, houses)
 
 
-def computed(name: str, wanted: Dict[datetime.date, List[str]], workers: int
-             ) -> "Iterator[Tuple[datetime.date, collections.Counter[str]]]":
-    """Writes months of houses, in so many processes; the grades of each."""
-    with pool_of(workers, max(wanted.values(), key=len, default=[])) as pool:
-        for month, houses in sorted(wanted.items()):
-            total: "collections.Counter[str]" = collections.Counter()
-            for counts in pool.imap_unordered(work, [(name, month, turn) for turn in turns(houses)]):
-                total.update(counts)
-            yield month, total
+def written(month: datetime.date, database: Database, houses: List[str]) -> Counts:
+    """The same, in a transaction of its own."""
+    with database.transaction() as cursor:
+        return taken(cursor, month, houses)
 
 
-def counted(month: datetime.date, counts: "collections.Counter[str]") -> str:
+def computed(database: Database, month: datetime.date, houses: List[str], workers: int) -> Counts:
+    """Writes a month of houses, in so many processes."""
+    counts: "collections.Counter[str]" = collections.Counter()
+    for of_turn in in_turns(database, workers, functools.partial(written, month), houses):
+        counts.update(of_turn)
+    return counts
+
+
+def counted(month: datetime.date, counts: Counts) -> str:
     """The line of a month."""
-    told = ", ".join(f"{counts[grade]} {grade}" for grade in GRADES if counts[grade])
-    return f"{month:%Y-%m}: {counts.total()} places{': ' if told else ''}{told}"
+    told = ", ".join(f"{counts[grade]} {grade}" for grade in GRADES if counts.get(grade))
+    return f"{month:%Y-%m}: {sum(counts.values())} places{': ' if told else ''}{told}"
 
 
-def pool_of(workers: int, houses: List[str]) -> multiprocessing.pool.Pool:
-    """Processes for the turns of these houses."""
-    return multiprocessing.Pool(min(workers, max(1, -(-len(houses) // HOUSES_A_TURN))))
+def in_turns(database: Database, workers: int, work: Work, houses: List[str]) -> Iterator[Any]:
+    """What a work makes of these houses, some at a time, in so many processes; each has a connection of its own."""
+    database.close()
+    with multiprocessing.Pool(min(workers, max(1, -(-len(houses) // HOUSES_A_TURN)))) as pool:
+        yield from pool.imap_unordered(functools.partial(a_turn, database.name, work), turns(houses))
+
+
+def a_turn(name: str, work: Work, houses: List[str]) -> Any:
+    with contextlib.closing(Database(name, SECONDS)) as database:
+        return work(database, houses)
 
 
 def turns(houses: List[str]) -> Iterator[List[str]]:
@@ -309,12 +379,9 @@ def turns(houses: List[str]) -> Iterator[List[str]]:
 
 
 def houses_of(database: Database, named: Sequence[str]) -> List[str]:
-    """The houses with these names, or all of them.
-
-    Raises LookupError where there is none of a name."""
+    """The houses with these names, or all of them. Raises LookupError where there is none of a name."""
     with database.transaction() as cursor:
-        cursor.execute("SELECT house FROM houses ORDER BY house")
-        houses = [row[0] for row in cursor]
+        houses = column_of(cursor, "SELECT house FROM houses ORDER BY house")
     for name in named:
         if name not in houses:
             raise LookupError(f"no house: {name}")

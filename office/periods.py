@@ -4,44 +4,37 @@ import argparse
 import datetime
 import re
 import zoneinfo
-from typing import NoReturn, Tuple
 
-MONTH = re.compile(r"(\d{4})-(\d\d)")
+from psycopg2.extras import DateRange
+
+MONTH, YEAR = re.compile(r"\d{4}-\d\d"), re.compile(r"\d{4}")
 PERIOD = re.compile(r"(\d{4}-\d\d-\d\d)\.\.(\d{4}-\d\d-\d\d)")
-YEAR = re.compile(r"\d{4}")
+DAY = datetime.timedelta(days=1)
+
+
+def day_word(text: str, what: str = "day, as 2025-01-31", of: str = "{}") -> datetime.date:
+    """A day, as 2025-01-31."""
+    try:
+        return datetime.date.fromisoformat(of.format(text))
+    except ValueError:
+        raise argparse.ArgumentTypeError(f"no {what}: {text!r}") from None
 
 
 def month_word(text: str) -> datetime.date:
     """The first day of a month, as 2025-01."""
-    found = MONTH.fullmatch(text)
-    try:
-        return datetime.date(int(found[1]), int(found[2]), 1) if found else wrong(text, "month, as 2025-01")
-    except ValueError:
-        return wrong(text, "month, as 2025-01")
+    return day_word(text, "month, as 2025-01", "{}-01" if MONTH.fullmatch(text) else "")
 
 
-def day_word(text: str) -> datetime.date:
-    """A day, as 2025-01-31."""
-    try:
-        return datetime.date.fromisoformat(text)
-    except ValueError:
-        return wrong(text, "day, as 2025-01-31")
-
-
-def period_word(text: str) -> Tuple[datetime.date, datetime.date]:
-    """The first and the last day of a period: a year, a month, or DAY..DAY."""
+def period_word(text: str) -> DateRange:
+    """The days of a period: a year, a month, or DAY..DAY."""
     found = PERIOD.fullmatch(text)
     if found:
         first, last = day_word(found[1]), day_word(found[2])
-        return (first, last) if first <= last else wrong(text, "period: it ends before it begins")
-    if YEAR.fullmatch(text) and int(text) > 0:
-        return datetime.date(int(text), 1, 1), datetime.date(int(text), 12, 31)
-    first = month_word(text)
-    return first, day_before(next_month(first))
-
-
-def wrong(text: str, what: str) -> NoReturn:
-    raise argparse.ArgumentTypeError(f"no {what}: {text!r}")
+        if first > last:
+            raise argparse.ArgumentTypeError(f"no period: it ends before it begins: {text!r}")
+        return DateRange(first, last + DAY)
+    first = month_word(f"{text}-01" if YEAR.fullmatch(text) else text)
+    return DateRange(first, later_month(first, 12 if YEAR.fullmatch(text) else 1))
 
 
 def later_month(month: datetime.date, count: int) -> datetime.date:
@@ -52,14 +45,6 @@ def later_month(month: datetime.date, count: int) -> datetime.date:
 
 def next_month(month: datetime.date) -> datetime.date:
     return later_month(month, 1)
-
-
-def day_before(day: datetime.date) -> datetime.date:
-    return day - datetime.timedelta(days=1)
-
-
-def day_after(day: datetime.date) -> datetime.date:
-    return day + datetime.timedelta(days=1)
 
 
 def begin_of(day: datetime.date, zone: str) -> datetime.datetime:

@@ -14,23 +14,29 @@ from typing import Callable, Iterator, List, NamedTuple, Optional, Tuple, TypeVa
 import psycopg2
 
 from box_commands import change_of
-from database import Cursor, Database, Row, insert, one
+from database import Cursor, Database, insert, row_of, rows_of, value_of
 from decoding import Undecoded
 from link import PAGE, Command, Disagreement, Link, Meter, Reading, Seen, Unreached
-from stamps import Window
-from storing import store_readings, stored
+from storing import Window, store_readings, stored
 
 LONGEST_PAUSE = 60  # seconds between two tries
 PAGES = 100  # of a collection of a box
 REFUSALS = ("SYNTAX", "KNOWN", "UNKNOWN", "ADDRESS", "FULL")  # of an order; its number is used again
 NO_BOX = "there is no such box in the database"
-QUEUED = "state = 'queued'"
+PENDING, QUEUED = "state = 'pending'", "state = 'queued'"
 IS_OPEN = "state IN ('pending', 'queued')"  # in the words of the index open_orders
+IT_WAS = "line = %s AND (state = 'queued' OR state IN ('pending', 'refused') AND number = %s)"
 TRANSIENT = (Unreached, Undecoded, psycopg2.Error)  # a lost database is any psycopg2.Error
 # What a command that the box can't have done is to the database, which doesn't take it
 IMPOSSIBLE = (Disagreement, psycopg2.IntegrityError, psycopg2.DataError, psycopg2.InternalError)
-COLUMNS = "id, line, confirms, number, state, answer"  # of an Order
 LAST_SERIAL = 2**63 - 1
+KNOWN = "SELECT command, identity, number, confirmed FROM boxes WHERE name = %s FOR NO KEY UPDATE"
+STANDING = "SELECT number, confirmed FROM boxes WHERE name = %s"
+ORDERS = "SELECT id, line, confirms, number, state, answer FROM orders WHERE box = %s AND "
+QUEUE = "INSERT INTO orders (box, key, line) VALUES (%s, %s, %s) ON CONFLICT (box, key) DO NOTHING RETURNING id"
+CONFIRM = ("INSERT INTO orders (box, line, confirms, number, state) VALUES (%s, %s, %s, %s, 'pending')" " RETURNING id")
+NUMBER = "UPDATE orders SET state = 'pending', number = %s, answer = NULL WHERE id = %s"
+END = "UPDATE orders SET state = %s, answer = %s, ended_at = now() WHERE id = %s"
 
 Result = TypeVar("Result")
 
@@ -54,20 +60,8 @@ class Order(NamedTuple):
     answer: Optional[str]
 
 
-class Standing(NamedTuple):
-    """A box's state: the number of its last command, and the serial up to which it has confirmed."""
-    number: int
-    confirmed: int
-
-
-class Page(NamedTuple):
-    """A page that was taken: how many readings were new, and whether the box has no more."""
-    new: int
-    is_all: bool
-
-
-def order_of(row: Row) -> Order:
-    return Order(*row)._replace(state=State(row[4]))
+# A box's state: the number of its last command, and the serial up to which it has confirmed
+Standing = NamedTuple("Standing", [("number", int), ("confirmed", int)])
 
 
 class Visit:
@@ -80,69 +74,57 @@ class Visit:
         self.is_checked, self.stored_count = False, 0
         self.own: Optional[int] = None
 
-    def transaction(self) -> "contextlib.AbstractContextManager[Cursor]":
-        return self.database.transaction()
-
     @contextlib.contextmanager
     def locked(self) -> Iterator[Tuple[Cursor, Link, Optional[Standing]]]:
         """A transaction that holds the lock of the box's row: cursor, link, and what is known (None: never reached)."""
-        with self.transaction() as cursor:
-            cursor.execute("SELECT command, identity, number, confirmed FROM boxes WHERE name = %s FOR NO KEY UPDATE",
-                           (self.box,))
-            row = cursor.fetchone()
+        with self.database.transaction() as cursor:
+            row = row_of(cursor, KNOWN, self.box)
             if row is None:
                 raise Disagreement(NO_BOX)
-            command, identity, number, confirmed = row
-            yield cursor, Link(self.box, command, self.timeout,
-                               identity), None if number is None else Standing(number, confirmed)
+            link = Link(self.box, row.command, self.timeout, row.identity)
+            yield cursor, link, None if row.number is None else Standing(row.number, row.confirmed)
 
     def retried(self, work: Callable[[], Result], tries: int, pause: float) -> Result:
         """What `work` returns; after a transient failure it is done again, later and later."""
-        for attempt in range(tries - 1):
+        for attempt in range(tries):
             try:
                 return work()
             except TRANSIENT as fault:
-                self.forget(fault)
+                self.is_checked, self.own = False, None  # nothing is taken from before
+                if isinstance(fault, psycopg2.Error):
+                    self.database.close()
+                if attempt == tries - 1:
+                    raise
                 time.sleep(min(LONGEST_PAUSE, pause * 2 ** attempt) * random.uniform(0.5, 1))
-        try:
-            return work()
-        except TRANSIENT as fault:
-            self.forget(fault)
-            raise
-
-    def forget(self, fault: BaseException) -> None:
-        """After a failure nothing is taken from before."""
-        self.is_checked, self.own = False, None
-        if isinstance(fault, psycopg2.Error):
-            self.database.close()
+        raise AssertionError("no try")
 
     # ---- orders
 
     def queue(self, lines: List[str], key: str) -> List[int]:
         """Puts orders into the table, each once for the key and its place; returns their ids."""
-        with self.transaction() as cursor:  # its lock isn't needed: it may be held for long
-            cursor.execute("SELECT FROM boxes WHERE name = %s", (self.box,))
-            if cursor.fetchone() is None:
+        with self.database.transaction() as cursor:  # its lock isn't needed: it may be held for long
+            if row_of(cursor, "SELECT FROM boxes WHERE name = %s", self.box) is None:
                 raise Disagreement(NO_BOX)
             return [self.queue_one(cursor, line, f"{key}.{place}") for place, line in enumerate(lines, 1)]
 
     def queue_one(self, cursor: Cursor, line: str, key: str) -> int:
-        cursor.execute("INSERT INTO orders (box, key, line) VALUES (%s, %s, %s)"
-                       " ON CONFLICT (box, key) DO NOTHING RETURNING id", (self.box, key, line))
-        row = cursor.fetchone()
-        if row is None:
-            cursor.execute("SELECT id, line FROM orders WHERE box = %s AND key = %s", (self.box, key))
-            row = one(cursor)
-            if row[1] != line:
-                raise Disagreement(f"the key {key} is that of another order: {row[1]}")
-        return int(row[0])
+        order_id = value_of(cursor, QUEUE, self.box, key, line)
+        if order_id is None:
+            order = self.order(cursor, "key = %s", key)
+            assert order is not None
+            if order.line != line:
+                raise Disagreement(f"the key {key} is that of another order: {order.line}")
+            order_id = order.id
+        return int(order_id)
+
+    def orders(self, cursor: Cursor, where: str, *values: object) -> List[Order]:
+        """The orders of the box of which that is so."""
+        found = rows_of(cursor, ORDERS + where, self.box, *values)
+        return [Order(*row)._replace(state=State(row.state)) for row in found]
 
     def order(self, cursor: Cursor, where: str, *values: object) -> Optional[Order]:
-        """The first order of the box of which that is so, or None."""
-        cursor.execute(f"SELECT {COLUMNS} FROM orders WHERE box = %s AND {where} ORDER BY id LIMIT 1",
-                       (self.box, *values))
-        row = cursor.fetchone()
-        return order_of(row) if row else None
+        """The first one, or None."""
+        return next(iter(self.orders(cursor, f"{where} ORDER BY id LIMIT 1", *values)), None)
 
     def settle(self) -> None:
         """Sends the pending order again, and then one queued order after the other."""
@@ -152,13 +134,13 @@ class Visit:
                 self.send(order_id)
 
     def has_open_orders(self) -> bool:
-        with self.transaction() as cursor:
+        with self.database.transaction() as cursor:
             return self.order(cursor, IS_OPEN) is not None
 
     def numbered(self) -> Optional[int]:
         """The id of the order to be sent: the pending one, or the first queued one, which gets its number here."""
         with self.locked() as (cursor, link, known):
-            first = self.order(cursor, "state = 'pending'") or self.order(cursor, QUEUED)
+            first = self.order(cursor, PENDING) or self.order(cursor, QUEUED)
             if first is None or first.state is State.PENDING:
                 return first.id if first else None
             if not self.is_checked or known is None:
@@ -171,13 +153,13 @@ class Visit:
 
     def number(self, cursor: Cursor, order_id: int, number: int) -> None:
         """Makes an order pending; it is committed before it is sent."""
-        cursor.execute("UPDATE orders SET state = 'pending', number = %s WHERE id = %s", (number, order_id))
+        cursor.execute(NUMBER, (number, order_id))
         self.is_checked, self.own = True, order_id
 
     def send(self, order_id: int) -> None:
         """Sends a pending order, word for word as it stands in the table, and notes the answer."""
         with self.locked() as (cursor, link, known):
-            order = self.order(cursor, "state = 'pending' AND id = %s", order_id)
+            order = self.order(cursor, f"{PENDING} AND id = %s", order_id)
             if order is None:
                 return  # another visit has sent it
             if order.id != self.own and not self.is_to_be_sent(cursor, link, known, order):
@@ -186,20 +168,16 @@ class Visit:
             self.note(cursor, link, order, link.run([f"{order.number} {order.line}"])[0][-1])
 
     def is_to_be_sent(self, cursor: Cursor, link: Link, known: Optional[Standing], order: Order) -> bool:
-        """Checks an order that another visit left pending.
-
-        It was done, or the box is as the database knows it, and still shows what a CONFIRM confirms. False where a
-        refused order took its number.
-
-        Raises Disagreement."""
+        """Checks an order that another visit left pending. It was done, or the box is as the database knows it, and
+        still shows what a CONFIRM confirms. False where a refused order took its number. Raises Disagreement."""
         if known is None or order.number is None:
             raise Disagreement(f"order {order.number} is pending, and the database doesn't know the box's last number")
         seen = link.look(known.confirmed + 1)
         if self.caught_up(cursor, link, known, seen) != known:
             return False
-        if seen.number == order.number and self.took_its_number(cursor, link, order):
-            return False
         if seen.number == order.number:  # it was done, if that was its line: the box compares it
+            if self.took_its_number(cursor, link, order):
+                return False
             self.check_state(cursor, Standing(order.number, order.confirms or known.confirmed), seen,
                              order.confirms is not None)
             return True
@@ -211,9 +189,7 @@ class Visit:
         return True
 
     def note(self, cursor: Cursor, link: Link, order: Order, answer: str) -> None:
-        """Notes the answer to an order.
-
-        Raises Disagreement where it is none that the box in the database can give."""
+        """Notes the answer to an order. Raises Disagreement where it is none that the box in the database can give."""
         refused = re.fullmatch(r"ERR (\w+)", answer)
         if answer == f"OK {order.number}":
             self.note_done(cursor, order)
@@ -224,16 +200,20 @@ class Visit:
             raise Disagreement(f"order {order.number} {order.line} was answered {answer}")
 
     def note_done(self, cursor: Cursor, order: Order) -> None:
-        """What an order that is done changes."""
+        """What an order that is done changes.
+
+        Raises Disagreement where this office doesn't know the command: a newer one put it into the table."""
         cursor.execute("UPDATE boxes SET number = %s, confirmed = coalesce(%s, confirmed) WHERE name = %s",
                        (order.number, order.confirms, self.box))
         if order.confirms is None:
-            self.change_meters(cursor, order)
+            change = change_of(self.box, order.line)
+            if change is None:
+                raise Disagreement(f"order {order.number} {order.line} is none that this office knows")
+            cursor.execute(*change)
         self.end(cursor, order.id, State.DONE, f"OK {order.number}")
 
     def end(self, cursor: Cursor, order_id: int, state: State, answer: str) -> None:
-        cursor.execute("UPDATE orders SET state = %s, answer = %s, ended_at = now() WHERE id = %s",
-                       (state.value, answer, order_id))
+        cursor.execute(END, (state.value, answer, order_id))
 
     # ---- a refused order that was done later: a copy of it was on its way, and the box could do it then
 
@@ -256,16 +236,10 @@ class Visit:
             self.end(cursor, order.id, State.GIVEN_UP, "another order took its number")
 
     def done_late(self, cursor: Cursor, link: Link, number: Optional[int]) -> Optional[Order]:
-        """The refused order that the box did as its last one, of that number, or None.
-        The box says which: it answers the line of its last number OK again, and any other line of that number ERR
-        ORDER."""
-        cursor.execute(
-            f"SELECT {COLUMNS} FROM orders WHERE box = %s AND state = 'refused' AND number = %s ORDER BY id DESC",
-            (self.box, number))
-        for order in map(order_of, cursor.fetchall()):
-            if link.run([f"{number} {order.line}"])[0][-1] == f"OK {number}":
-                return order
-        return None
+        """The refused order that the box did as its last one, of that number, or None. The box says which: it answers
+        the line of its last number OK again, and any other line of that number ERR ORDER."""
+        refused = self.orders(cursor, "state = 'refused' AND number = %s ORDER BY id DESC", number)
+        return next((it for it in refused if link.run([f"{number} {it.line}"])[0][-1] == f"OK {number}"), None)
 
     # ---- what was done at the box itself, as its journal has it
 
@@ -277,14 +251,12 @@ class Visit:
         if seen.number <= known.number:
             return known
         commands = link.commands(known.number + 1, seen.number)
-        if len(commands) != seen.number - known.number or any(it.number != number for number,
-                                                              it in enumerate(commands, known.number + 1)):
+        if [it.number for it in commands] != list(range(known.number + 1, seen.number + 1)):
             return known
         cursor.execute("SAVEPOINT journal")
         try:
             self.replay(cursor, link, commands)
-            cursor.execute("SELECT number, confirmed FROM boxes WHERE name = %s", (self.box,))
-            standing = Standing(*one(cursor))
+            standing = Standing(*rows_of(cursor, STANDING, self.box)[0])
             self.check_state(cursor, standing, seen)
         except IMPOSSIBLE:
             cursor.execute("ROLLBACK TO SAVEPOINT journal")
@@ -297,20 +269,17 @@ class Visit:
         Raises Disagreement where the last one isn't the box's last, and at a CONFIRM that no order was."""
         if link.run([" ".join(map(str, commands[-1]))])[0][-1] != f"OK {commands[-1].number}":
             raise Disagreement("the journal's last line isn't the box's")
-        pending = self.order(cursor, "state = 'pending'")
+        pending = self.order(cursor, PENDING)
         if pending is not None and Command(pending.number or 0, pending.line) not in commands:
             self.give_back(cursor, pending)
         for number, line in commands:
-            order = self.order(cursor,
-                               "line = %s AND (state = 'queued' OR state IN ('pending', 'refused') AND number = %s)",
-                               line, number)
+            order = self.order(cursor, IT_WAS, line, number)
             if order is not None:
-                cursor.execute("UPDATE orders SET state = 'pending', number = %s, answer = NULL WHERE id = %s",
-                               (number, order.id))
+                cursor.execute(NUMBER, (number, order.id))
             else:
                 cursor.execute("INSERT INTO orders (box, line, number, state) VALUES (%s, %s, %s, 'pending')",
                                (self.box, line, number))
-            done = self.order(cursor, "state = 'pending'")
+            done = self.order(cursor, PENDING)
             assert done is not None
             self.note_done(cursor, done)
 
@@ -342,14 +311,11 @@ class Visit:
         return Standing(seen.number, seen.confirmed), seen
 
     def keep_identity(self, cursor: Cursor, seen: Seen) -> None:
-        """Notes which box it is, where that isn't known yet.
-
-        Raises Disagreement where another name has it."""
-        cursor.execute("SELECT name FROM boxes WHERE identity = %s AND name <> %s AND active",
-                       (seen.identity, self.box))
-        row = cursor.fetchone()
-        if row is not None:
-            raise Disagreement(f"the box of {row[0]} answers")
+        """Notes which box it is, where that isn't known yet. Raises Disagreement where another name has it."""
+        other = value_of(cursor, "SELECT name FROM boxes WHERE identity = %s AND name <> %s AND active", seen.identity,
+                         self.box)
+        if other is not None:
+            raise Disagreement(f"the box of {other} answers")
         cursor.execute("UPDATE boxes SET identity = %s WHERE name = %s AND identity IS NULL", (seen.identity, self.box))
 
     def check_state(self, cursor: Cursor, known: Standing, seen: Seen, has_register: bool = True) -> None:
@@ -358,20 +324,11 @@ class Visit:
             raise Disagreement(f"the box's last order is {seen.number}, the database's {known.number}")
         if seen.confirmed != known.confirmed:
             raise Disagreement(f"the box has confirmed up to {seen.confirmed}, the database up to {known.confirmed}")
-        cursor.execute("SELECT identity, line, address, flat FROM meters WHERE box = %s", (self.box,))
-        differing = {Meter(*row) for row in cursor} ^ set(seen.meters)
+        meters = rows_of(cursor, "SELECT identity, line, address, flat FROM meters WHERE box = %s", self.box)
+        differing = {Meter(*row) for row in meters} ^ set(seen.meters)
         if has_register and differing:
             raise Disagreement(f"the box has another register than the database, {len(differing)} rows differ,"
                                f" the first {' '.join(map(str, min(differing)))}")
-
-    def change_meters(self, cursor: Cursor, order: Order) -> None:
-        """What an order does to the register.
-
-        Raises Disagreement where this office doesn't know the command: a newer one put it into the table."""
-        change = change_of(self.box, order.line)
-        if change is None:
-            raise Disagreement(f"order {order.number} {order.line} is none that this office knows")
-        cursor.execute(*change)
 
     # ---- readings
 
@@ -379,43 +336,37 @@ class Visit:
         """Stores what the box shows, at most so many pages, and confirms it; returns the serial up to which it has."""
         for _ in range(pages):
             self.settle()
-            page = self.take_page()
-            self.stored_count += page.new
-            if page.is_all:
+            new, is_all = self.take_page()
+            self.stored_count += new
+            if is_all:
                 break
-        else:
-            self.note_talks(f"it has more than {pages * PAGE} readings, and the rest waits for the next collection")
+        else:  # more than a box should have to say (the alarm `talks`), until it is collected whole
+            talks = f"it has more than {pages * PAGE} readings, and the rest waits for the next collection"
+            with self.database.transaction() as cursor:
+                cursor.execute("UPDATE boxes SET talks = %s WHERE name = %s", (talks, self.box))
         self.settle()
-        with self.transaction() as cursor:
-            cursor.execute("SELECT confirmed FROM boxes WHERE name = %s", (self.box,))
-            return int(one(cursor)[0])
+        with self.database.transaction() as cursor:
+            return int(rows_of(cursor, STANDING, self.box)[0].confirmed)
 
-    def note_talks(self, why: str) -> None:
-        """Notes that a box has more to say than a box should (the alarm `talks`), until it is collected whole."""
-        with self.transaction() as cursor:
-            cursor.execute("UPDATE boxes SET talks = %s WHERE name = %s", (why, self.box))
-
-    def take_page(self) -> Page:
-        """Stores a page, and its CONFIRM with it."""
+    def take_page(self) -> Tuple[int, bool]:
+        """Stores a page, and its CONFIRM with it; how many readings were new, and whether the box has no more."""
         with self.locked() as (cursor, link, known):
             if self.order(cursor, IS_OPEN):
-                return Page(0, False)  # came from another visit; it goes first
+                return 0, False  # came from another visit; it goes first
             standing, seen = self.look(cursor, link, known)
             new = self.new_readings(cursor, seen, standing.confirmed + 1)
-            cursor.execute("SELECT collected_at, now() FROM boxes WHERE name = %s", (self.box,))
-            store_readings(cursor, self.box, new, Window(*one(cursor)))
+            window = rows_of(cursor, "SELECT collected_at, now() FROM boxes WHERE name = %s", self.box)[0]
+            store_readings(cursor, self.box, new, Window(*window))
             if seen.readings:
                 self.store_confirm(cursor, standing.number + 1, seen.readings[-1].serial)
             if seen.is_all:
                 cursor.execute("UPDATE boxes SET collected_at = now(), fault = NULL, talks = NULL WHERE name = %s",
                                (self.box,))
-            return Page(len(new), seen.is_all)
+            return len(new), seen.is_all
 
     def store_confirm(self, cursor: Cursor, number: int, serial: int) -> None:
-        cursor.execute("INSERT INTO orders (box, line, confirms, number, state)"
-                       " VALUES (%s, %s, %s, %s, 'pending') RETURNING id",
-                       (self.box, f"CONFIRM {serial}", serial, number))
-        self.is_checked, self.own = True, one(cursor)[0]
+        self.own = value_of(cursor, CONFIRM, self.box, f"CONFIRM {serial}", serial, number)
+        self.is_checked = True
 
     def new_readings(self, cursor: Cursor, seen: Seen, first: int) -> List[Reading]:
         """The readings shown that aren't in the database.

@@ -103,13 +103,12 @@ class Office:
         """Stores the telegrams up to a moment, as office/collect does then, in the partition of their month."""
         import storing  # what office/ has, by the path set above
         from link import Reading
-        from stamps import Window
         count = 0
         for house in self.houses:
             last = until
             if house.outage is not None and house.outage[0] <= until < house.outage[1]:
                 last = house.outage[0]  # since then its box isn't reached
-            coming, window, box = self.coming[house.name], Window(self.stored_until[house.name], last), self.boxes[house.name]
+            coming, window, box = self.coming[house.name], storing.Window(self.stored_until[house.name], last), self.boxes[house.name]
             while coming and coming[0][0] <= last:
                 month = coming[0][0].date().replace(day=1)
                 page: List[Reading] = []

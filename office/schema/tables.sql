@@ -516,7 +516,7 @@ CREATE TABLE bills (
 );
 CREATE UNIQUE INDEX one_open_bill ON bills (house, days) WHERE out_at IS NULL;
 
--- Every number that may be printed. kind to unit say which number of an audit it is (office/published.py; of a bill the
+-- Every number that may be printed. kind to unit say which number of an audit it is (office/program.py; of a bill the
 -- kind is the column), text is the number with a point, mark its grade (of a house's sum: how many of its places have
 -- no number, and how many there are). Rows without an audit went out before audits.
 CREATE TABLE published (

@@ -8,6 +8,7 @@ from typing import Any, Dict, List, Optional, Tuple
 from conftest import Office
 
 import months
+from database import Database
 
 BERLIN = zoneinfo.ZoneInfo("Europe/Berlin")
 FITTED = datetime.datetime(2024, 1, 1, tzinfo=BERLIN)
@@ -137,7 +138,7 @@ class Supplied:
     def month(self, month: str) -> List[Tuple[Any, ...]]:
         """Computes a month, and no other; its rows: flat, part, amount, grade, in order."""
         houses = [row[0] for row in self.office.sql("SELECT house FROM houses ORDER BY house")]
-        months.work((self.office.name, datetime.date.fromisoformat(f"{month}-01"), houses))
+        months.written(datetime.date.fromisoformat(f"{month}-01"), Database(self.office.name, 60), houses)
         return self.office.sql(
             "SELECT p.flat, u.part, u.amount, u.grade FROM month_use u JOIN places p ON p.id = u.place"
             " WHERE u.month = %s AND p.house = %s ORDER BY p.flat, p.use, p.number, u.part", f"{month}-01", self.house)

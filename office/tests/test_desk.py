@@ -9,8 +9,9 @@ from typing import Any, Dict, Iterator, List, Tuple
 import psycopg2
 import pytest
 from conftest import Office
-from desk_items import ACTIONS, Words, body, brief
-from desk_words import ITEMS
+from catalogue import Catalogue as Words
+from catalogue import texts
+from desk_items import ACTIONS, body, brief
 from supplied import COLD, HEAT, Supplied, at
 from test_schema import refused
 from test_sheets import HOSTILE
@@ -298,7 +299,7 @@ def test_what_programs_note_is_german_too() -> None:
 
 def test_each_kind_has_words(office: Office) -> None:
     """In both languages, whatever facts it has."""
-    for key in ITEMS:
+    for key in (it.removeprefix("item.") for it in texts() if it.startswith("item.")):
         kind, _, detail = key.partition(".")
         facts: Dict[str, Any] = {"grade": detail} if kind == "no number" else {"why": detail} if detail else {}
         assert all(Words(language, "UTC").language == language for language in ("de", "en"))

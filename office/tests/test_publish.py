@@ -14,14 +14,13 @@ from supplied import ALLOCATOR, COLD, HEAT, WATER, Supplied, at
 from test_schema import refused
 from test_sheets import published, sheet_of
 
-import auditing
+import program as auditing
 import program
 import rendering
 from catalogue import Catalogue
 from database import Database
-from drafts import Reader
-from exporting import month_file
-from published import Key
+from exporting import Reader, month_file
+from program import Key
 
 Lie = Callable[[List[str]], List[str]]
 GAS = "03"

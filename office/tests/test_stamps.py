@@ -8,7 +8,7 @@ import pytest
 from conftest import Box, Office, telegram
 from supplied import HEAT, Supplied, at
 
-from stamps import Window, moments_of, rising_part
+from storing import Window, moments_of, rising_part
 
 UTC = datetime.timezone.utc
 METER = "11111111.PAD.01.07"
