@@ -6,7 +6,7 @@ import functools
 import pathlib
 import re
 import zoneinfo
-from typing import Dict, NamedTuple, Tuple
+from typing import Dict, NamedTuple, Optional, Tuple
 
 FILE = pathlib.Path(__file__).resolve().parent / "templates/words.txt"
 LANGUAGES = ("de", "en")
@@ -14,7 +14,7 @@ MONTHS = {"de": ("Januar", "Februar", "März", "April", "Mai", "Juni", "Juli", "
                  "November", "Dezember"),
           "en": ("January", "February", "March", "April", "May", "June", "July", "August", "September", "October",
                  "November", "December")}
-MARKS: Dict[str, Dict[int, int]] = {"de": str.maketrans(",.", ".,"), "en": {}}  # between thousands, before decimals
+MARKS: Dict[str, Dict[int, Optional[int]]] = {"de": str.maketrans(",.", ".,"), "en": {}}  # thousands, decimals
 DECIMALS = {"kWh": 1, "m³": 2, "HCA": 1}  # of a consumption
 PUBLISHED = re.compile(r"-?[0-9]+(\.[0-9]+)?")
 NARROW = "\N{NO-BREAK SPACE}"

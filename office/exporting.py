@@ -404,7 +404,7 @@ def utc(moment: int) -> datetime.datetime:
 
 def evidence_of(entries: Sequence[Any], sources: List[List[Any]]) -> List[Evidence]:
     """Entries as `frozen_values` has them: five numbers of each, and where it comes from."""
-    return [Evidence(*entries[at:at + 3], *it[:4], (it[5], it[4], it[6], it[7]) if it[5:] else None)
+    return [Evidence._make([*entries[at:at + 3], *it[:4], (it[5], it[4], it[6], it[7]) if it[5:] else None])
             for at, it in zip(range(0, len(entries), 5), sources)]
 
 
