@@ -1,6 +1,6 @@
 """What a sheet and a house page say: consumptions of a month beside others, with the readings behind them.
 
-They have no number: drafts.py asks `mbdc audit` for them, and pages print what it accepted (office/publish).
+They have no number: exporting.py asks `mbdc audit` for them, and pages print what it accepted (office/publish).
 """
 
 import datetime

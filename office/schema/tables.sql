@@ -161,7 +161,7 @@ CREATE INDEX given_up_orders ON orders (box, id) WHERE state = 'given_up';
 -- A reading: the telegrams of one readout as the box showed them, with the second at which each was heard, by the box's
 -- clock. The body is a telegram without its frame (EN 13757-3: header and records). `readings_follow` holds each box
 -- to one reading a serial over all months, and `boxes.stored` to what is stored. at: what the box says, where that can
--- be; else the collection's, where another one was at most 26 hours before; else NULL (office/stamps.py).
+-- be; else the collection's, where another one was at most 26 hours before; else NULL (office/storing.py).
 CREATE TABLE readings (
     month date NOT NULL DEFAULT this_month(),  -- in which it was stored: its first day, UTC
     box text NOT NULL CONSTRAINT readings_box_fkey1 REFERENCES boxes,
