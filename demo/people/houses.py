@@ -212,7 +212,8 @@ class Place:
 
 
 def moment_of(one: Any) -> Moment:
-    return one.at
+    at: Moment = one.at
+    return at
 
 
 def around(entries: List["Entry"], begins: Moment, ends: Moment) -> List["Entry"]:
