@@ -14,7 +14,6 @@ from supplied import ALLOCATOR, COLD, HEAT, WATER, Supplied, at
 from test_schema import refused
 from test_sheets import published, sheet_of
 
-import program as auditing
 import program
 import rendering
 from catalogue import Catalogue
@@ -221,17 +220,17 @@ def test_no_lie_is_published(office: Office, elm: Supplied, monkeypatch: pytest.
     for flat, since, until in (("A1", "2023-01-01", None), ("A2", "2023-01-01", "2025-01-11"), ("A2", "2025-01-11", None), ("A3", "2023-01-01", None)):
         elm.tenancy(flat, since, until)
     computed(elm)
-    of, database = auditing.Of("elm-1", datetime.date(2025, 1, 1), None, 1, "2025-01"), Database(office.name, 600)
+    of, database = program.Of("elm-1", datetime.date(2025, 1, 1), None, 1, "2025-01"), Database(office.name, 600)
     with database.transaction() as cursor:
         file = month_file(cursor, "elm-1", datetime.date(2025, 1, 1), {})
         made = program.filled(file.lines)
         for what, lie in LIES.items():
-            monkeypatch.setattr(auditing, "filled", lambda _, false=lie(made.lines): made._replace(lines=false))
-            assert "DIFFERS line" in (auditing.publish(cursor, of, file) or ""), what
-        monkeypatch.setattr(auditing, "filled", lambda _: made)
-        assert auditing.publish(cursor, of, file) is None
-        cursor.execute("SELECT count(*), count(DISTINCT audit) FROM published")
-        assert cursor.fetchall()[0][1] == 1
+            monkeypatch.setattr(program, "filled", lambda _, false=lie(made.lines): made._replace(lines=false))
+            assert "DIFFERS line" in (program.publish(cursor, of, file) or ""), what
+        monkeypatch.setattr(program, "filled", lambda _: made)
+        assert program.publish(cursor, of, file) is None
+        cursor.execute("SELECT count(DISTINCT audit) FROM published")
+        assert cursor.fetchall() == [(1,)]
     database.close()
 
 
