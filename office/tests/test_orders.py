@@ -89,13 +89,13 @@ def test_a_refused_order_that_takes_the_number_of_a_confirm(office: Office, box:
 
 
 def test_a_number_that_nobody_gave(office: Office, box: Box) -> None:
-    """Somebody sent a numbered line by hand, and the box has no journal: nothing is done until a person has looked."""
+    """Somebody sent two numbered lines by hand, and a new journal has only the last: a person has to look first."""
     full(office, box)
-    assert box.says(f"3 {FOURTH}") == ["OK 3"]
+    assert box.says(f"3 {FOURTH}") == ["OK 3"] and box.says(f"4 {THIRD}") == ["OK 4"]
     box.journal.unlink()
     ended = office.order("house-1", MOVED)
-    assert ended.status == 5 and "the box's last order is 3, the database's 2" in ended.printed
-    assert box.last() == 3
+    assert ended.status == 5 and "the box's last order is 4, the database's 2" in ended.printed
+    assert box.last() == 4
 
 
 def test_the_cure_after_an_older_dump_ends_what_was_queued(office: Office, box: Box) -> None:
