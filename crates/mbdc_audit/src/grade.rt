@@ -1,7 +1,6 @@
 //! How reliable a number is.
 
-ghost use Rattle.std.specs.Prelude.{◌≡◌, find};
-ghost use Rattle.std.specs.Str.{bytes_eq};
+ghost use Rattle.std.specs.Prelude.{◌≡◌};
 ghost use Rattle.mbdc_audit.specs.Grade.{grade_name, grade_named, has_number, is_reliable};
 ghost use Rattle.mbdc_audit.specs.Grade.{rank, worst};
 
@@ -95,16 +94,9 @@ impl Grade {
     pub fn named(word: &[u8]) -> Option<Grade>
         ensures { result ≡ grade_named word.now }
     {
-        grade_in(word, &GRADES)
+        GRADES
+            .iter()
+            .copied()
+            .find(|grade| is_word(word, grade.name()))
     }
-}
-
-// The first of these grades that a word names.
-fn grade_in(word: &[u8], grades: &[Grade]) -> Option<Grade>
-    ensures { result ≡ find (λ g. bytes_eq word.now (grade_name g)) grades.now }
-{
-    grades
-        .iter()
-        .copied()
-        .find(|grade| is_word(word, grade.name()))
 }
