@@ -18,5 +18,3 @@ pub mod Bases
 pub mod Amounts
 -- the sums of a user, of a flat and of the house
 pub mod Holders
--- the text of pieces is that of the first one and of the others
-mod Rows

@@ -34,8 +34,6 @@ pub mod Sums
 pub mod Place
 -- what is counted
 pub mod Counts
--- what is printed
-pub mod Told
 -- what holds of each number
 pub mod Sum
 -- what is known after some lines

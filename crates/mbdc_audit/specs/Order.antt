@@ -1,5 +1,5 @@
 -- Which line may follow which (this product).
-use Rattle.std.specs.Prelude.{ℕ, Bool, true, false, if◌then◌else◌, Option, None, Some, List, [], ◌∷◌, codes, find}
+use Rattle.std.specs.Prelude.{ℕ, Bool, true, false, ◌||◌, if◌then◌else◌, Option, None, Some, List, [], ◌∷◌, codes, find}
 use Rattle.std.specs.Str.{bytes_eq}
 use Rattle.mbdc_audit.specs.declared.word.Stage.{Stage}
 use Rattle.mbdc_audit.specs.declared.word.Stage.TheVariants as stage
@@ -54,71 +54,87 @@ words = word.Span ∷ word.Use ∷ word.Factor ∷ word.Carbon ∷ word.Degrees 
 abbrev pub word_in : List ℕ → Option Word
 word_in field = find (λ w. bytes_eq field (word_name w)) words
 
--- the stage that the line of a word leads to
-abbrev pub stage_of : Word → Stage
-stage_of word.Span = stage.Declared
-stage_of word.Use = stage.Declared
-stage_of word.Factor = stage.Declared
-stage_of word.Carbon = stage.Declared
-stage_of word.Degrees = stage.Declared
-stage_of word.Price = stage.Declared
-stage_of word.Average = stage.Declared
-stage_of word.User = stage.Declared
-stage_of word.Place = stage.Placed
-stage_of word.Meter = stage.Metered
-stage_of word.Window = stage.Opened
-stage_of word.Read = stage.Valued
-stage_of word.Stored = stage.Valued
-stage_of word.Ended = stage.Valued
-stage_of word.Hand = stage.Valued
-stage_of word.Estimated = stage.Valued
-stage_of word.First = stage.Valued
-stage_of word.Last = stage.Valued
-stage_of word.Zero = stage.Valued
-stage_of word.Struck = stage.Struck
-stage_of word.Part = stage.Parted
-stage_of word.Shown = stage.Shown
-stage_of word.Value = stage.Shown
-stage_of word.Totals = stage.Totals
-stage_of word.«End» = stage.Ended
-stage_of _ = stage.Summed
+abbrev pub is_declared : Stage → Bool
+is_declared stage.Declared = true
+is_declared _ = false
+
+abbrev pub is_placed : Stage → Bool
+is_placed stage.Placed = true
+is_placed _ = false
+
+abbrev pub is_metered : Stage → Bool
+is_metered stage.Metered = true
+is_metered _ = false
+
+abbrev pub is_valued : Stage → Bool
+is_valued stage.Valued = true
+is_valued _ = false
+
+abbrev pub is_struck : Stage → Bool
+is_struck stage.Struck = true
+is_struck _ = false
+
+abbrev pub is_parted : Stage → Bool
+is_parted stage.Parted = true
+is_parted _ = false
+
+abbrev pub is_summed : Stage → Bool
+is_summed stage.Summed = true
+is_summed _ = false
 
 -- after a window, one of its values, of the struck ones, of its parts, of its numbers
 abbrev pub is_in_window : Stage → Bool
-is_in_window stage.Opened = true
 is_in_window stage.Valued = true
 is_in_window stage.Struck = true
 is_in_window stage.Parted = true
 is_in_window stage.Shown = true
 is_in_window _ = false
 
--- facts come first, then places with their meters and windows, then sums, then the end
-abbrev pub may_lead : Stage → Stage → Bool
-may_lead stage.Declared stage.Declared = true
-may_lead stage.Declared stage.Placed = true
-may_lead stage.Declared stage.Totals = true
-may_lead stage.Placed stage.Metered = true
-may_lead stage.Metered stage.Metered = true
-may_lead stage.Metered stage.Opened = true
-may_lead stage.Metered stage.Placed = true
-may_lead stage.Metered stage.Totals = true
-may_lead stage.Opened stage.Valued = true
-may_lead stage.Valued stage.Valued = true
-may_lead stage.Opened stage.Struck = true
-may_lead stage.Valued stage.Struck = true
-may_lead stage.Struck stage.Struck = true
-may_lead stage.Shown stage.Parted = false
-may_lead s stage.Parted = is_in_window s
-may_lead s stage.Shown = is_in_window s
-may_lead s stage.Opened = is_in_window s
-may_lead s stage.Placed = is_in_window s
-may_lead s stage.Totals = is_in_window s
-may_lead stage.Totals stage.Summed = true
-may_lead stage.Totals stage.Ended = true
-may_lead stage.Summed stage.Summed = true
-may_lead stage.Summed stage.Ended = true
-may_lead _ _ = false
+-- a place is whole: it has a meter
+abbrev pub may_go_on : Stage → Bool
+may_go_on s = is_in_window s || is_metered s
 
--- the stage after a line
+-- the kinds of lines
+abbrev pub is_fact : Word → Bool
+is_fact word.Span = true
+is_fact word.Use = true
+is_fact word.Factor = true
+is_fact word.Carbon = true
+is_fact word.Degrees = true
+is_fact word.Price = true
+is_fact word.Average = true
+is_fact word.User = true
+is_fact _ = false
+
+abbrev pub is_value : Word → Bool
+is_value word.Read = true
+is_value word.Stored = true
+is_value word.Ended = true
+is_value word.Hand = true
+is_value word.Estimated = true
+is_value word.First = true
+is_value word.Last = true
+is_value word.Zero = true
+is_value _ = false
+
+-- the stage that a line of a stage leads to, where it may follow
+abbrev pub leads : Bool → Stage → Option Stage
+leads may next = if may then Some next else None
+
+abbrev pub after_other : Stage → Word → Option Stage
+after_other s word.Place = leads (may_go_on s || is_declared s) stage.Placed
+after_other s word.Meter = leads (is_placed s || is_metered s) stage.Metered
+after_other s word.Window = leads (may_go_on s) stage.Valued
+after_other s word.Struck = leads (is_valued s || is_struck s) stage.Struck
+after_other s word.Part = leads (is_valued s || (is_struck s || is_parted s)) stage.Parted
+after_other s word.Shown = leads (is_in_window s) stage.Shown
+after_other s word.Value = leads (is_in_window s) stage.Shown
+after_other s word.Totals = leads (may_go_on s || is_declared s) stage.Summed
+after_other s word.«End» = leads (is_summed s) stage.Ended
+after_other s _ = leads (is_summed s) stage.Summed
+
+-- the stage after a line: facts, then places with their meters and windows, then sums, then the end
 abbrev pub after : Stage → Word → Option Stage
-after s w = if may_lead s (stage_of w) then Some (stage_of w) else None
+after s w = if is_fact w then leads (is_declared s) stage.Declared
+    else if is_value w then leads (is_valued s) stage.Valued
+    else after_other s w

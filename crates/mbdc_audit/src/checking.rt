@@ -24,13 +24,13 @@ use crate::field::{DayEnd, Fields, is_word};
 use crate::number::denominator;
 use crate::place::{Open, Part, Place};
 use crate::smallest::{MOST_VALUE_DECIMALS, decimal_in, of_spelled};
-use crate::teller::{Counts, Found};
+use crate::teller::{Answer, Counts, put_no_evidence};
 use crate::total::{Basis, Key, Share, Sums, bases_of};
 use crate::uses::{Counted, size_named};
 use crate::window::{How, Run, Source, Vib};
 use crate::word::{Stage, Word};
 use dc_address::Identity;
-use mbdc_io::{decode_hex, room};
+use mbdc_io::{Sink, decode_hex, room};
 use std::alloc::Allocator;
 use std::marker::Model;
 
@@ -49,8 +49,8 @@ pub(crate) struct Audit<A: Allocator + Copy> {
     pub of_house: Sums<A>,
     pub bases: Vec<Basis, A>,
     pub counts: Counts,
-    /// What was found of the last line.
-    pub found: Found,
+    /// What holds of the last line, where it is one of a number.
+    pub answer: Option<Answer>,
 }
 
 impl<A: Allocator + Copy> Model for Audit<A> {
@@ -88,17 +88,17 @@ impl<A: Allocator + Copy> Audit<A> {
             of_flats: Sums::new(alloc),
             of_house: Sums::new(alloc),
             bases: Vec::new(alloc),
-            counts: Counts::NONE,
-            found: Found::Nothing,
+            counts: Counts::new(),
+            answer: None,
         }
     }
 
     /// Checks the next line, without its end.
-    pub fn step(&mut self, line: &[u8]) -> Result<(), Stop>
+    pub fn step<W: Sink>(&mut self, line: &[u8], out: &mut W) -> Result<(), Stop>
         ensures { OnOk result (StepsAt (fields_of line.now) self.old self.new) }
     {
         self.line = self.line.saturating_add(1);
-        self.found = Found::Nothing;
+        self.answer = None;
         let mut fields = Fields::of(line);
         match self.stage {
             Stage::Begun => match is_header(&mut fields) {
@@ -112,7 +112,7 @@ impl<A: Allocator + Copy> Audit<A> {
             _ => {
                 let word = Word::named(fields.field()?).ok_or(AuditFault::Row)?;
                 let next = self.stage.after(word).ok_or(AuditFault::Order)?;
-                self.go(word, &mut fields)?;
+                self.go(word, &mut fields, out)?;
                 self.stage = next;
                 Ok(())
             }
@@ -120,7 +120,7 @@ impl<A: Allocator + Copy> Audit<A> {
     }
 
     // Checks a line that may follow.
-    fn go(&mut self, word: Word, fields: &mut Fields<'_>) -> Result<(), Stop>
+    fn go<W: Sink>(&mut self, word: Word, fields: &mut Fields<'_>, out: &mut W) -> Result<(), Stop>
         ensures { OnOk result (Does word fields.old self.old self.new) }
     {
         match word {
@@ -135,9 +135,9 @@ impl<A: Allocator + Copy> Audit<A> {
             Word::Place => self.begin_place(fields),
             Word::Meter => self.add_meter(fields),
             Word::Window => self.open_window(fields),
-            Word::Read => self.add_read(fields),
-            Word::Stored => self.add_stored(false, fields),
-            Word::Ended => self.add_stored(true, fields),
+            Word::Read => self.add_read(fields, out),
+            Word::Stored => self.add_stored(false, fields, out),
+            Word::Ended => self.add_stored(true, fields, out),
             Word::Hand => self.add_put(How::Hand, fields),
             Word::Estimated => self.add_put(How::Estimated, fields),
             Word::First => self.add_at_exchange(true, fields),
@@ -145,17 +145,17 @@ impl<A: Allocator + Copy> Audit<A> {
             Word::Zero => self.add_zero(fields),
             Word::Struck => self.add_struck(fields),
             Word::Part => self.add_part(fields),
-            Word::Shown => self.check_shown(fields),
-            Word::Value => self.check_value(fields),
+            Word::Shown => self.check_shown(fields, out),
+            Word::Value => self.check_value(fields, out),
             Word::Totals => self.begin_totals(fields),
-            Word::OfUser => self.check_user(fields),
-            Word::OfFlat => self.check_flat(fields),
-            Word::OfHouse => self.check_house(fields),
-            Word::Mean => self.check_mean(fields),
-            Word::Change => self.check_change(fields),
-            Word::CarbonOf => self.check_carbon(fields),
-            Word::Cost => self.check_cost(fields),
-            Word::Weather => self.check_weather(fields),
+            Word::OfUser => self.check_user(fields, out),
+            Word::OfFlat => self.check_flat(fields, out),
+            Word::OfHouse => self.check_house(fields, out),
+            Word::Mean => self.check_mean(fields, out),
+            Word::Change => self.check_change(fields, out),
+            Word::CarbonOf => self.check_carbon(fields, out),
+            Word::Cost => self.check_cost(fields, out),
+            Word::Weather => self.check_weather(fields, out),
             Word::End => Ok(fields.end()?),
         }
     }
@@ -311,38 +311,44 @@ impl<A: Allocator + Copy> Audit<A> {
     }
 
     #[tactic(auto, unfolding(crate::specs::ValueLines::add_read))]
-    fn add_read(&mut self, fields: &mut Fields<'_>) -> Result<(), Stop>
+    fn add_read<W: Sink>(&mut self, fields: &mut Fields<'_>, out: &mut W) -> Result<(), Stop>
         ensures { OnOk result (add_read fields.old self.old ≡ Some self.new) }
     {
         let (run, moment) = (fields.number()?, fields.number()?);
-        self.add_telegrams(run, moment, Storage::Current, Source::Telegram, fields)
+        self.add_telegrams(run, moment, Storage::Current, Source::Telegram, fields, out)
     }
 
     #[tactic(auto, unfolding(crate::specs::ValueLines::add_stored, crate::specs::ValueLines::add_ended))]
-    fn add_stored(&mut self, is_end: bool, fields: &mut Fields<'_>) -> Result<(), Stop>
+    fn add_stored<W: Sink>(
+        &mut self,
+        is_end: bool,
+        fields: &mut Fields<'_>,
+        out: &mut W,
+    ) -> Result<(), Stop>
         ensures { OnOk result ((if is_end then add_ended fields.old self.old
             else add_stored fields.old self.old) ≡ Some self.new) }
     {
         let run = fields.number()?;
         let DayEnd { day, moment } = fields.day_end()?;
         if !is_end {
-            return self.add_telegrams(run, moment, Storage::At(day), Source::Telegram, fields);
+            return self.add_telegrams(run, moment, Storage::At(day), Source::Telegram, fields, out);
         }
         if self.here.run(run)?.end != Some(moment) {
             return Err(Stop::Fault(AuditFault::Moment));
         }
-        self.add_telegrams(run, moment, Storage::At(day), Source::Ended, fields)
+        self.add_telegrams(run, moment, Storage::At(day), Source::Ended, fields, out)
     }
 
-    // Adds the value of a readout, or notes why it has none.
+    // Adds the value of a readout, or prints why it has none.
     #[tactic(auto, unfolding(crate::specs::ValueLines::add_telegrams))]
-    fn add_telegrams(
+    fn add_telegrams<W: Sink>(
         &mut self,
         number: u64,
         moment: u64,
         meant: Storage,
         source: Source,
         fields: &mut Fields<'_>,
+        out: &mut W,
     ) -> Result<(), Stop>
         ensures { OnOk result (add_telegrams number moment meant source fields.old self.old ≡ Some self.new) }
     {
@@ -356,7 +362,7 @@ impl<A: Allocator + Copy> Audit<A> {
             }
             Err(refusal) => {
                 self.counts.refused = self.counts.refused.saturating_add(1);
-                self.found = Found::Refused(refusal);
+                put_no_evidence(out, self.line, refusal)?;
                 Ok(())
             }
         }

@@ -10,7 +10,7 @@ ghost use Rattle.mbdc_audit.specs.Reading.{Carries, IsRightLast, Lacks, LeadsLas
 
 use crate::checking::Audit;
 use crate::fault::{AuditFault, Stop};
-use crate::teller::{put_closing, put_fault, put_filled, put_found};
+use crate::teller::{put_closing, put_fault, put_filled};
 use mbdc_io::{CHUNK, FixedSink, IoFault, LONGEST, Sink, Source, TextFault, room};
 use memchr::memchr;
 use std::alloc::Allocator;
@@ -49,7 +49,7 @@ fn add<A: Allocator + Copy>(
     Ok(())
 }
 
-// Checks a line, which is whole, writes what was found of it, and the line filled where that is asked for.
+// Checks a line, which is whole, and writes it filled where that is asked for.
 fn end_line<A: Allocator + Copy, W: Sink, F: Sink>(
     audit: &mut Audit<A>,
     line: &[u8],
@@ -58,13 +58,10 @@ fn end_line<A: Allocator + Copy, W: Sink, F: Sink>(
 ) -> Result<(), Stop>
     ensures { OnOk result (StepsAt (fields_of line.now) audit.old audit.new) }
 {
-    audit.step(line)?;
-    let (may_ask, at, found) = (audit.may_ask, audit.line, audit.found);
-    let place = audit.here.place;
-    let used = audit.facts.word(place.used);
-    put_found(out, place.number, used, at, line, &found)?;
+    audit.step(line, out)?;
+    let (may_ask, answer) = (audit.may_ask, audit.answer);
     if may_ask {
-        put_filled(filled, line, &found)?;
+        put_filled(filled, line, &answer)?;
     }
     Ok(())
 }

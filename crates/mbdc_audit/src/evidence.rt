@@ -8,8 +8,8 @@ ghost use Rattle.mbdc_audit.specs.Evidence.{bodies_fault, body_fault, count_of, 
 ghost use Rattle.mbdc_audit.specs.Evidence.{dated, first_date, first_value};
 ghost use Rattle.mbdc_audit.specs.Evidence.{found_value, has_error, has_meant, is_code_alone};
 ghost use Rattle.mbdc_audit.specs.Evidence.{is_counting, is_main};
-ghost use Rattle.mbdc_audit.specs.Evidence.{is_meant, is_same, is_with_no_error};
-ghost use Rattle.mbdc_audit.specs.Evidence.{meant_value, missing, number_of};
+ghost use Rattle.mbdc_audit.specs.Evidence.{is_meant, is_named, is_same, is_with_no_error};
+ghost use Rattle.mbdc_audit.specs.Evidence.{meant_value, missing, number_of, plain};
 ghost use Rattle.mbdc_audit.specs.Evidence.{records_of, telegram_fault, text_of, unit_of, value_of};
 
 use crate::moment::ended_day;
@@ -134,16 +134,20 @@ fn bodies_fault<A: Allocator>(bodies: &[Vec<u8, A>], identity: &Identity) -> Opt
     }
 }
 
-// A code without the bit that announces a VIFE is one below this.
-const END_OF_CODES: u8 = 128;
+// A code without the bit that announces a VIFE.
+fn plain(code: u8) -> u8
+    ensures { result ≡ plain code }
+{
+    code % 128
+}
 
 // What a VIB's code counts, and in units of what size.
 fn unit_of(vib: &[u8]) -> Option<(Counted, u64)>
     ensures { result ≡ unit_of vib.now }
 {
     let found = match vib {
-        [0xFB, code, ..] => unit_at(&[0xFB, *code % END_OF_CODES]),
-        [vif, ..] => unit_at(&[*vif % END_OF_CODES]),
+        [0xFB, code, ..] => unit_at(&[0xFB, plain(*code)]),
+        [vif, ..] => unit_at(&[plain(*vif)]),
         [] => None,
     };
     match found {
@@ -190,13 +194,20 @@ fn is_with_no_error(name: &[u8], vib: &[u8]) -> bool
     }
 }
 
-// Whether the record that counts has this VIB: the named one, or that with VIFE 00.
+// Whether a VIB is the named one, or that with VIFE 00.
+fn is_named(name: &[u8], vib: &[u8]) -> bool
+    ensures { result ≡ is_named name.now vib.now }
+{
+    name == vib || is_with_no_error(name, vib)
+}
+
+// Whether the record that counts has this VIB.
 fn is_counting(name: &[u8], vib: &[u8]) -> bool
     ensures { result ≡ is_counting name.now vib.now }
 {
     match name {
         [] => is_code_alone(vib),
-        _ => name == vib || is_with_no_error(name, vib),
+        _ => is_named(name, vib),
     }
 }
 

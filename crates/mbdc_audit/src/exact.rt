@@ -4,8 +4,6 @@ ghost use Rattle.std.specs.Prelude.{◌≡◌, ◌+◌, ◌*◌, ◌^◌, ◌<�
 ghost use Rattle.std.specs.Option.{SomeIff};
 ghost use Rattle.mbdc_audit.specs.Exact.{FitsRounded, half_up};
 
-use crate::smallest::power_of_ten;
-
 // Printed numbers have at most 18 digits.
 const END_OF_PRINTED: u128 = 1_000_000_000_000_000_000;
 
@@ -14,6 +12,14 @@ const END_OF_PRINTED: u128 = 1_000_000_000_000_000_000;
 pub struct Exact {
     pub num: u128,
     pub den: u128,
+}
+
+/// A power of ten.
+fn power(decimals: u32) -> u128
+    requires { decimals ≤ 9 }
+    ensures { result ≡ 10 ^ decimals }
+{
+    10u128.pow(decimals)
 }
 
 impl Exact {
@@ -26,7 +32,7 @@ impl Exact {
             (half_up self.now.num self.now.den decimals) }
         ensures few { IfSome result (λ n. n < 10 ^ 18) }
     {
-        let scaled = self.num.checked_mul(power_of_ten(decimals))?;
+        let scaled = self.num.checked_mul(power(decimals))?;
         let doubled = scaled.checked_mul(2)?.checked_add(self.den)?;
         let rounded = doubled / self.den.checked_mul(2)?;
         if rounded < END_OF_PRINTED {

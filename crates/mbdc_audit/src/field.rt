@@ -88,11 +88,6 @@ impl<'a> Fields<'a> {
         Some(field)
     }
 
-    /// The next field, or nothing.
-    pub fn next_or_empty(&mut self) -> &'a [u8] {
-        self.next_if_any().unwrap_or(&[])
-    }
-
     /// The next field.
     pub fn field(&mut self) -> Result<&'a [u8], AuditFault>
         ensures { IfOk result (λ f. self.old ≡ f.now ∷ self.new) }

@@ -1,6 +1,7 @@
 //! How reliable a number is.
 
-ghost use Rattle.std.specs.Prelude.{◌≡◌};
+ghost use Rattle.std.specs.Prelude.{◌≡◌, find};
+ghost use Rattle.std.specs.Str.{bytes_eq};
 ghost use Rattle.mbdc_audit.specs.Grade.{grade_name, grade_named, has_number, is_reliable};
 ghost use Rattle.mbdc_audit.specs.Grade.{rank, worst};
 
@@ -94,9 +95,16 @@ impl Grade {
     pub fn named(word: &[u8]) -> Option<Grade>
         ensures { result ≡ grade_named word.now }
     {
-        GRADES
-            .iter()
-            .copied()
-            .find(|grade| is_word(word, grade.name()))
+        grade_in(word, &GRADES)
     }
+}
+
+// The first of these grades that a word names.
+fn grade_in(word: &[u8], grades: &[Grade]) -> Option<Grade>
+    ensures { result ≡ find (λ g. bytes_eq word.now (grade_name g)) grades.now }
+{
+    grades
+        .iter()
+        .copied()
+        .find(|grade| is_word(word, grade.name()))
 }

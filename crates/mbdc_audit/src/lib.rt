@@ -7,9 +7,8 @@
 //! Proved: [`audit`] returns true only if its input is right (File). Each line may follow the one before it (Order)
 //! and does what its word says (DeclaringLines, PlaceLines, ValueLines, NumberLines); each value by telegrams is the
 //! one that their bytes give (Evidence); each number is the rounded value of its definition (Sum, Number, Total,
-//! Printed), with the mark of its period (Window, Grade). The parts of a house add up (Sums). The lines of a fault, of
-//! a value without evidence and of the counts have the text of Told, and no writing reports a failure that wasn't one.
-//! All functions are safe, and end. That every right file is accepted, and each difference written, is tested.
+//! Printed), with the mark of its period (Window, Grade). The parts of a house add up (Sums). All functions are safe,
+//! and end. That every right file is accepted, and each difference written, is tested.
 #![tactic(auto)]
 
 mod checking;
@@ -34,4 +33,5 @@ mod window;
 mod word;
 
 pub use engine::{audit, fill};
+pub use fault::AuditFault;
 pub use laws::the_parts_of_a_house_add_up;

@@ -1,8 +1,9 @@
 //! The exact values of the numbers that are published.
 
 ghost use Rattle.std.specs.Prelude.{◌≡◌, ◌<◌, IfSome, false};
-ghost use Rattle.mbdc_audit.specs.Number.{by_ratio, change, counted_in, declared_mean, denominator};
-ghost use Rattle.mbdc_audit.specs.Number.{exact_in, needs_factor, times};
+ghost use Rattle.mbdc_audit.specs.Number.{carbon, change, cost, counted_in, declared_mean};
+ghost use Rattle.mbdc_audit.specs.Number.{denominator};
+ghost use Rattle.mbdc_audit.specs.Number.{exact_in, mean, needs_factor, times, weather};
 
 use crate::exact::Exact;
 use crate::fault::AuditFault;
@@ -13,11 +14,10 @@ use crate::uses::{Counted, OF_ALLOCATED, OF_CUBIC_METRE, OF_KWH, Unit};
 // A ratio's denominator.
 const RATIO: u128 = OF_RATIO as u128;
 
-/// Millionths of cents of a unit of money.
-pub const OF_MONEY: u128 = 100 * RATIO;
+// Cents of a unit of money, grams of a kilogram.
+const CENTS: u128 = 100;
 
-/// Millionths of grams of a kilogram.
-pub const OF_KILOGRAM: u128 = 1_000 * RATIO;
+const GRAMS: u128 = 1_000;
 
 /// Whether an amount in this unit needs a factor: kilowatt hours of a volume or of an allocator.
 pub fn needs_factor(counted: Counted, unit: Unit) -> bool
@@ -79,7 +79,7 @@ pub fn exact_in(
 }
 
 /// A number times a ratio that was multiplied by 10^6, divided by another number.
-pub fn times(exact: Exact, ratio: u64, divisor: u128) -> Result<Exact, AuditFault>
+fn times(exact: Exact, ratio: u64, divisor: u128) -> Result<Exact, AuditFault>
     ensures { result ≡ times exact ratio divisor }
 {
     let num = exact
@@ -90,14 +90,38 @@ pub fn times(exact: Exact, ratio: u64, divisor: u128) -> Result<Exact, AuditFaul
     Ok(Exact { num, den })
 }
 
-/// A number times a ratio of two; `None` where the second is 0.
-pub fn by_ratio(exact: Exact, one: u64, other: u64) -> Result<Option<Exact>, AuditFault>
-    ensures { result ≡ by_ratio exact one other }
+/// Kilograms of kilowatt hours, by grams of one of them times 10^6.
+pub fn carbon(kwh: Exact, grams: u64) -> Result<Exact, AuditFault>
+    ensures { result ≡ carbon kwh grams }
 {
-    if other == 0 {
+    times(kwh, grams, GRAMS * RATIO)
+}
+
+/// The cost of an amount, by cents of a unit times 10^6.
+pub fn cost(amount: Exact, cents: u64) -> Result<Exact, AuditFault>
+    ensures { result ≡ cost amount cents }
+{
+    times(amount, cents, CENTS * RATIO)
+}
+
+/// Kilowatt hours of another span times degree days of this one over those of that one; `None` where those are 0.
+pub fn weather(kwh: Exact, here: u64, there: u64) -> Result<Option<Exact>, AuditFault>
+    ensures { result ≡ weather kwh here there }
+{
+    if there == 0 {
         return Ok(None);
     }
-    Ok(Some(times(exact, one, u128::from(other))?))
+    Ok(Some(times(kwh, here, u128::from(there))?))
+}
+
+/// A share of an area in a sum of amounts over a sum of areas; `None` where that is 0.
+pub fn mean(sum: Exact, areas: u64, area: u64) -> Result<Option<Exact>, AuditFault>
+    ensures { result ≡ mean sum areas area }
+{
+    if areas == 0 {
+        return Ok(None);
+    }
+    Ok(Some(times(sum, area, u128::from(areas))?))
 }
 
 /// An area times the units of a square metre, both times 10^6.

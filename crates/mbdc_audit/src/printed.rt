@@ -3,15 +3,11 @@
 ghost use Rattle.std.specs.Prelude.{◌≡◌, ◌≤◌, ◌<◌, ◌||◌, ◌&&◌, Some, IfOk, IfSome};
 ghost use Rattle.mbdc_audit.specs.Printed.{IsPrintedAs, decimals_after, decimals_in, decimals_of};
 ghost use Rattle.mbdc_audit.specs.Printed.{asked_decimals, given_of, has_cents, is_beside, is_count};
-ghost use Rattle.mbdc_audit.specs.Printed.{is_printed, most_decimals, printed_of, printed_text};
-ghost use Rattle.mbdc_audit.specs.Printed.{published_in};
-ghost use Rattle.mbdc_io.specs.Written.{Wrote};
+ghost use Rattle.mbdc_audit.specs.Printed.{is_printed, most_decimals, printed_of, published_in};
 ghost use Rattle.mbdc_audit.specs.Printed.{read_alone, read_counted, read_marked};
 ghost use Rattle.mbdc_audit.specs.Field.{read_as};
 ghost use Rattle.mbdc_audit.specs.Smallest.{decimal_in};
-ghost use Rattle.mbdc_audit.specs.Sum.{some_positive};
 
-use crate::exact::Exact;
 use crate::fault::AuditFault;
 use crate::field::{Fields, is_word};
 use crate::grade::Grade;
@@ -102,9 +98,7 @@ pub fn is_printed(text: &[u8], number: Printed) -> bool
 }
 
 /// Writes a number, or `-`.
-pub fn put_printed<W: Sink>(out: &mut W, number: Printed) -> Result<(), IoFault>
-    ensures { Wrote W.Sink result out.old out.new (printed_text number) }
-{
+pub fn put_printed<W: Sink>(out: &mut W, number: Printed) -> Result<(), IoFault> {
     let Some(decimal) = number else {
         return out.put(b"-");
     };
@@ -116,8 +110,6 @@ pub fn put_printed<W: Sink>(out: &mut W, number: Printed) -> Result<(), IoFault>
 #[derive(Clone, Copy)]
 pub enum Beside {
     Nothing,
-    /// Of the value of a reading: its unit.
-    Unit,
     Mark(Grade),
     /// Of the house: how many places have no number, and how many there are.
     Counts(u64, u64),
@@ -131,20 +123,13 @@ pub struct Holds {
 }
 
 impl Holds {
-    /// A number of at least 0 without a mark, where there is one.
-    pub fn alone(number: Option<Exact>) -> Holds
-        ensures { result ≡ record { number = some_positive number; beside = Beside.Nothing } }
+    /// A number without a mark.
+    pub fn alone(number: Option<Signed>) -> Holds
+        ensures { result ≡ record { number = number; beside = Beside.Nothing } }
     {
-        let beside = Beside::Nothing;
-        match number {
-            Some(exact) => Holds {
-                number: Some(Signed::of(exact)),
-                beside,
-            },
-            None => Holds {
-                number: None,
-                beside,
-            },
+        Holds {
+            number,
+            beside: Beside::Nothing,
         }
     }
 }

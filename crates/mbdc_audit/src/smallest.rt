@@ -171,9 +171,9 @@ fn fitting(units: u128) -> Option<u64>
     }
 }
 
-/// A power of ten.
+// A power of ten.
 #[tactic(auto, using(crate::proofs::Powers::power_some, crate::proofs::Powers::power_fits))]
-pub fn power_of_ten(power: u32) -> u128
+fn power_of_ten(power: u32) -> u128
     requires { power ≤ 38 }
     ensures value { result ≡ 10 ^ power }
     ensures some { 0 < result }

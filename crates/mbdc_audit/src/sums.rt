@@ -8,7 +8,8 @@ ghost use Rattle.mbdc_audit.specs.Printed.{given_of, is_right};
 ghost use Rattle.mbdc_audit.specs.Sum.{basis_mean, carbon_of, change_from, cost_of, flat_held};
 ghost use Rattle.mbdc_audit.specs.Sum.{is_basis, is_period, mean_for, mean_held, mean_of, of_flat};
 ghost use Rattle.mbdc_audit.specs.Sum.{of_house, of_user, place_amount, share_as, shown};
-ghost use Rattle.mbdc_audit.specs.Sum.{sum_held, sum_of_house, total_held, user_held, weather_of};
+ghost use Rattle.mbdc_audit.specs.Sum.{some_positive, sum_held, sum_of_house, total_held, user_held};
+ghost use Rattle.mbdc_audit.specs.Sum.{weather_of};
 
 use crate::checking::Audit;
 use crate::exact::Exact;
@@ -16,14 +17,13 @@ use crate::facts::{Key as FactKey, Span};
 use crate::fault::{AuditFault, Stop};
 use crate::field::Fields;
 use crate::grade::Grade;
-use crate::number::{
-    OF_KILOGRAM, OF_MONEY, Signed, by_ratio, change, declared_mean, exact_in, times,
-};
+use crate::number::{Signed, carbon, change, cost, declared_mean, exact_in, mean, weather};
 use crate::printed::{Beside, Given, Holds, printed};
 use crate::smallest::{MOST_VALUE_DECIMALS, decimal_in, of_spelled};
-use crate::teller::{Answer, Found};
+use crate::teller::{Answer, Subject, Whose, put_differs};
 use crate::total::{Basis, Key, Share, Total};
 use crate::uses::{Counted, Unit, size_named};
+use mbdc_io::Sink;
 use std::alloc::Allocator;
 
 // Fewest flats of a mean, so that it identifies nobody.
@@ -34,6 +34,16 @@ const SHOWN_VALUE_DECIMALS: u32 = 6;
 
 /// A use: its number, and what its meters count.
 type Used = (u64, Counted);
+
+// A number of at least 0, where there is one.
+fn signed(number: Option<Exact>) -> Option<Signed>
+    ensures { result ≡ some_positive number }
+{
+    match number {
+        Some(exact) => Some(Signed::of(exact)),
+        None => None,
+    }
+}
 
 // Whether a published value is that of the window.
 fn is_value(value: Option<u64>, published: Option<u64>) -> bool
@@ -67,7 +77,7 @@ fn is_period(span: &Span, from: u64, to: u64) -> bool
 impl<A: Allocator + Copy> Audit<A> {
     /// Checks a number of the open place.
     #[tactic(auto, unfolding(crate::specs::Sum::shown))]
-    pub fn check_shown(&mut self, fields: &mut Fields<'_>) -> Result<(), Stop>
+    pub fn check_shown<W: Sink>(&mut self, fields: &mut Fields<'_>, out: &mut W) -> Result<(), Stop>
         ensures { OnOk result (judge self.old (shown self.old.may_ask fields.old
             self.old.house.facts self.old.place) ≡ Some self.new) }
     {
@@ -82,7 +92,14 @@ impl<A: Allocator + Copy> Audit<A> {
             return Err(Stop::Fault(AuditFault::Part));
         }
         let holds = self.place_amount(from, to, unit)?;
-        self.judge(&holds, &given)
+        let place = self.here.place;
+        self.tell(
+            &holds,
+            &Subject::amount(Whose::Place(place.number)),
+            place.used,
+            &given,
+            out,
+        )
     }
 
     // What the open place consumed in a period of the open window.
@@ -106,7 +123,7 @@ impl<A: Allocator + Copy> Audit<A> {
 
     /// Checks a value of the open window.
     #[tactic(auto, unfolding(crate::specs::NumberLines::check_value))]
-    pub fn check_value(&mut self, fields: &mut Fields<'_>) -> Result<(), Stop>
+    pub fn check_value<W: Sink>(&mut self, fields: &mut Fields<'_>, out: &mut W) -> Result<(), Stop>
         ensures { OnOk result (check_value fields.old self.old ≡ Some self.new) }
     {
         let (run, moment) = (fields.number()?, fields.number()?);
@@ -115,7 +132,8 @@ impl<A: Allocator + Copy> Audit<A> {
         fields.end()?;
         let (counted, size) = size_named(unit).ok_or(AuditFault::Row)?;
         let spelled = decimal_in(text, MOST_VALUE_DECIMALS).ok_or(AuditFault::Row)?;
-        if !counted.is(self.here.place.counted) {
+        let place = self.here.place;
+        if !counted.is(place.counted) {
             return Err(Stop::Fault(AuditFault::Unit));
         }
         self.here.run(run)?;
@@ -131,12 +149,14 @@ impl<A: Allocator + Copy> Audit<A> {
                 den: u128::from(size),
             })
         });
-        self.found = Found::Number(Answer {
+        let answer = Answer {
             tail: tail.len(),
             number: printed(number, SHOWN_VALUE_DECIMALS)?,
-            beside: Beside::Unit,
-            is_right,
-        });
+            beside: Beside::Nothing,
+        };
+        let subject = Subject::amount(Whose::Place(place.number));
+        let word = self.facts.word(place.used);
+        put_differs(out, self.line, &subject, word, tail, &answer, unit)?;
         Ok(())
     }
 
@@ -209,7 +229,7 @@ impl<A: Allocator + Copy> Audit<A> {
 
     /// Checks the sum of a user.
     #[tactic(auto, unfolding(crate::specs::Sum::of_user))]
-    pub fn check_user(&mut self, fields: &mut Fields<'_>) -> Result<(), Stop>
+    pub fn check_user<W: Sink>(&mut self, fields: &mut Fields<'_>, out: &mut W) -> Result<(), Stop>
         ensures { OnOk result (judge self.old
             (of_user self.old.may_ask fields.old self.old.house) ≡ Some self.new) }
     {
@@ -218,12 +238,12 @@ impl<A: Allocator + Copy> Audit<A> {
         let given = Given::with_mark(fields, self.may_ask)?;
         let used = self.facts.used(name)?;
         let holds = self.of_user(span, user, used, unit)?;
-        self.judge(&holds, &given)
+        self.tell(&holds, &Subject::of_user("", user), used.0, &given, out)
     }
 
     /// Checks that of a flat.
     #[tactic(auto, unfolding(crate::specs::Sum::of_flat))]
-    pub fn check_flat(&mut self, fields: &mut Fields<'_>) -> Result<(), Stop>
+    pub fn check_flat<W: Sink>(&mut self, fields: &mut Fields<'_>, out: &mut W) -> Result<(), Stop>
         ensures { OnOk result (judge self.old
             (of_flat self.old.may_ask fields.old self.old.house) ≡ Some self.new) }
     {
@@ -232,12 +252,18 @@ impl<A: Allocator + Copy> Audit<A> {
         let given = Given::with_mark(fields, self.may_ask)?;
         let used = self.facts.used(name)?;
         let holds = self.of_flat(span, flat, used, unit)?;
-        self.judge(&holds, &given)
+        self.tell(
+            &holds,
+            &Subject::amount(Whose::Flat(flat)),
+            used.0,
+            &given,
+            out,
+        )
     }
 
     /// Checks that of the house.
     #[tactic(auto, unfolding(crate::specs::Sum::of_house))]
-    pub fn check_house(&mut self, fields: &mut Fields<'_>) -> Result<(), Stop>
+    pub fn check_house<W: Sink>(&mut self, fields: &mut Fields<'_>, out: &mut W) -> Result<(), Stop>
         ensures { OnOk result (judge self.old
             (of_house self.old.may_ask fields.old self.old.house) ≡ Some self.new) }
     {
@@ -246,7 +272,7 @@ impl<A: Allocator + Copy> Audit<A> {
         let given = Given::with_counts(fields, self.may_ask)?;
         let used = self.facts.used(name)?;
         let holds = self.sum_of_house(span, used, unit)?;
-        self.judge(&holds, &given)
+        self.tell(&holds, &Subject::amount(Whose::House), used.0, &given, out)
     }
 
     // The sum of the places that have a number.
@@ -291,7 +317,7 @@ impl<A: Allocator + Copy> Audit<A> {
 
     /// Checks the mean for a user.
     #[tactic(auto, unfolding(crate::specs::Sum::mean_of))]
-    pub fn check_mean(&mut self, fields: &mut Fields<'_>) -> Result<(), Stop>
+    pub fn check_mean<W: Sink>(&mut self, fields: &mut Fields<'_>, out: &mut W) -> Result<(), Stop>
         ensures { OnOk result (judge self.old
             (mean_of self.old.may_ask fields.old self.old.house) ≡ Some self.new) }
     {
@@ -299,8 +325,9 @@ impl<A: Allocator + Copy> Audit<A> {
         let (name, unit) = (fields.field()?, fields.unit()?);
         let given = Given::alone(fields, self.may_ask)?;
         let used = self.facts.used(name)?;
-        let holds = Holds::alone(self.mean_held(span, user, used, unit)?);
-        self.judge(&holds, &given)
+        let number = self.mean_held(span, user, used, unit)?;
+        let holds = Holds::alone(signed(number));
+        self.tell(&holds, &Subject::of_user("mean", user), used.0, &given, out)
     }
 
     // The mean for a user.
@@ -361,13 +388,17 @@ impl<A: Allocator + Copy> Audit<A> {
             return Ok(None);
         }
         let sum = self.exact(&basis.sum, span, used, unit)?;
-        let number = by_ratio(sum, area, basis.areas)?;
+        let number = mean(sum, basis.areas, area)?;
         Ok(number)
     }
 
     /// Checks what a user's sum changed by.
     #[tactic(auto, unfolding(crate::specs::Sum::change_from))]
-    pub fn check_change(&mut self, fields: &mut Fields<'_>) -> Result<(), Stop>
+    pub fn check_change<W: Sink>(
+        &mut self,
+        fields: &mut Fields<'_>,
+        out: &mut W,
+    ) -> Result<(), Stop>
         ensures { OnOk result (judge self.old
             (change_from self.old.may_ask fields.old self.old.house) ≡ Some self.new) }
     {
@@ -381,14 +412,23 @@ impl<A: Allocator + Copy> Audit<A> {
             (Some(here), Some(there)) => change(here.exact, there.exact)?,
             _ => None,
         };
-        let beside = Beside::Nothing;
-        let holds = Holds { number, beside };
-        self.judge(&holds, &given)
+        let holds = Holds::alone(number);
+        self.tell(
+            &holds,
+            &Subject::of_user("change", user),
+            used.0,
+            &given,
+            out,
+        )
     }
 
     /// Checks what a user emitted.
     #[tactic(auto, unfolding(crate::specs::Sum::carbon_of))]
-    pub fn check_carbon(&mut self, fields: &mut Fields<'_>) -> Result<(), Stop>
+    pub fn check_carbon<W: Sink>(
+        &mut self,
+        fields: &mut Fields<'_>,
+        out: &mut W,
+    ) -> Result<(), Stop>
         ensures { OnOk result (judge self.old
             (carbon_of self.old.may_ask fields.old self.old.house) ≡ Some self.new) }
     {
@@ -398,16 +438,22 @@ impl<A: Allocator + Copy> Audit<A> {
         let kwh = self.of_user(span, user, used, Unit::Kwh)?;
         let grams = self.facts.ratio(FactKey::Carbon(used.0), span)?;
         let number = match kwh.number {
-            Some(kwh) => Some(times(kwh.exact, grams, OF_KILOGRAM)?),
+            Some(kwh) => Some(carbon(kwh.exact, grams)?),
             None => None,
         };
-        let holds = Holds::alone(number);
-        self.judge(&holds, &given)
+        let holds = Holds::alone(signed(number));
+        self.tell(
+            &holds,
+            &Subject::of_user("carbon", user),
+            used.0,
+            &given,
+            out,
+        )
     }
 
     /// Checks what a user's sum cost.
     #[tactic(auto, unfolding(crate::specs::Sum::cost_of))]
-    pub fn check_cost(&mut self, fields: &mut Fields<'_>) -> Result<(), Stop>
+    pub fn check_cost<W: Sink>(&mut self, fields: &mut Fields<'_>, out: &mut W) -> Result<(), Stop>
         ensures { OnOk result (judge self.old
             (cost_of self.old.may_ask fields.old self.old.house) ≡ Some self.new) }
     {
@@ -421,16 +467,20 @@ impl<A: Allocator + Copy> Audit<A> {
         let amount = self.of_user(span, user, used, unit)?;
         let cents = self.facts.ratio(FactKey::Price(used.0, unit), span)?;
         let number = match amount.number {
-            Some(amount) => Some(times(amount.exact, cents, OF_MONEY)?),
+            Some(amount) => Some(cost(amount.exact, cents)?),
             None => None,
         };
-        let holds = Holds::alone(number);
-        self.judge(&holds, &given)
+        let holds = Holds::alone(signed(number));
+        self.tell(&holds, &Subject::of_user("cost", user), used.0, &given, out)
     }
 
     /// Checks a user's sum by the weather.
     #[tactic(auto, unfolding(crate::specs::Sum::weather_of))]
-    pub fn check_weather(&mut self, fields: &mut Fields<'_>) -> Result<(), Stop>
+    pub fn check_weather<W: Sink>(
+        &mut self,
+        fields: &mut Fields<'_>,
+        out: &mut W,
+    ) -> Result<(), Stop>
         ensures { OnOk result (judge self.old
             (weather_of self.old.may_ask fields.old self.old.house) ≡ Some self.new) }
     {
@@ -442,15 +492,28 @@ impl<A: Allocator + Copy> Audit<A> {
         let here = self.facts.ratio(FactKey::Degrees, span)?;
         let there = self.facts.ratio(FactKey::Degrees, other)?;
         let number = match kwh.number {
-            Some(kwh) => by_ratio(kwh.exact, here, there)?,
+            Some(kwh) => weather(kwh.exact, here, there)?,
             None => None,
         };
-        let holds = Holds::alone(number);
-        self.judge(&holds, &given)
+        let holds = Holds::alone(signed(number));
+        self.tell(
+            &holds,
+            &Subject::of_user("weather", user),
+            used.0,
+            &given,
+            out,
+        )
     }
 
-    // Counts a number, and notes what holds of it.
-    fn judge(&mut self, holds: &Holds, given: &Given<'_>) -> Result<(), Stop>
+    // Counts a number, and says where it isn't what was published.
+    fn tell<W: Sink>(
+        &mut self,
+        holds: &Holds,
+        subject: &Subject<'_>,
+        used: u64,
+        given: &Given<'_>,
+        out: &mut W,
+    ) -> Result<(), Stop>
         requires { given.now.decimals ≤ 9 }
         ensures { OnOk result (self.new ≡ record self.old {
           counts = count_number (is_right (given_of given.now.text.now given.now.is_asked
@@ -458,15 +521,26 @@ impl<A: Allocator + Copy> Audit<A> {
               self.old.counts;
         }) }
     {
-        let number = printed(holds.number, given.decimals)?;
-        let is_right = given.is(number, &holds.beside);
+        let computed = printed(holds.number, given.decimals)?;
+        let is_right = given.is(computed, &holds.beside);
         self.counts.add_number(is_right);
-        self.found = Found::Number(Answer {
+        let answer = Answer {
             tail: given.tail.len(),
-            number,
+            number: computed,
             beside: holds.beside,
-            is_right,
-        });
+        };
+        self.answer = Some(answer);
+        if !is_right {
+            put_differs(
+                out,
+                self.line,
+                subject,
+                self.facts.word(used),
+                given.tail,
+                &answer,
+                &[],
+            )?;
+        }
         Ok(())
     }
 }

@@ -1,38 +1,50 @@
 //! What is printed: numbers that differ, values without evidence, the closing line, a line at fault.
 
 ghost use Rattle.std.specs.Prelude.{◌≡◌, IsTrue};
-ghost use Rattle.mbdc_io.specs.Written.{Wrote};
-ghost use Rattle.mbdc_audit.specs.Counts.{count_number, put_counted};
-ghost use Rattle.mbdc_audit.specs.Told.{IsHonest, beside_text, closing_line, fault_line};
-ghost use Rattle.mbdc_audit.specs.Told.{no_evidence_line, piece_text, pieces_text};
+ghost use Rattle.mbdc_audit.specs.Counts.{count_number, no_counts, put_counted};
 
 use crate::evidence::Refusal;
 use crate::fault::AuditFault;
 use crate::field::Fields;
 use crate::printed::{Beside, Printed, put_printed};
-use crate::teller::Piece::{Number, Text};
 use crate::window::How;
-use crate::word::Word;
-use mbdc_io::{IoFault, Sink, put_number};
+use mbdc_io::{IoFault, Sink, put_fault_line, put_number, put_number_word};
 
-/// What holds of the number of a line.
+/// Whose a number is.
+#[derive(Clone, Copy)]
+pub enum Whose<'a> {
+    Place(u64),
+    User(u64),
+    Flat(&'a [u8]),
+    House,
+}
+
+/// What a number is of: `what` is nothing for an amount.
+#[derive(Clone, Copy)]
+pub struct Subject<'a> {
+    pub what: &'static str,
+    pub whose: Whose<'a>,
+}
+
+impl<'a> Subject<'a> {
+    /// An amount.
+    pub fn amount(whose: Whose<'a>) -> Subject<'a> {
+        Subject { what: "", whose }
+    }
+
+    /// What is computed of a user.
+    pub fn of_user(what: &'static str, user: u64) -> Subject<'a> {
+        let whose = Whose::User(user);
+        Subject { what, whose }
+    }
+}
+
+/// What holds of the last fields of a line: of as many bytes at its end.
 #[derive(Clone, Copy)]
 pub(crate) struct Answer {
-    /// Number of bytes of the line from the number on.
     pub tail: usize,
     pub number: Printed,
     pub beside: Beside,
-    pub is_right: bool,
-}
-
-/// What was found of a line.
-#[derive(Clone, Copy)]
-pub(crate) enum Found {
-    /// It is neither a number nor a value without evidence.
-    Nothing,
-    Number(Answer),
-    /// Telegrams give no value.
-    Refused(Refusal),
 }
 
 /// What was counted.
@@ -48,16 +60,19 @@ pub(crate) struct Counts {
 }
 
 impl Counts {
-    /// Nothing was counted.
-    pub const NONE: Counts = Counts {
-        numbers: 0,
-        differ: 0,
-        readings: 0,
-        refused: 0,
-        by_hand: 0,
-        estimated: 0,
-        struck: 0,
-    };
+    pub fn new() -> Self
+        ensures { result ≡ no_counts }
+    {
+        Counts {
+            numbers: 0,
+            differ: 0,
+            readings: 0,
+            refused: 0,
+            by_hand: 0,
+            estimated: 0,
+            struck: 0,
+        }
+    }
 
     /// Counts a value that a person or an estimate put.
     pub fn add_put(&mut self, how: How)
@@ -87,191 +102,100 @@ impl Counts {
     }
 }
 
-/// A piece of a text.
-#[derive(Clone, Copy)]
-pub enum Piece<'a> {
-    Text(&'a [u8]),
-    /// A number in decimal.
-    Number(u64),
-}
-
-// Writes a piece.
-fn put_piece<W: Sink>(out: &mut W, piece: &Piece<'_>) -> Result<(), IoFault>
-    ensures { Wrote W.Sink result out.old out.new (piece_text piece.now) }
-{
-    match piece {
-        Text(text) => out.put(text),
-        Number(number) => put_number(out, *number),
+// Writes what a number is of.
+fn put_subject<W: Sink>(out: &mut W, subject: &Subject<'_>, word: &[u8]) -> Result<(), IoFault> {
+    if !subject.what.is_empty() {
+        out.put(subject.what.as_bytes())?;
+        out.put(b" of ")?;
     }
-}
-
-// Writes pieces, one after the other.
-fn put_pieces<W: Sink>(out: &mut W, pieces: &[Piece<'_>]) -> Result<(), IoFault>
-    ensures { Wrote W.Sink result out.old out.new (pieces_text pieces.now) }
-{
-    match pieces {
-        [] => Ok(()),
-        [piece, rest @ ..] => {
-            put_piece(out, piece)?;
-            put_pieces(out, rest)
+    match &subject.whose {
+        Whose::Place(number) => {
+            out.put(b"place ")?;
+            put_number(out, *number)?;
         }
+        Whose::User(number) => {
+            out.put(b"user ")?;
+            put_number(out, *number)?;
+        }
+        Whose::Flat(name) => {
+            out.put(b"flat ")?;
+            out.put(name)?;
+        }
+        Whose::House => out.put(b"house")?,
     }
+    out.put(b" ")?;
+    out.put(word)
 }
 
-// Writes what the number of a line is of; of a place's number the place, and the word of its use.
-fn put_subject<W: Sink>(out: &mut W, line: &[u8], place: u64, used: &[u8]) -> Result<(), IoFault>
-    ensures { IsHonest W.Sink result out.old out.new }
-{
-    let mut fields = Fields::of(line);
-    let (word, _span) = (fields.next_or_empty(), fields.next_or_empty());
-    let (first, second, third) = (
-        fields.next_or_empty(),
-        fields.next_or_empty(),
-        fields.next_or_empty(),
-    );
-    match Word::named(word) {
-        Some(Word::Shown | Word::Value) => put_pieces(
-            out,
-            &[Text(b"place "), Number(place), Text(b" "), Text(used)],
-        ),
-        Some(Word::OfHouse) => put_pieces(out, &[Text(b"house "), Text(first)]),
-        Some(Word::OfFlat) => put_pieces(
-            out,
-            &[Text(b"flat "), Text(first), Text(b" "), Text(second)],
-        ),
-        Some(Word::OfUser) => put_pieces(
-            out,
-            &[Text(b"user "), Text(first), Text(b" "), Text(second)],
-        ),
-        Some(Word::Change | Word::Weather) => put_pieces(
-            out,
-            &[
-                Text(word),
-                Text(b" of user "),
-                Text(second),
-                Text(b" "),
-                Text(third),
-            ],
-        ),
-        _ => put_pieces(
-            out,
-            &[
-                Text(word),
-                Text(b" of user "),
-                Text(first),
-                Text(b" "),
-                Text(second),
-            ],
-        ),
-    }
+// Writes the number of a line after a word.
+fn put_at<W: Sink>(out: &mut W, word: &[u8], line: u64) -> Result<(), IoFault> {
+    out.put(word)?;
+    out.put(b" line ")?;
+    put_number(out, line)?;
+    out.put(b": ")
 }
 
-// Writes the fields of a published number, a space before each, and returns the last one.
-fn put_published<'a, W: Sink>(out: &mut W, tail: &'a [u8]) -> Result<&'a [u8], IoFault>
-    ensures { IsHonest W.Sink result out.old out.new }
-{
-    let mut fields = Fields::of(tail);
-    let mut last = tail;
-    'fields: while let Some(field) = fields.next_if_any() {
-        put_pieces(out, &[Text(b" "), Text(field)])?;
-        last = field;
-    }
-    Ok(last)
-}
-
-// Writes what holds beside a number; of the value of a reading its unit, which is the last field.
-fn put_beside<W: Sink>(out: &mut W, beside: &Beside, last: &[u8]) -> Result<(), IoFault>
-    ensures { Wrote W.Sink result out.old out.new (beside_text beside.now last.now) }
-{
-    match beside {
-        Beside::Nothing => Ok(()),
-        Beside::Unit => put_pieces(out, &[Text(b" "), Text(last)]),
-        Beside::Mark(grade) => put_pieces(out, &[Text(b" "), Text(grade.name().as_bytes())]),
-        Beside::Counts(without, count) => put_pieces(
-            out,
-            &[Text(b" "), Number(*without), Text(b" "), Number(*count)],
-        ),
-    }
-}
-
-// Writes that a number isn't what was published.
-fn put_differs<W: Sink>(
+/// Writes that a number isn't what was published; of the value of a reading with its unit.
+pub(crate) fn put_differs<W: Sink>(
     out: &mut W,
-    place: u64,
-    used: &[u8],
-    at: u64,
-    line: &[u8],
+    line: u64,
+    subject: &Subject<'_>,
+    word: &[u8],
+    tail: &[u8],
     answer: &Answer,
-) -> Result<(), IoFault>
-    ensures { IsHonest W.Sink result out.old out.new }
-{
-    let (_, tail) = line.split_at(line.len().saturating_sub(answer.tail));
-    put_pieces(out, &[Text(b"DIFFERS line "), Number(at), Text(b": ")])?;
-    put_subject(out, line, place, used)?;
+    unit: &[u8],
+) -> Result<(), IoFault> {
+    put_at(out, b"DIFFERS", line)?;
+    put_subject(out, subject, word)?;
     out.put(b": published")?;
-    let last = put_published(out, tail)?;
+    // With spaces in the place of commas.
+    let mut fields = Fields::of(tail);
+    'fields: while let Some(field) = fields.next_if_any() {
+        out.put(b" ")?;
+        out.put(field)?;
+    }
     out.put(b", computed ")?;
     put_printed(out, answer.number)?;
-    put_beside(out, &answer.beside, last)?;
+    match answer.beside {
+        Beside::Nothing => {
+            if !unit.is_empty() {
+                out.put(b" ")?;
+                out.put(unit)?;
+            }
+        }
+        Beside::Mark(grade) => {
+            out.put(b" ")?;
+            out.put(grade.name().as_bytes())?;
+        }
+        Beside::Counts(without, count) => {
+            put_number_word(out, without)?;
+            put_number_word(out, count)?;
+        }
+    }
     out.put(b"\n")
 }
 
-// Writes that telegrams give no value, and why.
-fn put_no_evidence<W: Sink>(out: &mut W, at: u64, refusal: Refusal) -> Result<(), IoFault>
-    ensures { Wrote W.Sink result out.old out.new (no_evidence_line at refusal) }
-{
-    put_pieces(
-        out,
-        &[
-            Text(b"NO EVIDENCE line "),
-            Number(at),
-            Text(b": "),
-            Text(refusal.text().as_bytes()),
-            Text(b"\n"),
-        ],
-    )
-}
-
-/// Writes what was found of a line: that a number differs, or that telegrams give no value.
-pub(crate) fn put_found<W: Sink>(
-    out: &mut W,
-    place: u64,
-    used: &[u8],
-    at: u64,
-    line: &[u8],
-    found: &Found,
-) -> Result<(), IoFault>
-    ensures { IsHonest W.Sink result out.old out.new }
-{
-    match found {
-        Found::Number(answer) if !answer.is_right => {
-            put_differs(out, place, used, at, line, answer)
-        }
-        Found::Refused(refusal) => put_no_evidence(out, at, *refusal),
-        _ => Ok(()),
-    }
-}
-
 // Writes the field at a place from the number on, as it holds.
-fn put_held<W: Sink>(out: &mut W, answer: &Answer, place: usize) -> Result<(), IoFault>
-    ensures { IsHonest W.Sink result out.old out.new }
-{
+fn put_held<W: Sink>(out: &mut W, answer: &Answer, place: usize) -> Result<(), IoFault> {
     if place == 0 {
         return put_printed(out, answer.number);
     }
     match answer.beside {
-        Beside::Nothing | Beside::Unit => Ok(()),
+        Beside::Nothing => Ok(()),
         Beside::Mark(grade) => out.put(grade.name().as_bytes()),
         Beside::Counts(without, count) => put_number(out, if place == 1 { without } else { count }),
     }
 }
 
 /// Writes a line, with what holds in the place of what is asked for.
-pub(crate) fn put_filled<W: Sink>(out: &mut W, line: &[u8], found: &Found) -> Result<(), IoFault>
-    ensures { IsHonest W.Sink result out.old out.new }
-{
-    let Found::Number(answer) = found else {
-        return put_pieces(out, &[Text(line), Text(b"\n")]);
+pub(crate) fn put_filled<W: Sink>(
+    out: &mut W,
+    line: &[u8],
+    answer: &Option<Answer>,
+) -> Result<(), IoFault> {
+    let Some(answer) = answer else {
+        out.put(line)?;
+        return out.put(b"\n");
     };
     let (front, tail) = line.split_at(line.len().saturating_sub(answer.tail));
     out.put(front)?;
@@ -291,49 +215,43 @@ pub(crate) fn put_filled<W: Sink>(out: &mut W, line: &[u8], found: &Found) -> Re
     out.put(b"\n")
 }
 
+/// Writes that telegrams give no value, and why.
+pub(crate) fn put_no_evidence<W: Sink>(
+    out: &mut W,
+    line: u64,
+    refusal: Refusal,
+) -> Result<(), IoFault> {
+    put_at(out, b"NO EVIDENCE", line)?;
+    out.put(refusal.text().as_bytes())?;
+    out.put(b"\n")
+}
+
+// Writes a word and a count.
+fn put_count<W: Sink>(out: &mut W, word: &[u8], count: u64) -> Result<(), IoFault> {
+    out.put(word)?;
+    put_number(out, count)
+}
+
 /// Writes the closing line.
-pub(crate) fn put_closing<W: Sink>(out: &mut W, counts: &Counts, places: u64) -> Result<(), IoFault>
-    ensures { Wrote W.Sink result out.old out.new (closing_line counts.now places) }
-{
-    put_pieces(
-        out,
-        &[
-            Text(b"numbers "),
-            Number(counts.numbers),
-            Text(b", differ "),
-            Number(counts.differ),
-            Text(b", readings "),
-            Number(counts.readings),
-            Text(b", refused "),
-            Number(counts.refused),
-            Text(b", by hand "),
-            Number(counts.by_hand),
-            Text(b", estimated "),
-            Number(counts.estimated),
-            Text(b", struck "),
-            Number(counts.struck),
-            Text(b", places "),
-            Number(places),
-            Text(b"\n"),
-        ],
-    )
+pub(crate) fn put_closing<W: Sink>(
+    out: &mut W,
+    counts: &Counts,
+    places: u64,
+) -> Result<(), IoFault> {
+    put_count(out, b"numbers ", counts.numbers)?;
+    put_count(out, b", differ ", counts.differ)?;
+    put_count(out, b", readings ", counts.readings)?;
+    put_count(out, b", refused ", counts.refused)?;
+    put_count(out, b", by hand ", counts.by_hand)?;
+    put_count(out, b", estimated ", counts.estimated)?;
+    put_count(out, b", struck ", counts.struck)?;
+    put_count(out, b", places ", places)?;
+    out.put(b"\n")
 }
 
 /// Writes the number and the fault of a line.
-pub(crate) fn put_fault<W: Sink>(out: &mut W, at: u64, fault: AuditFault) -> Result<(), IoFault>
-    ensures { Wrote W.Sink result out.old out.new (fault_line at fault) }
-{
-    let (number, name) = fault.told();
-    put_pieces(
-        out,
-        &[
-            Text(b"LINE "),
-            Number(at),
-            Text(b" FAULT "),
-            Number(u64::from(number)),
-            Text(b" "),
-            Text(name.as_bytes()),
-            Text(b"\n"),
-        ],
-    )
+pub(crate) fn put_fault<W: Sink>(out: &mut W, line: u64, fault: AuditFault) -> Result<(), IoFault> {
+    out.put(b"LINE ")?;
+    put_number(out, line)?;
+    put_fault_line(out, b" FAULT", fault.number(), fault.name())
 }

@@ -1,6 +1,7 @@
 //! What meters count, and the units of amounts.
 
-ghost use Rattle.std.specs.Prelude.{◌≡◌, ◌<◌, ◌≤◌, IfSome};
+ghost use Rattle.std.specs.Prelude.{◌≡◌, ◌<◌, ◌≤◌, IfSome, find};
+ghost use Rattle.std.specs.Str.{bytes_eq};
 ghost use Rattle.mbdc_audit.specs.Uses.{counted_named, is_counted, is_unit, size_named, size_of};
 ghost use Rattle.mbdc_audit.specs.Uses.{unit_name, unit_named};
 
@@ -107,11 +108,18 @@ impl Unit {
     pub fn named(word: &[u8]) -> Option<Unit>
         ensures { result ≡ unit_named word.now }
     {
-        UNITS
-            .iter()
-            .copied()
-            .find(|unit| is_word(word, unit.name()))
+        unit_among(word, &UNITS)
     }
+}
+
+// The first of these units that a word names.
+fn unit_among(word: &[u8], units: &[Unit]) -> Option<Unit>
+    ensures { result ≡ find (λ u. bytes_eq word.now (unit_name u)) units.now }
+{
+    units
+        .iter()
+        .copied()
+        .find(|unit| is_word(word, unit.name()))
 }
 
 /// What a quantity of the table of units counts, and the smallest units of one of its units.

@@ -1,7 +1,11 @@
 //! The words that begin lines, and the order of lines.
 
-ghost use Rattle.std.specs.Prelude.{◌≡◌};
-ghost use Rattle.mbdc_audit.specs.Order.{after, is_in_window, may_lead, stage_of, word_in, word_name};
+ghost use Rattle.std.specs.Prelude.{◌≡◌, find};
+ghost use Rattle.std.specs.Str.{bytes_eq};
+ghost use Rattle.mbdc_audit.specs.Order.{after, after_other, is_declared, is_fact, is_in_window};
+ghost use Rattle.mbdc_audit.specs.Order.{is_metered, is_struck};
+ghost use Rattle.mbdc_audit.specs.Order.{is_parted, is_placed, is_summed, is_valued, is_value};
+ghost use Rattle.mbdc_audit.specs.Order.{leads, may_go_on, word_in, word_name};
 
 use crate::field::is_word;
 
@@ -125,44 +129,52 @@ impl Word {
     pub fn named(field: &[u8]) -> Option<Word>
         ensures { result ≡ word_in field.now }
     {
-        WORDS
-            .iter()
-            .copied()
-            .find(|word| is_word(field, word.name()))
+        word_among(field, &WORDS)
     }
 
-    // The stage that its line leads to.
-    fn stage(self) -> Stage
-        ensures { result ≡ stage_of self }
+    // Whether the line declares a fact.
+    fn is_fact(self) -> bool
+        ensures { result ≡ is_fact self }
     {
-        match self {
+        matches!(
+            self,
             Word::Span
-            | Word::Use
-            | Word::Factor
-            | Word::Carbon
-            | Word::Degrees
-            | Word::Price
-            | Word::Average
-            | Word::User => Stage::Declared,
-            Word::Place => Stage::Placed,
-            Word::Meter => Stage::Metered,
-            Word::Window => Stage::Opened,
-            Word::Read
-            | Word::Stored
-            | Word::Ended
-            | Word::Hand
-            | Word::Estimated
-            | Word::First
-            | Word::Last
-            | Word::Zero => Stage::Valued,
-            Word::Struck => Stage::Struck,
-            Word::Part => Stage::Parted,
-            Word::Shown | Word::Value => Stage::Shown,
-            Word::Totals => Stage::Totals,
-            Word::End => Stage::Ended,
-            _ => Stage::Summed,
-        }
+                | Word::Use
+                | Word::Factor
+                | Word::Carbon
+                | Word::Degrees
+                | Word::Price
+                | Word::Average
+                | Word::User
+        )
     }
+
+    // Whether the line is a value of a window.
+    fn is_value(self) -> bool
+        ensures { result ≡ is_value self }
+    {
+        matches!(
+            self,
+            Word::Read
+                | Word::Stored
+                | Word::Ended
+                | Word::Hand
+                | Word::Estimated
+                | Word::First
+                | Word::Last
+                | Word::Zero
+        )
+    }
+}
+
+// The first of these words that a field is.
+fn word_among(field: &[u8], words: &[Word]) -> Option<Word>
+    ensures { result ≡ find (λ w. bytes_eq field.now (word_name w)) words.now }
+{
+    words
+        .iter()
+        .copied()
+        .find(|word| is_word(field, word.name()))
 }
 
 /// How far a file has come: what its last line was.
@@ -174,47 +186,100 @@ pub enum Stage {
     Declared,
     Placed,
     Metered,
-    /// A window.
-    Opened,
-    /// A value of a window.
+    /// A window, or one of its values.
     Valued,
     Struck,
     Parted,
     Shown,
-    Totals,
-    /// A number of the totals.
+    /// `totals`, or one of its numbers.
     Summed,
     Ended,
 }
 
+// The stage that a line leads to, where it may follow.
+fn leads(may: bool, next: Stage) -> Option<Stage>
+    ensures { result ≡ leads may next }
+{
+    if may { Some(next) } else { None }
+}
+
 impl Stage {
+    fn is_declared(self) -> bool
+        ensures { result ≡ is_declared self }
+    {
+        matches!(self, Stage::Declared)
+    }
+
+    fn is_placed(self) -> bool
+        ensures { result ≡ is_placed self }
+    {
+        matches!(self, Stage::Placed)
+    }
+
+    fn is_metered(self) -> bool
+        ensures { result ≡ is_metered self }
+    {
+        matches!(self, Stage::Metered)
+    }
+
+    fn is_valued(self) -> bool
+        ensures { result ≡ is_valued self }
+    {
+        matches!(self, Stage::Valued)
+    }
+
+    fn is_struck(self) -> bool
+        ensures { result ≡ is_struck self }
+    {
+        matches!(self, Stage::Struck)
+    }
+
+    fn is_parted(self) -> bool
+        ensures { result ≡ is_parted self }
+    {
+        matches!(self, Stage::Parted)
+    }
+
+    fn is_summed(self) -> bool
+        ensures { result ≡ is_summed self }
+    {
+        matches!(self, Stage::Summed)
+    }
+
     /// Whether a window is open.
     pub fn is_in_window(self) -> bool
         ensures { result ≡ is_in_window self }
     {
         matches!(
             self,
-            Stage::Opened | Stage::Valued | Stage::Struck | Stage::Parted | Stage::Shown
+            Stage::Valued | Stage::Struck | Stage::Parted | Stage::Shown
         )
     }
 
-    // Whether a line that leads to another stage may come next.
-    fn may_lead(self, next: Stage) -> bool
-        ensures { result ≡ may_lead self next }
+    // Whether a place is whole, so that another line than one of its own may follow.
+    fn may_go_on(self) -> bool
+        ensures { result ≡ may_go_on self }
     {
-        match next {
-            Stage::Begun => false,
-            Stage::Declared => matches!(self, Stage::Declared),
-            Stage::Metered => matches!(self, Stage::Placed | Stage::Metered),
-            Stage::Opened => self.is_in_window() || matches!(self, Stage::Metered),
-            Stage::Placed | Stage::Totals => {
-                self.is_in_window() || matches!(self, Stage::Metered | Stage::Declared)
-            }
-            Stage::Valued => matches!(self, Stage::Opened | Stage::Valued),
-            Stage::Struck => matches!(self, Stage::Opened | Stage::Valued | Stage::Struck),
-            Stage::Parted => self.is_in_window() && !matches!(self, Stage::Shown),
-            Stage::Shown => self.is_in_window(),
-            Stage::Summed | Stage::Ended => matches!(self, Stage::Totals | Stage::Summed),
+        self.is_in_window() || self.is_metered()
+    }
+
+    // The stage after a line that is no fact and no value.
+    fn after_other(self, word: Word) -> Option<Stage>
+        ensures { result ≡ after_other self word }
+    {
+        match word {
+            Word::Place => leads(self.may_go_on() || self.is_declared(), Stage::Placed),
+            Word::Meter => leads(self.is_placed() || self.is_metered(), Stage::Metered),
+            Word::Window => leads(self.may_go_on(), Stage::Valued),
+            Word::Struck => leads(self.is_valued() || self.is_struck(), Stage::Struck),
+            Word::Part => leads(
+                self.is_valued() || self.is_struck() || self.is_parted(),
+                Stage::Parted,
+            ),
+            Word::Shown | Word::Value => leads(self.is_in_window(), Stage::Shown),
+            Word::Totals => leads(self.may_go_on() || self.is_declared(), Stage::Summed),
+            Word::End => leads(self.is_summed(), Stage::Ended),
+            _ => leads(self.is_summed(), Stage::Summed),
         }
     }
 
@@ -222,11 +287,12 @@ impl Stage {
     pub fn after(self, word: Word) -> Option<Stage>
         ensures { result ≡ after self word }
     {
-        let next = word.stage();
-        if self.may_lead(next) {
-            Some(next)
+        if word.is_fact() {
+            leads(self.is_declared(), Stage::Declared)
+        } else if word.is_value() {
+            leads(self.is_valued(), Stage::Valued)
         } else {
-            None
+            self.after_other(word)
         }
     }
 }
