@@ -37,7 +37,7 @@ def test_a_word_leaves_out_the_others_with_their_comments(tool: Callable[[str], 
 
 
 def test_a_subject_without_a_picked_test_is_left_out(tool: Callable[[str], types.ModuleType]) -> None:
-    found = {"lib": ("#[cfg(test)]\nmod fit;\n#[cfg(test)]\nmod wire;\n", []), "fit": ("mod ends;\n", []),
+    found = {"lib": ("mod fit;\nmod wire;\n", []), "fit": ("mod ends;\n", []),
              "fit/ends": ("", []), "wire": ("mod units;\n", []), "wire/units": ("", ["wire::units::counts"])}
     texts = tool("runtests").needed(found, {"fit", "wire"})
-    assert texts == {"lib": "#[cfg(test)]\nmod wire;\n", "wire": "mod units;\n", "wire/units": ""}
+    assert texts == {"lib": "mod wire;\n", "wire": "mod units;\n", "wire/units": ""}
