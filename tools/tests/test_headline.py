@@ -1,4 +1,4 @@
-"""tools/headline follows a clause's names through definitions, and counts their lines."""
+"""tools/promises follows a clause's names through definitions, and counts their lines."""
 
 import pathlib
 import types
@@ -57,14 +57,14 @@ impl Disk for X {
 
 @pytest.fixture
 def headline(tool: Callable[[str], types.ModuleType], tmp_path: pathlib.Path, monkeypatch: pytest.MonkeyPatch) -> types.ModuleType:
-    made = tool("headline")
+    made = tool("promises")
     for name, text in {"dc_x/specs/Headline.antt": HEADLINE, "dc_y/specs/State.antt": STATE, "dc_y/specs/Lower.antt": LOWER,
                        "dc_y/src/root.rt": ROOT, "dc_x/src/x.rt": CLAUSE, "dc_x/src/file.rt": FILE}.items():
         file = tmp_path / "crates" / name
         file.parent.mkdir(parents=True, exist_ok=True)
         file.write_text(text)
     monkeypatch.setattr(made, "ROOT", tmp_path)
-    monkeypatch.setattr(made, "CLAUSE", (tmp_path / "crates/dc_x/src/x.rt", "the_headline"))
+    monkeypatch.setattr(made, "HEADLINE", (tmp_path / "crates/dc_x/src/x.rt", "the_headline"))
     monkeypatch.setattr(made, "FILE", (tmp_path / "crates/dc_x/src/file.rt", "Disk for X"))
     monkeypatch.setattr(made, "PARTS", [("first", []), ("second", ["Holds"]), ("disk", ["Ghosts"])])
     made.module_of.cache_clear()

@@ -1,12 +1,16 @@
-"""The unproved program: which images it writes to, and that of several first calls one compiles it."""
+"""The unproved program: what is said before it is compiled, which images it writes to, and that of several first calls one
+compiles it."""
 
 import multiprocessing
 import pathlib
+import re
+import shlex
 import shutil
 import subprocess
 import time
 import types
 from collections.abc import Callable
+from typing import Optional
 
 import pytest
 
@@ -20,13 +24,42 @@ printf '%s' "$1 $(date +%N)" | dd of="$2" bs=1 seek=600 conv=notrunc 2>/dev/null
 
 @pytest.fixture
 def unproved(tool: Tool, tmp_path: pathlib.Path, monkeypatch: pytest.MonkeyPatch) -> types.ModuleType:
-    made = tool("unproved")
+    made = tool("build")
     monkeypatch.setattr(made, "KEPT", tmp_path / "kept")
     monkeypatch.setattr(made, "IMAGES", tmp_path / "images")
     (tmp_path / "kept").mkdir()
     (tmp_path / "kept" / "mbdc").write_text(PROGRAM)
     (tmp_path / "kept" / "mbdc").chmod(0o755)
     return made
+
+
+def said(unproved: types.ModuleType, words: str) -> "tuple[str, int]":
+    with pytest.raises(unproved.Said) as found:
+        unproved.judged(shlex.split(words))
+    return found.value.text, found.value.status
+
+
+def test_the_commands_are_those_of_the_sources(unproved: types.ModuleType) -> None:
+    listed = (unproved.told.WORDS / "near.rt").read_text().partition("const COMMANDS")[2].partition(";\n")[0]
+    assert re.findall(r'"(\w+)"', listed) == unproved.COMMANDS
+    for name in unproved.COMMANDS:
+        assert said(unproved, f"{name} --help") == said(unproved, f"help {name}") == (unproved.told.help_of(name), 0)
+    assert said(unproved, "--help") == said(unproved, "-h") == said(unproved, "help")
+
+
+@pytest.mark.parametrize("words, text", [
+    ("pol", "pol'; did you mean poll?"), ("formt i 131", "formt'; did you mean format?"), ("bogus --help", "bogus'"), ("DECODE", "DECODE'"),
+    ("--verbose vlaues", "vlaues'; did you mean values?"), ("help bogus", "bogus'")])
+def test_a_mistyped_command(unproved: types.ModuleType, words: str, text: str) -> None:
+    assert said(unproved, words) == (f"mbdc: unrecognized subcommand '{text}; try mbdc --help\n", 2)
+
+
+@pytest.mark.parametrize("words, image", [
+    ("", None), ("decode x", None), ("values i", None), ("report i register", None), ("scan tcp://a:1", None), ("--bogus", None),
+    ("format i 131", "i"), ("run i s", "i"), ("poll i --line 1=tcp://a:1", "i"), ("poll --line=1=tcp://a:1 --tries 3 i", "i"),
+    ("--verbose fit i l", "i"), ("fit --verbose i l", "i"), ("fit -- -i l", "-i"), ("fit i -- l", "i"), ("run -- i s", "i")])
+def test_the_image_that_a_command_writes_to(unproved: types.ModuleType, words: str, image: Optional[str]) -> None:
+    assert unproved.judged(shlex.split(words)).image == image
 
 
 def call(unproved: types.ModuleType, command: str, image: pathlib.Path) -> int:
@@ -80,8 +113,8 @@ def first_call(unproved: types.ModuleType, counted: pathlib.Path) -> None:
         time.sleep(0.2)
         (unproved.KEPT / "sources").write_text(sources)
 
-    setattr(unproved, "build", build)
-    unproved.build_once("sum")
+    setattr(unproved, "compile_program", build)
+    unproved.compile_once("sum")
 
 
 def test_of_several_first_calls_one_compiles(unproved: types.ModuleType, tmp_path: pathlib.Path) -> None:
