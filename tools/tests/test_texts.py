@@ -1,7 +1,5 @@
 """The checks of texts over small trees: what they find, and what they pass."""
 
-import csv
-import datetime
 import pathlib
 import types
 from collections.abc import Callable
@@ -25,7 +23,6 @@ two lines](other.md)
 ```
 """
 PLACES = {"src": r'=> "([^"]+)"', "specs": r'codes "([^"]+)"'}
-RUNS = pathlib.Path(__file__).resolve().parents[2] / "bench/measured.csv"
 
 
 @pytest.fixture
@@ -65,12 +62,3 @@ def test_prose_without_code(texts: types.ModuleType, tmp_path: pathlib.Path) -> 
     page = tmp_path / "page.md"
     page.write_text("# A title\n\nIt tells `what stands` here.\n```\ntold\n```\n    told\n| a | told |\n")
     assert [line.split(":")[1:3] for line in texts.mannered(page)] == [["3", " tells"], ["8", " told"]]
-
-
-def test_each_run_of_a_bench_has_a_day_a_command_and_a_figure() -> None:
-    with open(RUNS, newline="") as file:
-        head, *rows = csv.reader(file)
-    assert head == ["date", "commit", "command", "what", "figure", "unit", "load", "yardstick_ms", "note"]
-    assert not [row for row in rows if len(row) != len(head) or not all(row[2:5])]
-    days = [datetime.date.fromisoformat(row[0]) for row in rows]
-    assert days == sorted(days)
