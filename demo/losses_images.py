@@ -6,7 +6,6 @@ import pathlib
 import random
 import resource
 import subprocess
-import time
 from collections.abc import Sequence
 from typing import Any, Protocol
 
@@ -17,7 +16,6 @@ from world.meters import Meter
 
 SECTOR, SECTORS, LARGEST = 512, 131, 131_075
 ROOM = 48 << 20  # bytes; the file of the largest image has 64 MiB
-METERS, KILLS = 900, 60
 GIVEN_UP, MARGIN = 5, 10  # seconds
 
 
@@ -35,12 +33,6 @@ def printed(program: Program, *words: str) -> tuple[int, str, str]:
     """Its status, what it prints, and what it says on standard error."""
     ended = subprocess.run([program.path, *words], cwd=program.folder, capture_output=True, text=True, timeout=60)
     return ended.returncode, ended.stdout, ended.stderr
-
-
-def meters_in(program: Program, image: str) -> int:
-    """How many meters its register has."""
-    text = printed(program, "inspect", image)[1]
-    return next((int(line.split()[1]) for line in text.splitlines() if line.startswith("METERS")), -1)
 
 
 def list_of(folder: pathlib.Path, count: int) -> str:
@@ -67,21 +59,6 @@ def overtaken(program: Program, folder: pathlib.Path) -> pathlib.Path:
     return folder / "house.image"
 
 
-def a_rotted_root_loses_nothing(program: Program, folder: pathlib.Path) -> None:
-    """A root rots, the newest one or the one before: the whole state is shown, and the image opens or is rescued."""
-    for slot in (1, 2):
-        program.formats("house.image")
-        wants(program.run("fit", "house.image", list_of(folder, 3))[0] == 0, "the list isn't done")
-        rot(folder / "house.image", slot)
-        _, text, line = printed(program, "report", "house.image", "register")
-        wants(text.count("PAD") == 3, f"slot {slot}: shown is {text!r}, {line!r}")
-        if program.run("fit", "house.image", "meters.csv")[0]:
-            status, text, _ = printed(program, "rescue", "house.image", "new.image")
-            wants(status == 0 and text.startswith("WHOLE\nLOST 0\n"), f"slot {slot}: {text[:60]!r}")
-            wants(meters_in(program, "new.image") == 3, f"slot {slot}: meters are lost")
-        (folder / "house.image").unlink()
-
-
 def an_image_that_is_behind_is_shown_and_not_written(program: Program, folder: pathlib.Path) -> None:
     image = overtaken(program, folder)
     before, line = image.read_bytes(), "mbdc: behind: sector 9 is ahead of what the image reads as; see mbdc rescue --help\n"
@@ -95,38 +72,6 @@ def an_image_that_is_behind_is_shown_and_not_written(program: Program, folder: p
                   ["poll", "house.image", "--line", f"1=tcp://{bus.address}"]):
         wants(program.run(*words) == (3, line), f"{words[0]} isn't refused")
     wants(image.read_bytes() == before, "it was written")
-
-
-def what_reads_is_rescued(program: Program, folder: pathlib.Path) -> None:
-    image = overtaken(program, folder)
-    before = image.read_bytes()
-    status, text, _ = printed(program, "rescue", "house.image", "new.image")
-    wants(status == 0 and text.startswith("WHOLE\nLOST 2\n"), f"status {status}, {text[:60]!r}")
-    wants(meters_in(program, "new.image") == 1, "the meter isn't there")
-    wants(program.run("fit", "new.image", list_of(folder, 3)) == (0, ""), "the new image isn't opened")
-    wants(program.run("rescue", "house.image", "new.image")[0] == 4, "another file is written over")
-    wants(meters_in(program, "new.image") == 3 and image.read_bytes() == before, "an image has changed")
-
-
-def a_killed_fit_is_all_or_nothing(program: Program, folder: pathlib.Path) -> None:
-    rng, words = random.Random(2), ("fit", "house.image", list_of(folder, METERS))
-    subprocess.run([program.path, "format", "empty.image", "2051"], cwd=folder, check=True)
-    empty, image = (folder / "empty.image").read_bytes(), folder / "house.image"
-    image.write_bytes(empty)
-    began = time.monotonic()
-    wants(program.run(*words)[0] == 0, "the list isn't done")
-    took, found = time.monotonic() - began, []
-    for _ in range(KILLS):
-        image.write_bytes(empty)
-        with program.start(*words, stdout=subprocess.DEVNULL) as fitting:
-            time.sleep(rng.uniform(0, took))
-            fitting.kill()
-        found.append(meters_in(program, "house.image"))
-    wants(set(found) <= {0, METERS}, f"meters after a kill: {sorted(set(found))}")
-    wants(program.run(*words)[0] == 0 and meters_in(program, "house.image") == METERS, "the same list doesn't do the rest")
-    image.write_bytes(empty)
-    subprocess.run(f"{program.path} {' '.join(words)} | head -1", shell=True, cwd=folder, stdout=subprocess.DEVNULL)
-    wants(meters_in(program, "house.image") in (0, METERS), "a closed pipe leaves a part")
 
 
 # Polls
@@ -202,17 +147,6 @@ def a_poll_outlives_its_output(program: Program, folder: pathlib.Path) -> None:
     wants(readings_in(program) == 3, f"a full log: {readings_in(program)} of 3 readings")
 
 
-def a_trace_is_a_regular_file(program: Program, folder: pathlib.Path) -> None:
-    """And a pipe that nobody reads stops no poll."""
-    link = bus_of(program, folder, 1)
-    os.mkfifo(folder / "pipe")
-    before = (folder / "house.image").read_bytes()
-    for name in ("pipe", "/dev/null", "/dev/full", "house.image"):
-        ended = program.run("poll", "house.image", "--line", link, "--trace", name, seconds=MARGIN)
-        wants(ended == (4, f"mbdc: file: {name}\n"), f"{name}: {ended}")
-    wants((folder / "house.image").read_bytes() == before, "the image was written")
-
-
 def a_look_takes_the_memory_of_the_state(program: Program, folder: pathlib.Path) -> None:
     """And not that of the file, which is larger than what the look may take."""
     wants(program.run("format", "large.image", str(LARGEST)) == (0, ""), "no image of that size")
@@ -238,6 +172,5 @@ def a_copy_beside_a_poll_is_whole(program: Program, folder: pathlib.Path) -> Non
 
 
 CASES: Sequence[Any] = [
-    a_rotted_root_loses_nothing, an_image_that_is_behind_is_shown_and_not_written, what_reads_is_rescued,
-    a_killed_fit_is_all_or_nothing, a_poll_into_a_replaced_image_stops, a_poll_outlives_its_output,
-    a_trace_is_a_regular_file, a_look_takes_the_memory_of_the_state, a_copy_beside_a_poll_is_whole]
+    an_image_that_is_behind_is_shown_and_not_written, a_poll_into_a_replaced_image_stops, a_poll_outlives_its_output,
+    a_look_takes_the_memory_of_the_state, a_copy_beside_a_poll_is_whole]
