@@ -1,7 +1,8 @@
-"""Wrong offices, for demo/office: what refuses each mutant of demo/office-mutants/, and what it would change where nothing did.
+"""Wrong offices, for demo/office and demo/fleet: what refuses each mutant, and what it would change where nothing did.
 
-A mutant's second line names its judge, a test of the office or demo/office with some words; a third line says where the audit has to
-refuse it too. Each is played over a copy of one house that is ready to be computed (of the office's tests), then judged:
+A mutant of demo/office-mutants.txt is some lines: its name and what is wrong; `in FILE by JUDGE`, a test of the office or demo/office
+with some words, and `, the audit` where that has to refuse it, too; and small edits, the old text (-), which is in the file once, and
+the new one (+). Each is played over a copy of one house that is ready to be computed (of the office's tests), then judged:
 
     refused NAME: by the audit: DIFFERS line ..
     refused NAME: by test_x.py::test_y: ..; 4 numbers, 2 pages are others
@@ -12,6 +13,7 @@ A mutant that no audit and no judge refuses is judged wrongly.
 
 import concurrent.futures
 import importlib
+import itertools
 import os
 import pathlib
 import re
@@ -23,10 +25,9 @@ import threading
 from typing import Any, Dict, List, NamedTuple, Optional, Set, Tuple
 
 ROOT = pathlib.Path(__file__).resolve().parent.parent.parent
-FOLDER, SCHEMA = ROOT / "demo/office-mutants", "+++ b/schema/"
 LONGEST_WHY = 150
-BY, BY_DEMO = "Refused by ", "demo/office"
-BY_AUDIT, AUDITED = "Refused by the audit", "test_publish.py::test_the_audit_accepts"
+BY_DEMO, SCHEMA = "demo/office", "schema/"
+BY_AUDIT, AUDITED = ", the audit", "test_publish.py::test_the_audit_accepts"
 REFUSED = re.compile(r"refused: (.*)")
 MONTH = "2025-01"
 # What is done with the house, and whether a person reads what is printed
@@ -37,6 +38,36 @@ STEPS: Tuple[Tuple[Tuple[str, ...], bool], ...] = (
     (("bill", "elm-1", MONTH), True), (("bill", "elm-1", "2024-12-01..2025-01-31"), True))
 PUBLISHED = """
 SELECT coalesce(month::text, days::text), tenancy, kind, flat, use, place, period, unit, text, mark FROM published"""
+
+
+class Mutant(NamedTuple):
+    """A wrong office. judge: the test of the office that has to refuse it, or demo/office with some words."""
+    name: str
+    file: str
+    judge: str
+    is_audited: bool  # the audit has to refuse it
+    edits: List[Tuple[str, str]]  # what is there once, and what is there instead
+
+    def written(self, office: pathlib.Path) -> None:
+        """Makes an office wrong."""
+        path = office / self.file
+        text = path.read_text(encoding="utf-8")
+        for old, new in self.edits:
+            if text.count(old) != 1:
+                raise SystemExit(f"{self.name}: {self.file} has this {text.count(old)} times: {old}")
+            text = text.replace(old, new)
+        path.write_text(text, encoding="utf-8")
+
+
+def mutants_of(path: pathlib.Path) -> List[Mutant]:
+    """The mutants of a file."""
+    found = []
+    for head, place, *lines in (it.split("\n") for it in path.read_text(encoding="utf-8").strip("\n").split("\n\n")):
+        file, _, judge = place.removeprefix("in ").partition(" by ")
+        texts = ["\n".join(line[1:] for line in run) for _, run in itertools.groupby(lines, lambda line: line[:1])]
+        found.append(Mutant(head.partition(":")[0], file, judge.removesuffix(BY_AUDIT), judge.endswith((BY_AUDIT, AUDITED)),
+                            list(zip(texts[::2], texts[1::2]))))
+    return found
 
 
 class Played(NamedTuple):
@@ -101,27 +132,14 @@ def printed_of(office: Any, *words: str) -> str:
         return f"{words[0]} failed: {str(fault).strip().splitlines()[-1]}"
 
 
-def judge_of(patch: pathlib.Path) -> str:
-    """What has to refuse a mutant: a test of the office, or demo/office with some words."""
-    line = patch.read_text(encoding="utf-8").splitlines()[1]
-    if not line.startswith(BY):
-        raise SystemExit(f"office: {patch} doesn't say in its second line what refuses it")
-    return line[len(BY):]
-
-
-def is_audited(patch: pathlib.Path) -> bool:
-    """Whether the audit alone has to refuse a mutant."""
-    return judge_of(patch) == AUDITED or patch.read_text(encoding="utf-8").splitlines()[2] == BY_AUDIT
-
-
-def patched(patch: Optional[pathlib.Path], folder: pathlib.Path) -> pathlib.Path:
-    """An office with a patch, or as it is."""
+def made(mutant: Optional[Mutant], folder: pathlib.Path) -> pathlib.Path:
+    """An office with a mutant, or as it is."""
     folder.chmod(0o711)
     office = folder / "office"
     shutil.copytree(ROOT / "office", office)
     (folder / "packaging").symlink_to(ROOT / "packaging")
-    if patch:
-        subprocess.run(["patch", "-p1", "-s", "-i", patch], cwd=office, check=True)
+    if mutant:
+        mutant.written(office)
     return office
 
 
@@ -154,24 +172,24 @@ def changed(found: Played, right: Played) -> str:
     return f"{len({it[:3] for it in right.numbers ^ found.numbers})} numbers, {len(pages)} pages are others"
 
 
-def sentence_of(house: House, right: Optional[Played], patch: Optional[pathlib.Path], judges: List[str]) -> Tuple[str, bool]:
+def sentence_of(house: House, right: Optional[Played], mutant: Optional[Mutant], judges: List[str]) -> Tuple[str, bool]:
     """What is said of a mutant, or of the office as it is, and whether it is judged rightly."""
     with tempfile.TemporaryDirectory(prefix="office-mutant-") as name:
         folder = pathlib.Path(name)
-        office = patched(patch, folder)
-        found = house.played(office, folder, patch is not None and SCHEMA in patch.read_text(encoding="utf-8"))
+        office = made(mutant, folder)
+        found = house.played(office, folder, mutant is not None and mutant.file.startswith(SCHEMA))
         by, reason = judged(office, judges)
-        what = patch.stem if patch else "the office as it is"
+        what = mutant.name if mutant else "the office as it is"
         other = changed(found, right) if right else f"{len(found.numbers)} numbers, {len(found.pages)} pages"
         audit = f"; the audit: {found.refused[:LONGEST_WHY]}" if found.refused else ""
         said = f"refused {what}: by {by}: {reason}; {other}{audit}" if by else f"passed {what}; {other}{audit}"
-        is_right = not judges or bool(by) == (patch is not None)
-        return said, is_right and (not found.refused if patch is None else bool(found.refused) or not is_audited(patch))
+        is_right = not judges or bool(by) == (mutant is not None)
+        return said, is_right and (not found.refused if mutant is None else bool(found.refused) or not mutant.is_audited)
 
 
 def tried(names: List[str], mbdc: pathlib.Path, workers: int, by_audit: bool) -> int:
     """Tries the right office and each mutant, or those of these names; the status is 1 where one is judged wrongly."""
-    patches = [FOLDER / f"{name}.patch" for name in names] or sorted(FOLDER.glob("*.patch"))
+    mutants = [it for it in mutants_of(ROOT / "demo/office-mutants.txt") if it.name in names or not names]
     wrong: List[str] = []
     with tempfile.TemporaryDirectory(prefix="office-mutants-") as name:
         folder = pathlib.Path(name)
@@ -180,11 +198,11 @@ def tried(names: List[str], mbdc: pathlib.Path, workers: int, by_audit: bool) ->
         try:
             (folder / "right").mkdir()
             right = house.played(ROOT / "office", folder / "right", False)
-            tries: List[Tuple[Optional[pathlib.Path], List[str]]] = [(patch, [] if by_audit else [judge_of(patch)]) for patch in patches]
-            tries += [] if names or by_audit else [(None, sorted(set(map(judge_of, patches))))]
+            tries: List[Tuple[Optional[Mutant], List[str]]] = [(it, [] if by_audit else [it.judge]) for it in mutants]
+            tries += [] if names or by_audit else [(None, sorted({it.judge for it in mutants}))]
             with concurrent.futures.ThreadPoolExecutor(workers) as pool:
-                work = {pool.submit(sentence_of, house, right if patch else None, patch, judges): patch for patch, judges in tries}
-                for done in concurrent.futures.as_completed(work):
+                for done in concurrent.futures.as_completed([
+                        pool.submit(sentence_of, house, right if mutant else None, mutant, judges) for mutant, judges in tries]):
                     said, is_right = done.result()
                     print(said, flush=True)
                     wrong += [] if is_right else [said.split()[1].rstrip(":;")]
