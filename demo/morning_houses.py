@@ -83,7 +83,7 @@ def troubles_of(days: Days) -> list[Trouble]:
                 {"new": "99000002.PAD.01.04", "at": f"{days.last}T12:00", "last": "5900000", "first": "0", "unit": "Wh"},
                 "UPDATE orders SET state = 'done', number = 1, answer = 'OK', ended_at = now() WHERE box = '{house}';"
                 "UPDATE meters SET identity = '99000002.PAD.01.04', since = now(), heard = now(), stored_at = now(), at = now() WHERE identity = " + METER),
-        Trouble("clock", "UPDATE boxes SET clock = '3 of 6 stamps can''t be, as 2000-01-01 00:12', clock_at = now() WHERE name = '{house}'", "take_over", {},
+        Trouble("clock", "UPDATE boxes SET clock = jsonb_build_object('wrong', 3, 'of', 6, 'first', '2000-01-01 00:12'), clock_at = now() WHERE name = '{house}'", "take_over", {},
                 "UPDATE boxes SET clock = NULL, clock_at = NULL WHERE name = '{house}'"),
         Trouble("disturbed", values.format(change="value + 2000", house="{house}", place="{place}") + f" AND day = '{end}'", "strike", {}, place=COLD),
         Trouble("turn", values.format(change=f"(value + {99_200 - turned(days) / 4}) %% 100000", house="{house}", place="{place}") + "; INSERT INTO points (box, serial, part, place, storage,"
@@ -105,7 +105,7 @@ def troubles_of(days: Days) -> list[Trouble]:
                 {"value": "5565000", "unit": "Wh"},
                 f"SELECT put_value({FITTING}, '{days.last}', {5_565_000 + 9000 * (days.last - end).days}, 'Wh', 'read at the meter')"),
         Trouble("changed", "", "correct_month", {}),
-        Trouble("late", "UPDATE boxes SET late = '12 values of 2 meters, from 2026-01-01 on, came more than three days after the day' WHERE name = '{house}'", "take_over", {},
+        Trouble("late", "UPDATE boxes SET late = jsonb_build_object('values', 12, 'meters', 2, 'first', '2026-01-01') WHERE name = '{house}'", "take_over", {},
                 "UPDATE boxes SET late = NULL WHERE name = '{house}'"),
     ]
 
