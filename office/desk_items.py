@@ -1,4 +1,4 @@
-"""The manager's morning: its items with their words, the readings behind them, and what a person can do about each."""
+"""The manager's morning: its kinds of items with their words, the readings behind them, and what a person can do."""
 
 import collections
 import csv
@@ -8,7 +8,7 @@ import io
 import re
 import shlex
 import urllib.parse
-from typing import Any, Callable, Dict, List, NamedTuple, Optional, Tuple
+from typing import Any, Callable, Dict, List, Mapping, NamedTuple, Optional, Sequence, Tuple
 
 import psycopg2
 import psycopg2.extras
@@ -96,12 +96,254 @@ class Offer(NamedTuple):
         return urllib.parse.urlencode({**{name: it for name, it in self.values.items() if it is not None}, **others})
 
 
+class About:
+    """An item, with the readings behind it, and what is known for forms."""
+
+    def __init__(self, item: Row, readings: List[Row]) -> None:
+        self.item, self.facts = item, item.facts
+        self.day = next((one for one in readings if one.is_marked), readings[-1] if readings else None)
+        self.month = {"house": item.house, "month": self.facts.get("month")}
+
+    def of_meter(self, action: str, **values: Any) -> Offer:
+        return Offer(action, {"house": self.item.house, "meter": self.facts.get("identity"), **values})
+
+    def collect(self) -> List[Offer]:
+        return [Offer("collect", {"box": self.facts.get("box")})]
+
+    def put(self) -> List[Offer]:
+        month = self.facts.get("month")
+        day = self.day.day if self.day else month and next_month(datetime.date.fromisoformat(month)) - DAY
+        return [self.of_meter("put_value", day=day, unit=self.day.unit if self.day else None)]
+
+    def strike(self) -> List[Offer]:
+        return [Offer("strike", {"value": self.day.id})] if self.day else []
+
+    def exchange(self) -> List[Offer]:
+        """Of the last two meters of a place, where they are known."""
+        meters = (self.facts.get("meters") or [])[-2:]
+        old, new = meters if len(meters) == 2 else (self.facts.get("identity"), None)
+        return [Offer("exchange", {"house": self.item.house, "old": old, "new": new})]
+
+    def see(self) -> List[Offer]:
+        return [Offer("see_number", {"place": self.facts.get("place"), "month": self.facts.get("month")})]
+
+    def decide(self, use: str = "-") -> List[Offer]:
+        return [self.of_meter("decide_use", use=use)]
+
+    def turn(self) -> List[Offer]:
+        return [self.of_meter("declare_counter", digits=self.facts.get("digits"))]
+
+    def restart(self) -> List[Offer]:
+        return [self.of_meter("restart", unit=self.day.unit if self.day else None)]
+
+    def correct(self) -> List[Offer]:
+        return [Offer("correct_month", self.month), Offer("leave_month", self.month)]
+
+    def send(self) -> List[Offer]:
+        return [Offer("address", {"house": self.item.house, "flat": self.item.flat}),
+                Offer("send", {"month": self.facts.get("month")})]
+
+# ---- kinds of items: what finds them (kind, house and subject; other columns are the facts), and what can be done
+
+COLLECTOR = """
+SELECT 'collector' AS kind, NULL AS house, 'office/collect' AS subject, max(ended_at) AS since
+FROM collections WHERE begun_at <= %(at)s
+HAVING coalesce(max(ended_at) < %(at)s - make_interval(hours => %(hours)s), true)"""
+OF_BOXES = "FROM boxes WHERE active AND {} IS NOT NULL ORDER BY name"
+CLOCKS = """
+SELECT 'clock' AS kind, house, name AS subject, name AS box, clock -> 'wrong' AS wrong, clock -> 'of' AS of,
+       clock -> 'first' AS first """ + OF_BOXES.format("clock")
+LATE = """
+SELECT 'late' AS kind, house, name AS subject, name AS box, late -> 'values' AS values, late -> 'meters' AS meters,
+       late -> 'first' AS first """ + OF_BOXES.format("late")
+TALKS = "SELECT 'talks' AS kind, house, name AS subject, name AS box, talks AS text " + OF_BOXES.format("talks")
+# Of a box that isn't collected, and of one without a meter that is heard, one item; its meters are counted there
+BOXES = """
+SELECT 'box' AS kind, b.house, s.box AS subject, s.box, s.why, s.fault, coalesce(o.count, 0) AS meters, s.since
+FROM stale_boxes_at(%(at)s) s JOIN boxes b ON b.name = s.box AND (b.talks IS NULL OR s.why <> 'failed')
+LEFT JOIN (SELECT box, count(*) FROM overdue_at(%(at)s) GROUP BY box) o ON o.box = s.box"""
+SILENT_BOXES = """
+SELECT 'box' AS kind, b.house, o.box AS subject, o.box, 'none heard' AS why, NULL AS fault, o.meters, o.since
+FROM (SELECT box, count(*) AS meters, max(last_heard) AS since FROM overdue_at(%(at)s) GROUP BY box) o
+JOIN boxes b ON b.name = o.box
+WHERE o.meters > 1 AND o.meters = (SELECT count(*) FROM meters m WHERE m.box = o.box)"""
+SILENT = """
+SELECT 'silent' AS kind, b.house, o.box || ' ' || o.identity AS subject, o.box, o.identity, o.flat, o.why,
+       o.last_heard AS heard
+FROM (SELECT *, count(*) OVER (PARTITION BY box) AS silent FROM overdue_at(%(at)s)) o JOIN boxes b ON b.name = o.box
+WHERE (o.silent = 1 OR o.silent < (SELECT count(*) FROM meters m WHERE m.box = o.box))
+  AND NOT EXISTS (SELECT FROM stale_boxes_at(%(at)s) s
+                  WHERE s.box = o.box AND s.why IN ('never collected', 'not collected'))
+ORDER BY o.box, o.identity"""
+STATES = """
+SELECT CASE WHEN s.status & 4 <> 0 THEN 'power' ELSE 'error' END AS kind, b.house,
+       s.box || ' ' || s.identity AS subject, s.box, s.identity, s.flat, s.status, s.says AS text
+FROM meter_states s JOIN boxes b ON b.name = s.box WHERE s.says <> ''"""
+# Of each meter that is fitted: its last value, what was used a day on the way to it, and the median of these; and its
+# last fall that is no restart and no turn, which a counter of some digits would explain (turn), or not
+STEPS = """
+WITH of_each AS (
+    SELECT f.id, f.house, f.identity, p.flat, p.use AS of_use, s.* FROM fittings f JOIN places p ON p.id = f.place
+    LEFT JOIN limits l ON l.use = p.use CROSS JOIN LATERAL (
+        SELECT max(value || ' ' || unit) FILTER (WHERE is_last) AS shown, max(use) FILTER (WHERE is_last) AS use,
+               count(use) AS count, max(day) AS day, max(day) FILTER (WHERE is_fall) AS fallen,
+               percentile_cont(0.5) WITHIN GROUP (ORDER BY use) AS median, bool_or(is_fall) AS has_fall,
+               (array_agg(ARRAY[last, amount, room] ORDER BY day DESC)
+                FILTER (WHERE is_fall AND f.size IS NULL))[1:1] AS fall
+        FROM (
+            SELECT *, CASE WHEN amount >= last THEN (amount - last) / greatest(seconds / 86400, 0.5) END AS use,
+                   amount < last AND NOT coalesce(last < f.size AND f.size - last + amount <= room, false)
+                   AND NOT EXISTS (SELECT FROM restarts r
+                                   WHERE r.fitting = f.id AND r.at >= since AND r.at < at) AS is_fall
+            FROM (SELECT *, (coalesce(f.most, l.most) * (floor(seconds / 3600) + 2))::numeric AS room FROM (
+                SELECT d.day, d.at, d.value, d.unit, d.amount, lag(d.amount) OVER before AS last,
+                       lag(d.at) OVER before AS since, date_part('epoch', d.at - lag(d.at) OVER before) AS seconds,
+                       lead(d.day) OVER before IS NULL AS is_last
+                FROM day_values d WHERE d.fitting = f.id AND d.struck_at IS NULL
+                  AND d.day BETWEEN %(at)s::date - %(days)s AND %(at)s::date
+                WINDOW before AS (ORDER BY d.day)) w) k) j) s
+    WHERE f.during @> %(at)s)
+SELECT kind, house, house || ' ' || identity AS subject, identity, flat, of_use AS use, id AS fitting, shown AS value,
+       CASE kind WHEN 'leap' THEN day ELSE fallen END AS day, digits,
+       CASE WHEN median > 0 THEN round((use / median)::numeric) END AS times
+FROM of_each
+LEFT JOIN LATERAL (SELECT min(n) AS digits FROM generate_series(6, 8) n
+                   WHERE has_fall AND size_of(id, n) > fall[1][1]
+                     AND size_of(id, n) - fall[1][1] + fall[1][2] <= fall[1][3]) t ON true
+CROSS JOIN LATERAL (VALUES ('disturbed', has_fall AND digits IS NULL), ('turn', has_fall AND digits IS NOT NULL),
+    ('leap', use >= 10 * median AND median > 0 AND count >= 10)) AS found (kind, is_so)
+WHERE is_so ORDER BY kind, identity"""
+# A meter of which nobody knows what it counts, and one that doesn't send what it should
+NO_TYPE = """
+SELECT 'no use' AS kind, b.house, b.house || ' ' || m.identity AS subject, m.box, m.identity, m.flat,
+       right(m.identity, 2) AS type, 'type' AS why
+FROM meters m JOIN boxes b ON b.name = m.box
+WHERE b.active AND b.house IS NOT NULL AND NOT EXISTS (SELECT FROM device_types t WHERE t.medium = right(m.identity, 2))
+  AND NOT EXISTS (SELECT FROM decided_uses d WHERE (d.house, d.identity) = (b.house, m.identity))"""
+NO_RECORD = """
+SELECT CASE g.why WHEN 'too large' THEN g.why ELSE 'no use' END AS kind, f.house,
+       f.house || ' ' || f.identity AS subject, f.identity, p.flat, right(f.identity, 2) AS type, g.why, p.use,
+       f.id AS fitting, g.day
+FROM fittings f JOIN places p ON p.id = f.place
+JOIN LATERAL (SELECT day, why FROM gaps WHERE fitting = f.id ORDER BY day DESC LIMIT 1) g
+  ON g.why <> 'error' AND g.day BETWEEN %(at)s::date - %(days)s AND %(at)s::date
+WHERE f.during @> %(at)s
+  AND NOT EXISTS (SELECT FROM day_values d WHERE d.fitting = f.id AND d.struck_at IS NULL AND d.day > g.day)"""
+STILL = """
+SELECT 'no consumption' AS kind, p.house, f.house || ' ' || f.identity AS subject, f.identity, p.flat, p.use,
+       f.id AS fitting, %(still)s AS days, max(d.value) || ' ' || max(d.unit) AS value
+FROM fittings f JOIN places p ON p.id = f.place JOIN uses u ON u.use = p.use
+JOIN tenancies t ON (t.house, t.flat) = (p.house, p.flat)
+JOIN day_values d ON d.fitting = f.id AND d.struck_at IS NULL
+WHERE f.during @> %(at)s AND u.is_daily AND t.days @> daterange(%(at)s::date - %(still)s, %(at)s::date)
+  AND d.day BETWEEN %(at)s::date - %(still)s AND %(at)s::date
+GROUP BY p.house, f.id, p.flat, p.use
+HAVING count(*) >= %(still)s / 2 AND min(d.day) <= %(at)s::date - %(still)s + 5 AND max(d.amount) = min(d.amount)"""
+NIGHT = """
+SELECT 'night' AS kind, p.house, f.house || ' ' || f.identity AS subject, f.identity, p.flat, p.use, f.id AS fitting,
+       count(*) AS nights
+FROM night_use n JOIN fittings f ON f.id = n.fitting JOIN places p ON p.id = f.place
+WHERE f.during @> %(at)s AND n.amount > 0 AND n.night BETWEEN %(at)s::date - %(nights)s + 1 AND %(at)s::date
+GROUP BY f.id, p.house, p.flat, p.use HAVING count(*) >= %(nights)s"""
+# A place without a number in a month, with the meters that stood there then and the sheets that wait for it
+NO_NUMBER = """
+SELECT 'no number' AS kind, u.house,
+       concat_ws('/', u.house, u.flat, u.use, u.number) || to_char(u.month, ' YYYY-MM') AS subject, u.flat, u.use,
+       u.number, u.place, u.month, u.grade, k.meters, k.fitting, k.identity,
+       CASE WHEN n.out_at IS NULL AND u.month >= %(at)s::date - %(waiting)s THEN (
+           SELECT count(*) FROM tenancies t WHERE (t.house, t.flat) = (u.house, u.flat) AND t.wants <> 'nothing'
+           AND t.days && daterange(u.month, (u.month + interval '1 month')::date)) ELSE 0 END AS sheets
+FROM month_kwh u JOIN month_now n ON (n.month, n.place, n.part) = (u.month, u.place, 0)
+CROSS JOIN LATERAL (
+    SELECT jsonb_agg(f.identity ORDER BY lower(f.during)) AS meters,
+           (array_agg(f.id ORDER BY lower(f.during) DESC))[1] AS fitting,
+           (array_agg(f.identity ORDER BY lower(f.during) DESC))[1] AS identity
+    FROM fittings f WHERE f.place = u.place AND f.during && tstzrange(u.begins, u.ends, '[]')) k
+WHERE u.part = 0 AND u.month >= %(at)s::date - 400
+  AND (u.grade IN ('missing', 'disturbed', 'unclear', 'held') OR n.out_at IS NULL AND waits_for_a_step(u.month, u.place)
+       AND u.month + interval '1 month' <= %(at)s::timestamptz - make_interval(days => %(step)s))
+  AND u.month + interval '1 month' <= %(at)s
+ORDER BY u.house, u.place, u.month"""
+CHANGES = """
+SELECT 'changed' AS kind, house, house || to_char(month, ' YYYY-MM') AS subject, month, NULL AS why, says AS change
+FROM changes WHERE left_why IS NULL
+UNION ALL
+SELECT 'changed', house, house || ' bill ' || lower(days) || '..' || upper(days) - 1, NULL, 'bill', changed
+FROM bills_now WHERE changed IS NOT NULL AND left_why IS NULL ORDER BY subject"""
+NOT_SENT = """
+SELECT 'not sent' AS kind, t.house, t.house || ' ' || to_char(s.month, 'YYYY-MM') AS subject, s.month,
+       count(DISTINCT t.id) AS count, min(s.failed_why) AS failed, min(t.flat) AS flat
+FROM sheets s JOIN tenancies t ON t.id = s.tenancy WHERE s.failed_at IS NOT NULL AND s.month >= %(at)s::date - 400
+GROUP BY t.house, s.month ORDER BY 3"""
+# A month whose numbers `mbdc audit` refused: its sheets wait
+REFUSED = """
+SELECT 'audit' AS kind, r.house, r.house || ' ' || r.period AS subject, r.period, r.says AS text,
+       CASE WHEN length(r.period) = 7 THEN (
+           SELECT count(*) FROM tenancies t WHERE t.house = r.house AND t.wants <> 'nothing' AND t.days && daterange(
+               (r.period || '-01')::date, ((r.period || '-01')::date + interval '1 month')::date)) ELSE 0 END AS waits
+FROM refusals r ORDER BY 3"""
+FALL, LEAP = True, False  # which reading doesn't fit
+MISSING = ("silent", "error", "power", "no use", "too large", "no consumption")
+OF_BOXES_ALL = ("never collected", "not collected", "failed", "no meters", "none heard")
+
+
+class Kind(NamedTuple):
+    """A kind of items. Its items differ by a fact, their detail: why, or the grade; its words are those of
+    `item.KIND.DETAIL`, or of `item.KIND`. The other fields are by detail; the empty one is any that isn't named."""
+    queries: Sequence[str] = ()  # which find it; some find other kinds, too
+    offers: Mapping[str, Callable[[About], List[Offer]]] = {}  # the first one first
+    readings: Mapping[str, bool] = {}  # which readings are shown
+    over_houses: Sequence[str] = ()  # one cause may be that of many houses
+    causes: Mapping[str, Sequence[str]] = {}  # the kinds of items at which it is counted
+    detail: str = "why"
+
+    def detail_of(self, facts: Dict[str, Any]) -> str:
+        return str(facts.get(self.detail) or "")
+
+
+KINDS: Dict[str, Kind] = {
+    "collector": Kind((COLLECTOR,)),
+    "box": Kind((BOXES, SILENT_BOXES), dict.fromkeys(OF_BOXES_ALL[:3], About.collect), over_houses=OF_BOXES_ALL),
+    "clock": Kind((CLOCKS,), over_houses=("",)), "late": Kind((LATE,), over_houses=("",)),
+    "talks": Kind((TALKS,), {"": About.collect}, over_houses=("",)),
+    "silent": Kind((SILENT,), {"": lambda it: it.exchange() + it.put()}),
+    "error": Kind((STATES,), {"": lambda it: it.exchange() + it.put()}), "power": Kind((), {"": About.exchange}),
+    "no use": Kind((NO_TYPE, NO_RECORD), {
+        "type": lambda it: it.decide(DEVICE_USES.get(str(it.facts.get("type")), "-")),
+        "two energies": lambda it: it.decide("heat"), "no record": About.decide}),
+    "too large": Kind((), {"": About.exchange}),
+    "disturbed": Kind((STEPS,), {"": lambda it: it.strike() + it.put() + it.restart()}, {"": FALL}),
+    "turn": Kind((), {"": lambda it: it.turn() + it.strike()}, {"": FALL}), "leap": Kind((), {}, {"": LEAP}),
+    "no consumption": Kind((STILL,)), "night": Kind((NIGHT,)),
+    "changed": Kind((CHANGES,), {"": About.correct, "bill": lambda _: []}),
+    "not sent": Kind((NOT_SENT,), {"": About.send}, over_houses=("",)), "audit": Kind((REFUSED,), over_houses=("",)),
+    "no number": Kind((NO_NUMBER,), {
+        "missing": About.put, "disturbed": lambda it: it.strike() + it.put(), "unclear": About.exchange,
+        "held": lambda it: it.see() + it.strike(), "provisional": lambda it: it.put() + it.see()},
+        {"held": LEAP, "disturbed": FALL}, ("many",),
+        {"missing": MISSING, "disturbed": ("disturbed", "turn", "error"), "unclear": ("no use",)}, "grade")}
+
+
+def kind_of(name: str) -> Kind:
+    """A kind; of an item of an older office the one that says the least."""
+    return KINDS.get(name, KINDS["changed"])
+
+
+def offers_of(item: Row, readings: List[Row]) -> List[Offer]:
+    """What can be done about an item."""
+    kind = kind_of(item.kind)
+    offers = kind.offers.get(kind.detail_of(item.facts)) or kind.offers.get("")
+    found = offers(About(item, readings)) if offers else []
+    found = [it for it in found if "houses" not in item.facts or it.action == "send"]  # what many houses have
+    return [*found, Offer("hand_back" if item.known_by else "take_over", {"item": item.id})]
+
+
 # ---- the words of items
 
 def key_of(kind: str, facts: Dict[str, Any]) -> str:
     """Under which the words of an item are."""
-    detail = facts.get("grade") if kind == "no number" else facts.get("why")
-    return next(it for it in (f"item.{kind}.{detail}", f"item.{kind}", "item.changed") if it in texts())
+    key = f"item.{kind}.{kind_of(kind).detail_of(facts)}"
+    return next(it for it in (key, f"item.{kind}", "item.changed") if it in texts())
 
 
 def title(kind: str, facts: Dict[str, Any], words: Catalogue) -> str:
@@ -161,11 +403,17 @@ def amount_of(number: Optional[Tuple[Optional[int], str]], quantity: str, words:
 
 def readings_of(cursor: Cursor, items: List[Row]) -> Dict[int, List[Row]]:
     """The readings around what is wrong, of the items that are of readings."""
-    wanted = {item.id: item for item in items if item.ended_at is None and item.facts.get("fitting") and (
-        item.kind in ("disturbed", "turn", "leap") or item.facts.get("grade") in ("held", "disturbed"))}
+    wanted = {item.id: item for item in items
+              if item.ended_at is None and item.facts.get("fitting") and misfit_of(item) is not None}
     windows = [(item.id, item.facts["fitting"], *window_of(item.facts)) for item in wanted.values()]
     found = psycopg2.extras.execute_values(cursor, VALUES, windows, fetch=True, page_size=len(wanted)) if wanted else []
     return {item: around(of_item, wanted[item]) for item, of_item in grouped((it.item, it) for it in found).items()}
+
+
+def misfit_of(item: Row) -> Optional[bool]:
+    """Which reading doesn't fit; None where an item is of none."""
+    kind = kind_of(item.kind)
+    return kind.readings.get(kind.detail_of(item.facts))
 
 
 def window_of(facts: Dict[str, Any]) -> Tuple[datetime.date, datetime.date]:
@@ -179,79 +427,13 @@ def around(readings: List[Row], item: Row) -> List[Row]:
     steps = [(other.amount - one.amount) for one, other in zip(readings, readings[1:])]
     if not steps:
         return readings
-    falls = min(steps) < 0 and item.kind != "leap" and item.facts.get("grade") != "held"
+    falls = min(steps) < 0 and misfit_of(item) is FALL
     place = (steps.index(min(steps)) if falls else steps.index(max(steps))) + 1
     # of a fall the first is false where the second one fits what is before it
     is_first = falls and place >= 2 and readings[place - 2].amount <= readings[place].amount
     shown = [one._replace(used=None if number == 0 else one.value - readings[number - 1].value,
                           is_marked=number == place - is_first) for number, one in enumerate(readings)]
     return shown[max(place - BEFORE, 0):place + AFTER]
-
-
-# ---- what can be done about items
-
-class About:
-    """An item, with the readings behind it, and what is known for forms."""
-
-    def __init__(self, item: Row, readings: List[Row]) -> None:
-        self.item, self.facts = item, item.facts
-        self.day = next((one for one in readings if one.is_marked), readings[-1] if readings else None)
-        self.month = {"house": item.house, "month": self.facts.get("month")}
-
-    def of_meter(self, action: str, **values: Any) -> Offer:
-        return Offer(action, {"house": self.item.house, "meter": self.facts.get("identity"), **values})
-
-    def collect(self) -> List[Offer]:
-        return [Offer("collect", {"box": self.facts.get("box")})]
-
-    def put(self) -> List[Offer]:
-        month = self.facts.get("month")
-        day = self.day.day if self.day else month and next_month(datetime.date.fromisoformat(month)) - DAY
-        return [self.of_meter("put_value", day=day, unit=self.day.unit if self.day else None)]
-
-    def strike(self) -> List[Offer]:
-        return [Offer("strike", {"value": self.day.id})] if self.day else []
-
-    def exchange(self) -> List[Offer]:
-        """Of the last two meters of a place, where they are known."""
-        meters = (self.facts.get("meters") or [])[-2:]
-        old, new = meters if len(meters) == 2 else (self.facts.get("identity"), None)
-        return [Offer("exchange", {"house": self.item.house, "old": old, "new": new})]
-
-    def see(self) -> List[Offer]:
-        return [Offer("see_number", {"place": self.facts.get("place"), "month": self.facts.get("month")})]
-
-    def decide(self, use: str = "-") -> List[Offer]:
-        return [self.of_meter("decide_use", use=use)]
-
-    def turn(self) -> List[Offer]:
-        return [self.of_meter("declare_counter", digits=self.facts.get("digits"))]
-
-    def restart(self) -> List[Offer]:
-        return [self.of_meter("restart", unit=self.day.unit if self.day else None)]
-
-
-# By the key of an item, the first one first
-OFFERS: Dict[str, Callable[[About], List[Offer]]] = {
-    **dict.fromkeys(("box.never collected", "box.not collected", "box.failed", "talks"), About.collect),
-    **dict.fromkeys(("silent", "error"), lambda it: it.exchange() + it.put()),
-    **dict.fromkeys(("power", "too large", "no number.unclear"), About.exchange),
-    "disturbed": lambda it: it.strike() + it.put() + it.restart(), "turn": lambda it: it.turn() + it.strike(),
-    "no use.type": lambda it: it.decide(DEVICE_USES.get(str(it.facts.get("type")), "-")),
-    "no use.two energies": lambda it: it.decide("heat"), "no use.no record": About.decide,
-    "no number.missing": About.put, "no number.disturbed": lambda it: it.strike() + it.put(),
-    "no number.held": lambda it: it.see() + it.strike(), "no number.provisional": lambda it: it.put() + it.see(),
-    "changed": lambda it: [Offer("correct_month", it.month), Offer("leave_month", it.month)],
-    "not sent": lambda it: [Offer("address", {"house": it.item.house, "flat": it.item.flat}),
-                            Offer("send", {"month": it.facts.get("month")})]}
-
-
-def offers_of(item: Row, readings: List[Row]) -> List[Offer]:
-    """What can be done about an item."""
-    offers = OFFERS.get(key_of(item.kind, item.facts).removeprefix("item."))
-    found = offers(About(item, readings)) if offers else []
-    found = [it for it in found if "houses" not in item.facts or it.action == "send"]  # what many houses have
-    return [*found, Offer("hand_back" if item.known_by else "take_over", {"item": item.id})]
 
 
 # ---- the page
