@@ -154,8 +154,7 @@ $$;
 CREATE OR REPLACE FUNCTION uses_of(of_house text, of_identity text) RETURNS TABLE (use text, vib text)
     LANGUAGE sql STABLE AS $$
     SELECT d.use, d.vib FROM decided_uses d WHERE (d.house, d.identity) = (of_house, of_identity) AND d.use IS NOT NULL
-    UNION ALL
-    SELECT t.use, NULL FROM device_types t
+    UNION ALL SELECT t.use, NULL FROM device_types t
     WHERE t.medium = right(of_identity, 2) AND t.use IS NOT NULL AND NOT EXISTS (
         SELECT FROM decided_uses d WHERE (d.house, d.identity) = (of_house, of_identity))
 $$;
@@ -261,8 +260,7 @@ CREATE OR REPLACE FUNCTION decide_use(of_house text, of_identity text, of_use te
       AND of_vib IS NOT NULL;
     DELETE FROM decided_uses WHERE (house, identity) = (of_house, of_identity) AND of_vib IS NOT NULL AND vib IS NULL;
     UPDATE fittings f SET during = tstzrange(lower(f.during), greatest(now(), lower(f.during) + interval '1 second'))
-    FROM places p
-    WHERE p.id = f.place AND (f.house, f.identity) = (of_house, of_identity) AND upper_inf(f.during)
+    FROM places p WHERE p.id = f.place AND (f.house, f.identity) = (of_house, of_identity) AND upper_inf(f.during)
       AND NOT EXISTS (SELECT FROM uses_of(of_house, of_identity) u WHERE u.use = p.use);
     SELECT begin_fitting(of_house, of_identity, m.flat, m.since, NULL)
     FROM (SELECT m.flat, min(m.since) AS since FROM meters m JOIN boxes b ON b.name = m.box
@@ -302,8 +300,7 @@ $$;
 
 -- The size of a fitting's counter of so many digits, by the record that counts; NULL where nothing was read yet.
 CREATE OR REPLACE FUNCTION size_of(of_fitting bigint, digits integer) RETURNS bigint LANGUAGE sql STABLE AS $$
-    SELECT (last_digit(p.vib) * 10::numeric ^ digits)::bigint
-    FROM counted f JOIN day_values d ON d.fitting = f.fitting
+    SELECT (last_digit(p.vib) * 10::numeric ^ digits)::bigint FROM counted f JOIN day_values d ON d.fitting = f.fitting
     JOIN points p ON (p.month, p.box, p.serial, p.part) = (d.month, d.box, d.serial, d.part)
     WHERE f.fitting = of_fitting AND counts(p, f.vib, f.quantity) AND last_digit(p.vib) * 10::numeric ^ digits < 1e18
     ORDER BY d.day DESC LIMIT 1
@@ -550,8 +547,7 @@ CREATE OR REPLACE TRIGGER days_follow_fittings AFTER INSERT OR UPDATE OF during,
 CREATE OR REPLACE FUNCTION months_follow_tenancies() RETURNS trigger LANGUAGE plpgsql AS $$
 BEGIN
     INSERT INTO to_compute AS t SELECT DISTINCT p.house, u.month
-    FROM (VALUES (OLD.house, OLD.days), (NEW.house, NEW.days)) AS k (house, days)
-    JOIN places p ON p.house = k.house
+    FROM (VALUES (OLD.house, OLD.days), (NEW.house, NEW.days)) AS k (house, days) JOIN places p ON p.house = k.house
     JOIN month_use u ON u.place = p.id AND k.days && daterange(u.month, (u.month + interval '1 month')::date)
     ORDER BY 1, 2 ON CONFLICT (house, month) DO UPDATE SET month = excluded.month;
     RETURN NULL;
@@ -602,8 +598,7 @@ CREATE OR REPLACE FUNCTION note_gaps(queued to_close[]) RETURNS void LANGUAGE sq
 $$;
 
 CREATE OR REPLACE FUNCTION note_nights(queued to_close[]) RETURNS void LANGUAGE sql AS $$
-    INSERT INTO night_use AS n
-    SELECT q.fitting, q.day, max(smallest(k.value, k.unit)) - min(smallest(k.value, k.unit))
+    INSERT INTO night_use AS n SELECT q.fitting, q.day, max(smallest(k.value, k.unit)) - min(smallest(k.value, k.unit))
     FROM unnest(queued) q JOIN heard w ON w.fitting = q.fitting
     JOIN readings r ON (r.box, r.identity) = (w.box, w.identity) AND w.during @> r.at
       AND r.month >= date_trunc('month', q.day - 1) AND r.at >= day_begins(q.day, w.zone)

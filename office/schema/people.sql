@@ -8,8 +8,7 @@ CREATE OR REPLACE FUNCTION see_number(of_month date, of_place bigint, of_why tex
     UPDATE bills SET is_to_check = true WHERE house = (SELECT house FROM places WHERE id = of_place)
       AND out_at IS NOT NULL AND days && daterange(of_month, (of_month + interval '1 month')::date);
     WITH made AS (
-        INSERT INTO seen (month, place, part, amount, why)
-        SELECT month, place, part, amount, of_why FROM month_now
+        INSERT INTO seen (month, place, part, amount, why) SELECT month, place, part, amount, of_why FROM month_now
         WHERE (month, place) = (of_month, of_place) AND (is_held OR grade = 'provisional') AND amount IS NOT NULL
         ON CONFLICT DO NOTHING RETURNING 1)
     SELECT count(*) FROM made
@@ -64,8 +63,7 @@ CREATE OR REPLACE FUNCTION correct_month(of_house text, of_month date, of_why te
     SELECT refuse(NOT EXISTS (
         SELECT FROM versions WHERE (house, month, version) = (of_house, of_month, version_of(of_house, of_month))
         AND out_at IS NOT NULL), format('month %s of %s is not out', of_month, of_house));
-    INSERT INTO to_compute VALUES (of_house, of_month)
-    ON CONFLICT (house, month) DO UPDATE SET month = excluded.month;
+    INSERT INTO to_compute VALUES (of_house, of_month) ON CONFLICT (house, month) DO UPDATE SET month = excluded.month;
     DELETE FROM changes WHERE (house, month) = (of_house, of_month);
     INSERT INTO versions (house, month, version, why)
     VALUES (of_house, of_month, version_of(of_house, of_month) + 1, of_why) RETURNING version

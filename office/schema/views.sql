@@ -8,8 +8,7 @@ CREATE VIEW due_values AS
 SELECT d.due, d.box, b.active, r.flat, d.identity, d.serial, p.part, p.place, p.storage, p.function, p.tariff,
        p.subunit, p.shown, p.value, p.unit,
        CASE WHEN quantity_of(p.unit) = 'energy' THEN p.value * smallest_units(p.unit) / 3600000000 END AS kwh
-FROM due_readings d
-JOIN boxes b ON b.name = d.box
+FROM due_readings d JOIN boxes b ON b.name = d.box
 JOIN readings r ON r.month = d.month AND r.box = d.box AND r.serial = d.serial
 JOIN points p ON p.month = d.month AND p.box = d.box AND p.serial = d.serial AND p.due = d.due;
 
@@ -60,8 +59,7 @@ FROM (SELECT u.month, u.place, u.part, u.begins, u.ends, u.tenancy, u.is_held, u
       FROM month_now u CROSS JOIN LATERAL (SELECT u.is_held AND u.amount IS NOT NULL AND NOT EXISTS (
           SELECT FROM seen n
           WHERE (n.month, n.place, n.part, n.amount) = (u.month, u.place, u.part, u.amount))) AS o (is_open)) k
-JOIN places p ON p.id = k.place
-JOIN uses s ON s.use = p.use
+JOIN places p ON p.id = k.place JOIN uses s ON s.use = p.use
 LEFT JOIN factors f ON f.house = p.house AND f.use = p.use AND f.months @> k.month;
 
 -- The present version of each bill.
@@ -91,7 +89,6 @@ WHERE a.void_at IS NULL AND a.version = coalesce(
 ORDER BY a.house, a.month, a.days, a.id DESC;
 
 -- The parts of a month that add up to it: of its users, or the whole where it was one's.
-CREATE VIEW month_parts AS
-SELECT k.* FROM month_kwh k
+CREATE VIEW month_parts AS SELECT k.* FROM month_kwh k
 WHERE k.part > 0 OR NOT EXISTS (SELECT FROM month_use u
     WHERE (u.month, u.place, u.version, u.part) = (k.month, k.place, k.version, 1));
