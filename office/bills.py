@@ -189,7 +189,7 @@ def numbers_of(row: Row) -> Iterator[Tuple[str, ...]]:
     cells, place = row.cells, (row.cells["flat"], row.cells["use"])
     period = (*place, cells["from"], cells["to"])
     yield from ((*period, column, cells[column]) for column in dict.fromkeys(COLUMNS.values()) if column in cells)
-    yield from ((*place, cells[f"{name}_at"], cells[f"{name}_value"]) for name in ("first", "last")
+    yield from ((*place, cells["meter"], cells[f"{name}_at"], cells[f"{name}_value"]) for name in ("first", "last")
                 if f"{name}_value" in cells)
     if "amount" in cells:
         yield (*period, "grade", cells["grade"])
@@ -201,11 +201,14 @@ def facts_of(lines: List[str], zone: zoneinfo.ZoneInfo) -> Set[Tuple[str, ...]]:
     """What a bill's audit file says of periods of places and of meters' values, with moments as a row has them."""
     found: Set[Tuple[str, ...]] = set()
     place: Tuple[str, ...] = ()
+    meters: Dict[str, str] = {}
     for kind, *fields in (line.split(",") for line in lines):
         if kind == "place":
             place = (fields[1], fields[2])
+        elif kind == "meter":
+            meters[fields[0]] = fields[1]
         elif kind == "value":
-            found.add((*place, local(int(fields[1]), zone), fields[2]))
+            found.add((*place, meters[fields[0]], local(int(fields[1]), zone), fields[2]))
         elif kind in ("part", "shown"):
             period = (*place, *(local(int(it), zone) for it in fields[1:3]))
             found.add((*period, "user", fields[3]) if kind == "part" else (*period, COLUMNS[fields[3]], fields[4]))

@@ -258,15 +258,17 @@ WHERE a.house = %s AND (a.month = %s OR a.month >= %s AND a.month < %s AND p.ten
                         AND p.kind IN ('month', 'chart') AND p.period = to_char(a.month, 'YYYY-MM'))
 ORDER BY a.month, p.id"""
 FILE = "SELECT file FROM audits WHERE id = %s AND file IS NOT NULL"
+IDENTITIES = "SELECT id, identity FROM fittings WHERE id = ANY (%s)"
 
 
 class Facts(Reader):
-    """All numbers of an audit file, by keys without what only the database knows: which meter a reading is of, and
-    which place of a flat's use."""
+    """All numbers of an audit file, by keys as the file knows them: without which place of a flat's use it is, and of a
+    reading with the meter's identity as its use."""
 
     def __init__(self) -> None:
         super().__init__([])
         self.all: Set[Published] = set()
+        self.meters: Dict[str, str] = {}  # of the place
 
     def put(self, user: str, key: Key, text: str, mark: str) -> None:
         self.all.add((None if user == NONE else int(user), key, text, mark))
@@ -274,8 +276,11 @@ class Facts(Reader):
     def take_place(self, _: str, flat: str, use: str, __: str) -> None:
         self.place, self.parts = (flat, use, 0), {}
 
+    def take_meter(self, run: str, identity: str, *_: str) -> None:
+        self.meters[run] = identity
+
     def take_value(self, run: str, moment: str, text: str, _: str) -> None:
-        self.put(NONE, reading_key(0, int(moment)), text, "reading")
+        self.put(NONE, Key("reading", use=self.meters[run], period=moment), text, "reading")
 
 
 def file_of(cursor: Cursor, audit: Optional[int]) -> Optional[List[str]]:
@@ -284,7 +289,7 @@ def file_of(cursor: Cursor, audit: Optional[int]) -> Optional[List[str]]:
     return None if file is None else bytes(file).decode().splitlines()
 
 
-def unknown(cursor: Cursor, audit: int, numbers: Iterable[Published]) -> Optional[str]:
+def unknown(cursor: Cursor, audit: int, numbers: List[Published]) -> Optional[str]:
     """The first of an audit's numbers that its file doesn't have. A user who was forgotten has none."""
     lines = file_of(cursor, audit)
     if lines is None:
@@ -292,8 +297,10 @@ def unknown(cursor: Cursor, audit: int, numbers: Iterable[Published]) -> Optiona
     facts = Facts()
     facts.read(lines)
     nobodys = {it[1:] for it in facts.all}
+    meters = dict(rows_of(cursor, IDENTITIES, [key.place // RUNS for _, key, *_ in numbers if key.kind == "reading"]))
     for tenancy, key, text, mark in numbers:
-        number = (key._replace(place=0), text, mark)
+        use = meters.get(key.place // RUNS, "") if key.kind == "reading" else key.use
+        number = (key._replace(place=0, use=use), text, mark)
         if (tenancy, *number) not in facts.all and (tenancy is not None or number not in nobodys):
             return " ".join(map(str, (*filter(None, key), text)))
     return None

@@ -347,11 +347,12 @@ WITH a AS (INSERT INTO audits (house, month, days, version, file, sha256, progra
            SELECT house, month, days, version, file, sha256, program, program_sha256, says FROM audits WHERE id = %s RETURNING id)
 INSERT INTO published (audit, house, month, days, version, tenancy, kind, flat, use, place, period, unit, text, mark)
 SELECT a.id, p.house, p.month, p.days, p.version, p.tenancy, p.kind, p.flat, p.use, p.place, p.period, p.unit,
-       CASE WHEN p.id = %s THEN '4444.4' ELSE p.text END, p.mark FROM published p, a WHERE p.audit = %s"""
+       CASE WHEN p.id = %s THEN %s ELSE p.text END, p.mark FROM published p, a WHERE p.audit = %s"""
 
 
 def test_a_number_that_its_audit_file_does_not_have(office: Office, elm: Supplied, tmp_path: pathlib.Path) -> None:
-    """It is printed nowhere: neither a user's, nor a place's, nor a reading, nor a bar of a chart, nor one in a bill."""
+    """It is printed nowhere: neither a user's, nor a place's, nor a reading, also another meter's, nor a bar of a chart,
+    nor one in a bill."""
     words = ("sheets", "2025-01", "--out", str(tmp_path), "--pdf", "none")
     elm.tenancy("A1", "2023-01-01", None)
     for month in ("2024-12", "2025-01"):
@@ -360,23 +361,30 @@ def test_a_number_that_its_audit_file_does_not_have(office: Office, elm: Supplie
     assert office.run("publish", "elm-1", "2025-01", "--bill").status == 0
     assert office.run(*words).status == 0
     files = {path: path.stat().st_mtime_ns for path in tmp_path.rglob("*.*")}
+
+    def refuses(audit: int, number: int, text: str, *command: str, role: str = "publisher") -> None:
+        office.sql(AGAIN, audit, number, text, audit, role=role)
+        ended = office.run(*command)
+        assert ended.status == 3 and f"{text} isn't in its audit file" in ended.printed, (number, ended.printed)
+        assert "A1,heat" not in ended.printed
+        assert {path: path.stat().st_mtime_ns for path in tmp_path.rglob("*.*")} == files
+        office.sql("UPDATE audits SET void_at = now() WHERE id = (SELECT max(id) FROM audits)")
     for month, kind, period in (("2025-01", "month", "2025-01"), ("2025-01", "place", "1735686000 1738364400"),
                                 ("2025-01", "reading", "%"), ("2025-01", "house", ""), ("2024-12", "chart", "2024-12")):
         (audit, number), = office.sql(
             "SELECT p.audit, min(p.id) FROM published p JOIN audits_now a ON a.id = p.audit"
             " WHERE a.month = %s AND p.kind = %s AND p.period LIKE %s GROUP BY 1", f"{month}-01", kind, period)
-        office.sql(AGAIN, audit, number, audit, role="publisher")
-        ended = office.run(*words)
-        assert ended.status == 3 and "4444.4 isn't in its audit file" in ended.printed, (kind, ended.printed)
-        assert {path: path.stat().st_mtime_ns for path in tmp_path.rglob("*.*")} == files
-        office.sql("UPDATE audits SET void_at = now() WHERE id = (SELECT max(id) FROM audits)")
+        refuses(audit, number, "4444.4", *words)
+    audit, number, others = office.sql(
+        "SELECT p.audit, p.id, o.text FROM published p JOIN audits_now a ON a.id = p.audit AND a.month = '2025-01-01'"
+        " JOIN published o ON (o.audit, o.kind, o.period) = (p.audit, p.kind, p.period) AND o.text <> p.text"
+        " WHERE p.kind = 'reading' LIMIT 1")[0]
+    refuses(audit, number, others, *words)
     assert office.run(*words).status == 0
+    files = {path: path.stat().st_mtime_ns for path in tmp_path.rglob("*.*")}
     for audit, number in office.sql("SELECT audit, min(id) FROM published WHERE days IS NOT NULL"
                                     " AND kind IN ('last_value', 'amount', 'consumption') GROUP BY 1, kind"):
-        office.sql(AGAIN, audit, number, audit)
-        ended = office.run("bill", "elm-1", "2025-01")
-        assert ended.status == 3 and "4444.4" in ended.printed and "A1,heat" not in ended.printed, (number, ended.printed)
-        office.sql("UPDATE audits SET void_at = now() WHERE id = (SELECT max(id) FROM audits)")
+        refuses(audit, number, "4444.4", "bill", "elm-1", "2025-01", role="office")
     assert "A1,heat" in office.run("bill", "elm-1", "2025-01").printed
 
 
