@@ -102,46 +102,45 @@ class About:
     def __init__(self, item: Row, readings: List[Row]) -> None:
         self.item, self.facts = item, item.facts
         self.day = next((one for one in readings if one.is_marked), readings[-1] if readings else None)
-        self.month = {"house": item.house, "month": self.facts.get("month")}
+
+    def offer(self, action: str, *facts: str, **values: Any) -> Offer:
+        """Of the house, with these facts."""
+        return Offer(action, {"house": self.item.house, **{it: self.facts.get(it) for it in facts}, **values})
 
     def of_meter(self, action: str, **values: Any) -> Offer:
-        return Offer(action, {"house": self.item.house, "meter": self.facts.get("identity"), **values})
+        return self.offer(action, meter=self.facts.get("identity"), **values)
 
-    def collect(self) -> List[Offer]:
-        return [Offer("collect", {"box": self.facts.get("box")})]
-
-    def put(self) -> List[Offer]:
+    def put(self) -> Offer:
         month = self.facts.get("month")
         day = self.day.day if self.day else month and next_month(datetime.date.fromisoformat(month)) - DAY
-        return [self.of_meter("put_value", day=day, unit=self.day.unit if self.day else None)]
+        return self.of_meter("put_value", day=day, unit=self.day.unit if self.day else None)
 
-    def strike(self) -> List[Offer]:
-        return [Offer("strike", {"value": self.day.id})] if self.day else []
+    def strike(self) -> Optional[Offer]:
+        return Offer("strike", {"value": self.day.id}) if self.day else None
 
-    def exchange(self) -> List[Offer]:
+    def exchange(self) -> Offer:
         """Of the last two meters of a place, where they are known."""
         meters = (self.facts.get("meters") or [])[-2:]
         old, new = meters if len(meters) == 2 else (self.facts.get("identity"), None)
-        return [Offer("exchange", {"house": self.item.house, "old": old, "new": new})]
+        return self.offer("exchange", old=old, new=new)
 
-    def see(self) -> List[Offer]:
-        return [Offer("see_number", {"place": self.facts.get("place"), "month": self.facts.get("month")})]
+    def decide(self) -> Offer:
+        why = self.facts.get("why")
+        use = DEVICE_USES.get(str(self.facts.get("type")), "-") if why == "type" else "-"
+        return self.of_meter("decide_use", use="heat" if why == "two energies" else use)
 
-    def decide(self, use: str = "-") -> List[Offer]:
-        return [self.of_meter("decide_use", use=use)]
+    def turn(self) -> Offer:
+        return self.of_meter("declare_counter", digits=self.facts.get("digits"))
 
-    def turn(self) -> List[Offer]:
-        return [self.of_meter("declare_counter", digits=self.facts.get("digits"))]
+    def restart(self) -> Offer:
+        return self.of_meter("restart", unit=self.day.unit if self.day else None)
 
-    def restart(self) -> List[Offer]:
-        return [self.of_meter("restart", unit=self.day.unit if self.day else None)]
 
-    def correct(self) -> List[Offer]:
-        return [Offer("correct_month", self.month), Offer("leave_month", self.month)]
+def offered(action: str, *facts: str) -> "Does":
+    return lambda about: about.offer(action, *facts)
 
-    def send(self) -> List[Offer]:
-        return [Offer("address", {"house": self.item.house, "flat": self.item.flat}),
-                Offer("send", {"month": self.facts.get("month")})]
+
+Does = Callable[[About], Optional[Offer]]
 
 # ---- kinds of items: what finds them (kind, house and subject; other columns are the facts), and what can be done
 
@@ -284,6 +283,7 @@ SELECT 'audit' AS kind, r.house, r.house || ' ' || r.period AS subject, r.period
 FROM refusals r ORDER BY 3"""
 FALL, LEAP = True, False  # which reading doesn't fit
 MISSING = ("silent", "error", "power", "no use", "too large", "no consumption")
+ANY = ("",)
 OF_BOXES_ALL = ("never collected", "not collected", "failed", "no meters", "none heard")
 
 
@@ -291,7 +291,7 @@ class Kind(NamedTuple):
     """A kind of items. Its items differ by a fact, their detail: why, or the grade; its words are those of
     `item.KIND.DETAIL`, or of `item.KIND`. The other fields are by detail; the empty one is any that isn't named."""
     queries: Sequence[str] = ()  # which find it; some find other kinds, too
-    offers: Mapping[str, Callable[[About], List[Offer]]] = {}  # the first one first
+    offers: Mapping[str, Sequence[Does]] = {}  # the first one first
     readings: Mapping[str, bool] = {}  # which readings are shown
     over_houses: Sequence[str] = ()  # one cause may be that of many houses
     causes: Mapping[str, Sequence[str]] = {}  # the kinds of items at which it is counted
@@ -301,26 +301,23 @@ class Kind(NamedTuple):
         return str(facts.get(self.detail) or "")
 
 
+COLLECT, SEE = (offered("collect", "box"),), offered("see_number", "place", "month")
 KINDS: Dict[str, Kind] = {
     "collector": Kind((COLLECTOR,)),
-    "box": Kind((BOXES, SILENT_BOXES), dict.fromkeys(OF_BOXES_ALL[:3], About.collect), over_houses=OF_BOXES_ALL),
-    "clock": Kind((CLOCKS,), over_houses=("",)), "late": Kind((LATE,), over_houses=("",)),
-    "talks": Kind((TALKS,), {"": About.collect}, over_houses=("",)),
-    "silent": Kind((SILENT,), {"": lambda it: it.exchange() + it.put()}),
-    "error": Kind((STATES,), {"": lambda it: it.exchange() + it.put()}), "power": Kind((), {"": About.exchange}),
-    "no use": Kind((NO_TYPE, NO_RECORD), {
-        "type": lambda it: it.decide(DEVICE_USES.get(str(it.facts.get("type")), "-")),
-        "two energies": lambda it: it.decide("heat"), "no record": About.decide}),
-    "too large": Kind((), {"": About.exchange}),
-    "disturbed": Kind((STEPS,), {"": lambda it: it.strike() + it.put() + it.restart()}, {"": FALL}),
-    "turn": Kind((), {"": lambda it: it.turn() + it.strike()}, {"": FALL}), "leap": Kind((), {}, {"": LEAP}),
+    "box": Kind((BOXES, SILENT_BOXES), dict.fromkeys(OF_BOXES_ALL[:3], COLLECT), over_houses=OF_BOXES_ALL),
+    "clock": Kind((CLOCKS,), over_houses=ANY), "late": Kind((LATE,), over_houses=ANY),
+    "talks": Kind((TALKS,), {"": COLLECT}, over_houses=ANY),
+    "silent": Kind((SILENT,), {"": (About.exchange, About.put)}),
+    "error": Kind((STATES,), {"": (About.exchange, About.put)}), "power": Kind((), {"": (About.exchange,)}),
+    "no use": Kind((NO_TYPE, NO_RECORD), {"": (About.decide,)}), "too large": Kind((), {"": (About.exchange,)}),
+    "disturbed": Kind((STEPS,), {"": (About.strike, About.put, About.restart)}, {"": FALL}),
+    "turn": Kind((), {"": (About.turn, About.strike)}, {"": FALL}), "leap": Kind((), {}, {"": LEAP}),
     "no consumption": Kind((STILL,)), "night": Kind((NIGHT,)),
-    "changed": Kind((CHANGES,), {"": About.correct, "bill": lambda _: []}),
-    "not sent": Kind((NOT_SENT,), {"": About.send}, over_houses=("",)), "audit": Kind((REFUSED,), over_houses=("",)),
-    "no number": Kind((NO_NUMBER,), {
-        "missing": About.put, "disturbed": lambda it: it.strike() + it.put(), "unclear": About.exchange,
-        "held": lambda it: it.see() + it.strike(), "provisional": lambda it: it.put() + it.see()},
-        {"held": LEAP, "disturbed": FALL}, ("many",),
+    "changed": Kind((CHANGES,), {"": (offered("correct_month", "month"), offered("leave_month", "month")), "bill": ()}),
+    "not sent": Kind((NOT_SENT,), {"": (offered("address", "flat"), offered("send", "month"))}, over_houses=ANY),
+    "audit": Kind((REFUSED,), over_houses=ANY), "no number": Kind((NO_NUMBER,), {
+        "missing": (About.put,), "disturbed": (About.strike, About.put), "unclear": (About.exchange,),
+        "held": (SEE, About.strike), "provisional": (About.put, SEE)}, {"held": LEAP, "disturbed": FALL}, ("many",),
         {"missing": MISSING, "disturbed": ("disturbed", "turn", "error"), "unclear": ("no use",)}, "grade")}
 
 
@@ -331,10 +328,10 @@ def kind_of(name: str) -> Kind:
 
 def offers_of(item: Row, readings: List[Row]) -> List[Offer]:
     """What can be done about an item."""
-    kind = kind_of(item.kind)
-    offers = kind.offers.get(kind.detail_of(item.facts)) or kind.offers.get("")
-    found = offers(About(item, readings)) if offers else []
-    found = [it for it in found if "houses" not in item.facts or it.action == "send"]  # what many houses have
+    kind, about = kind_of(item.kind), About(item, readings)
+    offers = kind.offers.get(kind.detail_of(item.facts), kind.offers.get("", ()))
+    found = [offer for does in offers if (offer := does(about)) is not None
+             and ("houses" not in item.facts or offer.action == "send")]  # what many houses have
     return [*found, Offer("hand_back" if item.known_by else "take_over", {"item": item.id})]
 
 

@@ -8,6 +8,7 @@ member of `desk`; each request becomes the role of its person. Only the function
 
 import contextlib
 import datetime
+import functools
 import hashlib
 import hmac
 import os
@@ -94,11 +95,12 @@ def cells(*values: object) -> List[Cell]:
     return [it if isinstance(it, Cell) else Cell("" if it is None else str(it)) for it in values]
 
 
-class Lists(NamedTuple):
-    """The lists as pages for a viewer: what is looked for, and from which row on."""
+class Desk(NamedTuple):
+    """A request: the transaction in which it runs, who it is of, the words, and of a list what is looked for, and from
+    which row on."""
     cursor: Cursor
-    words: Catalogue
     viewer: Viewer
+    words: Catalogue
     query: str
     first: int
 
@@ -222,8 +224,8 @@ POLICY = ("default-src 'none'; style-src 'unsafe-inline'; form-action 'self'; fr
 HEADERS = {"Content-Security-Policy": POLICY, "Referrer-Policy": "same-origin", "X-Content-Type-Options": "nosniff",
            "Cache-Control": "no-store", "X-Frame-Options": "DENY"}
 USES = "SELECT use FROM uses ORDER BY position"
-LISTS = {"/houses": Lists.houses, "/houses/<house>": Lists.house, "/houses/<house>/<meter>": Lists.meter,
-         "/months": Lists.months, "/log": Lists.log}
+LISTS = {"/houses": Desk.houses, "/houses/<house>": Desk.house, "/houses/<house>/<meter>": Desk.meter,
+         "/months": Desk.months, "/log": Desk.log}
 ITEM = "SELECT house, kind, facts FROM morning WHERE id = %s"
 VALUE = """
 SELECT f.identity, d.at, d.value::text, d.unit FROM day_values d JOIN fittings f ON f.id = d.fitting WHERE d.id = %s"""
@@ -243,10 +245,6 @@ class Refused(Exception):
     def __init__(self, status: int, key: str) -> None:
         super().__init__(key)
         self.status, self.key = status, key
-
-
-# A request: the transaction in which it runs, who it is of, and the words.
-Desk = NamedTuple("Desk", [("cursor", Cursor), ("viewer", Viewer), ("words", Catalogue)])
 
 
 def token_of(person: str) -> str:
@@ -292,8 +290,9 @@ def desk(database: Database) -> Iterator[Desk]:
         item = flask.request.form.get("item", "")
         cursor.execute("SELECT set_config('office.person', %s, true), set_config('office.item', %s, true)",
                        (person, item if item.isdecimal() else ""))
-        viewer = Viewer(person, row.role, flask.request.script_root)
-        yield Desk(cursor, viewer, words_for(cursor, language_of(row.language)))
+        viewer, asked = Viewer(person, row.role, flask.request.script_root), flask.request.args
+        yield Desk(cursor, viewer, words_for(cursor, language_of(row.language)), asked.get("q", ""),
+                   asked.get("from", 0, int))
 
 
 def use_form(cursor: Cursor, person: str) -> None:
@@ -416,24 +415,10 @@ def headed(answer: Any) -> Any:
     return answer
 
 
-class Mounted:
-    """The application below the path that the web server names."""
-
-    def __init__(self, inner: Any) -> None:
-        self.inner = inner
-
-    def __call__(self, environ: Dict[str, Any], start: Any) -> Any:
-        environ["SCRIPT_NAME"] = environ.get("HTTP_X_SCRIPT_NAME", "")
-        return self.inner(environ, start)
-
-
-def listed(database: Database, function: Any) -> Any:
+def listed(database: Database, function: Any, **words: str) -> str:
     """A list as an answer."""
-    def shown(**words: str) -> str:
-        with desk(database) as it:
-            asked = flask.request.args.get("q", ""), flask.request.args.get("from", 0, int)
-            return str(function(Lists(it.cursor, it.words, it.viewer, *asked), **words))
-    return shown
+    with desk(database) as it:
+        return str(function(it, **words))
 
 
 def application(name: Optional[str] = None) -> Any:
@@ -445,10 +430,12 @@ def application(name: Optional[str] = None) -> Any:
     app.add_url_rule("/do/<action>", "form", lambda action: form(database, action), methods=["GET", "POST"])
     app.add_url_rule("/import", "import", lambda: csv_import(database), methods=["GET", "POST"])
     for rule, function in LISTS.items():
-        app.add_url_rule(rule, function.__name__, listed(database, function))
+        app.add_url_rule(rule, function.__name__, functools.partial(listed, database, function))
     app.before_request(sized)
     app.after_request(headed)
     for kind in (Refused, LookupError, HTTPException):
         app.register_error_handler(kind, refusal)
-    app.wsgi_app = Mounted(app.wsgi_app)  # type: ignore[assignment,method-assign]
+    inner: Any = app.wsgi_app  # below the path that the web server names
+    app.wsgi_app = lambda environ, start: inner(  # type: ignore[method-assign]
+        {**environ, "SCRIPT_NAME": environ.get("HTTP_X_SCRIPT_NAME", "")}, start)
     return app
