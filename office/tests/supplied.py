@@ -135,6 +135,11 @@ class Supplied:
                             " WHERE (r.month, r.box, r.serial) = (d.month, d.box, d.serial)",
                             value, fitting, day, body)
 
+    def months(self, *months: str) -> None:
+        """Computes months: those that a sheet of January 2025 has."""
+        for month in months or ("2024-01", "2024-12", "2025-01"):
+            self.month(month)
+
     def month(self, month: str) -> List[Tuple[Any, ...]]:
         """Computes a month, and no other; its rows: flat, part, amount, grade, in order."""
         houses = [row[0] for row in self.office.sql("SELECT house FROM houses ORDER BY house")]

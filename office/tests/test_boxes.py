@@ -1,9 +1,71 @@
-"""A meter keeps its place: under a box with a new name, and where two boxes hear it."""
+"""Fittings follow the register; a meter keeps its place, under a box with a new name, and where two boxes hear it."""
+
+from typing import Any, List, Tuple
 
 from conftest import FITS, Box, Office
 from supplied import HEAT, WH, Supplied, at
-from test_fittings import fitted, housed
 
+FIRST_HEAT, SECOND_HEAT = "33333333.PAD.01.04", "44444444.PAD.01.04"
+FITTED = """SELECT p.flat, p.use, p.number, left(f.identity, 8), upper_inf(f.during) FROM fittings f
+            JOIN places p ON p.id = f.place ORDER BY f.id"""
+
+
+def housed(office: Office) -> None:
+    office.sql("INSERT INTO houses (house, address) VALUES ('elm', 'Elm Street 1')")
+    office.sql("UPDATE boxes SET house = 'elm'")
+
+
+def fitted(office: Office) -> List[Tuple[Any, ...]]:
+    return office.sql(FITTED)
+
+
+def test_a_box_gets_its_house(office: Office, box: Box) -> None:
+    """Its meters are fitted since they are in the register; another house ends that."""
+    assert fitted(office) == []
+    housed(office)
+    assert fitted(office) == [("A1", "cold water", 1, "11111111", True), ("A2", "cold water", 1, "22222222", True)]
+    assert office.sql("SELECT bool_and(lower(f.during) = m.since) FROM fittings f JOIN meters m USING (identity)") == [
+        (True,)]
+    office.sql("INSERT INTO houses (house, address) VALUES ('oak', 'Oak Street 1')")
+    office.sql("UPDATE boxes SET house = 'oak'")
+    assert [row[4] for row in fitted(office)] == [False, False, True, True]
+
+
+def test_orders(office: Office, box: Box) -> None:
+    """FIT begins a fitting, OUT ends it, MOVE does both, and after SWAP the place is the same; as the collector's
+    role."""
+    housed(office)
+    office.sql("ALTER ROLE office SET role = 'collector'")
+    try:
+        for line in (f"FIT {FIRST_HEAT} 1 3 A1", f"SWAP {FIRST_HEAT} {SECOND_HEAT} 4", "MOVE 11111111.PAD.01.07 B7",
+                     "OUT 22222222.PAD.01.07", "FIT 55555555.PAD.01.07 1 9 A2", "FIT 66666666.PAD.01.07 1 8 A2",
+                     "FIT 77777777.PAD.01.0E 1 7 A2"):
+            ended = office.order("house-1", line)
+            assert ended.status == 0, ended.printed
+    finally:
+        office.sql("ALTER ROLE office RESET role")
+    # a bus system has no place
+    assert fitted(office) == [("A1", "cold water", 1, "11111111", False), ("A2", "cold water", 1, "22222222", False), (
+        "A1", "heat", 1, "33333333", False), ("A1", "heat", 1, "44444444", True),
+                              ("B7", "cold water", 1, "11111111", True), ("A2", "cold water", 1, "55555555", True),
+                              ("A2", "cold water", 2, "66666666", True)]
+
+
+def test_a_new_contact_ends_no_fitting(office: Office, box: Box) -> None:
+    """The register is read anew after an older dump; what is in it as before goes on, and what isn't ends."""
+    housed(office)
+    before = office.sql("SELECT id, during FROM fittings ORDER BY id")
+    office.sql("SELECT take_as_it_is('house-1')")
+    assert office.collect().status == 0
+    assert office.sql("SELECT id, during FROM fittings ORDER BY id") == before
+    office.sql("SELECT take_as_it_is('house-1')")
+    box.says("3 OUT 22222222.PAD.01.07", f"4 FIT {FIRST_HEAT} 1 3 A2")
+    assert office.collect().status == 0
+    assert fitted(office) == [("A1", "cold water", 1, "11111111", True), ("A2", "cold water", 1, "22222222", False),
+                              ("A2", "heat", 1, "33333333", True)]
+
+
+# ---- boxes that are replaced, and two of one meter
 
 def test_a_box_is_replaced(office: Office, box: Box) -> None:
     """The new image knows one of the two meters: the other is fitted by an order, and no fitting ends."""
@@ -46,7 +108,8 @@ def test_the_months_go_on(office: Office, elm: Supplied) -> None:
     office.sql("UPDATE boxes SET active = false")
     office.sql("INSERT INTO boxes (name, command, house) VALUES ('elm-1-b', 'false', 'elm-1')")
     elm.box, elm.serial = "elm-1-b", 0
-    office.sql("INSERT INTO meters (box, identity, line, address, flat) VALUES ('elm-1-b', '00000001.PAD.01.04', 1, '1', 'A1')")
+    office.sql("INSERT INTO meters (box, identity, line, address, flat) VALUES ('elm-1-b', '00000001.PAD.01.04', 1,"
+               " '1', 'A1')")
     elm.reads(meter, at("2025-02-01T06:00"), 1320, ("2025-01-31", 1310))
     assert office.run("close").status == 0
     assert elm.month("2025-01") == [("A1", 0, 300 * WH, "measured")]

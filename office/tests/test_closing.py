@@ -7,7 +7,8 @@ from typing import Any, List, Tuple
 from conftest import OFFICE, Office
 from supplied import HEAT, WH, Supplied, at
 
-MONTHS = "SELECT to_char(month, 'YYYY-MM'), amount, grade::text FROM month_use WHERE part = 0 AND month >= '2024-12-01' ORDER BY 1"
+MONTHS = """
+SELECT to_char(month, 'YYYY-MM'), amount, grade::text FROM month_use WHERE part = 0 AND month >= '2024-12-01' ORDER BY 1"""
 
 
 def closed(office: Office, *words: str, status: int = 0, **environment: str) -> List[str]:
@@ -36,7 +37,8 @@ def test_late_readings_come_to_be_values(office: Office, elm: Supplied) -> None:
     assert months(office)[1] == ("2025-01", 304 * WH, "measured")
     told = [line for line in office.run("alarms").printed.splitlines() if "NEW late" in line]
     assert told == [
-        "NEW late elm-1: Readings came late: 6 values of 1 meters, from 2024-12-31 on, came more than three days after the day."]
+        "NEW late elm-1: Readings came late: 6 values of 1 meters, from 2024-12-31 on, came more than three days after"
+        " the day."]
     assert closed(office)[0] == "0 days of meters in 0 houses, 0 values written"
     assert office.sql("SELECT count(*) FROM to_close") == [(0,)]
 

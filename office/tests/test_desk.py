@@ -1,4 +1,5 @@
-"""The manager's page: items by cause, what each role may do, forms, and lists that are taken as a whole or not at all."""
+"""The manager's page: items by cause, what each role may do, forms, and lists that are taken as a whole or not at
+all."""
 
 import datetime
 import json
@@ -35,13 +36,15 @@ class Desk:
         return self.get("/import", person)[1].partition('name="token" value="')[2].partition('"')[0]
 
     def post(self, path: str, form: Dict[str, str], person: str = "petra", **headers: str) -> Tuple[int, str]:
-        answer = self.client.post(path, data={"token": self.token(person), **form}, headers={"X-Remote-User": person, **headers})
+        answer = self.client.post(path, data={"token": self.token(person), **form},
+                                  headers={"X-Remote-User": person, **headers})
         return answer.status_code, answer.get_data(as_text=True)
 
 
 @pytest.fixture
 def elm(office: Office) -> Supplied:
-    office.sql("INSERT INTO people VALUES ('petra', 'publisher', 'de'), ('karl', 'clerk', 'en'), ('rosa', 'reader', 'en')")
+    office.sql("INSERT INTO people VALUES ('petra', 'publisher', 'de'), ('karl', 'clerk', 'en'), ('rosa', 'reader',"
+               " 'en')")
     return Supplied(office)
 
 
@@ -52,18 +55,22 @@ def desk(office: Office, elm: Supplied) -> Iterator[Desk]:
 
 
 def items(office: Office) -> List[Tuple[Any, ...]]:
-    return office.sql("SELECT kind, subject, waits FROM morning WHERE ended_at IS NULL AND kind <> 'collector' ORDER BY 1, 2")
+    return office.sql("SELECT kind, subject, waits FROM morning WHERE ended_at IS NULL AND kind <> 'collector' ORDER"
+                      " BY 1, 2")
 
 
 def test_a_cause_is_one_item(office: Office, elm: Supplied) -> None:
-    """A false value takes the numbers of two months, and a dead box those of all its meters: each is one item, with its sheets."""
+    """A false value takes the numbers of two months, and a dead box those of all its meters: each is one item, with its
+    sheets."""
     false, quiet = elm.meter(1, HEAT, "A1"), elm.meter(2, COLD, "A1")
     elm.tenancy("A1", "2024-01-01", None)
     elm.days(false, "2024-12-25", 40, 1_000_000, 10_000)
     elm.days(quiet, "2024-12-25", 20, 7, 1, "m3")
     elm.tells(false, {"2025-01-31": 9_000_000})
-    office.sql("UPDATE meters SET heard = '2025-02-02', stored_at = '2025-02-02', at = '2025-02-02', since = '2024-01-01'")
-    office.sql("UPDATE meters SET heard = '2025-01-13', stored_at = '2025-01-13', at = '2025-01-13' WHERE identity LIKE '%%2.PAD%%'")
+    office.sql("UPDATE meters SET heard = '2025-02-02', stored_at = '2025-02-02', at = '2025-02-02', since ="
+               " '2024-01-01'")
+    office.sql("UPDATE meters SET heard = '2025-01-13', stored_at = '2025-01-13', at = '2025-01-13' WHERE identity"
+               " LIKE '%%2.PAD%%'")
     office.sql("UPDATE boxes SET made_at = '2024-01-01', collected_at = '2025-02-02'")
     elm.month("2025-01")
     office.run(*NOON)
@@ -118,7 +125,8 @@ def test_a_cause_over_all_houses_is_one_item(office: Office, desk: Desk, tmp_pat
 
 
 def test_a_trouble_is_mended_on_the_page(office: Office, elm: Supplied, desk: Desk) -> None:
-    """The false reading is marked and struck with a reason; the log has who, what and why; the next run ends the item."""
+    """The false reading is marked and struck with a reason; the log has who, what and why; the next run ends the
+    item."""
     false = elm.meter(1, COLD, "A1", since=at("2024-12-25"))
     elm.tenancy("A1", "2024-01-01", None)
     elm.days(false, "2024-12-24", 41, 99, 1, "m3")
@@ -129,7 +137,8 @@ def test_a_trouble_is_mended_on_the_page(office: Office, elm: Supplied, desk: De
     office.run(*NOON)
     status, text = desk.get("/")
     marked = re.search(r'<tr class="bad">.*?</tr>', text, re.S)
-    assert status == 200 and "Ein Stand kann nicht stimmen" in text and "1 Blatt wartet" in text and marked and "2.137" in marked[0]
+    assert status == 200 and "Ein Stand kann nicht stimmen" in text and "1 Blatt wartet" in text and marked
+    assert "2.137" in marked[0]
     path = re.search(r'href="(/do/strike\?[^"]*)"', text)
     assert path
     value, item = re.findall(r"(?:value|item)=(\d+)", path[1])
@@ -138,7 +147,8 @@ def test_a_trouble_is_mended_on_the_page(office: Office, elm: Supplied, desk: De
     assert desk.post("/do/strike", {"value": value, "item": item, "why": "2000 m3 too much"})[0] == 303
     assert office.sql("SELECT who, what, house, subject, why, item, before->>'value' FROM log") == [
         ("petra", "strike", "elm-1", "00000001.PAD.01.07", "2000 m3 too much", int(item), "2137")]
-    assert office.sql("SELECT struck_by, struck_why FROM day_values WHERE struck_at IS NOT NULL") == [("petra", "2000 m3 too much")]
+    assert office.sql("SELECT struck_by, struck_why FROM day_values WHERE struck_at IS NOT NULL") == [
+        ("petra", "2000 m3 too much")]
     assert office.sql("SELECT done_by FROM alarms WHERE kind = 'disturbed'") == [("petra",)]
     assert "erledigt von petra" in desk.get("/")[1]
     assert office.run("close").status == 0
@@ -159,8 +169,10 @@ def test_each_form_by_each_role(office: Office, elm: Supplied, desk: Desk) -> No
     assert desk.get("/import", "rosa")[0] == 403
     elm.meter(1, HEAT, "A1")
     elm.tenancy("A1", "2024-01-01", None, "Anna Hidden")
-    assert "Anna Hidden" in desk.get("/houses/elm-1", "karl")[1] and "Anna Hidden" not in desk.get("/houses/elm-1", "rosa")[1]
-    assert "elm-1" in desk.get("/houses?q=hidden", "karl")[1].partition("<tbody>")[2] and "elm-1" not in desk.get("/houses?q=hidden", "rosa")[1]
+    assert "Anna Hidden" in desk.get("/houses/elm-1", "karl")[1] and "Anna Hidden" not in desk.get("/houses/elm-1",
+                                                                                                   "rosa")[1]
+    assert "elm-1" in desk.get("/houses?q=hidden", "karl")[1].partition("<tbody>")[2] and "elm-1" not in desk.get(
+        "/houses?q=hidden", "rosa")[1]
 
 
 def test_who_acts_is_who_signed_in(office: Office, elm: Supplied) -> None:
@@ -189,22 +201,27 @@ def test_forms_are_sent_once_and_from_here(office: Office, elm: Supplied, desk: 
     token = desk.token()
     assert [desk.post("/do/flat", {**form, "token": token})[0] for _ in range(2)] == [303, 409]
     assert office.sql("SELECT count(*) FROM log") == [(1,)]
-    assert desk.post("/do/flat", {**form, "area": "x"})[0] == 422 and desk.post("/do/flat", {**form, "why": "x" * 70_000})[0] == 413
+    assert desk.post("/do/flat", {**form, "area": "x"})[0] == 422 and desk.post(
+        "/do/flat", {**form, "why": "x" * 70_000})[0] == 413
     assert desk.post("/do/nothing", form)[0] == 404 and desk.get("/houses/none")[0] == 404
     headers = desk.client.get("/", headers={"X-Remote-User": "petra"}).headers
     assert "default-src 'none'" in headers["Content-Security-Policy"] and headers["Cache-Control"] == "no-store"
 
 
 def test_hostile_words_are_text(office: Office, elm: Supplied, desk: Desk, tmp_path: pathlib.Path) -> None:
-    for path, form in (("/do/house", {"house": "evil", "address": HOSTILE, "contact": HOSTILE}), ("/do/flat", {"house": "evil", "flat": "A1"}),
+    for path, form in (("/do/house", {"house": "evil", "address": HOSTILE, "contact": HOSTILE}),
+                       ("/do/flat", {"house": "evil", "flat": "A1"}),
                        ("/do/tenant", {"house": "evil", "flat": "A1", "since": "2024-01-01", "person": HOSTILE})):
         assert desk.post(path, {**form, "why": HOSTILE})[0] == 303
-    office.sql("INSERT INTO boxes (name, command, house, fault, collected_at) VALUES ('evil', 'false', 'evil', %s, '2025-01-01')", HOSTILE)
+    office.sql("INSERT INTO boxes (name, command, house, fault, collected_at) VALUES ('evil', 'false', 'evil', %s,"
+               " '2025-01-01')", HOSTILE)
     office.run(*NOON)
     assert office.run("desk", "--static", str(tmp_path / "page.html"), "--language", "en").status == 0
-    pages = [(tmp_path / "page.html").read_text(encoding="utf-8"), *(desk.get(path)[1] for path in ("/", "/houses", "/houses/evil", "/log"))]
+    pages = [(tmp_path / "page.html").read_text(encoding="utf-8"),
+             *(desk.get(path)[1] for path in ("/", "/houses", "/houses/evil", "/log"))]
     lines = f'house,evil,"{HOSTILE.replace(chr(34), chr(34) * 2)}",,,,,,,\n{HOSTILE},1'
-    pages.append(desk.post("/import", {"text": lines})[1].replace("\u202e", "", 2))  # the lines themselves, to be mended
+    # the lines themselves, to be mended
+    pages.append(desk.post("/import", {"text": lines})[1].replace("\u202e", "", 2))
     for text in pages:
         assert "<script>" not in text and "&lt;script&gt;" in text and "\u202e" not in text and "7000021" not in text
 
@@ -213,26 +230,31 @@ def test_lists_are_taken_as_a_whole_or_not(office: Office, elm: Supplied, desk: 
     """With semicolons and German dates and numbers, as a spreadsheet writes them; one fault, and nothing is taken."""
     file = tmp_path / "list.csv"
     file.write_bytes("house;oak-2;Eichenweg 2;10115;;;Büro Ulme;;\nflat;oak-2;A1;54,5\nflat;oak-2;A2;\n"
-                     "user;oak-2;A1;01.03.2024;;A. Weber;de;link;weber@example.org\nuser;oak-2;A1;01.09.2024;;B. Smith;en;paper;\n"
+                     "user;oak-2;A1;01.03.2024;;A. Weber;de;link;weber@example.org\nuser;oak-2;A1;01.09.2024;;B."
+                     " Smith;en;paper;\n"
                      "meter;elm-1;12345678.PAD.01.07;1;9;A1\n".encode("cp1252"))
     ended = office.run("import", str(file))
-    assert ended.status == 0 and "6 lines would be taken" in ended.printed and office.sql("SELECT count(*) FROM houses") == [(1,)]
+    assert ended.status == 0 and "6 lines would be taken" in ended.printed and office.sql(
+        "SELECT count(*) FROM houses") == [(1,)]
     assert office.run("import", str(file), "--apply", "--why", "taken over").status == 0
     assert office.sql("SELECT person, days::text, wants, mail FROM tenancies ORDER BY id") == [
-        ("A. Weber", "[2024-03-01,2024-09-01)", "link", "weber@example.org"), ("B. Smith", "[2024-09-01,)", "paper", None)]
+        ("A. Weber", "[2024-03-01,2024-09-01)", "link", "weber@example.org"),
+        ("B. Smith", "[2024-09-01,)", "paper", None)]
     assert office.sql("SELECT area_m2::text FROM flats WHERE house = 'oak-2' ORDER BY flat") == [("54.5",), (None,)]
     assert office.sql("SELECT line, state::text FROM orders") == [("FIT 12345678.PAD.01.07 1 9 A1", "queued")]
     assert office.sql("SELECT DISTINCT why FROM log") == [("taken over",)]
     text = "flat,oak-2,A3,60\nflat,oak-3,A1,60\nflats,oak-2,A4,1\nflat,oak-2\nuser,oak-2,A1,2024-13-01,,X,de,paper,\n"
     file.write_text(text, encoding="utf-8")
     ended = office.run("import", str(file), "--apply")
-    assert ended.status == 3 and "4 of 5 lines have a fault" in ended.printed and "line 2: no house oak-3" in ended.printed
+    assert ended.status == 3 and "4 of 5 lines have a fault" in ended.printed
+    assert "line 2: no house oak-3" in ended.printed
     status, page = desk.post("/import", {"text": text})
     assert status == 422 and "no house oak-3" in page and "60" in page
     assert desk.post("/import", {"text": text, "apply": "yes"})[0] == 422
     assert office.sql("SELECT count(*) FROM flats WHERE house = 'oak-2'") == [(2,)]
     status, page = desk.post("/import", {"text": "flat,oak-2,A3,60\n"})
-    assert status == 200 and 'name="apply"' in page and office.sql("SELECT count(*) FROM flats WHERE house = 'oak-2'") == [(2,)]
+    assert status == 200 and 'name="apply"' in page and office.sql(
+        "SELECT count(*) FROM flats WHERE house = 'oak-2'") == [(2,)]
     assert desk.post("/import", {"text": "flat,oak-2,A3,60\n", "apply": "yes"}, "rosa")[0] == 403
     assert desk.post("/import", {"text": "flat,oak-2,A3,60\n", "apply": "yes"})[0] == 200
     assert office.sql("SELECT area_m2::text FROM flats WHERE flat = 'A3'") == [("60",)]
@@ -251,7 +273,8 @@ def test_an_exchange_before_and_after_the_box_knows_it(office: Office, elm: Supp
     """Entered before, the box is ordered to swap, and the readings wait for it; entered after, they are set at once."""
     old = elm.meter(1, HEAT, "A1")
     now = datetime.datetime.now()
-    words = ["00000001.PAD.01.04", "00000009.PAD.01.04", f"{now - datetime.timedelta(days=2):%Y-%m-%dT%H:%M}", "1200", "3", "Wh"]
+    words = ["00000001.PAD.01.04", "00000009.PAD.01.04", f"{now - datetime.timedelta(days=2):%Y-%m-%dT%H:%M}", "1200",
+             "3", "Wh"]
     assert office.run("act", "exchange", "elm-1", *words, "--why", "battery").status == 0
     assert office.sql("SELECT line FROM orders") == [("SWAP 00000001.PAD.01.04 00000009.PAD.01.04 1",)]
     office.sql("UPDATE meters SET identity = '00000009.PAD.01.04'")
@@ -259,7 +282,8 @@ def test_an_exchange_before_and_after_the_box_knows_it(office: Office, elm: Supp
     query = ("SELECT row_number() OVER (ORDER BY lower(during)), last_value::text, first_value::text FROM fittings"
              " WHERE place = (SELECT place FROM fittings WHERE id = %s) ORDER BY lower(during)")
     assert office.sql(query, old) == wanted and office.sql("SELECT count(*) FROM exchanges") == [(0,)]
-    gap = "SELECT upper(o.during) = lower(n.during), lower(n.during) < now() - interval '1 day' FROM fittings o, fittings n WHERE o.id = %s AND n.id > o.id"
+    gap = ("SELECT upper(o.during) = lower(n.during), lower(n.during) < now() - interval '1 day'"
+           " FROM fittings o, fittings n WHERE o.id = %s AND n.id > o.id")
     assert office.sql(gap, old) == [(True, True)]
     words[3:5] = ["1300", "4"]
     assert office.run("act", "exchange", "elm-1", *words, "--why", "read again").status == 0
@@ -276,7 +300,8 @@ def test_the_mail_has_the_same_items(office: Office, elm: Supplied, tmp_path: pa
     mail.chmod(0o755)
     assert office.run("desk", "--mail", "a@example.org", "--sendmail", str(mail), "--language", "en").status == 0
     text = (tmp_path / "mail").read_text()
-    assert "Subject: Meters: 2 items, 0 sheets wait" in text and "elm-1: Box doesn't answer" in text and "text/html" in text
+    assert "Subject: Meters: 2 items, 0 sheets wait" in text and "elm-1: Box doesn't answer" in text
+    assert "text/html" in text
     assert office.run("desk", "--mail", "a@example.org", "--sendmail", "/bin/false").status == 3
 
 
@@ -287,8 +312,10 @@ def test_what_programs_note_is_german_too() -> None:
         ("late", {"values": 12, "meters": 2, "first": "2025-01-01"},
          "12 values of 2 meters, from 2025-01-01 on, came more than three days after the day.",
          "12 Werte von 2 Zählern, ab 2025-01-01, kamen mehr als drei Tage nach ihrem Tag."),
-        ("not sent", {"month": "2025-01-01", "count": 2, "failed": "no PDF"}, "January 2025: 2 × no PDF", "Januar 2025: 2 × kein PDF"),
-        ("changed", {"change": {"numbers": [{"place": "elm-1/A1/heat/1", "quantity": "energy", "out": [3_600_000_000, "measured"],
+        ("not sent", {"month": "2025-01-01", "count": 2, "failed": "no PDF"}, "January 2025: 2 × no PDF",
+         "Januar 2025: 2 × kein PDF"),
+        ("changed", {"change": {"numbers": [{"place": "elm-1/A1/heat/1", "quantity": "energy",
+                                             "out": [3_600_000_000, "measured"],
                                              "now": [None, "missing"]}], "more": 2}},
          "elm-1/A1/heat/1: 1.0 kWh (measured) went out, now no number. And 2 more.",
          "elm-1/A1/heat/1: bisher 1,0 kWh (gemessen), jetzt keine Zahl. Und 2 mehr."))
@@ -303,5 +330,6 @@ def test_each_kind_has_words(office: Office) -> None:
         kind, _, detail = key.partition(".")
         facts: Dict[str, Any] = {"grade": detail} if kind == "no number" else {"why": detail} if detail else {}
         assert all(Words(language, "UTC").language == language for language in ("de", "en"))
-        assert brief(kind, {**facts, "status": 9, "meters": 3, "boxes": 2, "month": "2025-01-01", "day": "2025-01-31", "nights": 7, "days": 45, "type": "0F",
+        assert brief(kind, {**facts, "status": 9, "meters": 3, "boxes": 2, "month": "2025-01-01", "day": "2025-01-31",
+                            "nights": 7, "days": 45, "type": "0F",
                             "places": 4, "use": "heat"})

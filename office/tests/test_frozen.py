@@ -10,7 +10,8 @@ from supplied import ALLOCATOR, HEAT, WH, Supplied, at
 from test_schema import refused
 from test_sheets import published, read_sheet, sheet_of
 
-ROWS = ("SELECT month::text, place, part, version, amount, grade, begins, ends FROM month_use WHERE out_at IS NOT NULL ORDER BY 1, 2, 3, 4")
+ROWS = ("SELECT month::text, place, part, version, amount, grade, begins, ends FROM month_use WHERE out_at IS NOT NULL"
+        " ORDER BY 1, 2, 3, 4")
 DECEMBER = "2024-12-30"
 
 
@@ -69,7 +70,8 @@ def test_another_number_is_another_version(office: Office, elm: Supplied, tmp_pa
     assert closed.status == 0 and "2025-01: 1 places: 1 hand" in closed.printed and rows(office) == before
     printed = office.run("alarms").printed
     said = [line for line in printed.splitlines() if "NEW changed" in line]
-    assert said == ["NEW changed elm-1 2025-01: A month that went out would be another now: elm-1/A1/heat/1: 310.0 kWh (measured) went out,"
+    assert said == ["NEW changed elm-1 2025-01: A month that went out would be another now: elm-1/A1/heat/1: 310.0 kWh"
+                    " (measured) went out,"
                     " now 315.0 kWh (read by a person)."]
     assert office.sql("SELECT amount FROM month_kwh WHERE part = 0 AND month = '2025-01-01'") == [(310_000 * WH,)]
     assert office.run("close", "--month", "2025-01").status == 0 and rows(office) == before
@@ -112,13 +114,13 @@ def computed_again(entries: List[int], begins: int, ends: int) -> int:
 
 
 def test_neither_retain_nor_forget_changes_a_number(office: Office, elm: Supplied, tmp_path: pathlib.Path) -> None:
-    """Three months are out, with a move in the second; the days and the user go, a cron goes on, and the numbers stay."""
+    """Three months are out, with a move in the second; the days and the user go, a cron goes on, and the numbers
+    stay."""
     meter = elm.meter(1, HEAT, "A1", since=at("2020-01-01T00:00"))
     elm.days(meter, "2020-12-29", 130, 1_000_000, 10_000)
     one = elm.tenancy("A1", "2020-01-01", "2021-02-11", "S. Secret")
     elm.tenancy("A1", "2021-02-11", None)
-    for month in ("2021-01", "2021-02", "2021-03"):
-        elm.month(month)
+    elm.months("2021-01", "2021-02", "2021-03")
     assert office.run("forget", str(one)).status == 3
     for month in ("2021-01", "2021-02", "2021-03"):
         released(office, tmp_path, month)
@@ -201,7 +203,8 @@ def test_a_bill_that_is_out(office: Office, elm: Supplied) -> None:
     assert office.run("close").status == 0
     assert bill(office, "2025-01-01..2025-02-28") == before
     name = "A1 heat 1 2025-01-18T00:00 2025-03-01T00:00"
-    assert (f"NEW changed elm-1 bill 2025-01-01..2025-02-28: A bill that went out would be another now: {name}: 420.0 kWh (measured)"
+    assert (f"NEW changed elm-1 bill 2025-01-01..2025-02-28: A bill that went out would be another now: {name}: 420.0"
+            " kWh (measured)"
             " went out, now 415.0 kWh (read by a person).\n" in office.run("alarms").printed)
     left = office.run("correct", "elm-1", "2025-01-01..2025-02-28", "--bill", "--leave", "--why", "5 kWh")
     assert left.status == 0 and "END changed elm-1 bill" in office.run("alarms").printed

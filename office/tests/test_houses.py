@@ -15,9 +15,10 @@ INSERT INTO places (house, flat, use, number) SELECT house, flat, 'heat', 1 FROM
 INSERT INTO fittings (place, house, identity, during)
 SELECT id, house, to_char(substr(flat, 2)::integer, 'FM00000000') || '.PAD.01.04', '[2024-01-01Z,)' FROM places;
 INSERT INTO day_values (fitting, day, at, value, unit, source)
-SELECT f.id, k.day, day_begins(k.day + 1, 'Europe/Berlin'), k.value + CASE k.value WHEN 0 THEN 0 ELSE substr(p.flat, 2)::integer END,
-       'Wh', 'by hand'
-FROM fittings f JOIN places p ON p.id = f.place, (VALUES (date '2024-12-31', 0), ('2025-01-31', 300000), ('2025-02-01', 300000)) AS k (day, value);
+SELECT f.id, k.day, day_begins(k.day + 1, 'Europe/Berlin'),
+       k.value + CASE k.value WHEN 0 THEN 0 ELSE substr(p.flat, 2)::integer END, 'Wh', 'by hand'
+FROM fittings f JOIN places p ON p.id = f.place,
+     (VALUES (date '2024-12-31', 0), ('2025-01-31', 300000), ('2025-02-01', 300000)) AS k (day, value);
 INSERT INTO tenancies (house, flat, days, person) SELECT house, flat, '[2024-01-01,)', 'A. Person' FROM flats"""
 
 UNREAD = ["–", "kein", "Wert:", "der", "Zähler", "wurde", "nicht", "gelesen"]  # what stands in the cell
@@ -39,7 +40,8 @@ def test_a_house_of_2000_flats(office: Office, elm: Supplied, tmp_path: pathlib.
     assert len(rows) == FLATS and {row[3] for row in rows} == {"hand"}
     published(office)
     holds = tmp_path / "holds"  # (a program that judges as fast as the real one: each user's file is judged)
-    holds.write_text("#!/bin/sh\necho 'numbers 1, differ 0, readings 0, refused 0, by hand 1, estimated 0, struck 0, places 1'\n")
+    holds.write_text("#!/bin/sh\necho 'numbers 1, differ 0, readings 0, refused 0, by hand 1, estimated 0, struck 0,"
+                     " places 1'\n")
     holds.chmod(0o755)
     assert office.run("sheets", "2025-01", "--out", str(tmp_path), "--pdf", "none", MBDC=str(holds)).status == 0
     text = page_of(tmp_path)
@@ -71,8 +73,7 @@ def test_a_month_without_a_value_keeps_its_unit(office: Office, elm: Supplied, t
         elm.days(elm.meter(number, ALLOCATOR, "A1"), "2024-11-29", 35, 0, 10, "HCA")
     elm.days(elm.meter(3, WATER, "A1"), "2024-11-29", 35, 0, 1, "m3")
     tenancy = elm.tenancy("A1", "2024-01-01", None)
-    for month in ("2024-12", "2025-01"):
-        elm.month(month)
+    elm.months("2024-12", "2025-01")
     written(office, tmp_path, "--pdf", "none")
     cells = read_sheet(office, tmp_path, tenancy).cells
     assert cells["allocator", "2025-01-01"].split() == UNREAD
@@ -94,7 +95,8 @@ def test_what_has_no_end_in_decimals_adds_up(office: Office, elm: Supplied, tmp_
 def test_a_bill_rounds_half_up(office: Office, elm: Supplied) -> None:
     """0.0045 kWh, which no binary fraction is."""
     elm.values(elm.meter(1, HEAT, "A1"), {"2024-12-31": 0, "2025-01-31": 16_200, "2025-02-01": 16_200}, "J")
-    assert [(row["amount"], row["consumption"]) for row in billed(office, "elm-1", "2025-01")] == [("16200000", "0.005")]
+    assert [(row["amount"], row["consumption"]) for row in billed(office, "elm-1", "2025-01")] == [
+        ("16200000", "0.005")]
 
 
 def test_a_link_cannot_be_guessed(office: Office, elm: Supplied) -> None:

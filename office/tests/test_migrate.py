@@ -1,11 +1,13 @@
-"""office/migrate: a filled database of 0.2.0 comes to what a new one is, also where it is killed on the way."""
+"""office/migrate: a filled database of 0.2.0 comes to what a new one is; and a dump (pg_dump) is restored whole."""
 
 import pathlib
 import subprocess
-from typing import Any, Set, Tuple
+from typing import Any, List, Set, Tuple
 
 import pytest
-from conftest import OFFICE, Ended, Office, Server
+from conftest import OFFICE, OWNER, PROGRAMS, Box, Ended, Office, Server
+from supplied import COLD, HEAT, Supplied, at
+from test_boxes import housed
 from test_schema import refused
 
 from box_commands import BOX_COMMANDS
@@ -22,7 +24,8 @@ INSERT INTO boxes (name, command, house) VALUES ('elm', 'false', 'elm');
 INSERT INTO meters (box, identity, line, address, flat) VALUES ('elm', '11111111.PAD.01.04', 1, '1', 'A1');
 INSERT INTO sheets (tenancy, month, form, path, sha256, is_before_audits)
 SELECT id, '2025-01-01', 'html', 'x', repeat('0', 64), true FROM tenancies;
-INSERT INTO versions (house, month, version, why, out_at, is_before_audits) VALUES ('elm', '2025-01-01', 1, 'first', now(), true);
+INSERT INTO versions (house, month, version, why, out_at, is_before_audits)
+VALUES ('elm', '2025-01-01', 1, 'first', now(), true);
 INSERT INTO versions (house, month, version, why) VALUES ('elm', '2025-01-01', 2, 'late');
 INSERT INTO jobs (what, words) VALUES ('release', '2025-01');
 INSERT INTO published (house, month, days, version, key, text, mark)
@@ -42,26 +45,30 @@ KEYS = [  # of these published numbers, as columns
     ("month", "A1", "warm water", 0, "2025-01", "kWh"),
     ("place", "A1", "warm water", 2, "1735686000 1738364400", "m³"), ("reading", "", "", 17, "1738364400", "")]
 OURS = "IN ('public'::regnamespace, 'desk'::regnamespace)"
-FUNCTIONS = f"FROM pg_proc p JOIN pg_language l ON l.oid = prolang WHERE pronamespace {OURS} AND lanname IN ('sql', 'plpgsql')"
+FUNCTIONS = (f"FROM pg_proc p JOIN pg_language l ON l.oid = prolang WHERE pronamespace {OURS}"
+             " AND lanname IN ('sql', 'plpgsql')")
 CATALOGUE = (
-    f"""SELECT 'column', attrelid::regclass::text, attname, format_type(atttypid, atttypmod), attnotnull, attgenerated::text,
-        pg_get_expr(adbin, adrelid) FROM pg_attribute JOIN pg_class c ON c.oid = attrelid
+    f"""SELECT 'column', attrelid::regclass::text, attname, format_type(atttypid, atttypmod), attnotnull,
+        attgenerated::text, pg_get_expr(adbin, adrelid) FROM pg_attribute JOIN pg_class c ON c.oid = attrelid
         LEFT JOIN pg_attrdef ON (adrelid, adnum) = (attrelid, attnum)
         WHERE relnamespace {OURS} AND relkind IN ('r', 'p', 'v') AND attnum > 0 AND NOT attisdropped""",
-    f"""SELECT 'constraint', conrelid::regclass::text, conname, pg_get_constraintdef(oid), convalidated FROM pg_constraint
-        WHERE connamespace {OURS}""",
-    f"SELECT 'index', pg_get_indexdef(indexrelid) FROM pg_index JOIN pg_class c ON c.oid = indexrelid WHERE relnamespace {OURS}",
-    f"SELECT 'view', oid::regclass::text, pg_get_viewdef(oid) FROM pg_class WHERE relkind = 'v' AND relnamespace {OURS}",
+    f"""SELECT 'constraint', conrelid::regclass::text, conname, pg_get_constraintdef(oid), convalidated
+        FROM pg_constraint WHERE connamespace {OURS}""",
+    "SELECT 'index', pg_get_indexdef(indexrelid) FROM pg_index JOIN pg_class c ON c.oid = indexrelid WHERE"
+    f" relnamespace {OURS}",
+    "SELECT 'view', oid::regclass::text, pg_get_viewdef(oid) FROM pg_class WHERE relkind = 'v' AND relnamespace"
+    f" {OURS}",
     f"SELECT 'function', pg_get_functiondef(p.oid) {FUNCTIONS}",
     "SELECT 'trigger', pg_get_triggerdef(oid) FROM pg_trigger WHERE NOT tgisinternal",
     f"""SELECT 'right', k.what, a.grantee::regrole::text, a.privilege_type FROM (
         SELECT oid::regclass::text, coalesce(relacl, acldefault('r', relowner)) FROM pg_class WHERE relnamespace {OURS}
-        UNION ALL SELECT attrelid::regclass || '.' || attname, attacl FROM pg_attribute JOIN pg_class c ON c.oid = attrelid
-        WHERE relnamespace {OURS} AND NOT attisdropped
+        UNION ALL SELECT attrelid::regclass || '.' || attname, attacl FROM pg_attribute
+        JOIN pg_class c ON c.oid = attrelid WHERE relnamespace {OURS} AND NOT attisdropped
         UNION ALL SELECT nspname, nspacl FROM pg_namespace WHERE nspname = 'desk'
         UNION ALL SELECT p.oid::regprocedure::text, coalesce(proacl, acldefault('f', proowner)) {FUNCTIONS}
         ) AS k (what, acl), aclexplode(k.acl) a""",
-    *(f"SELECT '{table}', to_jsonb(k)::text FROM {table} k" for table in ("uses", "units", "device_types", "limits", "box_commands")))
+    *(f"SELECT '{table}', to_jsonb(k)::text FROM {table} k" for table in ("uses", "units", "device_types", "limits",
+                                                                          "box_commands")))
 
 
 @pytest.fixture
@@ -89,7 +96,8 @@ def shape(office: Office) -> Set[Tuple[Any, ...]]:
 
 
 def test_a_filled_database_of_0_2_0(older: Office, office: Office) -> None:
-    """It comes to what a new one is; what went out before there were audits stays, and what goes out since has its audit."""
+    """It comes to what a new one is; what went out before there were audits stays, and what goes out since has its
+    audit."""
     ended = older.run("migrate")
     assert ended == Ended(0, "look: flat A1 of elm had the address x,all@b, which is none\n" + "".join(
         f"version {path.stem.lstrip('0')}\n" for path in sorted((OFFICE / "schema").glob("0*.sql"))))
@@ -99,9 +107,11 @@ def test_a_filled_database_of_0_2_0(older: Office, office: Office) -> None:
     assert older.sql("SELECT kind, flat, use, place, period, unit FROM published ORDER BY kind") == KEYS
     assert older.sql("UPDATE sheets SET sent_at = now() RETURNING is_before_audits") == [(True,)]
     for query in ("UPDATE versions SET out_at = now() WHERE version = 2", "UPDATE sheets SET is_before_audits = false",
-                  "INSERT INTO sheets (tenancy, month, form, path, sha256) SELECT id, '2025-01-01', 'pdf', 'x', repeat('0', 64)"
+                  "INSERT INTO sheets (tenancy, month, form, path, sha256) SELECT id, '2025-01-01', 'pdf', 'x',"
+                  " repeat('0', 64)"
                   " FROM tenancies",
-                  "INSERT INTO bills (house, days, version, why, out_at) VALUES ('elm', '[2025-01-01,2025-02-01)', 1, 'a', now())"):
+                  "INSERT INTO bills (house, days, version, why, out_at) VALUES ('elm', '[2025-01-01,2025-02-01)', 1,"
+                  " 'a', now())"):
         assert '"has_an_audit"' in refused(older, query), query
     assert "permission denied" in refused(older, "UPDATE sheets SET is_before_audits = true", role="clerk")
     box = older.box("house-3")
@@ -135,3 +145,54 @@ def test_a_version_that_is_not_known(office: Office, version: int) -> None:
     office.sql("UPDATE schema_versions SET version = %s", version)
     ended = office.run("migrate")
     assert ended.status == 5 and f"the database has version {version}" in ended.printed
+
+
+# ---- a dump
+
+HEAT_METER = "33333333.PAD.01.04"
+MOVED = "MOVE 22222222.PAD.01.07 B7"
+WITH_ROWS = ("boxes", "box_commands", "day_values", "fittings", "meters", "orders", "places", "points", "readings")
+
+
+def dumped(server: Server, office: Office) -> str:
+    done = subprocess.run([PROGRAMS[-1].parent / "pg_dump", "-h", server.folder, "-U", OWNER,
+                           office.connection.info.dbname], capture_output=True, text=True, check=True)
+    return done.stdout
+
+
+def restored(server: Server, dump: str, folder: pathlib.Path) -> Office:
+    """An office whose database was restored into an empty one."""
+    made = Office(server, server.make(), folder)
+    done = subprocess.run([PROGRAMS[-1].parent / "psql", "-q", "-v", "ON_ERROR_STOP=1", "-h", server.folder, "-U",
+                           OWNER, made.connection.info.dbname], input=dump, capture_output=True, text=True, check=False)
+    assert (done.returncode, done.stderr) == (0, "")
+    return made
+
+
+def counts(office: Office) -> List[Tuple[str, int]]:
+    """The number of rows of each table."""
+    names = [row[0] for row in office.sql("SELECT tablename FROM pg_tables WHERE schemaname = 'public' ORDER BY 1")]
+    return [(name, office.sql(f"SELECT count(*) FROM {name}")[0][0]) for name in names]
+
+
+def test_a_dump_is_restored(server: Server, office: Office, box: Box, tmp_path: pathlib.Path) -> None:
+    """Every table has its rows, shape and rules, and the box doesn't differ from it."""
+    housed(office)
+    assert office.order("house-1", f"FIT {HEAT_METER} 1 3 A1").status == 0
+    box.hears(3)
+    assert office.collect().status == 0
+    house = Supplied(office)
+    for number, medium in ((1, HEAT), (2, COLD)):
+        house.reads(house.meter(number, medium, "A1"), at("2024-01-31 23:00"), number)
+    office.sql("SELECT close_houses('{elm-1}')")
+    before = counts(office)
+    assert all(count for name, count in before if name in WITH_ROWS)
+    again = restored(server, dumped(server, office), tmp_path)
+    assert counts(again) == before and shape(again) == shape(office)
+    values = "SELECT fitting, day, amount FROM day_values ORDER BY id"
+    assert again.sql(values) == office.sql(values) != []
+    box.hears(2)
+    assert again.order("house-1", MOVED).status == 0
+    ended = again.collect("house-1")
+    assert ended.status == 0, ended.printed
+    assert box.numbers()[-1] == (6, "CONFIRM 5")

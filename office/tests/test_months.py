@@ -1,4 +1,5 @@
-"""office/close: the values of days, and the consumption of months with its grades."""
+"""office/close: the values of days, and the consumption of months with its grades. office/estimate: what no meter
+gave."""
 
 import datetime
 
@@ -8,7 +9,8 @@ from test_schema import refused
 
 
 def days_of(office: Office) -> object:
-    return office.sql("SELECT day::text, value::float, source FROM day_values WHERE struck_at IS NULL AND day < '2025-02-02'"
+    return office.sql("SELECT day::text, value::float, source FROM day_values WHERE struck_at IS NULL AND day <"
+                      " '2025-02-02'"
                       " ORDER BY day")
 
 
@@ -53,7 +55,8 @@ def test_a_month_of_stored_values(office: Office, elm: Supplied) -> None:
     elm.days(meter, "2024-12-25", 45, 1000, 10)
     assert elm.month("2025-01") == [("A1", 0, 310 * WH, "measured")]
     basis = office.sql("SELECT basis FROM month_use")[0][0]
-    assert [(it["value"], it["at"][:16]) for it in basis] == [("1060", "2024-12-31T23:00"), ("1370", "2025-01-31T23:00")]
+    assert [(it["value"], it["at"][:16]) for it in basis] == [("1060", "2024-12-31T23:00"),
+                                                              ("1370", "2025-01-31T23:00")]
     assert office.sql("SELECT kwh::float, units FROM month_kwh") == [(0.31, None)]
 
 
@@ -68,18 +71,6 @@ def test_a_user_moves_in_mid_month(office: Office, elm: Supplied) -> None:
     assert rows[0][2] == sum(row[2] for row in rows[1:])
     assert [row[0] for row in office.sql("SELECT tenancy FROM month_use ORDER BY part")] == [None, one, None, other]
     assert rows[0][3] == "estimated"  # over days without a value around the end of January
-
-
-def test_what_falls_is_no_number(office: Office, elm: Supplied) -> None:
-    """Neither in the month of the fall nor in those beside it, until a person strikes the entry."""
-    meter = elm.meter(1, HEAT, "A1")
-    elm.days(meter, "2024-12-20", 42, 1000, 10)  # to 30 January
-    elm.values(meter, {"2025-01-31": 10, "2025-02-01": 1430, "2025-02-28": 1700, "2025-03-01": 1710})
-    assert elm.month("2025-01") == [("A1", 0, None, "disturbed")]
-    assert elm.month("2025-02") == [("A1", 0, None, "disturbed")]
-    office.sql("SELECT strike(id, 'a disturbed telegram') FROM day_values WHERE day = '2025-01-31'")
-    assert elm.month("2025-02") == [("A1", 0, 280 * WH, "measured")]
-    assert elm.month("2025-01") == [("A1", 0, 310 * WH, "measured")]
 
 
 def test_an_exchange(office: Office, elm: Supplied) -> None:
@@ -167,13 +158,68 @@ def test_what_the_tables_refuse(office: Office, elm: Supplied) -> None:
                   "UPDATE places SET weight = -1",
                   "UPDATE fittings SET unit = 'Wh', last_value = 1",
                   "UPDATE fittings SET unit = 'Wh', first_value = 0.0000001",
-                  f"INSERT INTO day_values (fitting, day, at, value, unit, source) VALUES ({meter}, '2025-01-01', now(),"
+                  f"INSERT INTO day_values (fitting, day, at, value, unit, source) VALUES ({meter}, '2025-01-01',"
+                  " now(),"
                   " -1, 'Wh', 'by hand')",
-                  f"INSERT INTO day_values (fitting, day, at, value, unit, source) VALUES ({meter}, '2025-01-01', now(),"
+                  f"INSERT INTO day_values (fitting, day, at, value, unit, source) VALUES ({meter}, '2025-01-01',"
+                  " now(),"
                   " 1, 'W', 'by hand')",
-                  f"INSERT INTO day_values (fitting, day, at, value, unit, source) VALUES ({meter}, '2025-01-01', now(),"
+                  f"INSERT INTO day_values (fitting, day, at, value, unit, source) VALUES ({meter}, '2025-01-01',"
+                  " now(),"
                   " 1, 'Wh', 'read')",
                   "INSERT INTO factors VALUES ('elm-1', 'heat', '[2025-01-01,)', 1)",
-                  "INSERT INTO month_use SELECT '2025-01-01', place, 0, '2025-01-01', '2025-02-01', NULL, 5, 'disturbed',"
+                  "INSERT INTO month_use SELECT '2025-01-01', place, 0, '2025-01-01', '2025-02-01', NULL, 5,"
+                  " 'disturbed',"
                   " false, '[]' FROM fittings"):
         assert refused(office, query), query
+
+
+# ---- estimates: marked, and out of force when the meter is read again
+
+def test_by_the_year_before(office: Office, elm: Supplied) -> None:
+    meter = elm.meter(1, HEAT, "A1")
+    elm.days(meter, "2023-12-30", 40, 1000, 20)
+    elm.values(meter, {"2024-12-31": 9000})
+    assert elm.month("2024-01") == [("A1", 0, 620 * WH, "measured")]
+    assert elm.month("2025-01") == [("A1", 0, None, "missing")]
+    ended = office.run("estimate", "2025-01")
+    assert (ended.status, ended.printed) == (0, "2025-01 elm-1/A1/heat/1: 9620 Wh by year before\n")
+    assert elm.month("2025-01") == [("A1", 0, 620 * WH, "estimated")]
+    assert office.run("estimate", "2025-01").printed == ""
+
+
+def test_by_comparable_flats(office: Office, elm: Supplied) -> None:
+    """By area; a second house of the category serves where the own one has nothing."""
+    dead = elm.meter(1, HEAT, "A1", area=40)
+    elm.values(dead, {"2024-12-31": 100, "2025-01-10": 110})
+    oak = Supplied(office, "oak-2")
+    for number, area in ((2, 50), (3, 70)):
+        elm.days(oak.meter(number, HEAT, f"B{number}", area=area), "2024-12-30", 40, 0, area)
+    elm.month("2025-01")
+    ended = office.run("estimate", "2025-01", "--house", "elm-1")
+    assert ended.printed == f"2025-01 elm-1/A1/heat/1: {110 + 40 * 21} Wh by flats of the category\n"
+    assert elm.month("2025-01") == [("A1", 0, (10 + 40 * 21) * WH, "estimated")]
+
+
+def test_a_later_reading_puts_it_out_of_force(office: Office, elm: Supplied) -> None:
+    """The month is then what the readings around it say, and the months still add up."""
+    dead = elm.meter(1, WATER, "A1")
+    elm.days(elm.meter(2, WATER, "A2"), "2024-12-30", 70, 0, 1, "m3")
+    elm.values(dead, {"2024-12-30": 0, "2024-12-31": 1}, "m3")
+    elm.month("2025-01")
+    assert "by flats of the house" in office.run("estimate", "2025-01").printed
+    assert elm.month("2025-01")[0] == ("A1", 0, 31_000_000, "estimated")
+    elm.values(dead, {"2025-02-28": 60}, "m3")
+    assert elm.month("2025-02")[0] == ("A1", 0, 28_000_000, "estimated")
+    assert elm.month("2025-01")[0] == ("A1", 0, 31_000_000, "estimated")
+    elm.values(dead, {"2025-02-01": 3}, "m3")
+    both = [elm.month(month)[0][2] for month in ("2025-01", "2025-02")]
+    assert sum(both) == 59_000_000 and both[0] == 2_000_000 * 31 // 32
+
+
+def test_what_cannot_be_estimated(office: Office, elm: Supplied) -> None:
+    elm.meter(1, HEAT, "A1")
+    elm.values(elm.meter(2, HEAT, "A2"), {"2024-12-31": 100})
+    elm.month("2025-01")
+    ended = office.run("estimate", "2025-01")
+    assert ended.printed == "".join(f"2025-01 elm-1/A{number}/heat/1: not estimated\n" for number in (1, 2))

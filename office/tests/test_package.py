@@ -1,4 +1,5 @@
-"""What the package lays: services that may do little beside their work, their mails, settings, and the example of a web server."""
+"""What the package lays: services that may do little beside their work, their mails, settings, and the example of a web
+server."""
 
 import os
 import pathlib
@@ -33,7 +34,8 @@ def test_services_are_hardened(tree: pathlib.Path) -> None:
     units = tree / "usr/lib/systemd/system"
     users = set()
     for unit in sorted(units.glob("*.service")):
-        said = subprocess.run(["systemd-analyze", "security", "--offline=true", "--no-pager", unit], capture_output=True, text=True, check=False).stdout
+        said = subprocess.run(["systemd-analyze", "security", "--offline=true", "--no-pager", unit],
+                              capture_output=True, text=True, check=False).stdout
         level = re.search(r"exposure level for \S+: ([0-9.]+)", said)
         assert level and float(level[1]) < MOST, (unit.name, level and level[0])
         users |= set(re.findall(r"^User=(.*)$", unit.read_text(), re.M))
@@ -54,14 +56,16 @@ class Letters(socketserver.StreamRequestHandler):
             if line.upper().startswith(b"DATA"):
                 self.wfile.write(b"354 go on\r\n")
                 self.said += [it.decode().rstrip("\r\n") for it in iter(self.rfile.readline, b".\r\n")]
-            self.wfile.write(b"550 no such user\r\n" if b"refused@" in line else b"221 bye\r\n" if line.upper().startswith(b"QUIT") else b"250 ok\r\n")
+            self.wfile.write(b"550 no such user\r\n" if b"refused@" in line else b"221 bye\r\n"
+                             if line.upper().startswith(b"QUIT") else b"250 ok\r\n")
 
 
 def test_mails_go_without_sendmail() -> None:
     with socketserver.TCPServer(("127.0.0.1", 0), Letters) as server:
         threading.Thread(target=server.serve_forever, daemon=True).start()
         environment = {**os.environ, "SMTP": f"127.0.0.1:{server.server_address[1]}"}
-        done = [subprocess.run([OFFICE / "submit", "-t", "-i"], input=mail, capture_output=True, text=True, check=False, env=environment)
+        done = [subprocess.run([OFFICE / "submit", "-t", "-i"], input=mail, capture_output=True, text=True, check=False,
+                               env=environment)
                 for mail in (MAIL, MAIL.replace("weber", "refused"))]
         server.shutdown()
     assert [it.returncode for it in done] == [0, 69] and "no such user" in done[1].stderr, done
@@ -70,11 +74,14 @@ def test_mails_go_without_sendmail() -> None:
                           env={**os.environ, "SMTP": "127.0.0.1:9"}).returncode == 69
 
 
-@pytest.mark.parametrize("words", ["--decoder https://office.example/decode.html", '"--decoder https://office.example/decode.html"'])
+@pytest.mark.parametrize("words", ["--decoder https://office.example/decode.html", '"--decoder'
+                                   ' https://office.example/decode.html"'])
 def test_settings_may_have_spaces(tree: pathlib.Path, tmp_path: pathlib.Path, words: str) -> None:
     """As systemd reads them; the shell would run the second word."""
     program = tmp_path / "mbdc-office"
-    program.write_text((tree / "usr/bin/mbdc-office").read_text().replace("/usr/lib/mbdc-office", str(tmp_path)).replace("/etc/mbdc-office", str(tmp_path))
+    program.write_text((tree / "usr/bin/mbdc-office").read_text().replace("/usr/lib/mbdc-office",
+                                                                          str(tmp_path)).replace("/etc/mbdc-office",
+                                                                                                 str(tmp_path))
                        .replace("id -u", "echo 1"))
     conf = (tree / "etc/mbdc-office/office.conf").read_text()
     (tmp_path / "office.conf").write_text(re.sub("^SHEETS=.*", f"SHEETS={words}", conf, flags=re.M))
@@ -99,7 +106,8 @@ def test_a_sheet_is_served_for_its_reader_alone(tmp_path: pathlib.Path) -> None:
         path.chmod(path.stat().st_mode | 0o555)
     with socket.create_server(("127.0.0.1", 0)) as free:
         address = f"127.0.0.1:{free.getsockname()[1]}"
-    (tmp_path / "nginx.conf").write_text(f"daemon off; pid {tmp_path}/pid; error_log {tmp_path}/error; events {{}} http {{ access_log off; "
+    (tmp_path / "nginx.conf").write_text(f"daemon off; pid {tmp_path}/pid; error_log {tmp_path}/error; events {{}}"
+                                         f" http {{ access_log off; "
                                          f"client_body_temp_path {tmp_path}/body; server {{ listen {address}; "
                                          f"{location[0].replace('/var/lib/mbdc-billing/out', str(tmp_path))} }} }}")
     server = subprocess.Popen([nginx, "-p", tmp_path, "-c", tmp_path / "nginx.conf", "-e", tmp_path / "error"])

@@ -3,16 +3,15 @@
 import datetime
 import decimal
 import hashlib
-import html.parser
 import pathlib
 import re
-from typing import Callable, Dict, List, Optional, Set, Tuple
+from typing import Callable, Dict, List, Set, Tuple
 
 import pytest
 from conftest import Office
 from supplied import ALLOCATOR, COLD, HEAT, WATER, Supplied, at
 from test_schema import refused
-from test_sheets import published, sheet_of
+from test_sheets import Page, published, sheet_of
 
 import program
 import rendering
@@ -24,33 +23,17 @@ from program import Key
 Lie = Callable[[List[str]], List[str]]
 GAS = "03"
 SINCE = at("2023-12-01T00:00")
-DATES = (r"\d{4}-\d{2}\.audit", r"\d{2}\.\d{2}\.\d{4}(, \d{2}:\d{2})?", r"\d{1,2} [A-Z][a-z]{2} \d{4}(, \d{2}:\d{2})?", r"\b20\d{2}\b", r"\d+ (von|of) \d+ (Tagen|days)")
-NAMES = (r"SHA-256", r"(Zähler|Werten|Schätzungen|meters|hand|estimates) \(\d+\)", r"\b[0-9a-f]{64}\b", r"\d{8}\.PAD\.01\.\d{2}", r"Elm Street 1", r"\bA\d\b", r"(Messstelle|Place) \d", r"CO2", r"elm-\d", r"kg CO2")
+DATES = (r"\d{4}-\d{2}\.audit", r"\d{2}\.\d{2}\.\d{4}(, \d{2}:\d{2})?", r"\d{1,2} [A-Z][a-z]{2} \d{4}(, \d{2}:\d{2})?",
+         r"\b20\d{2}\b", r"\d+ (von|of) \d+ (Tagen|days)")
+NAMES = (r"SHA-256", r"(Zähler|Werten|Schätzungen|meters|hand|estimates) \(\d+\)", r"\b[0-9a-f]{64}\b",
+         r"\d{8}\.PAD\.01\.\d{2}", r"Elm Street 1", r"\bA\d\b", r"(Messstelle|Place) \d", r"CO2", r"elm-\d", r"kg CO2")
 NUMBER = re.compile(r"\d[\d.,]*")
-
-
-class Text(html.parser.HTMLParser):
-    """What a reader sees of a page."""
-
-    def __init__(self, text: str) -> None:
-        super().__init__(convert_charrefs=True)
-        self.seen: List[str] = []
-        self.is_style = False
-        self.feed(text)
-        self.close()
-
-    def handle_starttag(self, tag: str, attrs: List[Tuple[str, Optional[str]]]) -> None:
-        self.is_style = tag == "style"
-
-    def handle_data(self, data: str) -> None:
-        if not self.is_style:
-            self.seen.append(data.strip())
 
 
 def digits_of(page: str, audit: int) -> Set[str]:
     """The numbers of a page that are in no date, address or identity."""
     found: Set[str] = set()
-    for text in Text(page).seen:
+    for text in Page(page).seen:
         for pattern in (*DATES, *NAMES, rf"(Prüfung|audit) {audit}"):
             text = re.sub(pattern, " ", text)
         found |= {number.rstrip(".,") for number in NUMBER.findall(text)}
@@ -71,27 +54,31 @@ def elm_of(office: Office) -> Supplied:
                 heat = made.meter(number, HEAT, f"A{number}", since=SINCE)
             made.days(heat, first, days, 1_000_000 if days == 40 else 5_000_000, 11_234 * number)
         made.days(made.meter(10 + number, ALLOCATOR, f"A{number}", since=SINCE), "2024-11-25", 75, 0, 3, "HCA")
-    made.values(made.meter(20, WATER, "A1", since=SINCE), {"2024-12-31": "22.5", "2025-01-31": 26, "2025-02-01": 26}, "m3")
+    made.values(made.meter(20, WATER, "A1", since=SINCE), {"2024-12-31": "22.5", "2025-01-31": 26, "2025-02-01": 26},
+                "m3")
     office.sql("UPDATE places SET weight = 1.7 WHERE use = 'allocator'")
-    office.sql("INSERT INTO factors (house, use, months, kwh_per_unit) VALUES ('elm-1', 'warm water', '[2023-01-01,)', 52.25)")
+    office.sql("INSERT INTO factors (house, use, months, kwh_per_unit) VALUES ('elm-1', 'warm water', '[2023-01-01,)',"
+               " 52.25)")
     office.sql("UPDATE houses SET co2_g_per_kwh = 201.5, shows_costs = true, postcode = '10115'")
-    office.sql("INSERT INTO prices (house, use, months, unit, cents) VALUES ('elm-1', 'heat', '[2025-01-01,)', 'kWh', 11.45)")
-    office.sql("INSERT INTO degree_days VALUES ('10115', '2024-01-01', 500, 'DWD'), ('10115', '2025-01-01', 400, 'DWD')")
+    office.sql("INSERT INTO prices (house, use, months, unit, cents) VALUES ('elm-1', 'heat', '[2025-01-01,)', 'kWh',"
+               " 11.45)")
+    office.sql("INSERT INTO degree_days VALUES ('10115', '2024-01-01', 500, 'DWD'), ('10115', '2025-01-01', 400,"
+               " 'DWD')")
     return made
-
-
-def computed(elm: Supplied) -> None:
-    for month in ("2024-01", "2024-12", "2025-01"):
-        elm.month(month)
 
 
 def test_a_key_says_what_its_line_says() -> None:
     """Whose a number is, of which month, and in which unit, is read from the lines that were audited."""
-    lines = ["audit,1,2025-01", "span,1,2024-12-31,60,2025-01-31,60", "span,2,2024-11-30,60,2024-12-31,60", "use,heat,energy",
-             "price,heat,kWh,1,11.5", "user,7,A1,50", "place,1,A1,heat,1", "window,1", "part,1,10,20,7", "part,1,20,30,-",
-             "shown,1,10,20,kWh,348.3,measured", "shown,1,20,30,kWh,1.0,hand", "value,1,20,412,kWh", "totals", "of_user,1,7,heat,kWh,348,measured",
-             "of_user,1,7,heat,kWh,348.3,measured", "of_user,2,7,heat,kWh,99,measured", "of_user,2,7,heat,kWh,99.0,measured",
-             "of_flat,1,A1,heat,kWh,349.3,hand", "of_house,1,heat,kWh,349.3,1,2", "mean,1,7,heat,kWh,-", "change,1,2,7,heat,kWh,252", "end"]
+    lines = ["audit,1,2025-01", "span,1,2024-12-31,60,2025-01-31,60", "span,2,2024-11-30,60,2024-12-31,60",
+             "use,heat,energy",
+             "price,heat,kWh,1,11.5", "user,7,A1,50", "place,1,A1,heat,1", "window,1", "part,1,10,20,7",
+             "part,1,20,30,-",
+             "shown,1,10,20,kWh,348.3,measured", "shown,1,20,30,kWh,1.0,hand", "value,1,20,412,kWh", "totals",
+             "of_user,1,7,heat,kWh,348,measured",
+             "of_user,1,7,heat,kWh,348.3,measured", "of_user,2,7,heat,kWh,99,measured",
+             "of_user,2,7,heat,kWh,99.0,measured",
+             "of_flat,1,A1,heat,kWh,349.3,hand", "of_house,1,heat,kWh,349.3,1,2", "mean,1,7,heat,kWh,-",
+             "change,1,2,7,heat,kWh,252", "end"]
     chart = Key("chart", "A1", "heat", 0, "2025-01", "kWh")
     assert sorted(Reader([(3, [9])]).read(lines), key=str) == [
         (7, Key("change", "A1", "heat", 0, "2024-12"), "252", "change"), (7, chart, "348", "measured"),
@@ -102,7 +89,8 @@ def test_a_key_says_what_its_line_says() -> None:
         (None, Key("flat", "A1", "heat"), "349.3", "hand"), (None, Key("house", use="heat"), "349.3", "1 2"),
         (None, Key("place", "A1", "heat", 3, "20 30", "kWh"), "1.0", "hand"),
         (None, Key("reading", place=9, period="20"), "412", "reading")]
-    edge = [line.replace(",348.3,", ",99.7,").replace(",348,", ",100,") for line in (*lines[:14], lines[15], lines[14], *lines[16:])]
+    edge = [line.replace(",348.3,", ",99.7,").replace(",348,", ",100,")
+            for line in (*lines[:14], lines[15], lines[14], *lines[16:])]
     assert (7, chart, "99.7", "measured") in Reader([(3, [9])]).read(edge)
     small = [line.replace("348", "9") for line in lines if line != "of_user,1,7,heat,kWh,348,measured"]
     small.insert(14, "of_user,1,7,heat,kWh,9,measured")
@@ -110,36 +98,43 @@ def test_a_key_says_what_its_line_says() -> None:
 
 
 def test_each_digit_was_accepted(office: Office, elm: Supplied, tmp_path: pathlib.Path) -> None:
-    """Of all sheets and the house's page, in both languages: a number is published, or a date, an address or an identity."""
+    """Of all sheets and the house's page, in both languages: a number is published, or a date, an address or an
+    identity."""
     tenancies = [elm.tenancy("A1", "2023-01-01", None), elm.tenancy("A2", "2023-01-01", "2025-01-11", language="en"),
                  elm.tenancy("A2", "2025-01-11", None), elm.tenancy("A3", "2023-01-01", None, language="en")]
-    computed(elm)
+    elm.months()
     published(office, "2024-12")
     published(office)
     assert office.run("sheets", "2025-01", "--out", str(tmp_path), "--pdf", "none", "--language", "en").status == 0
     audit = office.sql("SELECT max(id) FROM audits")[0][0]
-    pages = [(sheet_of(office, tmp_path, it), office.sql("SELECT language FROM tenancies WHERE id = %s", it)[0][0], it) for it in tenancies]
+    pages = [(sheet_of(office, tmp_path, it), office.sql("SELECT language FROM tenancies WHERE id = %s", it)[0][0], it)
+             for it in tenancies]
     for path, language, tenancy in (*pages, (tmp_path / "houses/elm-1.html", "en", None)):
         words = Catalogue(language, "Europe/Berlin")
         known = {words.printed(row[0].lstrip("-")) for row in office.sql(
-            "SELECT text FROM published WHERE tenancy IS NULL OR tenancy = %s UNION SELECT unnest(string_to_array(mark, ' ')) FROM published"
+            "SELECT text FROM published WHERE tenancy IS NULL OR tenancy = %s UNION SELECT"
+            " unnest(string_to_array(mark, ' ')) FROM published"
             " WHERE kind = 'house'", tenancy)}
         declared = {words.exact(row[0]) for row in office.sql("SELECT co2_g_per_kwh FROM houses")}
         digits = digits_of(path.read_text(encoding="utf-8").replace("10115", ""), audit)
         assert len(digits) > 10 and digits <= known | declared | {"1"}, (path, digits - known)  # "1 m³ = .."
     text = pages[0][0].read_text(encoding="utf-8")
-    assert re.search(rf"Nachgerechnet \(Prüfung {audit}\) aus Telegrammen der Zähler \(\d+\)\.", text) and "€" in text and "kg CO2" in text
-    assert re.search(rf"Computed again \(audit {audit}\) from telegrams of the meters \(\d+\)\.", pages[1][0].read_text(encoding="utf-8"))
+    assert re.search(rf"Nachgerechnet \(Prüfung {audit}\) aus Telegrammen der Zähler \(\d+\)\.",
+                     text) and "€" in text and "kg CO2" in text
+    assert re.search(rf"Computed again \(audit {audit}\) from telegrams of the meters \(\d+\)\.",
+                     pages[1][0].read_text(encoding="utf-8"))
 
 
 def test_what_is_stored(office: Office, elm: Supplied, tmp_path: pathlib.Path) -> None:
     """The file, its hash, the program and its hash; the file lies beside the sheets; the same numbers are one audit."""
     elm.tenancy("A1", "2023-01-01", None)
-    computed(elm)
+    elm.months()
     published(office)
     published(office)
-    file, sha256, program, program_sha256, says = office.sql("SELECT file, sha256, program, program_sha256, says FROM audits")[0]
-    assert hashlib.sha256(bytes(file)).hexdigest() == sha256 and program.startswith("mbdc ") and len(program_sha256) == 64
+    file, sha256, program, program_sha256, says = office.sql("SELECT file, sha256, program, program_sha256, says FROM"
+                                                             " audits")[0]
+    assert hashlib.sha256(bytes(file)).hexdigest() == sha256 and program.startswith("mbdc ") and len(
+        program_sha256) == 64
     assert says.startswith("numbers ") and "differ 0" in says and "refused 0" in says
     assert office.run("sheets", "2025-01", "--out", str(tmp_path), "--pdf", "none").status == 0
     assert (tmp_path / "audits/elm-1/2025-01.audit").read_bytes() == bytes(file)
@@ -157,22 +152,29 @@ def test_a_house_that_is_refused(office: Office, elm: Supplied, tmp_path: pathli
     oak.days(oak.meter(40, HEAT, "B1"), "2024-12-25", 60, 1000, 10)
     elm.tenancy("A1", "2023-01-01", None)
     oak.tenancy("B1", "2024-01-01", None)
-    computed(elm)
+    elm.months()
     elm.month("2025-01")
-    assert office.run("sheets", "2025-01", "--out", str(tmp_path), "--pdf", "none").status == 5 and not list(tmp_path.glob("sheets/*/*"))
-    body = office.sql("SELECT r.bodies[1] FROM readings r JOIN day_values d ON (d.month, d.box, d.serial) = (r.month, r.box, r.serial)"
+    assert office.run("sheets", "2025-01", "--out", str(tmp_path), "--pdf", "none").status == 5 and not list(
+        tmp_path.glob("sheets/*/*"))
+    body = office.sql("SELECT r.bodies[1] FROM readings r JOIN day_values d ON (d.month, d.box, d.serial) = (r.month,"
+                      " r.box, r.serial)"
                       " WHERE d.day = '2025-01-31' AND r.identity = '00000001.PAD.01.04'")[0][0]
     wrong = bytes(body)[:-8] + (int.from_bytes(bytes(body)[-8:], "little") + 1000).to_bytes(8, "little")
-    office.sql("UPDATE readings SET bodies = ARRAY[%s::bytea] WHERE bodies[1] = %s AND identity = '00000001.PAD.01.04'", wrong, bytes(body))
+    office.sql("UPDATE readings SET bodies = ARRAY[%s::bytea] WHERE bodies[1] = %s AND identity = '00000001.PAD.01.04'",
+               wrong, bytes(body))
     ended = office.run("publish", "-", "2025-01")
-    assert ended.status == 5 and "2025-01 elm-1: refused: DIFFERS line" in ended.printed and "1 published, 1 refused" in ended.printed
-    assert office.sql("SELECT DISTINCT house FROM audits") == office.sql("SELECT DISTINCT house FROM published") == [("oak-2",)]
+    assert ended.status == 5 and "2025-01 elm-1: refused: DIFFERS line" in ended.printed
+    assert "1 published, 1 refused" in ended.printed
+    assert office.sql("SELECT DISTINCT house FROM audits") == office.sql("SELECT DISTINCT house FROM published") == [
+        ("oak-2",)]
     ended = office.run("sheets", "2025-01", "--out", str(tmp_path), "--pdf", "none", "--release")
     assert ended.status == 5 and "no audit of 2025-01 (office/publish): elm-1" in ended.printed
-    assert [path.name for path in tmp_path.glob("houses/*")] == ["oak-2.html"] and len(list(tmp_path.glob("sheets/*/*.html"))) == 1
+    assert [path.name for path in tmp_path.glob("houses/*")] == ["oak-2.html"] and len(
+        list(tmp_path.glob("sheets/*/*.html"))) == 1
     assert office.sql("SELECT house FROM versions WHERE out_at IS NOT NULL") == [("oak-2",)]
     moment = datetime.datetime(2025, 2, 3, tzinfo=datetime.timezone.utc).isoformat()
-    assert "NEW audit elm-1 2025-01: The audit refused the numbers: 2025-01: DIFFERS" in office.run("alarms", "--at", moment).printed
+    assert "NEW audit elm-1 2025-01: The audit refused the numbers: 2025-01: DIFFERS" in office.run("alarms", "--at",
+                                                                                                    moment).printed
     assert office.sql("SELECT waits FROM morning WHERE kind = 'audit'") == [(1,)]
     office.sql("UPDATE readings SET bodies = ARRAY[%s::bytea] WHERE bodies[1] = %s", bytes(body), wrong)
     published(office)
@@ -205,21 +207,29 @@ def swapped(form: str, at: int = 5) -> Lie:
 
 
 LIES: Dict[str, Lie] = {
-    "a place": other("shown,"), "a user": other("of_user,"), "a flat": other("of_flat,"), "the house": other("of_house,", 4),
-    "the places without a number": other("of_house,", 5), "the places": other("of_house,", 6), "an average": other("mean,"),
-    "per cent": other("change,", 6), "emissions": other("carbon,", 4), "a cost": other("cost,"), "the weather": other("weather,"),
+    "a place": other("shown,"), "a user": other("of_user,"), "a flat": other("of_flat,"),
+    "the house": other("of_house,", 4),
+    "the places without a number": other("of_house,", 5), "the places": other("of_house,", 6),
+    "an average": other("mean,"),
+    "per cent": other("change,", 6), "emissions": other("carbon,", 4), "a cost": other("cost,"),
+    "the weather": other("weather,"),
     "a reading": other("value,", 3), "a factor": other("factor,", 3), "a price": other("price,", 4),
-    "cut": other("of_user,", 5, lambda text: f"{text[:-1]}0" if "." in text else text), "none": other("of_user,", 5, lambda _: "-"),
-    "the mark of a place": other("shown,", 6, lambda _: "hand"), "the mark of a user": other("of_user,", 6, lambda _: "hand"),
-    "without the weight": other(r"of_user,1,\d+,allocator,HCA,", 5, lambda text: f"{decimal.Decimal(text) / decimal.Decimal('1.7'):.1f}"),
-    "two users": swapped("of_user,1,"), "two flats": swapped("of_flat,1,"), "two averages": swapped("mean,1,"), "a split": swapped("shown,1,")}
+    "cut": other("of_user,", 5, lambda text: f"{text[:-1]}0" if "." in text else text),
+    "none": other("of_user,", 5, lambda _: "-"),
+    "the mark of a place": other("shown,", 6, lambda _: "hand"),
+    "the mark of a user": other("of_user,", 6, lambda _: "hand"),
+    "without the weight": other(r"of_user,1,\d+,allocator,HCA,", 5,
+                                lambda text: f"{decimal.Decimal(text) / decimal.Decimal('1.7'):.1f}"),
+    "two users": swapped("of_user,1,"), "two flats": swapped("of_flat,1,"), "two averages": swapped("mean,1,"),
+    "a split": swapped("shown,1,")}
 
 
 def test_no_lie_is_published(office: Office, elm: Supplied, monkeypatch: pytest.MonkeyPatch) -> None:
     """Whatever was filled in: sums, averages, splits, roundings, marks, users."""
-    for flat, since, until in (("A1", "2023-01-01", None), ("A2", "2023-01-01", "2025-01-11"), ("A2", "2025-01-11", None), ("A3", "2023-01-01", None)):
+    for flat, since, until in (("A1", "2023-01-01", None), ("A2", "2023-01-01", "2025-01-11"),
+                               ("A2", "2025-01-11", None), ("A3", "2023-01-01", None)):
         elm.tenancy(flat, since, until)
-    computed(elm)
+    elm.months()
     of, database = program.Of("elm-1", datetime.date(2025, 1, 1), None, 1, "2025-01"), Database(office.name, 600)
     with database.transaction() as cursor:
         file = month_file(cursor, "elm-1", datetime.date(2025, 1, 1), {})
@@ -235,7 +245,8 @@ def test_no_lie_is_published(office: Office, elm: Supplied, monkeypatch: pytest.
 
 
 def test_an_average_over_several_houses(office: Office, elm: Supplied, tmp_path: pathlib.Path) -> None:
-    """It is declared, as the sheet says: of the category's flats that were measured, by their areas and the weights of allocators."""
+    """It is declared, as the sheet says: of the category's flats that were measured, by their areas and the weights of
+    allocators."""
     tenancy = elm.tenancy("A1", "2023-01-01", None, language="en")
     oak = Supplied(office, "oak-2")
     oak.days(oak.meter(40, HEAT, "B1", area=40), "2024-12-25", 60, 0, 10_000)
@@ -245,28 +256,33 @@ def test_an_average_over_several_houses(office: Office, elm: Supplied, tmp_path:
     published(office)
     lines = bytes(office.sql("SELECT file FROM audits WHERE house = 'elm-1'")[0][0]).decode().splitlines()
     assert sorted(line for line in lines if line.startswith("average,")) == [
-        "average,allocator,HCA,1,2.822632", "average,heat,kWh,1,12.629074"]  # (3 * 93 * 1.7 + 62) / 190, (6 * 31 * 11.234 + 310) / 190
+        # (3 * 93 * 1.7 + 62) / 190, (6 * 31 * 11.234 + 310) / 190
+        "average,allocator,HCA,1,2.822632", "average,heat,kWh,1,12.629074"]
     assert office.sql("SELECT mark, count(*) FROM published WHERE kind = 'average' GROUP BY mark") == [("declared", 2)]
     assert office.run("sheets", "2025-01", "--out", str(tmp_path), "--pdf", "none").status == 0
-    assert "It covers several houses. Your property manager states it;" in sheet_of(office, tmp_path, tenancy).read_text(encoding="utf-8")
+    assert "It covers several houses. Your property manager states it;" in sheet_of(office, tmp_path,
+                                                                                    tenancy).read_text(encoding="utf-8")
 
 
 def test_nothing_goes_out_without_an_audit(office: Office, elm: Supplied) -> None:
     tenancy = elm.tenancy("A1", "2023-01-01", None)
-    computed(elm)
-    for query in ("SELECT release_month('elm-1', '2025-01-01')", "SELECT release_bill('elm-1', '[2025-01-01,2025-02-01)')",
-                  f"INSERT INTO sheets (tenancy, month, form, path, sha256) VALUES ({tenancy}, '2025-01-01', 'html', 'x', 'x')"):
+    elm.months()
+    for query in ("SELECT release_month('elm-1', '2025-01-01')", "SELECT release_bill('elm-1',"
+                  " '[2025-01-01,2025-02-01)')",
+                  f"INSERT INTO sheets (tenancy, month, form, path, sha256) VALUES ({tenancy}, '2025-01-01', 'html',"
+                  " 'x', 'x')"):
         assert '"has_an_audit"' in refused(office, query), query
     assert office.run("bill", "elm-1", "2025-01").status == 5
     published(office)
-    for query in ("UPDATE audits SET says = 'numbers 1, differ 0, refused 0,'", "DELETE FROM audits", "UPDATE audits SET file = 'x'"):
+    for query in ("UPDATE audits SET says = 'numbers 1, differ 0, refused 0,'", "DELETE FROM audits", "UPDATE audits"
+                  " SET file = 'x'"):
         assert "is out" in refused(office, query), query
 
 
 def test_a_draft_says_so(office: Office, elm: Supplied, tmp_path: pathlib.Path) -> None:
     """What isn't audited has a word at each number, in a folder of its own, and is noted nowhere."""
     elm.tenancy("A1", "2023-01-01", None, language="en")
-    computed(elm)
+    elm.months()
     assert office.run("sheets", "2025-01", "--out", str(tmp_path), "--pdf", "none", "--draft").status == 0
     (page,) = tmp_path.glob("drafts/sheets/*/2025-01.html")
     text = page.read_text(encoding="utf-8")
@@ -285,23 +301,29 @@ def exchanged(office: Office, elm: Supplied, number: int, moment: datetime.datet
 
 
 def furnish(office: Office, elm: Supplied) -> None:
-    """A house with everything that decides a number: an exchange, a turn, a restart, a move, what people read, an estimate, gaps,
-    a fall, an error, factors, weights, joules, a place without a value."""
-    for flat, since, until in (("A1", "2023-01-01", None), ("A2", "2023-01-01", "2025-01-11"), ("A2", "2025-01-11", None), ("A3", "2023-01-01", None)):
+    """A house with everything that decides a number: an exchange, a turn, a restart, a move, what people read, an
+    estimate, gaps, a fall, an error, factors, weights, joules, a place without a value."""
+    for flat, since, until in (("A1", "2023-01-01", None), ("A2", "2023-01-01", "2025-01-11"),
+                               ("A2", "2025-01-11", None), ("A3", "2023-01-01", None)):
         elm.tenancy(flat, since, until)
     office.sql("UPDATE prices SET cents = 991.37")
     new = exchanged(office, elm, 1, at("2025-01-15T11:00"), 5_580_000)
     elm.days(new, "2025-01-15", 25, 40, 9_876)
     turning = elm.meter(50, HEAT, "A4", area=77, since=SINCE)
-    elm.values(turning, {"2024-12-30": 9_999_000, "2024-12-31": 9_999_900, "2025-01-20": 800, "2025-01-31": 1700, "2025-02-01": 1800})
+    elm.values(turning, {"2024-12-30": 9_999_000, "2024-12-31": 9_999_900, "2025-01-20": 800, "2025-01-31": 1700,
+                         "2025-02-01": 1800})
     office.sql("UPDATE fittings SET size = 36000000000000 WHERE id = %s", turning)
     allocator = elm.meter(51, ALLOCATOR, "A1", since=SINCE)
-    elm.values(allocator, {"2024-12-01": 850, "2024-12-30": 900, "2024-12-31": 903, "2025-01-02": 4, "2025-01-31": 85, "2025-02-01": 86}, "HCA")
-    office.sql("INSERT INTO restarts (fitting, at, last, first, unit, why) VALUES (%s, %s, 903, 0, 'HCA', 'due date')", allocator, at("2025-01-01T00:00"))
+    elm.values(allocator, {"2024-12-01": 850, "2024-12-30": 900, "2024-12-31": 903, "2025-01-02": 4, "2025-01-31": 85,
+                           "2025-02-01": 86}, "HCA")
+    office.sql("INSERT INTO restarts (fitting, at, last, first, unit, why) VALUES (%s, %s, 903, 0, 'HCA', 'due date')",
+               allocator, at("2025-01-01T00:00"))
     office.sql("UPDATE places SET weight = 0.55 WHERE id = (SELECT place FROM fittings WHERE id = %s)", allocator)
-    office.sql("INSERT INTO factors (house, use, months, kwh_per_unit) VALUES ('elm-1', 'allocator', '[2024-12-01,)', 1.234567)")
+    office.sql("INSERT INTO factors (house, use, months, kwh_per_unit) VALUES ('elm-1', 'allocator', '[2024-12-01,)',"
+               " 1.234567)")
     for number, joules in ((52, 48_000), (60, 48_000), (61, 84_000)):  # 0.05 kWh together
-        elm.values(elm.meter(number, HEAT, "A5", area=33, since=SINCE), {"2024-12-31": 0, "2025-01-31": joules, "2025-02-01": joules}, "J")
+        elm.values(elm.meter(number, HEAT, "A5", area=33, since=SINCE), {"2024-12-31": 0, "2025-01-31": joules,
+                                                                         "2025-02-01": joules}, "J")
     falling = elm.meter(53, COLD, "A1", since=SINCE)
     elm.values(falling, {"2024-12-31": 90, "2025-01-15": 9, "2025-01-31": 99, "2025-02-01": 100}, "m3")
     for flat, number, read in (("A2", 54, "2025-01-31"), ("A3", 55, "2025-02-03")):
@@ -317,7 +339,8 @@ def furnish(office: Office, elm: Supplied) -> None:
     office.sql("UPDATE fittings SET first_value = NULL WHERE id = %s", unclear)
     elm.days(unclear, "2025-01-20", 20, 10, 30_000)
     reads = elm.meter(58, COLD, "A4", area=77, since=SINCE)
-    for day, litres in (("2024-12-30", 1.5), ("2024-12-31", 2.5), ("2025-01-30", 7.125), ("2025-01-31", 7.25), ("2025-02-01", 8)):
+    for day, litres in (("2024-12-30", 1.5), ("2024-12-31", 2.5), ("2025-01-30", 7.125), ("2025-01-31", 7.25),
+                        ("2025-02-01", 8)):
         elm.reads(reads, at(f"{day}T20:00"), litres)
     elm.reads(reads, at("2025-01-31T22:00"), 99, status=8)  # an error: it doesn't count
 
@@ -326,7 +349,7 @@ def test_the_audit_accepts(office: Office, elm: Supplied) -> None:
     """Nothing but the audit looks at the numbers here."""
     furnish(office, elm)
     assert office.run("close").status == 0
-    computed(elm)
+    elm.months()
     for month in ("2024-01", "2024-12"):
         published(office, month)
     assert office.run("estimate", "2025-01").status == 0
@@ -334,25 +357,28 @@ def test_the_audit_accepts(office: Office, elm: Supplied) -> None:
     published(office, "2025-01", "--bill")
     published(office, "2024-12-01..2025-01-31", "--bill")
     marks = {row[0] for row in office.sql("SELECT DISTINCT mark FROM published")}
-    wanted = {"measured", "hand", "estimated", "disturbed", "missing", "unclear", "average", "change", "cost", "carbon", "weather"}
+    wanted = {"measured", "hand", "estimated", "disturbed", "missing", "unclear", "average", "change", "cost", "carbon",
+              "weather"}
     assert not wanted - marks, wanted - marks
     lines = b"".join(bytes(row[0]) for row in office.sql("SELECT file FROM audits")).decode()
-    for kind in ("read", "stored", "hand", "estimated", "first", "last", "struck", "ended", "zero", "value", "of_flat", "of_house", "mean"):
+    for kind in ("read", "stored", "hand", "estimated", "first", "last", "struck", "ended", "zero", "value", "of_flat",
+                 "of_house", "mean"):
         assert f"\n{kind}," in lines or kind == "struck", kind
 
 
 # What a publisher might write: the present audit once more, and its numbers, one of them another
 AGAIN = """
 WITH a AS (INSERT INTO audits (house, month, days, version, file, sha256, program, program_sha256, says)
-           SELECT house, month, days, version, file, sha256, program, program_sha256, says FROM audits WHERE id = %s RETURNING id)
+           SELECT house, month, days, version, file, sha256, program, program_sha256, says FROM audits WHERE id = %s
+           RETURNING id)
 INSERT INTO published (audit, house, month, days, version, tenancy, kind, flat, use, place, period, unit, text, mark)
 SELECT a.id, p.house, p.month, p.days, p.version, p.tenancy, p.kind, p.flat, p.use, p.place, p.period, p.unit,
        CASE WHEN p.id = %s THEN %s ELSE p.text END, p.mark FROM published p, a WHERE p.audit = %s"""
 
 
 def test_a_number_that_its_audit_file_does_not_have(office: Office, elm: Supplied, tmp_path: pathlib.Path) -> None:
-    """It is printed nowhere: neither a user's, nor a place's, nor a reading, also another meter's, nor a bar of a chart,
-    nor one in a bill."""
+    """It is printed nowhere: neither a user's, nor a place's, nor a reading, also another meter's, nor a bar of a
+    chart, nor one in a bill."""
     words = ("sheets", "2025-01", "--out", str(tmp_path), "--pdf", "none")
     elm.tenancy("A1", "2023-01-01", None)
     for month in ("2024-12", "2025-01"):
@@ -392,13 +418,16 @@ def test_an_audit_is_its_file(office: Office, elm: Supplied) -> None:
     elm.month("2025-01")
     published(office, "2025-01")
     for columns in ("convert_to('other', 'UTF8'), sha256", "file, repeat('0', 64)", "NULL, sha256"):
-        query = f"INSERT INTO audits (house, month, version, file, sha256, program, program_sha256, says) SELECT house, month, version, {columns}, program, program_sha256, says FROM audits"
+        query = ("INSERT INTO audits (house, month, version, file, sha256, program, program_sha256, says)"
+                 f" SELECT house, month, version, {columns}, program, program_sha256, says FROM audits")
         assert re.search("is_its_file|without its file", refused(office, query, role="publisher")), columns
 
 
 @pytest.mark.parametrize("counts, german, english", [
-    ((4, 0, 0), "Telegrammen der Zähler (4).", "telegrams of the meters (4)."), ((0, 4, 0), "von Hand eingetragenen Werten (4).", "values put by hand (4)."),
-    ((3, 1, 0), "Telegrammen der Zähler (3) und von Hand eingetragenen Werten (1).", "telegrams of the meters (3) and values put by hand (1)."),
+    ((4, 0, 0), "Telegrammen der Zähler (4).", "telegrams of the meters (4)."),
+    ((0, 4, 0), "von Hand eingetragenen Werten (4).", "values put by hand (4)."),
+    ((3, 1, 0), "Telegrammen der Zähler (3) und von Hand eingetragenen Werten (1).", "telegrams of the meters (3) and"
+     " values put by hand (1)."),
     ((3, 1, 2), "Telegrammen der Zähler (3), von Hand eingetragenen Werten (1) und Schätzungen (2).",
      "telegrams of the meters (3), values put by hand (1) and estimates (2).")])
 def test_a_sheet_says_what_its_audit_counted(counts: Tuple[int, int, int], german: str, english: str) -> None:

@@ -116,7 +116,8 @@ def test_each_login_is_refused(server: Server, packaged: str, who: Tuple[str, st
 
 
 def test_each_login_does_its_work(server: Server, office: Office, tmp_path: pathlib.Path) -> None:
-    """From readings to a sheet that is sent: close, month, estimate and alarms; publish, sheets, bill, correct, work."""
+    """From readings to a sheet that is sent: close, month, estimate and alarms; publish, sheets, bill, correct,
+    work."""
     as_postgres(server, "-f", LOGINS)
     elm = Supplied(office)
     meter, other = elm.meter(1, HEAT, "A1"), elm.meter(2, HEAT, "A2")
@@ -129,9 +130,11 @@ def test_each_login_does_its_work(server: Server, office: Office, tmp_path: path
     out = ("--out", str(tmp_path / "out"), "--link", "https://office.example/sheets", "--sendmail", "/bin/true",
            "--pdf", "none")
     steps = (("collect", ["order", "house-1", "FIT 11111111.PAD.01.07 1 1 A1"]), ("collect", ["collect", "house-1"]),
-             ("close", ["close"]), ("close", ["close", "--all", "--since", "2025-01-01"]), ("close", ["close", "--month", "2025-01"]),
+             ("close", ["close"]), ("close", ["close", "--all", "--since", "2025-01-01"]),
+             ("close", ["close", "--month", "2025-01"]),
              ("close", ["estimate", "2025-01"]), ("close", ["alarms"]), ("close", ["watch"]),
-             ("close", ["desk", "--static", str(tmp_path / "today.html")]), ("publish", ["publish", "elm-1", "2025-01"]),
+             ("close", ["desk", "--static", str(tmp_path / "today.html")]),
+             ("publish", ["publish", "elm-1", "2025-01"]),
              ("publish", ["publish", "elm-1", "2025-01", "--bill"]),
              ("publish", ["sheets", "2025-01", *out[:2], "--pdf", "none"]),
              ("publish", ["bill", "elm-1", "2025-01", "--release"]),

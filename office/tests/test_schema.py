@@ -47,19 +47,6 @@ def test_what_a_clerk_may_do(office: Office, box: Box) -> None:
         ("OUT 11111111.PAD.01.07", "queued", "office")]  # made_by is who logged in
 
 
-def test_what_a_collector_may_do(office: Office, box: Box) -> None:
-    """All that office/collect and office/order need."""
-    box.hears(3)
-    office.sql("ALTER ROLE office SET role = 'collector'")
-    try:
-        assert office.order("house-1", "OUT 11111111.PAD.01.07").status == 0
-        ended = office.collect()
-        assert ended.status == 0, ended.printed
-    finally:
-        office.sql("ALTER ROLE office RESET role")
-    assert box.confirmed() == 3
-
-
 def test_a_reading_is_stored_once_in_all_months(office: Office, box: Box) -> None:
     box.hears(2)
     assert office.collect().status == 0

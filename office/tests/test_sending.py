@@ -1,4 +1,5 @@
-"""office/work and office/send: a month goes out by mail and as a print run, what fails is told, and a corrected sheet says so."""
+"""office/work and office/send: a month goes out by mail and as a print run, what fails is told, and a corrected sheet
+says so."""
 
 import pathlib
 import re
@@ -24,15 +25,18 @@ def elm(office: Office) -> Supplied:
 
 
 def sent(office: Office) -> str:
-    rows = office.sql("SELECT flat || ' ' || version || ' ' || CASE WHEN sent_at IS NOT NULL THEN 'sent ' || split_part(sent_to, '/', 1)"
-                      " WHEN failed_at IS NOT NULL THEN failed_why ELSE 'waits' END FROM delivery ORDER BY flat, version")
+    rows = office.sql("SELECT flat || ' ' || version || ' ' || CASE WHEN sent_at IS NOT NULL THEN 'sent ' ||"
+                      " split_part(sent_to, '/', 1)"
+                      " WHEN failed_at IS NOT NULL THEN failed_why ELSE 'waits' END FROM delivery ORDER BY flat,"
+                      " version")
     return "; ".join(row[0] for row in rows)
 
 
 def sendmail(folder: pathlib.Path) -> str:
     """A program that keeps each mail, and refuses those to `refused`."""
     program = folder / "sendmail"
-    program.write_text(f"#!/bin/sh\ncat > {folder}/mail.$$\nif grep -q 'To: refused@' {folder}/mail.$$; then echo 'no such user' >&2; exit 67; fi\n", encoding="ascii")
+    program.write_text(f"#!/bin/sh\ncat > {folder}/mail.$$\nif grep -q 'To: refused@' {folder}/mail.$$; then echo 'no"
+                       " such user' >&2; exit 67; fi\n", encoding="ascii")
     program.chmod(0o755)
     return str(program)
 
@@ -45,14 +49,16 @@ def worked(office: Office, out: pathlib.Path, mail: str, status: int = 0) -> str
 
 def test_a_month_goes_out(office: Office, elm: Supplied, tmp_path: pathlib.Path) -> None:
     """By one button; once; and what failed is an item until it is sent."""
-    for number, person, wants, mail in ((1, "A. Weber", "link", "weber@example.org"), (2, HOSTILE, "paper", None), (3, "C. Roth", "link", None)):
+    for number, person, wants, mail in ((1, "A. Weber", "link", "weber@example.org"), (2, HOSTILE, "paper", None),
+                                        (3, "C. Roth", "link", None)):
         tenancy = elm.tenancy(f"A{number}", "2024-01-01", None, person)
         office.sql("UPDATE tenancies SET wants = %s, mail = %s WHERE id = %s", wants, mail, tenancy)
     elm.month("2025-01")
     program, out = sendmail(tmp_path), tmp_path / "out"
     assert office.run("act", "release", "2025-01-01", "--why", "all is there").status == 0
     assert office.run("act", "release", "2025-01-01", "--why", "again").status == 0  # one job
-    assert worked(office, out, program, 1).splitlines()[-1] == "send 2025-01: 1 2025-01: 1 by mail, 1 to print, 1 failed"
+    assert worked(office, out, program,
+                  1).splitlines()[-1] == "send 2025-01: 1 2025-01: 1 by mail, 1 to print, 1 failed"
     assert sent(office) == "A1 1 sent weber@example.org; A2 1 sent print; A3 1 no mail address"
     mail = next(tmp_path.glob("mail.*")).read_text()
     token = office.sql("SELECT token FROM tenancies WHERE flat = 'A1'")[0][0]
@@ -64,12 +70,14 @@ def test_a_month_goes_out(office: Office, elm: Supplied, tmp_path: pathlib.Path)
     office.run("alarms", "--at", "2025-02-27T12:00+00:00")
     assert office.sql("SELECT facts - 'month' FROM morning WHERE kind = 'not sent'") == [
         ({"count": 1, "failed": "no mail address", "flat": "A3"},)]
-    for mail, told in (("refused@example.org", "sendmail: no such user"), ("roth@example.org", "sent roth@example.org")):
+    for mail, told in (("refused@example.org", "sendmail: no such user"),
+                       ("roth@example.org", "sent roth@example.org")):
         assert office.run("act", "address", "elm-1", "A3", "link", mail, "--why", "asked").status == 0
         assert office.run("act", "send", "2025-01-01", "--why", "again").status == 0
         worked(office, out, program, 1 if "refused" in mail else 0)
         assert sent(office).split("; ")[2] == f"A3 1 {told}"
-    assert len(list(tmp_path.glob("mail.*"))) == 3 and len(list((out / "print").glob("*.pdf"))) == 1  # nothing went twice
+    # nothing went twice
+    assert len(list(tmp_path.glob("mail.*"))) == 3 and len(list((out / "print").glob("*.pdf"))) == 1
     office.run("alarms", "--at", "2025-02-27T12:00+00:00")
     assert office.sql("SELECT count(*) FROM morning WHERE kind = 'not sent' AND ended_at IS NULL") == [(0,)]
     assert office.run("act", "returned", "elm-1", "A2", "2025-01-01", "--why", "moved, unknown").status == 0
@@ -85,19 +93,24 @@ def test_a_corrected_sheet_says_what_changed_and_why(office: Office, elm: Suppli
     program, out = sendmail(tmp_path), tmp_path / "out"
     office.run("act", "release", "2025-01-01", "--why", "all is there")
     worked(office, out, program)
-    office.sql("SELECT put_value(id, '2025-01-31', 1375000, 'Wh', 'read at the meter') FROM fittings WHERE identity LIKE '00000001%%'")
+    office.sql("SELECT put_value(id, '2025-01-31', 1375000, 'Wh', 'read at the meter') FROM fittings WHERE identity"
+               " LIKE '00000001%%'")
     assert office.run("close").status == 0
     assert office.run("act", "correct_month", "elm-1", "2025-01-01", "--why", HOSTILE).status == 0
     worked(office, out, program)
     text = sheet_of(office, out, tenancy).read_text(encoding="utf-8")
     page = checked(text)
     banner = re.search(r'<p class="banner">(.*?)</p>', text)
-    assert banner and "(version 2)" in banner[1] and "Heating: 315.0 kWh, before 310.0 kWh." in banner[1] and "&lt;script&gt;" in banner[1]
-    assert "Corrected consumption information January 2025" in text and page.cells["heat", "2025-01-01"].split()[0] == "315.0"
+    assert banner and "(version 2)" in banner[1] and "Heating: 315.0 kWh, before 310.0 kWh." in banner[
+        1] and "&lt;script&gt;" in banner[1]
+    assert "Corrected consumption information January 2025" in text and page.cells["heat", "2025-01-01"].split()[
+        0] == "315.0"
     old = sheet_of(office, out, tenancy, "2025-01.1").read_text(encoding="utf-8")
-    assert '<p class="banner">Replaced by version 2.</p>' in old and checked(old).cells["heat", "2025-01-01"].split() == ["310.0"]
+    assert '<p class="banner">Replaced by version 2.</p>' in old and checked(old).cells[
+        "heat", "2025-01-01"].split() == ["310.0"]
     assert sent(office) == "A1 2 sent weber@example.org"
-    assert "Corrected consumption information January 2025" in max(tmp_path.glob("mail.*"), key=lambda it: it.stat().st_mtime).read_text()
+    assert "Corrected consumption information January 2025" in max(tmp_path.glob("mail.*"),
+                                                                   key=lambda it: it.stat().st_mtime).read_text()
     assert office.sql("SELECT version, why = %s FROM versions ORDER BY 1", HOSTILE) == [(1, False), (2, True)]
 
 
@@ -120,8 +133,10 @@ def test_a_house_that_is_not_ready_waits(office: Office, elm: Supplied, tmp_path
 def test_one_bad_address_stops_no_other(office: Office, elm: Supplied, tmp_path: pathlib.Path) -> None:
     """It is refused at input; one that is there all the same is an item, and the others get their mails."""
     for number, mail in ((1, "weber@example.org"), (2, "roth@example.org")):
-        office.sql("UPDATE tenancies SET wants = 'link', mail = %s WHERE id = %s", mail, elm.tenancy(f"A{number}", "2024-01-01", None))
-    for mail in ("_@[a", "x,all@b", "x@b,y@c", "a b@c", "x@", "@b", "x@b.", "x@-b", "x\n@b", ".x@b", "<x@b>", "x;y@b", "x@b@c", "a" * 200 + "@b"):
+        office.sql("UPDATE tenancies SET wants = 'link', mail = %s WHERE id = %s", mail,
+                   elm.tenancy(f"A{number}", "2024-01-01", None))
+    for mail in ("_@[a", "x,all@b", "x@b,y@c", "a b@c", "x@", "@b", "x@b.", "x@-b", "x\n@b", ".x@b", "<x@b>", "x;y@b",
+                 "x@b@c", "a" * 200 + "@b"):
         assert "is_an_address" in refused(office, "UPDATE tenancies SET mail = %s WHERE flat = 'A1'", mail), mail
     office.sql("UPDATE tenancies SET mail = %s WHERE flat = 'A2'", "o'neill+meters@mail.example-1.org")
     office.sql("ALTER TABLE tenancies DROP CONSTRAINT is_an_address")

@@ -19,7 +19,8 @@ HOSTILE = ("O'Brien \"<script>alert(1)</script>\" {{ 1000003*7 }} \u202eevil\u20
 
 
 class Page(html.parser.HTMLParser):
-    """The cells of a page's tables by use and month, its links and headings; checks that labels point at something."""
+    """The cells of a page's tables by use and month, its links and headings, and what a reader sees; checks that labels
+    point at something."""
 
     def __init__(self, text: str) -> None:
         super().__init__(convert_charrefs=True)
@@ -28,6 +29,7 @@ class Page(html.parser.HTMLParser):
         self.ids: List[str] = []
         self.wanted: List[str] = []
         self.tags: List[str] = []
+        self.seen: List[str] = []
         self.use, self.cell = "", None  # type: Tuple[str, Optional[Tuple[str, str]]]
         self.feed(text)
         self.close()
@@ -49,6 +51,7 @@ class Page(html.parser.HTMLParser):
             self.cell = None
 
     def handle_data(self, data: str) -> None:
+        self.seen += [data.strip()] if self.tags[-1:] != ["style"] else []
         if self.cell is not None:
             self.cells[self.cell] = self.cells.get(self.cell, "") + data
 
@@ -79,7 +82,8 @@ def test_each_text_has_contrast() -> None:
     """At least 4.5 to 1 on each background of the style."""
     for file in ("page.css", "dark.css"):
         style = (OFFICE / "templates" / file).read_text(encoding="utf-8")
-        inks, papers = (set(re.findall(rf"(?<![a-z-]){name}: (#[0-9a-f]+);", style)) for name in ("color", "background"))
+        inks, papers = (set(re.findall(rf"(?<![a-z-]){name}: (#[0-9a-f]+);", style))
+                        for name in ("color", "background"))
         assert len(inks) > 3 and len(papers) > 1
         for ink in inks:
             for paper in papers:
@@ -93,19 +97,21 @@ def elm(office: Office) -> Supplied:
     made = Supplied(office)
     for number in range(1, 5):
         flat = f"A{number}"
-        made.days(made.meter(number, HEAT, flat, area=40 + 10 * number, since=at("2023-12-01T00:00")), "2023-12-29", 403, 1_000_000, 10_000 * number)
+        made.days(made.meter(number, HEAT, flat, area=40 + 10 * number, since=at("2023-12-01T00:00")), "2023-12-29",
+                  403, 1_000_000, 10_000 * number)
         water = made.meter(10 + number, WATER, flat, area=40 + 10 * number)
-        made.values(water, {"2023-12-31": 1, "2024-01-31": 3, "2024-11-30": 20, "2024-12-31": "22.5", "2025-01-31": 26, "2025-02-01": 26},
+        made.values(water, {"2023-12-31": 1, "2024-01-31": 3, "2024-11-30": 20, "2024-12-31": "22.5", "2025-01-31": 26,
+                            "2025-02-01": 26},
                     "m3")
         made.days(made.meter(20 + number, COLD, flat, area=40 + 10 * number), "2024-12-30", 40, 7, 1, "m3")
     office.sql("INSERT INTO factors (house, use, months, kwh_per_unit)"
                " VALUES ('elm-1', 'warm water', '[2023-01-01,)', 125)")
-    for month in ("2024-01", "2024-12", "2025-01"):
-        made.month(month)
+    made.months()
     return made
 
 
-def sheet_of(office: Office, out: pathlib.Path, tenancy: int, month: str = "2025-01", form: str = "html") -> pathlib.Path:
+def sheet_of(office: Office, out: pathlib.Path, tenancy: int, month: str = "2025-01",
+             form: str = "html") -> pathlib.Path:
     token = office.sql("SELECT token FROM tenancies WHERE id = %s", tenancy)[0][0]
     path = f"sheets/{token}/{month}.{form}"
     return out / "ready" / path if (out / "ready" / path).exists() else out / path
@@ -130,8 +136,7 @@ def written(office: Office, out: pathlib.Path, *words: str) -> None:
 def test_a_sheet(office: Office, elm: Supplied, tmp_path: pathlib.Path) -> None:
     """The month, the one before and that of the year before, and the average, as a German reads them."""
     tenancy = elm.tenancy("A1", "2023-01-01", None)
-    for month in ("2024-01", "2024-12", "2025-01"):
-        elm.month(month)
+    elm.months()
     written(office, tmp_path, "--pdf", "none")
     path = sheet_of(office, tmp_path, tenancy)
     page = checked(path.read_text(encoding="utf-8"))
@@ -143,7 +148,8 @@ def test_a_sheet(office: Office, elm: Supplied, tmp_path: pathlib.Path) -> None:
     assert page.cells["cold water", "2025-01-01"].split() == ["31,00"]
     assert "nicht gelesen" in page.cells["cold water", "2024-01-01"]
     noted = office.sql("SELECT form, path, sha256, made_by FROM sheets")
-    assert noted == [("html", str(path.relative_to(tmp_path / "ready")), hashlib.sha256(path.read_bytes()).hexdigest(), "office")]
+    assert noted == [("html", str(path.relative_to(tmp_path / "ready")), hashlib.sha256(path.read_bytes()).hexdigest(),
+                      "office")]
     written(office, tmp_path, "--pdf", "none")
     assert office.sql("SELECT count(*) FROM sheets") == [(1,)]
 
@@ -158,7 +164,8 @@ def test_an_english_sheet_and_its_pdf(office: Office, elm: Supplied, tmp_path: p
     pdf = sheet_of(office, tmp_path, tenancy, form="pdf")
     text = subprocess.run(["pdftotext", "-layout", pdf, "-"], capture_output=True, text=True, check=True).stdout
     first, *others = text.split("\f")
-    assert all(it in first for it in ("1,240.0", "Consumption information January 2025", "Elm Office, 030 1234")) and len(others) <= 2
+    assert all(it in first for it in ("1,240.0", "Consumption information January 2025",
+                                      "Elm Office, 030 1234")) and len(others) <= 2
     assert "This sheet on the web" in " ".join(text.split())
     written(office, tmp_path, "--link", "https://example.org/sheets")
     assert office.sql("SELECT form FROM sheets ORDER BY form") == [("html",), ("pdf",)]  # the same bytes, noted once
@@ -167,11 +174,11 @@ def test_an_english_sheet_and_its_pdf(office: Office, elm: Supplied, tmp_path: p
 def test_users_of_a_part_of_the_month(office: Office, elm: Supplied, tmp_path: pathlib.Path) -> None:
     """Each has a sheet with the own days and nothing of the other's; the year before is of another user."""
     one, other = elm.tenancy("A2", "2023-01-01", "2025-01-11"), elm.tenancy("A2", "2025-01-11", None)
-    for month in ("2024-01", "2024-12", "2025-01"):
-        elm.month(month)
+    elm.months()
     written(office, tmp_path, "--pdf", "none")
     pages = [read_sheet(office, tmp_path, it) for it in (one, other)]
-    assert pages[0].cells["heat", "2025-01-01"].split()[0] == "200,0" and "01.01.2025" in pages[0].cells["heat", "2025-01-01"]
+    assert pages[0].cells["heat", "2025-01-01"].split()[0] == "200,0" and "01.01.2025" in pages[0].cells[
+        "heat", "2025-01-01"]
     assert pages[1].cells["heat", "2025-01-01"].split()[0] == "420,0"
     assert pages[0].cells["heat", "2024-12-01"].split() == ["620,0"]
     assert "eingezogen" in pages[1].cells["heat", "2024-12-01"] and "eingezogen" in pages[1].cells["heat", "2024-01-01"]
@@ -181,7 +188,8 @@ def test_what_is_no_number_and_what_is_estimated(office: Office, elm: Supplied, 
     tenancies = [elm.tenancy(f"A{number}", "2023-01-01", None) for number in (1, 2, 3)]
     office.sql("DELETE FROM day_values d USING fittings f, places p WHERE f.id = d.fitting AND p.id = f.place AND"
                " p.flat = 'A1' AND p.use = 'heat' AND day > '2025-01-20'")
-    meter = office.sql("SELECT f.id FROM fittings f JOIN places p ON p.id = f.place WHERE p.flat = 'A2' AND p.use = 'heat'")[0][0]
+    meter = office.sql("SELECT f.id FROM fittings f JOIN places p ON p.id = f.place WHERE p.flat = 'A2' AND p.use ="
+                       " 'heat'")[0][0]
     office.sql("DELETE FROM day_values WHERE day = '2025-01-20' AND fitting = %s", meter)
     elm.values(meter, {"2025-01-20": 5})
     elm.month("2025-01")
@@ -227,7 +235,8 @@ def test_links_lead_to_the_very_telegrams(office: Office, elm: Supplied, tmp_pat
     page = read_sheet(office, tmp_path, tenancy)
     links = [link for link in page.links if "decode.html" in link[0]]
     frame = "680F0F6808007278563412244001070100000000001616"
-    assert len(links) == 2 and all(label.startswith("Telegramm prüfen: Zähler 00000040.PAD.01.04") for _, label in links)
+    assert len(links) == 2 and all(label.startswith("Telegramm prüfen: Zähler 00000040.PAD.01.04") for _,
+                                   label in links)
     assert all(re.fullmatch(r"\.\./\.\./decode\.html#68[0-9A-F]+16", href) for href, _ in links), (links, frame)
 
 
@@ -241,17 +250,19 @@ def test_allocators_and_missing_factors(office: Office, tmp_path: pathlib.Path) 
     oak.month("2025-01")
     written(office, tmp_path, "--pdf", "none")
     assert read_sheet(office, tmp_path, tenancy).cells["allocator", "2025-01-01"].split() == ["542,5"]
-    office.sql("INSERT INTO factors (house, use, months, kwh_per_unit) VALUES ('oak-2', 'allocator', '[2025-01-01,)', 1.1)")
+    office.sql("INSERT INTO factors (house, use, months, kwh_per_unit) VALUES ('oak-2', 'allocator', '[2025-01-01,)',"
+               " 1.1)")
     written(office, tmp_path, "--pdf", "none")
     assert read_sheet(office, tmp_path, tenancy).cells["allocator", "2025-01-01"].split() == ["596,8"]
 
 
 def test_a_sheet_has_its_file(office: Office, elm: Supplied, tmp_path: pathlib.Path) -> None:
-    """It holds, has the sheet's numbers, is named there with its hash, and has nothing of other users but what decides an end."""
+    """It holds, has the sheet's numbers, is named there with its hash, and has nothing of other users but what decides
+    an end."""
     moved = at("2025-01-11T00:00")
     one, other = elm.tenancy("A2", "2023-01-01", "2025-01-11"), elm.tenancy("A2", "2025-01-11", None)
+    elm.months()
     for month in ("2024-01", "2024-12", "2025-01"):
-        elm.month(month)
         published(office, month)
     written(office, tmp_path, "--pdf", "none", "--auditor", "https://example.org/audit.html")
     whole = (tmp_path / "audits/elm-1/2025-01.audit").read_bytes().splitlines()
@@ -262,10 +273,12 @@ def test_a_sheet_has_its_file(office: Office, elm: Supplied, tmp_path: pathlib.P
         assert found.holds and "differ 0" in found.lines[-1], found
         hashed = hashlib.sha256(content).hexdigest()
         assert f'href="2025-01.audit" download>2025-01.audit</a> (SHA-256 <code>{hashed}</code>)' in text
-        assert f'href="https://example.org/audit.html#{hashed}"' in text and not office.sql("SELECT 1 FROM sheets WHERE form = 'audit'")
+        assert f'href="https://example.org/audit.html#{hashed}"' in text and not office.sql(
+            "SELECT 1 FROM sheets WHERE form = 'audit'")
         rows = [line.split(",") for line in content.decode().splitlines()]
         assert [row[:3] for row in rows if row[0] == "user"] == [["user", str(tenancy), "A2"]]
-        assert {row[2] for row in rows if row[0] == "place"} == {"A2"} and {row[4] for row in rows if row[0] == "part"} <= {str(tenancy), "-"}
+        assert {row[2] for row in rows if row[0] == "place"} == {"A2"} and {row[4] for row in rows
+                                                                            if row[0] == "part"} <= {str(tenancy), "-"}
         assert not {row[0] for row in rows} & {"of_flat", "of_house"} and sum(row[0] == "average" for row in rows) == 3
         kept = [line for line in content.splitlines() if not line.startswith((b"place", b"part", b"average"))]
         assert set(kept) <= set(whole)
@@ -275,7 +288,8 @@ def test_a_sheet_has_its_file(office: Office, elm: Supplied, tmp_path: pathlib.P
         after = next(at for at, row in enumerate(rows) if at > first and row[0] in ("place", "totals"))
         days = [datetime.date.fromisoformat(row[2]) for row in rows[first:after] if row[0] == "stored"]
         own = [day for day in days if (day >= moved.date()) == (tenancy == other)]
-        assert len(own) >= 11 and len(days) - len(own) == (3 if tenancy == other else 1), days  # (the value at the end is both's)
+        # (the value at the end is both's)
+        assert len(own) >= 11 and len(days) - len(own) == (3 if tenancy == other else 1), days
 
 
 def test_a_folder_that_cannot_be_written(office: Office, elm: Supplied, tmp_path: pathlib.Path) -> None:
@@ -286,8 +300,8 @@ def test_a_folder_that_cannot_be_written(office: Office, elm: Supplied, tmp_path
 
 
 def test_nothing_is_served_before_it_is_out(office: Office, elm: Supplied, tmp_path: pathlib.Path) -> None:
-    """A page lies in ready/ until its release is committed, a corrected one beside the one that is out; a release that was cut off after
-    its commit is ended by what runs next."""
+    """A page lies in ready/ until its release is committed, a corrected one beside the one that is out; a release that
+    was cut off after its commit is ended by what runs next."""
     tenancy = elm.tenancy("A1", "2023-01-01", None)
     elm.month("2025-01")
     written(office, tmp_path, "--pdf", "none")
@@ -298,10 +312,99 @@ def test_nothing_is_served_before_it_is_out(office: Office, elm: Supplied, tmp_p
     first = out.read_bytes()
     for file in (out, out.with_suffix(".audit")):  # as a kill after the commit leaves it
         file.replace(tmp_path / "ready" / file.relative_to(tmp_path))
-    assert office.run("send", "2025-01", "--out", str(tmp_path), "--link", "https://office.example", "--sendmail", "/bin/true").status in (0, 1)
+    assert office.run("send", "2025-01", "--out", str(tmp_path), "--link", "https://office.example", "--sendmail",
+                      "/bin/true").status in (0, 1)
     assert out.read_bytes() == first and out.with_suffix(".audit").exists()
     assert office.run("correct", "elm-1", "2025-01", "--why", "a second look").status == 0
     written(office, tmp_path, "--pdf", "none")
-    assert out.read_bytes() == first and "(Fassung 2)" in sheet_of(office, tmp_path, tenancy).read_text(encoding="utf-8")
+    assert out.read_bytes() == first and "(Fassung 2)" in sheet_of(office, tmp_path,
+                                                                   tenancy).read_text(encoding="utf-8")
     written(office, tmp_path, "--pdf", "none", "--release")
-    assert out.read_bytes() != first and out.with_name("2025-01.1.html").exists() and not list(tmp_path.glob("ready/sheets/*/*"))
+    assert out.read_bytes() != first and out.with_name("2025-01.1.html").exists() and not list(
+        tmp_path.glob("ready/sheets/*/*"))
+
+
+# ---- what a sheet says beside its amounts: per cent, emissions, costs, the weather, how an estimate was made
+
+@pytest.fixture
+def januaries(office: Office) -> Supplied:
+    """Three flats with two Januaries: 10 kWh a day in 2025 times the number of the flat, a fifth more the year
+    before."""
+    made = Supplied(office)
+    for number in (1, 2, 3):
+        heat = made.meter(number, HEAT, f"A{number}", since=at("2023-12-01T00:00"))
+        made.days(heat, "2023-12-29", 40, 1_000_000, 12_000 * number)
+        made.days(heat, "2024-11-25", 75, 5_000_000, 10_000 * number)
+    water = made.meter(11, WATER, "A1")
+    made.values(water, {"2024-12-31": "22.5", "2025-01-31": 26, "2025-02-01": 26}, "m3")
+    office.sql("INSERT INTO factors (house, use, months, kwh_per_unit, source) VALUES ('elm-1', 'warm water',"
+               " '[2023-01-01,)', 125, 'HeizkostenV 9')")
+    office.sql("UPDATE houses SET postcode = '10115', co2_g_per_kwh = 201.5, primary_factor = 0.7, fuel_mix ="
+               " '{\"Erdgas\": 0.85, \"Holz\": \"Rest\"}',"
+               " contact = 'Büro Ulme', advice = %s, complaints = 'Schlichtungsstelle'", HOSTILE)
+    return made
+
+
+def sentences(text: str) -> List[str]:
+    return [re.sub(r"\s+", " ", it).strip() for it in re.findall(r"<li>(.*?)</li>", text, re.S)]
+
+
+def sheet(office: Office, out: pathlib.Path, tenancy: int) -> str:
+    written(office, out, "--pdf", "none")
+    text = sheet_of(office, out, tenancy).read_text(encoding="utf-8")
+    checked(text)
+    return text
+
+
+def test_what_stands_beside_the_numbers(office: Office, januaries: Supplied, tmp_path: pathlib.Path) -> None:
+    """By the exact amounts: 310 kWh against 372 and 310, the average of three flats of one area; 437.5 kWh of warm
+    water."""
+    tenancy = januaries.tenancy("A1", "2023-01-01", None)
+    januaries.months()
+    text = sheet(office, tmp_path, tenancy)
+    said = sentences(text)
+    assert said[0] == "Heizung: 17 % weniger als Januar 2024, so viel wie Dezember 2024"
+    assert "Heizung: 62,5 kg CO2" in said and "Warmwasser: 88,2 kg CO2" in said
+    assert "85 %" in text and "Rest" in text and "201,5 g/kWh" in text and "1 m³ = 125 kWh (HeizkostenV 9)" in text
+    assert "Büro Ulme" in text and "Schlichtungsstelle" in text and "&lt;script&gt;" in text and "Kosten" not in text
+    assert "Vom Wetter" not in text
+    office.sql("INSERT INTO prices (house, use, months, unit, cents) VALUES ('elm-1', 'heat', '[2025-01-01,)', 'kWh',"
+               " 11.45),"
+               " ('elm-1', 'warm water', '[2025-01-01,)', 'm³', 900)")
+    office.sql("INSERT INTO degree_days VALUES ('10115', '2024-01-01', 500, 'DWD'), ('10115', '2025-01-01', 400,"
+               " 'DWD')")
+    assert not [it for it in sentences(sheet(office, tmp_path, tenancy)) if "€" in it]
+    office.sql("UPDATE houses SET shows_costs = true")
+    said = sentences(sheet(office, tmp_path, tenancy))
+    # the price of water is of another unit
+    assert "Heizung: 35,50 € (11,45 Cent je kWh)" in said and sum("€" in it for it in said) == 1
+    assert "Heizung: Januar 2024 hätte beim Wetter dieses Monats 297,6 kWh gebraucht" in said
+    assert office.run("sheets", "2025-01", "--out", str(tmp_path), "--pdf", "none", "--release").status == 0
+    assert office.sql("SELECT use, kind, text, mark FROM published WHERE mark IN ('cost', 'carbon', 'weather')"
+                      " AND audit = (SELECT audit FROM versions) ORDER BY use, kind") == [
+        ("heat", "co2", "62.5", "carbon"), ("heat", "cost", "35.50", "cost"), ("heat", "weather", "297.6", "weather"),
+        ("warm water", "co2", "88.2", "carbon")]
+
+
+def test_a_part_of_a_month_has_no_percentage(office: Office, januaries: Supplied, tmp_path: pathlib.Path) -> None:
+    """Who moved in on the 11th has 21 of 31 days, beside whole months; nothing is compared in per cent."""
+    tenancy = januaries.tenancy("A2", "2025-01-11", None)
+    before = januaries.tenancy("A2", "2023-01-01", "2025-01-11")
+    januaries.months()
+    text = sheet(office, tmp_path, tenancy)
+    assert "21 von 31 Tagen, 11.01.2025" in text and "%" not in " ".join(sentences(text))
+    text = sheet_of(office, tmp_path, before).read_text(encoding="utf-8")
+    assert "10 von 31 Tagen" in text and "%" not in " ".join(sentences(text))
+
+
+def test_how_an_estimate_was_made(office: Office, januaries: Supplied, tmp_path: pathlib.Path) -> None:
+    """By flats of the house; and where readings are too far apart, between which moments."""
+    estimated, spread = januaries.tenancy("A1", "2024-06-01", None), januaries.tenancy("A2", "2024-06-01", None)
+    for flat, days in (("A1", "day > '2025-01-20'"), ("A2", "day BETWEEN '2025-01-29' AND '2025-02-03'")):
+        office.sql("DELETE FROM day_values d USING fittings f, places p WHERE f.id = d.fitting AND p.id = f.place AND"
+                   f" p.use = 'heat' AND p.flat = %s AND {days}", flat)
+    januaries.month("2025-01")
+    assert office.run("estimate", "2025-01").status == 0
+    assert "Heizung: geschätzt nach: Wohnungen des Hauses" in sentences(sheet(office, tmp_path, estimated))
+    said = sentences(sheet_of(office, tmp_path, spread).read_text(encoding="utf-8"))
+    assert "Heizung: geschätzt: kein Messwert zwischen 28.01.2025, 24:00 und 04.02.2025, 24:00" in said

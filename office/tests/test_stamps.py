@@ -64,7 +64,8 @@ def heard(box: Box, *stamps: float) -> None:
 
 
 def test_a_collection_notes_a_wrong_clock(office: Office, box: Box) -> None:
-    """The readings count at a moment that may be, what the box said stays, and the alarm ends with the next collection."""
+    """The readings count at a moment that may be, what the box said stays, and the alarm ends with the next
+    collection."""
     now = time.time()
     heard(box, now - 90_000)
     assert office.collect().status == 0
@@ -72,7 +73,8 @@ def test_a_collection_notes_a_wrong_clock(office: Office, box: Box) -> None:
     office.sql("UPDATE readings SET stored_at = now() - interval '21 hours'")
     heard(box, now - 50_000, 946_684_800, now - 40_000)
     assert office.collect().status == 0
-    rows = office.sql("SELECT at = heard[1], abs(extract(epoch FROM stored_at - at)) < 1, extract(year FROM heard[1])::integer"
+    rows = office.sql("SELECT at = heard[1], abs(extract(epoch FROM stored_at - at)) < 1, extract(year FROM"
+                      " heard[1])::integer"
                       " FROM readings ORDER BY serial")
     assert [row[0] for row in rows] == [True, True, False, True]
     assert rows[2] == (False, True, 2000)
@@ -89,8 +91,8 @@ def test_a_collection_notes_a_wrong_clock(office: Office, box: Box) -> None:
 
 
 def test_pages_of_one_collection(office: Office, box: Box) -> None:
-    """150 readings, in the middle of which the clock falls back by two days: more than half are right. And 150, of which
-    the first ones were ahead, which is seen only with the second page."""
+    """150 readings, in the middle of which the clock falls back by two days: more than half are right. And 150, of
+    which the first ones were ahead, which is seen only with the second page."""
     now = time.time()
     office.sql("UPDATE boxes SET collected_at = now() - interval '40 days'")
     heard(box, *(now - 30 * 86_400 + 3600 * number for number in range(100)))
@@ -99,9 +101,11 @@ def test_pages_of_one_collection(office: Office, box: Box) -> None:
     assert office.sql("SELECT count(at), count(*) FROM readings") == [(103, 150)]
     office.sql("UPDATE boxes SET collected_at = now() - interval '40 days'")
     office.sql("UPDATE readings SET stored_at = now() - interval '50 days'")
-    heard(box, *(now - 86_400 + 60 * number for number in range(10)), *(now - 20 * 86_400 + 3600 * it for it in range(140)))
+    heard(box, *(now - 86_400 + 60 * number for number in range(10)), *(now - 20 * 86_400 + 3600 * it
+                                                                        for it in range(140)))
     assert office.collect().status == 0
-    assert office.sql("SELECT serial FROM readings WHERE at IS NULL AND serial > 150") == [(it,) for it in range(151, 161)]
+    assert office.sql("SELECT serial FROM readings WHERE at IS NULL AND serial > 150") == [
+        (it,) for it in range(151, 161)]
     assert office.sql("SELECT count(*) FROM (SELECT at < lag(at) OVER (ORDER BY serial) AS falls FROM readings"
                       " WHERE at IS NOT NULL) AS k WHERE falls") == [(0,)]
 
@@ -124,7 +128,8 @@ def test_one_bad_stamp_hides_no_good_reading(office: Office, elm: Supplied) -> N
 def test_the_next_best_value_counts(office: Office, elm: Supplied) -> None:
     """What is struck is passed over, and what has an error."""
     meter = elm.meter(1, HEAT, "A1")
-    for hours, value, status in ((6, 1000, 0), (12, 1005, 0), (15, 1006, 4), (18, 9010, 8), (20, 9020, 2), (21, 9030, 10)):
+    for hours, value, status in ((6, 1000, 0), (12, 1005, 0), (15, 1006, 4), (18, 9010, 8), (20, 9020, 2),
+                                 (21, 9030, 10)):
         elm.reads(meter, at(f"2025-01-31T{hours:02}:00"), value, status=status)
     assert day_of(office) == [(1006.0, "read")]
     office.sql("SELECT strike(id, 'read on another display') FROM day_values")

@@ -5,7 +5,7 @@ from typing import Dict, List, Optional
 
 from conftest import Box, Office
 from supplied import ALLOCATOR, COLD, HEAT, WATER, WH, Supplied, at
-from test_fittings import housed
+from test_boxes import housed
 from test_schema import refused
 from test_sheets import published, sheet_of
 
@@ -64,9 +64,11 @@ def test_a_house_that_cannot_be_audited_stops_no_other(office: Office, elm: Supp
     office.sql("INSERT INTO uses (use, quantity) VALUES ('Rain, water', 'volume')")
     office.sql("INSERT INTO device_types VALUES ('E7', 'Rain, water')")
     elm.days(elm.meter(1, "E7", "A1"), "2024-12-25", 45, 1, 1, "m3")
-    assert [row[2:] for row in (*elm.month("2025-01"), *oak.month("2025-01"))] == [(None, "unclear"), (310 * WH, "measured")]
+    assert [row[2:] for row in (*elm.month("2025-01"), *oak.month("2025-01"))] == [(None, "unclear"),
+                                                                                   (310 * WH, "measured")]
     ended = office.run("publish", "-", "2025-01")
-    assert ended.status == 5 and "elm-1: refused: LINE 3 FAULT 2 Row" in ended.printed and "1 published, 1 refused" in ended.printed
+    assert ended.status == 5 and "elm-1: refused: LINE 3 FAULT 2 Row" in ended.printed
+    assert "1 published, 1 refused" in ended.printed
 
 
 def test_cooling_and_gas(office: Office, elm: Supplied) -> None:
@@ -74,7 +76,8 @@ def test_cooling_and_gas(office: Office, elm: Supplied) -> None:
     elm.days(elm.meter(2, "03", "A1"), "2024-12-25", 45, 1, 1, "m3")
     office.sql("INSERT INTO factors (house, use, months, kwh_per_unit) VALUES ('elm-1', 'gas', '[2025-01-01,)', 10.5)")
     elm.month("2025-01")
-    assert office.sql("SELECT use, kwh::float FROM month_kwh ORDER BY position") == [("cooling", 0.31), ("gas", 31 * 10.5)]
+    assert office.sql("SELECT use, kwh::float FROM month_kwh ORDER BY position") == [("cooling", 0.31),
+                                                                                     ("gas", 31 * 10.5)]
 
 
 def test_a_device_type_that_nobody_knows(office: Office, box: Box) -> None:
@@ -83,12 +86,14 @@ def test_a_device_type_that_nobody_knows(office: Office, box: Box) -> None:
     for number, medium in ((3, "0E"), (4, "0F"), (5, "31")):
         assert office.order("house-1", f"FIT 0000000{number}.PAD.01.{medium} 1 {number} A1").status == 0
     lines = [f"no use elm 0000000{number}.PAD.01.{medium}" for number, medium in ((3, "0E"), (4, "0F"))]
-    assert told(office, "no use") == [f"NEW {line}: What does this meter count? (flat A1): Device type {line[-2:]} has no use. The meter is read and"
+    assert told(office, "no use") == [f"NEW {line}: What does this meter count? (flat A1): Device type {line[-2:]} has"
+                                      " no use. The meter is read and"
                                        " counts nowhere." for line in lines]
     for identity, use in (("00000003.PAD.01.0E", "heat"), ("00000004.PAD.01.0F", None)):
         office.sql("SELECT decide_use('elm', %s, %s)", identity, use, role="clerk")
     assert told(office, "no use") == [f"END {line}" for line in lines]
-    assert office.sql("SELECT p.use, p.flat, f.identity FROM fittings f JOIN places p ON p.id = f.place WHERE f.identity >= '0'"
+    assert office.sql("SELECT p.use, p.flat, f.identity FROM fittings f JOIN places p ON p.id = f.place WHERE"
+                      " f.identity >= '0'"
                       " AND f.identity < '1'") == [("heat", "A1", "00000003.PAD.01.0E")]
     office.sql("SELECT decide_use('elm', '00000003.PAD.01.0E', NULL)")
     assert office.sql("SELECT count(*) FROM fittings WHERE upper_inf(during) AND identity LIKE '00000003%%'") == [(0,)]
@@ -96,27 +101,32 @@ def test_a_device_type_that_nobody_knows(office: Office, box: Box) -> None:
 
 def second(office: Office, vib: str, value: int) -> None:
     """The last reading has another record."""
-    office.sql("INSERT INTO points (month, box, serial, part, place, storage, function, tariff, subunit, vib, shown, value, unit)"
-               " SELECT month, box, serial, 1, 9, 0, 0, 0, 0, %s, %s, %s, 'Wh' FROM readings ORDER BY serial DESC LIMIT 1",
+    office.sql("INSERT INTO points (month, box, serial, part, place, storage, function, tariff, subunit, vib, shown,"
+               " value, unit)"
+               " SELECT month, box, serial, 1, 9, 0, 0, 0, 0, %s, %s, %s, 'Wh' FROM readings ORDER BY serial DESC"
+               " LIMIT 1",
                vib, str(value), value)
 
 
 def test_heat_and_cooling(office: Office, elm: Supplied) -> None:
-    """With one register it is heat; with two there is no value until a person names the record of each of two places."""
+    """With one register it is heat; with two there is no value until a person names the record of each of two
+    places."""
     meter = elm.meter(1, "0D", "A1")
     elm.reads(meter, at("2025-01-30T06:00"), 1000, unit="Wh")
     elm.reads(meter, at("2025-01-31T06:00"), 1010, unit="Wh")
     second(office, "863C", 55)
     assert office.run("close").status == 0
     assert office.sql("SELECT value::float FROM day_values") == [(1000.0,)]
-    assert told(office, "no use") == ["NEW no use elm-1 00000001.PAD.01.0D: Which register counts? (flat A1): The meter sends two energies, heat and"
+    assert told(office, "no use") == ["NEW no use elm-1 00000001.PAD.01.0D: Which register counts? (flat A1): The"
+                                      " meter sends two energies, heat and"
                                        " cold."]
     office.sql("SELECT decide_use('elm-1', '00000001.PAD.01.0D', 'heat', '03')")
     office.sql("SELECT decide_use('elm-1', '00000001.PAD.01.0D', 'cooling', '863C')")
     office.sql("UPDATE fittings SET during = '[2024-01-01Z,)'")
     assert office.run("close").status == 0
     assert office.sql("SELECT p.use, d.value::float FROM day_values d JOIN fittings f ON f.id = d.fitting JOIN places p"
-                      " ON p.id = f.place WHERE d.day = '2025-01-31' ORDER BY 1") == [("cooling", 55.0), ("heat", 1010.0)]
+                      " ON p.id = f.place WHERE d.day = '2025-01-31' ORDER BY 1") == [("cooling", 55.0),
+                                                                                      ("heat", 1010.0)]
     assert told(office, "no use") == ["END no use elm-1 00000001.PAD.01.0D"]
     office.sql("DELETE FROM meters")
     assert office.sql("SELECT count(*) FROM fittings WHERE upper_inf(during)") == [(0,)]
@@ -127,7 +137,8 @@ def test_a_meter_without_a_record_of_its_use(office: Office, elm: Supplied) -> N
     elm.reads(meter, at("2025-01-31T06:00"), 3, unit="m3")
     elm.reads(other, at("2025-01-31T06:00"), 3)
     assert office.run("close").status == 0
-    assert told(office, "no use") == ["NEW no use elm-1 00000001.PAD.01.04: A meter doesn't send its consumption (flat A1): No record of Heating in its"
+    assert told(office, "no use") == ["NEW no use elm-1 00000001.PAD.01.04: A meter doesn't send its consumption (flat"
+                                      " A1): No record of Heating in its"
                                        " telegram."]
     elm.reads(meter, at("2025-02-01T06:00"), 3000)
     assert office.run("close").status == 0
@@ -140,7 +151,8 @@ def test_a_day_in_error_has_no_value(office: Office, elm: Supplied) -> None:
     assert " 0 values written" in office.run("close").printed
     assert office.sql("SELECT why FROM gaps") == [("error",)]
     office.sql("UPDATE meters SET status = 8")
-    assert told(office, "error") == ["NEW error elm-1 00000001.PAD.01.04: A meter reports an error (flat A1): permanent error. With a permanent error its"
+    assert told(office, "error") == ["NEW error elm-1 00000001.PAD.01.04: A meter reports an error (flat A1):"
+                                     " permanent error. With a permanent error its"
                                       " values don't count."] and not told(office, "no use")
 
 
@@ -151,7 +163,8 @@ def test_18_digits(office: Office, elm: Supplied) -> None:
     elm.reads(meter, at("2025-01-31T06:00"), most + 1, unit="m3")
     assert office.run("close").status == 0
     assert office.sql("SELECT value FROM day_values") == [(most,)]
-    assert told(office, "too large") == ["NEW too large elm-1 00000001.PAD.01.07: A reading is too large (flat A1): More than 18 digits of the smallest unit,"
+    assert told(office, "too large") == ["NEW too large elm-1 00000001.PAD.01.07: A reading is too large (flat A1):"
+                                         " More than 18 digits of the smallest unit,"
                                           " Cold water."]
     allocator = elm.meter(2, ALLOCATOR, "A2")
     new = elm.meter(3, ALLOCATOR, "A2")
