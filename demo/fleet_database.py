@@ -39,16 +39,19 @@ class Server:
         self.process: Optional[subprocess.Popen[bytes]] = None
         self.folder.mkdir()
         # PostgreSQL refuses to run as root: then it runs as the user of Debian's package
-        self.account: dict[str, Any] = {"user": "postgres", "group": "postgres", "extra_groups": []} if os.geteuid() == 0 else {}
+        self.account: dict[str, Any] = {"user": "postgres", "group": "postgres",
+                                        "extra_groups": []} if os.geteuid() == 0 else {}
         if self.account:
             shutil.chown(self.folder, "postgres", "postgres")
         self.name = f"host={self.folder} dbname={DATABASE} user={OWNER}"
         program = PROGRAMS[-1].parent
         self.run([program / "initdb", "-D", self.folder / "data", "-A", "trust", "-U", OWNER, "--no-sync"])
-        self.words: list[Word] = [program / "postgres", "-D", self.folder / "data", "-k", self.folder, "-c", "listen_addresses="]
+        self.words: list[Word] = [program / "postgres", "-D", self.folder / "data", "-k", self.folder, "-c",
+                                  "listen_addresses="]
 
     def run(self, words: Sequence[Word]) -> None:
-        done = subprocess.run(list(map(str, words)), cwd=self.folder, capture_output=True, text=True, check=False, **self.account)
+        done = subprocess.run(list(map(str, words)), cwd=self.folder, capture_output=True, text=True, check=False,
+                              **self.account)
         if done.returncode != 0:
             raise SystemExit(f"fleet: {words[0]}: {done.stderr}")
 
@@ -61,7 +64,8 @@ class Server:
     def start(self) -> None:
         import psycopg2
         with (self.folder / "log").open("ab") as log:
-            self.process = subprocess.Popen(list(map(str, self.words)), cwd=self.folder, stdout=log, stderr=log, **self.account)
+            self.process = subprocess.Popen(list(map(str, self.words)), cwd=self.folder, stdout=log, stderr=log,
+                                            **self.account)
         for _ in range(START_SECONDS * 20):
             try:
                 self.connect().close()

@@ -148,7 +148,8 @@ class Truth:
         last = max((it.moment for house in self.fleet.houses for it in house.sent), default=0)
         moment = datetime.datetime.fromtimestamp(last, datetime.timezone.utc) + datetime.timedelta(hours=1)
         # (by the office's clock no stamp of a simulated day can be: here each is taken, and nothing is kept of that)
-        overdue = {row[0] for row in self.rows("UPDATE meters SET at = heard, stored_at = heard; SELECT identity FROM overdue_at(%s)", moment)}
+        overdue = {row[0] for row in self.rows("UPDATE meters SET at = heard, stored_at = heard; SELECT identity FROM"
+                                               " overdue_at(%s)", moment)}
         heard: dict[str, int] = collections.defaultdict(int)
         for house in self.fleet.houses:
             for it in house.sent:

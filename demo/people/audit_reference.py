@@ -1,6 +1,5 @@
-"""Judges and fills an audit file as `mbdc audit` has to (docs/COMMANDS.md): by the definitions alone, with a decoder of its own
-and exact ratios. demo/same compares the program with it.
-"""
+"""Judges and fills an audit file as `mbdc audit` has to (docs/COMMANDS.md): by the definitions alone, with a decoder of
+its own and exact ratios. demo/same compares the program with it."""
 
 import datetime
 import re
@@ -25,22 +24,28 @@ DATE, OFFSET = r"[0-9]{4}-[0-9]{2}-[0-9]{2}", "-?[0-9]{1,4}"
 MAYBE, HEX, HOW = f"{NUMBER}|-", "(?:[0-9A-Fa-f]{2})+", "hand|estimated"
 USE, COUNT, QUANTITY = "[a-z0-9 -]{1,32}", f"(?:{NUMBER})", "|".join(RATIOS)
 TEXT, MARK = r"-|-?(?:0|[1-9][0-9]{0,20})(?:\.[0-9]{1,3})?", "|".join(MARKS)
-ASKED = {TEXT: rf"{TEXT}|\?(?:\.0{{1,3}})?", MARK: rf"{MARK}|\?", COUNT: rf"{COUNT}|\?"}  # where a number may be asked for
+# where a number may be asked for
+ASKED = {TEXT: rf"{TEXT}|\?(?:\.0{{1,3}})?", MARK: rf"{MARK}|\?", COUNT: rf"{COUNT}|\?"}
 AMOUNT_UNIT, VALUE_UNIT = "kWh|m3|HCA|count|smallest", "|".join(SMALLEST)
 IDENTITY = r"[0-9]{8}\.[A-Z]{3}\.[0-9A-F]{2}\.[0-9A-F]{2}"
 FORMS: Dict[str, Tuple[str, ...]] = {
-    "audit": ("1", WORD), "span": (NUMBER, DATE, OFFSET, DATE, OFFSET), "use": (USE, QUANTITY), "factor": (USE, NUMBER, RATIO), "co2": (USE, NUMBER, RATIO),
-    "degrees": ("-", NUMBER, RATIO), "price": (USE, AMOUNT_UNIT, NUMBER, RATIO), "average": (USE, AMOUNT_UNIT, NUMBER, RATIO),
+    "audit": ("1", WORD), "span": (NUMBER, DATE, OFFSET, DATE, OFFSET), "use": (USE, QUANTITY),
+    "factor": (USE, NUMBER, RATIO), "co2": (USE, NUMBER, RATIO),
+    "degrees": ("-", NUMBER, RATIO), "price": (USE, AMOUNT_UNIT, NUMBER, RATIO),
+    "average": (USE, AMOUNT_UNIT, NUMBER, RATIO),
     "user": (NUMBER, WORD, f"{RATIO}|-"), "place": (NUMBER, WORD, USE, RATIO),
     "meter": (NUMBER, IDENTITY, MAYBE, MAYBE, MAYBE, MAYBE, f"{HEX}|-"), "window": (NUMBER,),
     "read": (NUMBER, NUMBER, HEX), "stored": (NUMBER, DATE, OFFSET, HEX), "hand": (NUMBER, NUMBER, VALUE, VALUE_UNIT),
-    "estimated": (NUMBER, NUMBER, VALUE, VALUE_UNIT), "first": (NUMBER, VALUE, VALUE_UNIT, HOW), "last": (NUMBER, VALUE, VALUE_UNIT, HOW),
+    "estimated": (NUMBER, NUMBER, VALUE, VALUE_UNIT), "first": (NUMBER, VALUE, VALUE_UNIT, HOW),
+    "last": (NUMBER, VALUE, VALUE_UNIT, HOW),
     "struck": (NUMBER, NUMBER, WORD), "ended": (NUMBER, DATE, OFFSET, HEX), "zero": (NUMBER,),
     "part": (NUMBER, NUMBER, NUMBER, MAYBE), "shown": (NUMBER, NUMBER, NUMBER, AMOUNT_UNIT, TEXT, MARK),
-    "value": (NUMBER, NUMBER, VALUE, VALUE_UNIT), "totals": (), "of_user": (NUMBER, NUMBER, USE, AMOUNT_UNIT, TEXT, MARK),
+    "value": (NUMBER, NUMBER, VALUE, VALUE_UNIT), "totals": (), "of_user": (NUMBER, NUMBER, USE, AMOUNT_UNIT, TEXT,
+                                                                            MARK),
     "of_flat": (NUMBER, WORD, USE, AMOUNT_UNIT, TEXT, MARK), "of_house": (NUMBER, USE, AMOUNT_UNIT, TEXT, COUNT, COUNT),
     "mean": (NUMBER, NUMBER, USE, AMOUNT_UNIT, TEXT), "change": (NUMBER, NUMBER, NUMBER, USE, AMOUNT_UNIT, TEXT),
-    "carbon": (NUMBER, NUMBER, USE, TEXT), "cost": (NUMBER, NUMBER, USE, AMOUNT_UNIT, TEXT), "weather": (NUMBER, NUMBER, NUMBER, USE, TEXT),
+    "carbon": (NUMBER, NUMBER, USE, TEXT), "cost": (NUMBER, NUMBER, USE, AMOUNT_UNIT, TEXT),
+    "weather": (NUMBER, NUMBER, NUMBER, USE, TEXT),
     "end": ()}
 MANY = ("read", "stored", "ended")  # with one body and more
 FACTS = ("span", "use", "factor", "co2", "degrees", "price", "average", "user")
@@ -51,7 +56,8 @@ AFTER: Dict[str, Sequence[str]] = {  # what may follow what
     **dict.fromkeys(("audit", *FACTS), (*FACTS, "place", "totals")), "place": ("meter",), "meter": ("meter", *CLOSED),
     **dict.fromkeys(("window", *VALUES), (*VALUES, "struck", "part", "shown", "value", *CLOSED)),
     "struck": ("struck", "part", "shown", "value", *CLOSED), "part": ("part", "shown", "value", *CLOSED),
-    **dict.fromkeys(("shown", "value"), ("shown", "value", *CLOSED)), **dict.fromkeys(("totals", *NUMBERS), (*NUMBERS, "end")), "end": ()}
+    **dict.fromkeys(("shown", "value"), ("shown", "value", *CLOSED)),
+    **dict.fromkeys(("totals", *NUMBERS), (*NUMBERS, "end")), "end": ()}
 
 
 class AtFault(Exception):
@@ -133,7 +139,8 @@ def extended(data: bytes, at: int) -> int:
 
 
 def records_of(body: bytes) -> Tuple[List[Record], bool]:
-    """The records of a body of security mode 0, and whether more follow in the next one. Raises IndexError of a text that is none."""
+    """The records of a body of security mode 0, and whether more follow in the next one. Raises IndexError of a text
+    that is none."""
     found, at = [], 12
     if len(body) < 12 or not body[:4].hex().isdecimal() or not is_maker(body) or body[11] & 0x1F:
         raise IndexError
@@ -156,7 +163,8 @@ def records_of(body: bytes) -> Tuple[List[Record], bool]:
             raise IndexError
         found.append(Record(dif >> 4 & 3, sum((it >> 4 & 3) << 2 * n for n, it in enumerate(difes)),
                             sum((it >> 6 & 1) << n for n, it in enumerate(difes)),
-                            (dif >> 6 & 1) + sum((it & 15) << 4 * n + 1 for n, it in enumerate(difes)), field, body[vif:data],
+                            (dif >> 6 & 1) + sum((it & 15) << 4 * n + 1 for n, it in enumerate(difes)), field,
+                            body[vif:data],
                             body[begins:at]))
     return found, body[at:at + 1] == b"\x1f"
 
@@ -262,7 +270,8 @@ def value_in(run: Run, quantity: str, bodies: List[bytes], day: Optional[datetim
     for record in found:
         vib, number = plain_vib(record.vib), whole(record)
         scale = scaled(vib)
-        if record.storage not in storages or scale is None or scale[0] != quantity or number is None or run.vib not in ("-", vib.hex().upper()):
+        if record.storage not in storages or scale is None or scale[0] != quantity or number is None or run.vib not in (
+            "-", vib.hex().upper()):
             continue
         amount = number * scale[1]
         if amount.denominator == 1 and 0 <= amount <= LARGEST:
@@ -296,7 +305,8 @@ def amount_of(one: Entry, other: Entry) -> int:
 def steps_of(entries: List[Entry]) -> List[Step]:
     pairs = list(zip(entries, entries[1:]))
     doubts = [False, *(is_doubtful(*pair) for pair in pairs), False]
-    return [Step(one.moment, other.moment, amount_of(one, other), any(doubts[place:place + 3]), one.meter != other.meter)
+    return [Step(one.moment, other.moment, amount_of(one, other), any(doubts[place:place + 3]),
+                 one.meter != other.meter)
             for place, (one, other) in enumerate(pairs)]
 
 
@@ -317,7 +327,8 @@ def consumed(entries: List[Entry], begins: int, ends: int) -> Tuple[Optional[int
     """What was consumed in a period, and the steps that touch it."""
     steps = steps_of(entries)
     first, last = curve(entries, steps, begins), curve(entries, steps, ends)
-    return None if first is None or last is None else last - first, [step for step in steps if step.touches(begins, ends)]
+    return None if first is None or last is None else last - first, [step for step in steps
+                                                                     if step.touches(begins, ends)]
 
 
 # ---- numbers
@@ -358,7 +369,8 @@ class Audit:
         self.fills, self.filled = fills, ""  # the line with what was asked
         self.uses: Dict[str, str] = {}
         self.line, self.kind, self.printed = 0, "", []  # type: int, str, List[str]
-        self.counts = dict.fromkeys(("numbers", "differ", "readings", "refused", "by hand", "estimated", "struck", "places"), 0)
+        self.counts = dict.fromkeys(("numbers", "differ", "readings", "refused", "by hand", "estimated", "struck",
+                                     "places"), 0)
         self.spans: Dict[int, Tuple[int, int]] = {}
         self.facts: Dict[Tuple[str, ...], Fraction] = {}
         self.users: Dict[int, str] = {}
@@ -386,13 +398,15 @@ class Audit:
         if forms is None or kind == "audit" or len(line.encode()) > LONGEST:
             raise AtFault(ROW)
         forms, self.filled = forms + (HEX,) * (len(fields) - len(forms) if kind in MANY else 0), line
-        if len(fields) != len(forms) or not all(re.fullmatch(ASKED.get(form, form) if self.fills else form, field) for form, field in zip(forms, fields)):
+        if len(fields) != len(forms) or not all(re.fullmatch(ASKED.get(form, form) if self.fills else form, field)
+                                                for form, field in zip(forms, fields)):
             raise AtFault(ROW)
         if kind not in AFTER[self.kind]:
             raise AtFault(ORDER)
         if kind != "use" and any(form == USE and field not in self.uses for form, field in zip(forms, fields)):
             raise AtFault(FACT)
-        if self.kind in ("window", *VALUES, "struck", "part", "shown", "value") and kind in CLOSED and self.until != self.limits()[1] and not self.is_empty():
+        if self.kind in ("window", *VALUES, "struck", "part", "shown",
+                         "value") and kind in CLOSED and self.until != self.limits()[1] and not self.is_empty():
             raise AtFault(PART)
         self.kind = kind
         handler: Callable[..., None] = getattr(self, f"take_{kind}", self.take_nothing)
@@ -542,7 +556,8 @@ class Audit:
     def take_part(self, span: str, begins: str, ends: str, user: str) -> None:
         first, last = self.limits()
         number = None if user == NOTHING else int(user)
-        if int(span) != self.span or int(begins) != (first if self.until is None else self.until) or not int(begins) < int(ends) <= last:
+        if int(span) != self.span or int(begins) != (first if self.until is None
+                                                     else self.until) or not int(begins) < int(ends) <= last:
             raise AtFault(PART)
         if number is not None and self.users.get(number) != self.flat:
             raise AtFault(FACT if number not in self.users else PART)
@@ -572,12 +587,15 @@ class Audit:
         if amount > LARGEST:
             return "unclear"
         basis = [*self.around(begins), *self.around(ends), *(
-            it for it in self.entries if it.kind in ("first", "last", "ended", "zero") and begins < it.entry.moment <= ends)]
-        is_far = any(len(pair) > 1 and pair[1].entry.moment - pair[0].entry.moment > NEAR for pair in map(self.around, (begins, ends)))
+            it for it in self.entries if it.kind in ("first", "last", "ended", "zero") and begins < it.entry.moment
+            <= ends)]
+        is_far = any(len(pair) > 1 and pair[1].entry.moment - pair[0].entry.moment > NEAR
+                     for pair in map(self.around, (begins, ends)))
         if is_far or any(it.how == "estimated" for it in basis):
             return "estimated"
         last = self.runs[-1].ends
-        if (last is None or last > ends) and len({it.entry.moment for it in self.entries if it.entry.moment >= ends}) < 2:
+        if (last is None or last > ends) and len({it.entry.moment for it in self.entries
+                                                  if it.entry.moment >= ends}) < 2:
             return "provisional"
         return "hand" if any(it.how == "hand" for it in basis) else "measured"
 
@@ -677,10 +695,12 @@ class Audit:
 
     def take_of_house(self, span: str, use: str, unit: str, text: str, none: str, count: str) -> None:
         self.of_parts(int(span), use, unit, "none", None)
-        sums = [self.of_parts(int(span), use, unit, "place", whose)[0] for of, by, kind, whose in list(self.parts) if (of, by, kind) == (int(span), use, "place")]
+        sums = [self.of_parts(int(span), use, unit, "place", whose)[0] for of, by, kind, whose in list(self.parts)
+                if (of, by, kind) == (int(span), use, "place")]
         known = [it for it in sums if it is not None]
         value = sum(known, Fraction()) if known else None
-        self.compare(f"house {use}", f"{text} {none} {count}", f"{rounded(value, text)} {len(sums) - len(known)} {len(sums)}")
+        self.compare(f"house {use}", f"{text} {none} {count}", f"{rounded(value, text)} {len(sums) - len(known)}"
+                     f" {len(sums)}")
 
     def take_mean(self, span: str, user: str, use: str, unit: str, text: str) -> None:
         self.of_user(int(span), int(user), use, unit)
@@ -695,7 +715,8 @@ class Audit:
     def mean_of(self, span: int, use: str, unit: str) -> Optional[Fraction]:
         """What a square metre consumed, of three flats at least."""
         sums = {flat: self.of_parts(span, use, unit, "flat", flat) for flat in self.areas}
-        counted = {flat: value for flat, (value, mark) in sums.items() if value is not None and mark in ("measured", "hand")}
+        counted = {flat: value for flat, (value, mark) in sums.items() if value is not None
+                   and mark in ("measured", "hand")}
         area = sum((self.areas[flat] for flat in counted), Fraction())
         return sum(counted.values(), Fraction()) / area if len(counted) >= 3 and area else None
 
@@ -706,7 +727,8 @@ class Audit:
 
     def take_carbon(self, span: str, user: str, use: str, text: str) -> None:
         value, grams = self.of_user(int(span), int(user), use, "kWh")[0], self.fact("co2", use, span)
-        self.compare(f"carbon of user {user} {use}", text, rounded(None if value is None else value * grams / 1000, text))
+        self.compare(f"carbon of user {user} {use}", text, rounded(None if value is None else value * grams / 1000,
+                                                                   text))
 
     def take_cost(self, span: str, user: str, use: str, unit: str, text: str) -> None:
         if text != "-" and len(text.partition(".")[2]) != 2:
@@ -718,7 +740,8 @@ class Audit:
         self.known(int(span))
         value = self.of_user(int(other), int(user), use, "kWh")[0]
         now, then = self.fact("degrees", "-", span), self.fact("degrees", "-", other)
-        self.compare(f"weather of user {user} {use}", text, rounded(None if value is None or not then else value * now / then, text))
+        self.compare(f"weather of user {user} {use}", text, rounded(None if value is None or not then
+                                                                    else value * now / then, text))
 
 
 def judged(content: bytes) -> Tuple[List[str], int]:

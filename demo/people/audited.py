@@ -1,5 +1,5 @@
-"""Audit files by chance, right and wrong, for demo/same and demo/page: houses whose meters are exchanged, turn over and begin anew, whose
-readings are late, struck, put by hand and estimated; and edits that each make a file wrong, or may.
+"""Audit files by chance, right and wrong, for demo/same and demo/page: houses whose meters are exchanged, turn over and
+begin anew, whose readings are late, struck, put by hand and estimated; and edits that each make a file wrong, or may.
 
 A right file is one whose numbers the reference of the office's tests computed; wrong ones are edits of its lines.
 """
@@ -14,8 +14,10 @@ from world.frames import bcd, type_g
 DAY = datetime.timedelta(days=1)
 OFFSETS = ("60", "120", "0", "-300")
 USES = {"heat": ("energy", (0x03, 0x06, 0x0E)), "cooling": ("energy", (0x05,)), "warm water": ("volume", (0x13, 0x14)),
-        "cold water": ("volume", (0x13, 0x16)), "gas": ("volume", (0x14,)), "allocator": ("units", (0x6E,)), "electricity": ("energy", (0x03, 0x04))}
-DIGIT = {0x03: 3_600_000, 0x04: 36_000_000, 0x05: 360_000_000, 0x06: 3_600_000_000, 0x0E: 10**9, 0x13: 1000, 0x14: 10_000, 0x16: 10**6, 0x6E: 1000}
+        "cold water": ("volume", (0x13, 0x16)), "gas": ("volume", (0x14,)), "allocator": ("units", (0x6E,)),
+        "electricity": ("energy", (0x03, 0x04))}
+DIGIT = {0x03: 3_600_000, 0x04: 36_000_000, 0x05: 360_000_000, 0x06: 3_600_000_000, 0x0E: 10**9, 0x13: 1000,
+         0x14: 10_000, 0x16: 10**6, 0x6E: 1000}
 HAND_UNITS = {"energy": ("Wh", 3_600_000), "volume": ("m3", 10**6), "units": ("HCA", 1000)}
 UNITS = {"energy": ("kWh",), "volume": ("m3",), "units": ("HCA", "count")}
 SIZE = 10**8  # digits that a counter shows
@@ -70,7 +72,8 @@ class Files:
         self.lines.append(",".join(map(str, fields)))
 
     def ratio(self, most: int) -> str:
-        return self.rng.choice((f"{self.rng.randint(1, most)}", f"{self.rng.randint(0, most)}.{self.rng.randint(1, 999_999):06}"))
+        return self.rng.choice((f"{self.rng.randint(1, most)}",
+                                f"{self.rng.randint(0, most)}.{self.rng.randint(1, 999_999):06}"))
 
     def facts(self) -> None:
         self.has_factor, self.has_price = self.rng.random() < 0.6, self.rng.random() < 0.6
@@ -94,17 +97,20 @@ class Files:
         self.add("place", number, flat, use, "1" if quantity != "units" else self.ratio(3))
         begins, ends = min(it[0] for it in self.spans.values()), max(it[1] for it in self.spans.values())
         self.runs: List[Dict[str, Any]] = []
-        starts = [begins - 86_400 * rng.choice((20, 400)) if rng.random() < 0.95 else begins + 86_400 * rng.randint(1, 40)]
+        starts = [begins - 86_400 * rng.choice((20, 400)) if rng.random() < 0.95 else begins
+                  + 86_400 * rng.randint(1, 40)]
         for start in sorted(rng.randrange(begins, ends) for _ in range(rng.choice((0, 0, 0, 1, 1, 2)))):
             starts += [start] if start > starts[-1] + 2 * 86_400 else []
         for run, (start, after) in enumerate(zip(starts, [*starts[1:], None]), 1):
             is_same = run > 1 and rng.random() < 0.4
             last = self.runs[-1] if self.runs else None
-            made = {"number": last["number"] if is_same and last else rng.randrange(10**8), "begins": start, "is_same": is_same,
+            made = {"number": last["number"] if is_same and last else rng.randrange(10**8), "begins": start,
+                    "is_same": is_same,
                     "ends": None if after is None else after - (0 if rng.random() < 0.9 else 3600), "vib": "-"}
             if after is None and rng.random() < 0.1:
                 made["ends"] = max(start, begins) + 86_400 * rng.randint(3, 50)
-            made["most"], made["size"] = rng.choice(((0, 0), (10**4 * self.step, 0), (10**4 * self.step, SIZE * self.step)))
+            made["most"], made["size"] = rng.choice(((0, 0), (10**4 * self.step, 0),
+                                                     (10**4 * self.step, SIZE * self.step)))
             if rng.random() < 0.1:
                 made["vib"] = f"{self.vif:02X}"
             self.runs.append(made)
@@ -114,7 +120,8 @@ class Files:
                 if begin > self.runs[run - 1]["begins"]:
                     self.runs[run]["begins"] = self.runs[run - 1]["ends"] = begin
         for run, it in enumerate(self.runs, 1):
-            self.add("meter", run, self.identity(it), it["begins"], "-" if it["ends"] is None else it["ends"], it["most"] or rng.choice(("-", 0)),
+            self.add("meter", run, self.identity(it), it["begins"], "-" if it["ends"] is None else it["ends"],
+                     it["most"] or rng.choice(("-", 0)),
                      it["size"] or "-", it["vib"])
         for span in self.spans:
             if rng.random() < 0.99:
@@ -131,7 +138,8 @@ class Files:
         for number, run in enumerate(self.runs, 1):
             first = max(begins - 3 * 86_400, run["begins"])
             last = min(ends + 2 * 86_400, run["ends"] or 10**12)
-            value = SIZE - rng.randrange(1, 200) if run["size"] and rng.random() < 0.3 else rng.choice((5, 4_711, 123_456)) + rng.randrange(999)
+            value = SIZE - rng.randrange(1, 200) if run["size"] and rng.random() < 0.3 else rng.choice(
+                (5, 4_711, 123_456)) + rng.randrange(999)
             if first == run["begins"] and first < last and rng.random() < 0.85:
                 self.start(number, run, first, value)
             gap = rng.choice((*(86_400,) * 8, 3 * 86_400, 30_000))
@@ -200,7 +208,8 @@ class Files:
         records = self.record(storage, value)
         if day is not None:
             dif = self.dif(2, storage)
-            time = dif + b"\x6c" + type_g(day) if rng.random() < 0.7 else self.dif(4, storage) + b"\x6d" + type_f(day + DAY)
+            time = dif + b"\x6c" + type_g(day) if rng.random() < 0.7 else self.dif(4, storage) + b"\x6d" + type_f(
+                day + DAY)
             records = time + records if rng.random() < 0.8 else records + time
             now = self.record(0, (value + rng.randrange(9)) % SIZE)
             records = now + records if rng.random() < 0.7 else records
@@ -228,9 +237,12 @@ class Files:
         """Records that don't count: of other quantities, functions, tariffs, storages; without a value."""
         vif, rng = bytes([self.vif]), self.rng
         return b"".join(rng.sample((
-            b"\x0a\x5a\x12\x03", b"\x1c" + vif + bcd(99), self.dif(0x0C, 0, tariff=1) + vif + bcd(77), b"\x02\x27\x05\x00",
-            self.dif(0x0C, storage + 3) + vif + bcd(55), b"\x0d\x78\x03abc", b"\x04\x6d\x00\x0a\x41\x1a", b"\x01\xfd\x17\x00", b"\x0c\x78" + bcd(123),
-            self.dif(0x0C, 0, 2) + vif + bcd(1), b"\x0c" + vif + b"\xff\xff\xff\x0f" if storage else b"\x0b\x3b\x01\x00\x00"), rng.randint(1, 3)))
+            b"\x0a\x5a\x12\x03", b"\x1c" + vif + bcd(99), self.dif(0x0C, 0, tariff=1) + vif + bcd(77),
+            b"\x02\x27\x05\x00",
+            self.dif(0x0C, storage + 3) + vif + bcd(55), b"\x0d\x78\x03abc", b"\x04\x6d\x00\x0a\x41\x1a",
+            b"\x01\xfd\x17\x00", b"\x0c\x78" + bcd(123),
+            self.dif(0x0C, 0, 2) + vif + bcd(1), b"\x0c" + vif + b"\xff\xff\xff\x0f" if storage
+            else b"\x0b\x3b\x01\x00\x00"), rng.randint(1, 3)))
 
     # ---- what is published
 
@@ -243,7 +255,8 @@ class Files:
         begins, ends = max(begins, self.runs[0]["begins"]), ends if last is None else min(ends, last)
         if begins >= ends:
             return
-        cuts = sorted({begins, ends, *(rng.randrange(begins, ends) // 3600 * 3600 for _ in range(rng.choice((0, 0, 1, 2))))})
+        cuts = sorted({begins, ends, *(rng.randrange(begins, ends) // 3600 * 3600
+                                       for _ in range(rng.choice((0, 0, 1, 2))))})
         cuts = [it for it in cuts if begins <= it <= ends]
         for one, other in zip(cuts, cuts[1:]):
             self.add("part", span, one, other, rng.choice([*self.users[flat], "-"]))
@@ -261,7 +274,8 @@ class Files:
             flat, use = rng.choice(places)
             span, user, quantity = rng.choice(list(self.spans)), rng.choice(self.users[flat]), USES[use][0]
             unit = rng.choice([*UNITS[quantity], *(["kWh"] if self.has_factor else [])])
-            kind = rng.choice(("of_user", "of_user", "of_flat", "of_house", "mean", "mean", "change", "carbon", "cost", "weather"))
+            kind = rng.choice(("of_user", "of_user", "of_flat", "of_house", "mean", "mean", "change", "carbon", "cost",
+                               "weather"))
             is_kwh, other = quantity == "energy" or self.has_factor, rng.choice(list(self.spans))
             if kind == "of_user":
                 self.number(kind, span, user, use, unit)
@@ -318,7 +332,8 @@ def asked(rng: random.Random, lines: List[str]) -> List[str]:
     made = []
     for line in lines:
         kind, *fields = line.split(",")
-        texts = {"of_house": 3, "shown": 2, "of_user": 2, "of_flat": 2}.get(kind, 1 if kind in PLAIN else 0)  # from behind
+        # from behind
+        texts = {"of_house": 3, "shown": 2, "of_user": 2, "of_flat": 2}.get(kind, 1 if kind in PLAIN else 0)
         for at in range(texts):
             if rng.random() < 0.7:
                 decimals = len(fields[-texts].partition(".")[2])
@@ -414,7 +429,8 @@ def strikes_a_reading(rng: random.Random, lines: List[str]) -> Optional[List[str
     found = of_kind(rng, lines, "read")
     if found is None:
         return None
-    after = next(at for at in range(found, len(lines)) if lines[at].split(",")[0] in ("part", "shown", "value", "window", "place", "totals"))
+    after = next(at for at in range(found, len(lines))
+                 if lines[at].split(",")[0] in ("part", "shown", "value", "window", "place", "totals"))
     _, run, moment_, *_ = lines[found].split(",")
     return [*lines[:after], f"struck,{run},{moment_},typed wrong", *lines[after:]]
 
@@ -441,54 +457,82 @@ TEXTS = ("shown", "of_user", "of_flat", "of_house")
 PLAIN = ("mean", "change", "carbon", "cost", "weather")
 EDITS: Dict[str, Edit] = {
     "a bit of a body": with_bit, "a body of another meter": with_byte(0, 0x99), "a permanent error": with_byte(9, 0x08),
-    "an application error": with_byte(9, 0x02), "encrypted": with_byte(11, 0x05), "no digits in the identity": with_byte(1, 0xAA),
+    "an application error": with_byte(9, 0x02), "encrypted": with_byte(11, 0x05),
+    "no digits in the identity": with_byte(1, 0xAA),
     "a body cut": with_field(-1, lambda text: text[:-2], "read", "stored", "ended"),
     "a header alone": with_field(-1, lambda text: text[:24], "read", "stored", "ended"),
-    "a later reading": with_field(2, more(3600), "read", "hand", "estimated"), "an earlier reading": with_field(2, more(-7200), "read"),
+    "a later reading": with_field(2, more(3600), "read", "hand", "estimated"),
+    "an earlier reading": with_field(2, more(-7200), "read"),
     "another day": with_field(2, lambda text: f"{datetime.date.fromisoformat(text) + DAY}", "stored", "ended"),
-    "another offset": with_field(3, more(60), "stored", "span"), "another run": with_field(1, more(1), "read", "hand", "first", "last"),
-    "another last digit": with_field(5, last_digit, "shown"), "another text of a user": with_field(5, last_digit, "of_user", "of_flat"),
-    "another text of a house": with_field(4, last_digit, "of_house"), "another text": with_field(-1, last_digit, *PLAIN),
-    "rounded down": with_field(5, rounds_down, "shown", "of_user", "of_flat"), "rounded down, too": with_field(-1, rounds_down, *PLAIN),
-    "a decimal more": with_field(5, lambda text: f"{text}0", "of_user", "shown"), "no number": with_field(5, lambda _: "-", "shown", "of_user"),
-    "another mark": with_field(-1, lambda text: "measured" if text != "measured" else "hand", "shown", "of_user", "of_flat"),
+    "another offset": with_field(3, more(60), "stored", "span"),
+    "another run": with_field(1, more(1), "read", "hand", "first", "last"),
+    "another last digit": with_field(5, last_digit, "shown"),
+    "another text of a user": with_field(5, last_digit, "of_user", "of_flat"),
+    "another text of a house": with_field(4, last_digit, "of_house"),
+    "another text": with_field(-1, last_digit, *PLAIN),
+    "rounded down": with_field(5, rounds_down, "shown", "of_user", "of_flat"),
+    "rounded down, too": with_field(-1, rounds_down, *PLAIN),
+    "a decimal more": with_field(5, lambda text: f"{text}0", "of_user", "shown"),
+    "no number": with_field(5, lambda _: "-", "shown", "of_user"),
+    "another mark": with_field(-1, lambda text: "measured" if text != "measured" else "hand", "shown", "of_user",
+                               "of_flat"),
     "an estimate as measured": with_field(-1, lambda _: "measured", "shown", "of_user", "of_flat"),
     "none without": with_field(-2, more(1), "of_house"), "a place more": with_field(-1, more(1), "of_house"),
-    "another value by hand": with_field(3, last_digit, "hand", "estimated"), "another first value": with_field(2, last_digit, "first", "last"),
+    "another value by hand": with_field(3, last_digit, "hand", "estimated"),
+    "another first value": with_field(2, last_digit, "first", "last"),
     "another unit by hand": with_field(4, lambda text: "MWh" if text == "Wh" else "Wh", "hand", "estimated"),
-    "another reading as printed": with_field(3, last_digit, "value"), "a reading of another moment": with_field(2, more(60), "value"),
+    "another reading as printed": with_field(3, last_digit, "value"),
+    "a reading of another moment": with_field(2, more(60), "value"),
     "a reading in another unit": with_field(4, lambda text: "kWh" if text == "Wh" else "HCA", "value"),
-    "another weight": with_field(4, lambda _: "1.7", "place"), "another use": with_field(3, lambda text: "gas" if text != "gas" else "heat", "place"), "a use that isn't declared": with_field(3, lambda _: "tea", "place"),
-    "of another quantity": with_field(2, lambda text: "volume" if text != "volume" else "units", "use"), "no quantity": with_field(2, lambda _: "allocation", "use"),
+    "another weight": with_field(4, lambda _: "1.7", "place"),
+    "another use": with_field(3, lambda text: "gas" if text != "gas" else "heat", "place"),
+    "a use that isn't declared": with_field(3, lambda _: "tea", "place"),
+    "of another quantity": with_field(2, lambda text: "volume" if text != "volume" else "units", "use"),
+    "no quantity": with_field(2, lambda _: "allocation", "use"),
     "a use in capitals": with_field(1, str.upper, "use"), "a use twice": twice("use"), "without a use": without("use"),
-    "another flat": with_field(2, lambda _: "A2", "place"), "another factor": with_field(-1, lambda _: "3.25", "factor"),
+    "another flat": with_field(2, lambda _: "A2", "place"),
+    "another factor": with_field(-1, lambda _: "3.25", "factor"),
     "another price": with_field(-1, lambda _: "9.5", "price"), "another co2": with_field(-1, lambda _: "77", "co2"),
-    "other degree days": with_field(-1, lambda _: "312.5", "degrees"), "another average": with_field(-1, lambda _: "4.25", "average"),
+    "other degree days": with_field(-1, lambda _: "312.5", "degrees"),
+    "another average": with_field(-1, lambda _: "4.25", "average"),
     "another area": with_field(-1, lambda _: "33.3", "user"), "most declared": with_field(5, lambda _: "1000", "meter"),
     "no most": with_field(5, lambda _: "-", "meter"), "another size": with_field(6, lambda _: "100000000", "meter"),
     "another begin": with_field(3, more(-3600), "meter"), "another end": with_field(4, more(-3600), "meter"),
-    "another identity": with_field(2, lambda text: f"9{text[1:]}", "meter"), "another vib": with_field(7, lambda _: "05", "meter"),
-    "another span": with_field(2, lambda text: f"{datetime.date.fromisoformat(text) - DAY}", "span"), "a part to another": with_field(4, lambda _: "-", "part"),
+    "another identity": with_field(2, lambda text: f"9{text[1:]}", "meter"),
+    "another vib": with_field(7, lambda _: "05", "meter"),
+    "another span": with_field(2, lambda text: f"{datetime.date.fromisoformat(text) - DAY}", "span"), "a part to"
+    " another": with_field(4, lambda _: "-", "part"),
     "a part is longer": with_field(3, more(60), "part"), "of another period": with_field(3, more(-60), "shown"),
     "of another unit": with_field(4, lambda text: "smallest" if text != "smallest" else "kWh", "shown"),
-    "of another span": with_field(1, lambda text: "2" if text == "1" else "1", "of_user", "of_flat", "of_house", "mean", "cost", "carbon", "shown"),
+    "of another span": with_field(1, lambda text: "2" if text == "1" else "1", "of_user", "of_flat", "of_house", "mean",
+                                  "cost", "carbon", "shown"),
     "against another span": with_field(2, lambda text: "2" if text == "1" else "1", "change", "weather"),
     "of another user": with_field(2, more(1), "of_user", "mean", "cost", "carbon"), "users are swapped": swap_users,
-    "a person for a restart": with_field(-1, lambda _: "hand", "first", "last"), "an estimate for a person": with_field(0, lambda _: "hand", "estimated"),
+    "a person for a restart": with_field(-1, lambda _: "hand", "first", "last"),
+    "an estimate for a person": with_field(0, lambda _: "hand", "estimated"),
     "struck and counted": strikes_a_reading, "struck before it": with_field(0, lambda _: "struck", "hand"),
-    "bodies of two readouts": with_field(-2, lambda text: text[:-2] if text.endswith("1F") else "", "read", "stored", "ended"),
+    "bodies of two readouts": with_field(-2, lambda text: text[:-2] if text.endswith("1F") else "", "read", "stored",
+                                         "ended"),
     "a cost of three decimals": with_field(-1, lambda text: f"{text}0" if text != "-" else "1", "cost"),
     "a cost without decimals": with_field(-1, lambda text: text.partition(".")[0] if text != "-" else "1", "cost"),
-    "an offset of a day less": with_field(3, more(-1440), "stored", "span"), "an odd offset": with_field(3, more(1), "stored", "span"),
+    "an offset of a day less": with_field(3, more(-1440), "stored", "span"),
+    "an odd offset": with_field(3, more(1), "stored", "span"),
     "read for stored": with_field(0, lambda _: "stored", "read"),
-    "without a line": without(), "without a reading": without("read"), "without a restart": without("ended", "zero"), "without a factor": without("factor"),
-    "without a first value": without("first", "last"), "without the end": without("end"), "without totals": without("totals"), "without a window": without_window,
-    "without a part": without("part"), "without a user": without("user"), "without a place": without("place"), "a line twice": twice(),
-    "a reading twice": twice("read"), "a part twice": twice("part"), "a window twice": twice("window"), "an end twice": twice("end"), "two lines swapped": swapped,
-    "a leading zero": with_field(1, lambda text: f"0{text}", "place", "window", "user", "part"), "an empty field": with_field(-1, lambda _: "", *TEXTS, *PLAIN, "place"),
+    "without a line": without(), "without a reading": without("read"), "without a restart": without("ended", "zero"),
+    "without a factor": without("factor"),
+    "without a first value": without("first", "last"), "without the end": without("end"),
+    "without totals": without("totals"), "without a window": without_window,
+    "without a part": without("part"), "without a user": without("user"), "without a place": without("place"),
+    "a line twice": twice(),
+    "a reading twice": twice("read"), "a part twice": twice("part"), "a window twice": twice("window"),
+    "an end twice": twice("end"), "two lines swapped": swapped,
+    "a leading zero": with_field(1, lambda text: f"0{text}", "place", "window", "user", "part"),
+    "an empty field": with_field(-1, lambda _: "", *TEXTS, *PLAIN, "place"),
     "a field more": with_field(-1, lambda text: f"{text},1", "place", "part", "shown", "user", "zero", "end", "span"),
-    "another version": with_field(1, lambda _: "2", "audit"), "a long ratio": with_field(-1, lambda _: "1.0000001", "price", "factor", "co2"),
-    "no hex": with_field(-1, lambda text: f"{text[:-1]}G", "read"), "a blank": with_field(-1, lambda text: f"{text} ", "user", "price", "part")}
+    "another version": with_field(1, lambda _: "2", "audit"),
+    "a long ratio": with_field(-1, lambda _: "1.0000001", "price", "factor", "co2"),
+    "no hex": with_field(-1, lambda text: f"{text[:-1]}G", "read"),
+    "a blank": with_field(-1, lambda text: f"{text} ", "user", "price", "part")}
 
 
 def files(rng: random.Random, count: int) -> Iterator[Tuple[str, List[str]]]:

@@ -18,7 +18,8 @@ KEPT_MONTHS = 4  # before the present one
 QUARTER = 3  # months of a bill
 WHY = "readings came late"
 # What is out, but who it was of: months, what was printed, and versions with their reasons
-OUT = ("SELECT 'month', u.month::text, u.place, u.part, u.version, u.amount, u.grade, u.is_held, u.begins, u.ends FROM month_use u"
+OUT = ("SELECT 'month', u.month::text, u.place, u.part, u.version, u.amount, u.grade, u.is_held, u.begins, u.ends FROM"
+       " month_use u"
        " WHERE u.out_at IS NOT NULL",
        "SELECT 'printed', id, house, coalesce(month::text, days::text), version, kind, flat, use, place, period, unit,"
        " text, mark FROM published",
@@ -26,8 +27,11 @@ OUT = ("SELECT 'month', u.month::text, u.place, u.part, u.version, u.amount, u.g
        "SELECT 'bill', house, days::text, version, why, out_at FROM bills WHERE out_at IS NOT NULL")
 CHANGED = "SELECT house, to_char(month, 'YYYY-MM') FROM changes WHERE left_why IS NULL AND month > %s ORDER BY 1, 2"
 CHANGED_BILLS = """
-SELECT house, lower(days) || '..' || upper(days) - 1 FROM bills_now WHERE changed IS NOT NULL AND lower(days) > %s ORDER BY 1, 2"""
-WAITING = "SELECT see_number(m, p.id, 'read at the meter') FROM places p, (VALUES (%s::date)) AS k (m) WHERE waits_for_a_step(m, p.id)"
+SELECT house, lower(days) || '..' || upper(days) - 1 FROM bills_now WHERE changed IS NOT NULL AND lower(days) > %s
+    ORDER BY 1, 2"""
+WAITING = """
+SELECT see_number(m, p.id, 'read at the meter') FROM places p, (VALUES (%s::date)) AS k (m)
+WHERE waits_for_a_step(m, p.id)"""
 LEFT = "SELECT id FROM tenancies WHERE upper(days) < %s ORDER BY id"
 WITHOUT_A_REASON = """
 SELECT count(*) FROM (SELECT version, why FROM versions UNION ALL SELECT version, why FROM bills) v
@@ -77,7 +81,8 @@ class Cron:
         self.bills[house, period] = self.office.run("bill", house, period, "--release", statuses=(0, 1))
 
     def after(self, month: datetime.date) -> None:
-        """Once a month is compared: it goes out, and with it each third one the bill of its quarter; what is old goes."""
+        """Once a month is compared: it goes out, and with it each third one the bill of its quarter; what is old
+        goes."""
         self.release(month)
         self.same(f"{month} released")
         present = next_month(month)
@@ -109,4 +114,5 @@ class Cron:
 
 def without_users(text: str) -> List[Dict[str, str]]:
     """The rows of a bill without their users."""
-    return [{name: cell for name, cell in row.items() if name not in ("tenancy", "user")} for row in csv.DictReader(io.StringIO(text))]
+    return [{name: cell for name, cell in row.items() if name not in ("tenancy", "user")}
+            for row in csv.DictReader(io.StringIO(text))]

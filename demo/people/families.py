@@ -1,5 +1,5 @@
-"""A house with a meter of each family of demo/world/families.py, over two months: read at each midnight around their ends and every third
-day between, over a simulated bus, polled, collected, closed, audited, and on sheets."""
+"""A house with a meter of each family of demo/world/families.py, over two months: read at each midnight around their
+ends and every third day between, over a simulated bus, polled, collected, closed, audited, and on sheets."""
 
 import datetime
 import os
@@ -51,13 +51,15 @@ class FamilyHouse:
         for day in self.days():
             for meter in self.meters.values():
                 meter.count = 4711 + A_DAY * (day - MONTHS[0] + 9 * DAY).days
-            self.box.run([f"AT {int(begin_of(day).timestamp())}", *(f"POLL 1 {meter.name}" for meter in self.meters.values())],
+            self.box.run([f"AT {int(begin_of(day).timestamp())}", *(f"POLL 1 {meter.name}"
+                                                                    for meter in self.meters.values())],
                          "--gateway", self.gateway.address)
         polled = self.box.call("poll", self.box.image, *self.line, "--json")
         self.told = said_of_families(polled.printed, self.box.call("values", self.box.image, "--json").printed)
 
     def run(self, program: str, *words: str) -> str:
-        done = subprocess.run([self.office / program, "--database", self.server.name, *words], capture_output=True, text=True, check=False,
+        done = subprocess.run([self.office / program, "--database", self.server.name, *words], capture_output=True,
+                              text=True, check=False,
                               env={**os.environ, "MBDC": str(self.mbdc)})
         print("\n".join(f"    {program}: {line}" for line in (done.stdout + done.stderr).splitlines()))
         return done.stdout
@@ -71,18 +73,22 @@ class FamilyHouse:
         return {row[0]: row[1] for row in self.sql(query)}
 
     def collect(self) -> None:
-        """The box is known to the office, whose people say where it is, who lives there, and since when the meters were there."""
+        """The box is known to the office, whose people say where it is, who lives there, and since when the meters were
+        there."""
         (self.folder / "bin").mkdir()
         (self.folder / "bin/mbdc").symlink_to(self.mbdc)
         (self.folder / f"{HOUSE}.conf").write_text(f"IMAGE={self.box.image}\n", encoding="ascii")
         subprocess.run([self.office / "migrate", "--database", self.server.name], check=True, stdout=subprocess.DEVNULL)
-        self.sql("INSERT INTO boxes (name, command) VALUES (%s, %s)", HOUSE, f"{ROOT}/demo/fleet-link {self.folder} {{box}}")
+        self.sql("INSERT INTO boxes (name, command) VALUES (%s, %s)", HOUSE, f"{ROOT}/demo/fleet-link {self.folder}"
+                 f" {{box}}")
         self.run("collect")
-        self.sql("INSERT INTO houses (house, address, contact) VALUES (%s, 'Elm Street 1', 'Elm Office, 030 1234')", HOUSE)
+        self.sql("INSERT INTO houses (house, address, contact) VALUES (%s, 'Elm Street 1', 'Elm Office, 030 1234')",
+                 HOUSE)
         self.sql("UPDATE boxes SET house = name")
         self.sql("UPDATE fittings SET during = tstzrange(%s, NULL)", begin_of(self.days()[0]))
         self.sql("UPDATE flats SET area_m2 = 50")
-        self.sql("INSERT INTO tenancies (house, flat, days, person, language) SELECT house, flat, daterange(%s, NULL), 'User of ' || flat, 'en'"
+        self.sql("INSERT INTO tenancies (house, flat, days, person, language) SELECT house, flat, daterange(%s, NULL),"
+                 " 'User of ' || flat, 'en'"
                  " FROM flats", self.days()[0])
 
     def publish(self, out: pathlib.Path, pdf: str) -> None:
@@ -95,7 +101,8 @@ class FamilyHouse:
     def check(self, out: pathlib.Path) -> None:
         """Of each family the value of the poll, and the numbers of the sheets, or why there are none."""
         tokens = self.pairs("SELECT flat, token FROM tenancies")
-        gaps = self.pairs("SELECT f.identity, string_agg(DISTINCT g.why, ', ') FROM gaps g JOIN fittings f ON f.id = g.fitting GROUP BY 1")
+        gaps = self.pairs("SELECT f.identity, string_agg(DISTINCT g.why, ', ') FROM gaps g JOIN fittings f ON f.id ="
+                          " g.fitting GROUP BY 1")
         for family, meter in self.meters.items():
             told = self.told.get(meter.name, [])
             self.wants((FAMILIES[family].shown or "PlainTextExtension") in told, f"{family}: the poll says {told}")
@@ -104,14 +111,16 @@ class FamilyHouse:
                 page = Page(out / f"ready/sheets/{tokens[meter.flat]}/{month:%Y-%m}.html")
                 cells.append(" ".join(page.cells.get((use or "", str(month)), "").split()))
                 self.cell(family, cells[-1], (next_month(month) - month).days, gaps.get(meter.name))
-            print(f"{family}: polled {', '.join(told)}; {use or 'no use'}: {'; '.join(cells) or '-'}; gaps: {gaps.get(meter.name, '-')}")
+            print(f"{family}: polled {', '.join(told)}; {use or 'no use'}: {'; '.join(cells) or '-'}; gaps:"
+                  f" {gaps.get(meter.name, '-')}")
 
     def cell(self, family: str, cell: str, days: int, gap: Optional[str]) -> None:
         """A cell has what was consumed in so many days, or words; then the office says why the meter has no value."""
         wanted = days * A_DAY * Decimal(FAMILIES[family].digit)
         number = NUMBER.search(cell)
         if number:
-            self.wants(abs(Decimal(number[0].replace(",", "")) - wanted) <= Decimal("0.05"), f"{family}: {cell} and not {wanted}")
+            self.wants(abs(Decimal(number[0].replace(",", "")) - wanted) <= Decimal("0.05"), f"{family}: {cell} and"
+                       f" not {wanted}")
         else:
             self.wants(bool(cell and gap), f"{family}: neither a value nor a reason: {cell!r}, {gap}")
 

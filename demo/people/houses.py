@@ -145,9 +145,11 @@ class Place:
 
     @functools.lru_cache(maxsize=KEPT)
     def known(self, now: Moment) -> List[Knot]:
-        """The knots that the office knows. At an exchange a person notes both values, whether the box is in reach or not."""
+        """The knots that the office knows. At an exchange a person notes both values, whether the box is in reach or
+        not."""
         noted = {device.begins for device in self.devices}
-        return [knot for knot in self.knots if (knot.known_at if knot.at in noted else self.comes(knot.known_at)) <= now]
+        return [knot for knot in self.knots if (knot.known_at if knot.at in noted else self.comes(knot.known_at))
+                <= now]
 
     def consumed(self, moment: Moment, now: Moment) -> Optional[Consumed]:
         """What was consumed up to a moment as it can be known; None where no knot lies before or after it."""
@@ -173,7 +175,8 @@ class Place:
             base = known[device.begins]
             found.append(Entry(device.begins, number, device.first * self.kind.digit, True))
             last = device.ends if device.ends is not None and device.ends <= now else None
-            found += [Entry(at, number, device.first * self.kind.digit + amount - base, False) for at, amount in known.items()
+            found += [Entry(at, number, device.first * self.kind.digit + amount - base, False) for at,
+                      amount in known.items()
                       if device.begins < at and (last is None or at < last) and at != device.ends]
             found += [Entry(one.at, number, one.digits * self.kind.digit, False) for one in self.false
                       if one.device is device and self.comes(one.at) <= now and one not in self.struck]
@@ -182,7 +185,8 @@ class Place:
         return sorted(found, key=lambda entry: (entry.at, entry.meter))
 
     def marked(self, entries: List["Entry"], begins: Moment, ends: Moment) -> bool:
-        """Whether a step that touches a period falls or rises by more than the meter can count, or is beside such a step."""
+        """Whether a step that touches a period falls or rises by more than the meter can count, or is beside such a
+        step."""
         near = around(entries, begins, ends)
         steps = list(zip(near, near[1:]))
         doubts = [False, *(self.is_doubtful(*step) for step in steps), False]
@@ -194,8 +198,8 @@ class Place:
         return one.meter == other.meter and not 0 <= other.amount - one.amount <= room
 
     def is_held(self, entries: List["Entry"], begins: Moment, ends: Moment, elsewhere: float) -> bool:
-        """Whether a step of a period is ten times the median day around its month, or five times at an exchange; where there is no such
-        day, ten times one elsewhere, or more than needs no look."""
+        """Whether a step of a period is ten times the median day around its month, or five times at an exchange; where
+        there is no such day, ten times one elsewhere, or more than needs no look."""
         steps = steps_around(entries, begins, ends)
         days = sorted((use, length) for _, _, use, length in steps)
         total, passed, median = sum(length for _, length in days), 0.0, 0.0
@@ -207,8 +211,10 @@ class Place:
         touching = [step for step in steps if begins < step[1].at and step[0].at < ends]
         little = LITTLE[self.use]
         if not median:
-            return any(use > little / 10 and use >= 10 * elsewhere if elsewhere else use > little for _, _, use, _ in touching)
-        return any(use >= 10 * median and use > little or use >= 5 * median and (one.is_put or other.is_put) for one, other, use, _ in touching)
+            return any(use > little / 10 and use >= 10 * elsewhere if elsewhere else use > little for _, _, use,
+                       _ in touching)
+        return any(use >= 10 * median and use > little or use >= 5 * median and (one.is_put or other.is_put) for one,
+                   other, use, _ in touching)
 
 
 def moment_of(one: Any) -> Moment:
@@ -231,7 +237,8 @@ def steps_around(entries: List["Entry"], begins: Moment, ends: Moment) -> List[T
     later = sorted({entry.at for entry in entries if entry.at >= after})[:2]
     chosen = [entry for entry in entries if (not before or entry.at >= before[0])
               and (not later or entry.at <= later[-1])]
-    return [(one, other, max(other.amount - one.amount, 0) * 86400 / max(seconds(other.at - one.at), 43200), seconds(other.at - one.at) / 86400)
+    return [(one, other, max(other.amount - one.amount, 0) * 86400 / max(seconds(other.at - one.at), 43200),
+             seconds(other.at - one.at) / 86400)
             for one, other in zip(chosen, chosen[1:]) if one.meter == other.meter and one.at < other.at]
 
 

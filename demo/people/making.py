@@ -1,5 +1,5 @@
-"""Makes the houses of demo/office at random: flats, users who move, and meters that are exchanged, die, are disturbed or
-aren't heard for days."""
+"""Makes the houses of demo/office at random: flats, users who move, and meters that are exchanged, die, are disturbed
+or aren't heard for days."""
 
 import datetime
 import random
@@ -8,7 +8,8 @@ from typing import Dict, List, Tuple
 from people.houses import (BERLIN, GAP_DAYS, KINDS, UTC, Device, House, Kind, Moment, Place, Plan, User, begin_of, fill,
                            next_month)
 
-HOSTILE = ("Zoë \"Q\" O'Neill <b>&amp;</b>", "محمد علي", "'; DROP TABLE readings; --", "{{ 7 * 7 }} {% raw %}", "\u202eevil")
+HOSTILE = ("Zoë \"Q\" O'Neill <b>&amp;</b>", "محمد علي", "'; DROP TABLE readings; --", "{{ 7 * 7 }} {% raw %}",
+           "\u202eevil")
 NAMES = ("Weber", "Yılmaz", "Nowak", "Smith", "Đorđević", "Lindqvist")
 ODD = (1, 2)  # flats of the first house
 PLAIN = 3  # houses without jumps
@@ -43,13 +44,17 @@ def house_of(number: int, flats: int, first: datetime.date, after: datetime.date
 
 
 def but_mondays(first: datetime.date, after: datetime.date) -> List[datetime.date]:
-    return [day for number in range((after - first).days) if (day := first + datetime.timedelta(days=number)).weekday() > 0]
+    return [day for number in range((after - first).days)
+            if (day := first + datetime.timedelta(days=number)).weekday() > 0]
 
 
-def with_jump(plan: Plan, house: int, flat: int, kind: Kind, first: datetime.date, after: datetime.date, rng: random.Random) -> Plan:
-    """Of each fourth house a flat is empty, and each fifth is heard weekly. Of five meters one jumps, by up to thirty usual days."""
+def with_jump(plan: Plan, house: int, flat: int, kind: Kind, first: datetime.date, after: datetime.date,
+              rng: random.Random) -> Plan:
+    """Of each fourth house a flat is empty, and each fifth is heard weekly. Of five meters one jumps, by up to thirty
+    usual days."""
     day = first + datetime.timedelta(days=rng.randrange(45, max((after - first).days - 15, 46)))
-    jumps = plan._replace(leaps_on=day, leap=round(kind.a_day * rng.uniform(2, 30)) * kind.digit) if rng.random() < 0.2 else plan
+    jumps = plan._replace(leaps_on=day,
+                          leap=round(kind.a_day * rng.uniform(2, 30)) * kind.digit) if rng.random() < 0.2 else plan
     jumps = jumps._replace(is_empty=True) if house % 4 == 0 and flat == 0 else jumps
     return jumps._replace(lost=but_mondays(first, after), is_storing=False) if house % 5 == 0 else jumps
 
@@ -58,7 +63,8 @@ def odd(place: int, first: datetime.date, after: datetime.date) -> Plan:
     """Of the first house a flat is empty, and another is heard weekly; the meters of both leap in the third month."""
     leaps_on = next_month(next_month(first)).replace(day=15)
     is_empty = place == ODD[0]
-    return Plan(True, [] if is_empty else but_mondays(first, after), None, None, None, is_empty=is_empty, leaps_on=leaps_on)
+    return Plan(True, [] if is_empty else but_mondays(first, after), None, None, None, is_empty=is_empty,
+                leaps_on=leaps_on)
 
 
 def with_wrong_clock(plan: Plan, house: int, first: datetime.date) -> Plan:
@@ -103,7 +109,8 @@ def plan_of(kind: Kind, index: int, first: datetime.date, after: datetime.date, 
         return none._replace(dead_since=day, exchanged_at=noon(middle(day + datetime.timedelta(days=40))))
     if fate == 3:
         last_of_month = next_month(day) - datetime.timedelta(days=1)
-        return none._replace(false_on=day if is_storing or rng.random() < 0.5 else last_of_month, is_high=rng.random() < 0.5)
+        return none._replace(false_on=day if is_storing or rng.random() < 0.5 else last_of_month,
+                             is_high=rng.random() < 0.5)
     if fate in (4, 5):
         begins = day if is_storing else next_month(day) - datetime.timedelta(days=rng.randrange(1, GAP_DAYS))
         return none._replace(lost=[begins + datetime.timedelta(days=number) for number in range(GAP_DAYS)])

@@ -1,8 +1,9 @@
 """Wrong offices, for demo/office and demo/fleet: what refuses each mutant, and what it would change where nothing did.
 
-A mutant of demo/office-mutants.txt is some lines: its name and what is wrong; `in FILE by JUDGE`, a test of the office or demo/office
-with some words, and `, the audit` where that has to refuse it, too; and small edits, the old text (-), which is in the file once, and
-the new one (+). Each is played over a copy of one house that is ready to be computed (of the office's tests), then judged:
+A mutant of demo/office-mutants.txt is some lines: its name and what is wrong; `in FILE by JUDGE`, a test of the office
+or demo/office with some words, and `, the audit` where that has to refuse it, too; and small edits, the old text (-),
+which is in the file once, and the new one (+). Each is played over a copy of one house that is ready to be computed (of
+the office's tests), then judged:
 
     refused NAME: by the audit: DIFFERS line ..
     refused NAME: by test_x.py::test_y: ..; 4 numbers, 2 pages are others
@@ -33,7 +34,8 @@ MONTH = "2025-01"
 # What is done with the house, and whether a person reads what is printed
 STEPS: Tuple[Tuple[Tuple[str, ...], bool], ...] = (
     (("close", *(word for month in ("2024-01", "2024-12", MONTH) for word in ("--month", month))), False),
-    (("publish", "-", "2024-01"), False), (("publish", "-", "2024-12"), False), (("estimate", MONTH), False), (("publish", "-", MONTH), False),
+    (("publish", "-", "2024-01"), False), (("publish", "-", "2024-12"), False), (("estimate", MONTH), False),
+    (("publish", "-", MONTH), False),
     (("publish", "-", MONTH, "--bill"), False), (("publish", "-", "2024-12-01..2025-01-31", "--bill"), False),
     (("bill", "elm-1", MONTH), True), (("bill", "elm-1", "2024-12-01..2025-01-31"), True))
 PUBLISHED = """
@@ -65,7 +67,8 @@ def mutants_of(path: pathlib.Path) -> List[Mutant]:
     for head, place, *lines in (it.split("\n") for it in path.read_text(encoding="utf-8").strip("\n").split("\n\n")):
         file, _, judge = place.removeprefix("in ").partition(" by ")
         texts = ["\n".join(line[1:] for line in run) for _, run in itertools.groupby(lines, lambda line: line[:1])]
-        found.append(Mutant(head.partition(":")[0], file, judge.removesuffix(BY_AUDIT), judge.endswith((BY_AUDIT, AUDITED)),
+        found.append(Mutant(head.partition(":")[0], file, judge.removesuffix(BY_AUDIT),
+                            judge.endswith((BY_AUDIT, AUDITED)),
                             list(zip(texts[::2], texts[1::2]))))
     return found
 
@@ -117,7 +120,8 @@ class House:
                 pages[" ".join(words)] = printed
         printed_of(office, "sheets", MONTH, "--out", str(out), "--pdf", "none")
         users = dict(office.sql("SELECT token, id FROM tenancies"))  # (a token is another in each database)
-        pages.update({f"{users.get(path.parent.name, path.parent.name)}/{path.name}": path.read_text(encoding="utf-8") for path in out.rglob("*.html")})
+        pages.update({f"{users.get(path.parent.name, path.parent.name)}/{path.name}": path.read_text(encoding="utf-8")
+                      for path in out.rglob("*.html")})
         numbers = set(office.sql(PUBLISHED))
         office.connection.close()
         self.server.drop(name)
@@ -150,7 +154,8 @@ def judged(office: pathlib.Path, judges: List[str]) -> Tuple[str, str]:
         words = [ROOT / "demo/office", "--office", office, "--stop", *judge.split()[1:]] if is_demo else [
             sys.executable, "-m", "pytest", "-q", "-x", "-p", "no:cacheprovider", office / "tests" / judge]
         done = subprocess.run([*map(str, words)], capture_output=True, text=True, check=False,
-                              env={**os.environ, "TMPDIR": str(office.parent)})  # where a run that differs leaves its own
+                              # where a run that differs leaves its own
+                              env={**os.environ, "TMPDIR": str(office.parent)})
         printed = done.stdout + done.stderr
         if done.returncode and (" numbers compared, " if is_demo else "\nFAILED ") in printed:
             return judge, why(printed)
@@ -162,7 +167,8 @@ def judged(office: pathlib.Path, judges: List[str]) -> Tuple[str, str]:
 def why(printed: str) -> str:
     """The line that says what differs, or the last one."""
     lines = printed.strip().splitlines()
-    found = [line for line in lines if " and not " in line or " may: " in line or line.startswith("FAILED")] or lines[-1:]
+    found = [line for line in lines if " and not " in line or " may: " in line or line.startswith("FAILED")] or lines[
+        -1:]
     return found[0][:LONGEST_WHY]
 
 
@@ -184,7 +190,8 @@ def sentence_of(house: House, right: Optional[Played], mutant: Optional[Mutant],
         audit = f"; the audit: {found.refused[:LONGEST_WHY]}" if found.refused else ""
         said = f"refused {what}: by {by}: {reason}; {other}{audit}" if by else f"passed {what}; {other}{audit}"
         is_right = not judges or bool(by) == (mutant is not None)
-        return said, is_right and (not found.refused if mutant is None else bool(found.refused) or not mutant.is_audited)
+        return said, is_right and (not found.refused if mutant is None else bool(found.refused)
+                                   or not mutant.is_audited)
 
 
 def tried(names: List[str], mbdc: pathlib.Path, workers: int, by_audit: bool) -> int:
@@ -202,7 +209,8 @@ def tried(names: List[str], mbdc: pathlib.Path, workers: int, by_audit: bool) ->
             tries += [] if names or by_audit else [(None, sorted({it.judge for it in mutants}))]
             with concurrent.futures.ThreadPoolExecutor(workers) as pool:
                 for done in concurrent.futures.as_completed([
-                        pool.submit(sentence_of, house, right if mutant else None, mutant, judges) for mutant, judges in tries]):
+                        pool.submit(sentence_of, house, right if mutant else None, mutant, judges) for mutant,
+                    judges in tries]):
                     said, is_right = done.result()
                     print(said, flush=True)
                     wrong += [] if is_right else [said.split()[1].rstrip(":;")]

@@ -8,13 +8,16 @@ from fractions import Fraction
 from typing import Any, Dict, Iterator, List, Optional, Set, Tuple
 
 from people.houses import BERLIN, House, Place, User, begin_of, next_month
-from people.truth import DECIMALS, DISTURBED, ESTIMATED, HAND, HELD, MISSING, PROVISIONAL, VALUE, Number, Truth, places_of, written
+from people.truth import (DECIMALS, DISTURBED, ESTIMATED, HAND, HELD, MISSING, PROVISIONAL, VALUE, Number, Truth,
+                          places_of, written)
 
 WORDS = {"de": {ESTIMATED: "geschätzt", HAND: "abgelesen", PROVISIONAL: "vorläufig:", MISSING: "nicht gelesen",
-                DISTURBED: "ein Zählerstand wird geprüft", HELD: "auffällig hoch", "before": "eingezogen", "none": "kein Wert",
+                DISTURBED: "ein Zählerstand wird geprüft", HELD: "auffällig hoch", "before": "eingezogen",
+                "none": "kein Wert",
                 "only": "Tagen,"},
          "en": {ESTIMATED: "estimated", HAND: "person", PROVISIONAL: "provisional:", MISSING: "wasn't read",
-                DISTURBED: "a reading is being checked", HELD: "unusually high", "before": "moved in", "none": "no value",
+                DISTURBED: "a reading is being checked", HELD: "unusually high", "before": "moved in",
+                "none": "no value",
                 "only": "days,"}}
 MONTHS = {"de": "Jan Feb Mär Apr Mai Jun Jul Aug Sep Okt Nov Dez".split(),
           "en": "Jan Feb Mar Apr May Jun Jul Aug Sep Oct Nov Dec".split()}
@@ -92,7 +95,8 @@ class Checker:
         said += [words["only"]] if is_part else []
         return " ".join(said)
 
-    def cell(self, where: str, found: str, number: Optional[Number], unit: str, user: User, month: datetime.date) -> None:
+    def cell(self, where: str, found: str, number: Optional[Number], unit: str, user: User,
+             month: datetime.date) -> None:
         """A cell: its number and marks, or the word that says why there is none."""
         wanted = self.wanted(number, unit, user, month) or ""
         words = WORDS[user.language]
@@ -101,7 +105,8 @@ class Checker:
             return
         pieces = found.split()
         kept = [pieces[0]] if number.value is not None else []
-        kept += [word for word in (*(words[mark] for mark in (ESTIMATED, HAND, PROVISIONAL)), words["only"]) if word in pieces]
+        kept += [word for word in (*(words[mark] for mark in (ESTIMATED, HAND, PROVISIONAL)), words["only"])
+                 if word in pieces]
         self.same(where, " ".join(kept), wanted)
 
     def sheet(self, path: pathlib.Path, house: House, flat: str, user: User, month: datetime.date) -> None:
@@ -115,7 +120,8 @@ class Checker:
                 if number is not None and number.jumps and number.state == VALUE and not number.mark:
                     self.jumps.add(f"{house.name} {flat} {use} {number.begins}")
             average = self.truth.average(house, use, unit, month)
-            self.same(f"{where} {use} average", page.cells.get((use, "average"), "").partition(" ")[0], "–" if average is None else written(
+            self.same(f"{where} {use} average", page.cells.get((use, "average"), "").partition(" ")[0], "–"
+                      if average is None else written(
                 average * house.flats[flat], DECIMALS[unit], user.language))
         self.charts(page, where, house, flat, user, month)
         self.readings(page, where, house, flat, user.language)
@@ -146,7 +152,8 @@ class Checker:
         """What the meters of a flat told, by meter and moment as they are written."""
         told = self.told.setdefault((house.name, flat, language), {})
         if not told:
-            told.update({(device.identity, moment_text(at, language)): value_text(device.shown(digits), device, language)
+            told.update({(device.identity, moment_text(at, language)): value_text(device.shown(digits), device,
+                                                                                  language)
                          for place in house.places if place.flat == flat for device, at, digits in told_by(place)})
         return told
 
@@ -171,7 +178,8 @@ class Checker:
             if self.truth.is_held(house, use, month):
                 self.same(where, page.cells.get((use, ""), ""), "–")
             else:
-                self.total(where, page.cells.get((use, ""), ""), [self.truth.of_flat(house, it.flat, [it], month) for it in places], unit)
+                self.total(where, page.cells.get((use, ""), ""), [self.truth.of_flat(house, it.flat, [it], month)
+                                                                  for it in places], unit)
         self.meters(page, house, month)
 
     def total(self, where: str, found: str, numbers: List[Number], unit: str) -> None:

@@ -33,7 +33,8 @@ class Office:
         done = subprocess.run([self.programs / program, "--database", self.database.name, *words], capture_output=True,
                               text=True, check=False, env=self.environment, timeout=SECONDS)
         if done.returncode not in statuses:
-            raise SystemExit(f"office: {program} {' '.join(words)}: status {done.returncode}\n{done.stdout}{done.stderr}")
+            raise SystemExit(f"office: {program} {' '.join(words)}: status"
+                             f" {done.returncode}\n{done.stdout}{done.stderr}")
         return done.stdout
 
     def sql(self, query: str, *values: Any) -> List[Tuple[Any, ...]]:
@@ -51,12 +52,14 @@ class Office:
                      house.name, house.address, ZONE)
             for place in house.places:
                 device = place.devices[0]
-                self.sql("INSERT INTO meters (box, identity, line, address, flat, since) VALUES (%s, %s, 1, %s, %s, %s)",
+                self.sql("INSERT INTO meters (box, identity, line, address, flat, since) VALUES (%s, %s, 1, %s, %s,"
+                         " %s)",
                          house.name, device.identity, str(device.number), place.flat, device.begins)
             self.sql("UPDATE boxes SET house = %s WHERE name = %s", house.name, house.name)
             self.flats(house)
         for (name, use), factor in factors.items():
-            self.sql("INSERT INTO factors (house, use, months, kwh_per_unit) VALUES (%s, %s, '[2000-01-01,)', %s)", name, use,
+            self.sql("INSERT INTO factors (house, use, months, kwh_per_unit) VALUES (%s, %s, '[2000-01-01,)', %s)",
+                     name, use,
                      factor)
 
     def flats(self, house: House) -> None:
@@ -64,14 +67,16 @@ class Office:
             self.sql("UPDATE flats SET area_m2 = %s WHERE (house, flat) = (%s, %s)", area, house.name, flat)
             for user in house.users[flat]:
                 self.sql("INSERT INTO tenancies (house, flat, days, person, language)"
-                         " VALUES (%s, %s, daterange(%s, %s), %s, %s)", house.name, flat, user.begins, user.ends, user.name,
+                         " VALUES (%s, %s, daterange(%s, %s), %s, %s)", house.name, flat, user.begins, user.ends,
+                         user.name,
                          user.language)
         for place in house.places:
             self.first_value(place, place.devices[0])
             self.sql("UPDATE places SET weight = %s WHERE id = %s", place.weight, self.place_id(place))
 
     def place_id(self, place: Place) -> int:
-        return int(self.sql("SELECT p.id FROM places p JOIN fittings f ON f.place = p.id WHERE f.house = %s AND f.identity = %s",
+        return int(self.sql("SELECT p.id FROM places p JOIN fittings f ON f.place = p.id WHERE f.house = %s AND"
+                            " f.identity = %s",
                             place.house, place.devices[0].identity)[0][0])
 
     def first_value(self, place: Place, device: Device) -> None:
@@ -88,7 +93,8 @@ class Office:
         self.sql("UPDATE fittings SET during = tstzrange(lower(during), %s), last_value = %s, last_is_estimated = %s"
                  " WHERE (house, identity) = (%s, %s)", old.ends, old.shown(old.last), old.is_estimated, place.house,
                  old.identity)
-        self.sql("UPDATE fittings SET during = tstzrange(%s, NULL) WHERE (house, identity) = (%s, %s)", new.begins, place.house,
+        self.sql("UPDATE fittings SET during = tstzrange(%s, NULL) WHERE (house, identity) = (%s, %s)", new.begins,
+                 place.house,
                  new.identity)
         self.first_value(place, new)
 
@@ -108,7 +114,8 @@ class Office:
             last = until
             if house.outage is not None and house.outage[0] <= until < house.outage[1]:
                 last = house.outage[0]  # since then its box isn't reached
-            coming, window, box = self.coming[house.name], storing.Window(self.stored_until[house.name], last), self.boxes[house.name]
+            coming, window, box = self.coming[house.name], storing.Window(self.stored_until[house.name],
+                                                                          last), self.boxes[house.name]
             while coming and coming[0][0] <= last:
                 month = coming[0][0].date().replace(day=1)
                 page: List[Reading] = []
@@ -130,7 +137,8 @@ class Office:
         old, new = self.boxes[house.name], f"{self.boxes[house.name]}-b"
         self.sql("UPDATE boxes SET active = false WHERE name = %s", old)
         self.sql("INSERT INTO boxes (name, command, house) VALUES (%s, 'false', %s)", new, house.name)
-        self.sql("INSERT INTO meters (box, identity, line, address, flat) SELECT %s, identity, line, address, flat FROM meters"
+        self.sql("INSERT INTO meters (box, identity, line, address, flat) SELECT %s, identity, line, address, flat"
+                 " FROM meters"
                  " WHERE box = %s", new, old)
         self.boxes[house.name], self.serials[new] = new, 0
 

@@ -71,18 +71,21 @@ class Truth:
             return Number(DISTURBED, None, "", begins, ends)
         first, last = place.consumed(begins, self.now), place.consumed(ends, self.now)
         if first is None or last is None:
-            is_estimated = any(place is of and ends <= begin_of(next_month(month)) for of, month in self.estimated_places())
+            is_estimated = any(place is of and ends <= begin_of(next_month(month)) for of,
+                               month in self.estimated_places())
             return Number(VALUE if is_estimated else MISSING, None, ESTIMATED if is_estimated else "", begins, ends)
         if place.is_held(entries, begins, ends, self.elsewhere(place, begins, ends)):
             return Number(HELD, None, "", begins, ends)
         is_near = first.is_near and last.is_near and not any(
-            device.is_estimated and device.ends is not None and begins < device.ends <= ends for device in place.devices)
+            device.is_estimated and device.ends is not None and begins < device.ends <= ends
+            for device in place.devices)
         value = self.scaled(place, last.amount - first.amount, unit or self.unit(place.house, place.use))
         jumps = int(place.jump is not None and place.jump[0] < ends and begins < place.jump[1])
         return Number(VALUE, value, mark_of(entries, begins, ends) if is_near else ESTIMATED, begins, ends, jumps)
 
     def elsewhere(self, place: Place, begins: Moment, ends: Moment) -> float:
-        """A day of the place in the same month of the year before, else the median one of the others of its house and use."""
+        """A day of the place in the same month of the year before, else the median one of the others of its house and
+        use."""
         month = begins.astimezone(BERLIN).date().replace(day=1)
         year_before = month.replace(year=month.year - 1)
         if begin_of(year_before) >= place.devices[0].begins:
@@ -92,7 +95,8 @@ class Truth:
             if then.state == VALUE and then.mark in ("", HAND) and one and other and other.amount > one.amount:
                 return (other.amount - one.amount) * 86400 / (after - first).total_seconds()
         days = []
-        for it in (it for house in self.houses for it in house.places if it is not place and (it.house, it.use) == (place.house, place.use)):
+        for it in (it for house in self.houses for it in house.places if it is not place and (it.house, it.use)
+                   == (place.house, place.use)):
             steps = steps_around(it.entries(self.now), begins, ends)
             days.append(sum(use * length for _, _, use, length in steps) / (sum(length for *_, length in steps) or 1))
         return statistics.median([day for day in days if day > 0] or [0])
@@ -106,7 +110,8 @@ class Truth:
         state = max((number.state for number in numbers), key=WORST.index)
         values = [number.value for number in numbers if number.value is not None]
         total = sum(values, Fraction()) if len(values) == len(numbers) else None
-        return Number(state, total, max((number.mark for number in numbers), key=MARKS.index), begins, ends, sum(it.jumps for it in numbers))
+        return Number(state, total, max((number.mark for number in numbers), key=MARKS.index), begins, ends,
+                      sum(it.jumps for it in numbers))
 
     def of_user(self, house: House, flat: str, use: str, user: User, month: datetime.date) -> Optional[Number]:
         """What a user used in a month; None where it wasn't the user's."""
@@ -115,25 +120,28 @@ class Truth:
         ends = ends if user.ends is None else min(ends, begin_of(user.ends))
         return self.of_places(places_of(house, flat, use), begins, ends) if begins < ends else None
 
-    def of_flat(self, house: House, flat: str, places: List[Place], month: datetime.date, unit: Optional[str] = None) -> Number:
+    def of_flat(self, house: House, flat: str, places: List[Place], month: datetime.date,
+                unit: Optional[str] = None) -> Number:
         """What places of a flat consumed in a month: the sum of its users' parts, with the worst of their marks."""
         begins, ends = begin_of(month), begin_of(next_month(month))
         days = {day for user in house.users[flat] for day in (user.begins, user.ends) if day is not None}
         cuts = sorted({begins, ends, *(begin_of(day) for day in days if begins < begin_of(day) < ends)})
         parts = [self.of_places(places, one, other, unit) for one, other in zip(cuts, cuts[1:])]
         values = [part.value for part in parts if part.value is not None]
-        return Number(max((part.state for part in parts), key=WORST.index), sum(values, Fraction()) if len(values) == len(parts) else None,
+        return Number(max((part.state for part in parts), key=WORST.index), sum(values, Fraction()) if len(values)
+                      == len(parts) else None,
                       max((part.mark for part in parts), key=MARKS.index), begins, ends)
 
     def is_held(self, house: House, use: str, month: datetime.date) -> bool:
         """Whether a number of the use waits for a person in a month: then it has no sum and no average."""
         begins, ends = begin_of(month), begin_of(next_month(month))
-        return any(HELD in (self.of_place(place, begins, ends).state, self.of_flat(house, place.flat, [place], month).state)
+        return any(HELD in (self.of_place(place, begins, ends).state,
+                            self.of_flat(house, place.flat, [place], month).state)
                    for place in house.places if place.use == use)
 
     def average(self, house: House, use: str, unit: str, month: datetime.date) -> Optional[Fraction]:
-        """What a square metre used on the average, of the flats with a measured number that can be told in that unit; one that isn't
-        of the house alone has six decimals."""
+        """What a square metre used on the average, of the flats with a measured number that can be told in that unit;
+        one that isn't of the house alone has six decimals."""
         key = use, unit, month
         if key not in self.averages:
             self.averages[key] = self.average_of(use, unit, month)
@@ -161,7 +169,8 @@ def mark_of(entries: List[Entry], begins: Moment, ends: Moment) -> str:
     if len({entry.at for entry in entries if entry.at >= ends}) < 2:
         return PROVISIONAL
     around = [entry for moment in (begins, ends) for entry in beside(entries, moment)]
-    is_put = any(entry.is_put for entry in around) or any(entry.is_put and begins < entry.at <= ends for entry in entries)
+    is_put = any(entry.is_put for entry in around) or any(entry.is_put and begins < entry.at <= ends
+                                                          for entry in entries)
     return HAND if is_put else ""
 
 

@@ -8,7 +8,8 @@ from conftest import OFFICE, Office
 from supplied import HEAT, WH, Supplied, at
 
 MONTHS = """
-SELECT to_char(month, 'YYYY-MM'), amount, grade::text FROM month_use WHERE part = 0 AND month >= '2024-12-01' ORDER BY 1"""
+SELECT to_char(month, 'YYYY-MM'), amount, grade::text FROM month_use
+WHERE part = 0 AND month >= '2024-12-01' ORDER BY 1"""
 
 
 def closed(office: Office, *words: str, status: int = 0, **environment: str) -> List[str]:
