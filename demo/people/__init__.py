@@ -1,2 +1,1 @@
-"""Houses and their users for demo/office: simulated meters, a truth of what was consumed, and the pages compared with
-it."""
+"""Of demo/office, fleet and morning: houses and their users, a truth of what was consumed, and pages compared with it."""
