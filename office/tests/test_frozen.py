@@ -214,8 +214,8 @@ def test_a_bill_that_is_out(office: Office, elm: Supplied) -> None:
     assert (corrected.status, corrected.printed) == (0, "a bill; version 2 of elm-1\n")
     again = bill(office, "2025-01-01..2025-02-28", "--release")
     assert cells(again, "consumption", "grade")[1] == ("415.000", "hand")
-    assert bill(office, "2025-01-01..2025-02-28") == again and bill(office, "2025-01-01..2025-02-28", "--version",
-                                                                    "1") == before
+    assert bill(office, "2025-01-01..2025-02-28") == again
+    assert bill(office, "2025-01-01..2025-02-28", "--version", "1") == before
     assert office.sql("SELECT version, why FROM bills ORDER BY 1") == [(1, "first"), (2, "read at the meter")]
     assert bill(office, "2025-01-01..2025-02-28", "--version", "3", status=2) != ""
     assert office.run("correct", "elm-1", "2025-01", "--bill", "--why", "x").status == 4

@@ -184,8 +184,8 @@ def test_a_provisional_number_is_not_released(office: Office, elm: Supplied, tmp
     words = ("sheets", "2025-01", "--out", str(tmp_path), "--pdf", "none", "--release")
     ended = office.run(*words)
     assert ended.status == 5 and "2025-01 waits for readings after its end: elm-1" in ended.printed
-    assert office.sql("SELECT ready_houses('2025-01-01')") == [] and "waits for readings" in refused(
-        office, "SELECT release_month('elm-1', '2025-01-01')")
+    assert office.sql("SELECT ready_houses('2025-01-01')") == []
+    assert "waits for readings" in refused(office, "SELECT release_month('elm-1', '2025-01-01')")
     assert not (tmp_path / "sheets").exists() and sheet_of(office, tmp_path, tenancy).exists()
     assert "no number elm-1" not in office.run("alarms", "--at", "2025-02-03T12:00+00:00").printed
     assert "NEW no number elm-1/A1/heat/1 2025-01: No reading came after the month" in office.run(

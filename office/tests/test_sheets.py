@@ -164,8 +164,8 @@ def test_an_english_sheet_and_its_pdf(office: Office, elm: Supplied, tmp_path: p
     pdf = sheet_of(office, tmp_path, tenancy, form="pdf")
     text = subprocess.run(["pdftotext", "-layout", pdf, "-"], capture_output=True, text=True, check=True).stdout
     first, *others = text.split("\f")
-    assert all(it in first for it in ("1,240.0", "Consumption information January 2025",
-                                      "Elm Office, 030 1234")) and len(others) <= 2
+    assert all(it in first for it in ("1,240.0", "Consumption information January 2025", "Elm Office, 030 1234"))
+    assert len(others) <= 2
     assert "This sheet on the web" in " ".join(text.split())
     written(office, tmp_path, "--link", "https://example.org/sheets")
     assert office.sql("SELECT form FROM sheets ORDER BY form") == [("html",), ("pdf",)]  # the same bytes, noted once
@@ -177,8 +177,8 @@ def test_users_of_a_part_of_the_month(office: Office, elm: Supplied, tmp_path: p
     elm.months()
     written(office, tmp_path, "--pdf", "none")
     pages = [read_sheet(office, tmp_path, it) for it in (one, other)]
-    assert pages[0].cells["heat", "2025-01-01"].split()[0] == "200,0" and "01.01.2025" in pages[0].cells[
-        "heat", "2025-01-01"]
+    assert pages[0].cells["heat", "2025-01-01"].split()[0] == "200,0"
+    assert "01.01.2025" in pages[0].cells["heat", "2025-01-01"]
     assert pages[1].cells["heat", "2025-01-01"].split()[0] == "420,0"
     assert pages[0].cells["heat", "2024-12-01"].split() == ["620,0"]
     assert "eingezogen" in pages[1].cells["heat", "2024-12-01"] and "eingezogen" in pages[1].cells["heat", "2024-01-01"]
@@ -235,8 +235,8 @@ def test_links_lead_to_the_very_telegrams(office: Office, elm: Supplied, tmp_pat
     page = read_sheet(office, tmp_path, tenancy)
     links = [link for link in page.links if "decode.html" in link[0]]
     frame = "680F0F6808007278563412244001070100000000001616"
-    assert len(links) == 2 and all(label.startswith("Telegramm prüfen: Zähler 00000040.PAD.01.04") for _,
-                                   label in links)
+    assert len(links) == 2
+    assert all(label.startswith("Telegramm prüfen: Zähler 00000040.PAD.01.04") for _, label in links)
     assert all(re.fullmatch(r"\.\./\.\./decode\.html#68[0-9A-F]+16", href) for href, _ in links), (links, frame)
 
 
@@ -277,8 +277,8 @@ def test_a_sheet_has_its_file(office: Office, elm: Supplied, tmp_path: pathlib.P
             "SELECT 1 FROM sheets WHERE form = 'audit'")
         rows = [line.split(",") for line in content.decode().splitlines()]
         assert [row[:3] for row in rows if row[0] == "user"] == [["user", str(tenancy), "A2"]]
-        assert {row[2] for row in rows if row[0] == "place"} == {"A2"} and {row[4] for row in rows
-                                                                            if row[0] == "part"} <= {str(tenancy), "-"}
+        assert {row[2] for row in rows if row[0] == "place"} == {"A2"}
+        assert {row[4] for row in rows if row[0] == "part"} <= {str(tenancy), "-"}
         assert not {row[0] for row in rows} & {"of_flat", "of_house"} and sum(row[0] == "average" for row in rows) == 3
         kept = [line for line in content.splitlines() if not line.startswith((b"place", b"part", b"average"))]
         assert set(kept) <= set(whole)
@@ -317,11 +317,11 @@ def test_nothing_is_served_before_it_is_out(office: Office, elm: Supplied, tmp_p
     assert out.read_bytes() == first and out.with_suffix(".audit").exists()
     assert office.run("correct", "elm-1", "2025-01", "--why", "a second look").status == 0
     written(office, tmp_path, "--pdf", "none")
-    assert out.read_bytes() == first and "(Fassung 2)" in sheet_of(office, tmp_path,
-                                                                   tenancy).read_text(encoding="utf-8")
+    assert out.read_bytes() == first
+    assert "(Fassung 2)" in sheet_of(office, tmp_path, tenancy).read_text(encoding="utf-8")
     written(office, tmp_path, "--pdf", "none", "--release")
-    assert out.read_bytes() != first and out.with_name("2025-01.1.html").exists() and not list(
-        tmp_path.glob("ready/sheets/*/*"))
+    assert out.read_bytes() != first and out.with_name("2025-01.1.html").exists()
+    assert not list(tmp_path.glob("ready/sheets/*/*"))
 
 
 # ---- what a sheet says beside its amounts: per cent, emissions, costs, the weather, how an estimate was made
