@@ -15,7 +15,7 @@ from catalogue import DECIMALS, printed_reading
 from database import Cursor, grouped, plain, rows_of, value_of
 from periods import DAY, begin_of, later_month, next_month
 from program import KEY, File, Key, Published
-from sheet_data import Averages, House, Number, Sheet, Use, declared_average, facts_of, house_of, sheets_of
+from sheet_data import HELD_USES, Averages, House, Number, Sheet, Use, declared_average, house_of, sheets_of
 from supply import (BY_HAND, DUE_DATE, ENDED, ESTIMATED, FITTED, READ, REMOVED, RESTARTED, RUNS, STORED, Place, Run,
                     Telegram, Value, plain_number, seconds)
 
@@ -548,7 +548,7 @@ def month_file(cursor: Cursor, house: str, month: datetime.date, averages: Avera
     writer.lines += [f"{','.join(key)},{number}" for key, number in declared.items()]
     writer.lines += user_lines(cursor, house, of_spans, min(spans), next_month(month))
     asked = [it for sheet in sheets for it in of_sheet(sheet, spans)]
-    asked += of_house(page, facts_of(cursor, [house], month, [])[house].held, spans[month])
+    asked += of_house(page, {it.use for it in rows_of(cursor, HELD_USES, [house], month)}, spans[month])
     shown = [(span, window, one == month) for one, span in spans.items() for window in windows[one]]
     write(writer, shown, asked, readings)
     return File(writer.lines, lambda lines: Reader(writer.places).read(lines))
