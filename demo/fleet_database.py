@@ -34,7 +34,7 @@ def install(packages: Sequence[str]) -> None:
 class Server:
     """The server; `name` is its DSN."""
 
-    def __init__(self, folder: pathlib.Path) -> None:
+    def __init__(self, folder: pathlib.Path, *options: str) -> None:
         self.folder, self.crashes = folder / "database", 0
         self.process: Optional[subprocess.Popen[bytes]] = None
         self.folder.mkdir()
@@ -43,11 +43,11 @@ class Server:
                                         "extra_groups": []} if os.geteuid() == 0 else {}
         if self.account:
             shutil.chown(self.folder, "postgres", "postgres")
-        self.name = f"host={self.folder} dbname={DATABASE} user={OWNER}"
+        self.name = self.dsn(DATABASE)
         program = PROGRAMS[-1].parent
         self.run([program / "initdb", "-D", self.folder / "data", "-A", "trust", "-U", OWNER, "--no-sync"])
         self.words: list[Word] = [program / "postgres", "-D", self.folder / "data", "-k", self.folder, "-c",
-                                  "listen_addresses="]
+                                  "listen_addresses=", *options]
 
     def run(self, words: Sequence[Word]) -> None:
         done = subprocess.run(list(map(str, words)), cwd=self.folder, capture_output=True, text=True, check=False,
@@ -55,9 +55,12 @@ class Server:
         if done.returncode != 0:
             raise SystemExit(f"fleet: {words[0]}: {done.stderr}")
 
-    def connect(self) -> Any:
+    def dsn(self, database: str) -> str:
+        return f"host={self.folder} dbname={database} user={OWNER}"
+
+    def connect(self, database: str = DATABASE) -> Any:
         import psycopg2
-        connection = psycopg2.connect(self.name, options="-c timezone=UTC")
+        connection = psycopg2.connect(self.dsn(database), options="-c timezone=UTC")
         connection.autocommit = True
         return connection
 

@@ -141,7 +141,8 @@ def made(mutant: Optional[Mutant], folder: pathlib.Path) -> pathlib.Path:
     folder.chmod(0o711)
     office = folder / "office"
     shutil.copytree(ROOT / "office", office)
-    (folder / "packaging").symlink_to(ROOT / "packaging")
+    for name in ("demo", "packaging"):
+        (folder / name).symlink_to(ROOT / name)
     if mutant:
         mutant.written(office)
     return office

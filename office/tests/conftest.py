@@ -1,7 +1,6 @@
 """A PostgreSQL server in a temporary folder, a database of the office for each test, and boxes."""
 
 import dataclasses
-import importlib
 import json
 import os
 import pathlib
@@ -9,73 +8,50 @@ import shutil
 import subprocess
 import sys
 import tempfile
-from typing import Any, Dict, Iterator, List, Tuple
+from typing import Any, Iterator, List, Tuple
 
-import psycopg2
-import psycopg2.extensions
 import pytest
 
 OFFICE = pathlib.Path(__file__).resolve().parent.parent
 TESTS = OFFICE / "tests"
 ROOT = OFFICE.parent
 sys.path[:0] = [str(OFFICE), str(ROOT / "demo")]
-answer = importlib.import_module("world.frames").answer
+import fleet_database
+from fleet_database import OWNER
+from world.frames import answer
+
 # The program that decodes and audits: MBDC names it, else ./mbdc builds it once, without a proof where none is proved
 BUILT = ("./mbdc decode /dev/null >/dev/null && root=$PWD && . tools/built.sh"
          " && { is_built && echo $built/mbdc || echo $built/unproved/mbdc; }")
 MBDC = os.environ.get("MBDC") or subprocess.check_output(["bash", "-euc", BUILT], cwd=ROOT, text=True).strip()
 os.environ["MBDC"] = MBDC  # of the modules that a test calls
-PROGRAMS = sorted(pathlib.Path("/usr/lib/postgresql").glob("*/bin/pg_ctl"), key=lambda path: int(path.parts[4]))
-OWNER, TEMPLATE = "office", "migrated"
+TEMPLATE = "migrated"
 MORE, SELECTED = 0x1F, 253  # the end of a telegram that another one follows; the address of a selected meter
 MOMENT = 1_735_689_600  # 2025-01-01, UTC
 SECONDS = 900  # at most, of a command, also on a machine with much to do
 Meter = Tuple[str, int, str, str]
 
 
-class Server:
-    """The server; it runs as the user of Debian's package, as PostgreSQL refuses to run as root."""
+class Server(fleet_database.Server):
+    """The server, with a database for each test. Nothing of it is kept."""
 
     def __init__(self, folder: pathlib.Path) -> None:
-        self.folder, self.count = folder, 0
-        self.account: Dict[str, Any] = {}
-        if os.geteuid() == 0:
-            self.account = {"user": "postgres", "group": "postgres", "extra_groups": []}
-            shutil.chown(folder, "postgres", "postgres")
-        programs = PROGRAMS[-1].parent
-        self.run([programs / "initdb", "-D", folder / "data", "-A", "trust", "-U", OWNER, "--no-sync"])
-        self.ctl([programs / "pg_ctl", "-D", folder / "data", "-w", "-l", folder / "log", "-o",
-                  f"-k {folder} -c listen_addresses= -c fsync=off", "start"])
+        super().__init__(folder, "-c", "fsync=off")
+        self.count = 0
+        self.start()
 
-    def run(self, words: List[Any]) -> None:
-        subprocess.run(words, cwd=self.folder, check=True, stdout=subprocess.DEVNULL, **self.account)
-
-    ctl = run
-
-    def stop(self) -> None:
-        self.ctl([PROGRAMS[-1], "-D", self.folder / "data", "-m", "immediate", "stop"])
-
-    def name(self, database: str) -> str:
-        return f"host={self.folder} user={OWNER} dbname={database}"
-
-    def connect(self, database: str) -> psycopg2.extensions.connection:
-        connection = psycopg2.connect(self.name(database), options="-c timezone=UTC")
-        connection.autocommit = True
-        return connection
+    def do(self, statement: str) -> None:
+        with self.connect().cursor() as cursor:
+            cursor.execute(statement)
 
     def make(self, template: str = "template1") -> str:
         self.count += 1
-        name = f"office_{self.count}"
-        connection = self.connect("postgres")
-        connection.cursor().execute(f"CREATE DATABASE {name} TEMPLATE {template}")
-        connection.close()
-        return name
+        self.do(f"CREATE DATABASE office_{self.count} TEMPLATE {template}")
+        return f"office_{self.count}"
 
     def drop(self, database: str) -> None:
         """Its files are some megabytes."""
-        connection = self.connect("postgres")
-        connection.cursor().execute(f"DROP DATABASE {database} WITH (FORCE)")
-        connection.close()
+        self.do(f"DROP DATABASE {database} WITH (FORCE)")
 
 
 @dataclasses.dataclass
@@ -88,7 +64,7 @@ class Office:
     """The office's programs over one database, and the boxes that they reach."""
 
     def __init__(self, server: Server, database: str, folder: pathlib.Path, programs: pathlib.Path = OFFICE) -> None:
-        self.server, self.folder, self.name, self.programs = server, folder, server.name(database), programs
+        self.server, self.folder, self.name, self.programs = server, folder, server.dsn(database), programs
         self.connection = server.connect(database)
         (folder / "bin").mkdir(exist_ok=True)
         if not (folder / "bin/mbdc").exists():
@@ -192,10 +168,8 @@ def server() -> Iterator[Server]:
     folder = pathlib.Path(tempfile.mkdtemp(prefix="office-tests-"))
     folder.chmod(0o711)
     running = Server(folder)
-    connection = running.connect("postgres")
-    connection.cursor().execute(f"CREATE DATABASE {TEMPLATE}")
-    connection.close()
-    subprocess.run([OFFICE / "migrate", "--database", running.name(TEMPLATE)], check=True, stdout=subprocess.DEVNULL)
+    running.do(f"CREATE DATABASE {TEMPLATE}")
+    subprocess.run([OFFICE / "migrate", "--database", running.dsn(TEMPLATE)], check=True, stdout=subprocess.DEVNULL)
     yield running
     running.stop()
     shutil.rmtree(folder)

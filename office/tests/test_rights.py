@@ -79,7 +79,7 @@ REFUSED = {
 
 
 def as_postgres(server: Server, *words: Any) -> None:
-    subprocess.run(["psql", "-qX", "-v", "ON_ERROR_STOP=1", "-d", server.name("postgres"), *words], check=True)
+    subprocess.run(["psql", "-qX", "-v", "ON_ERROR_STOP=1", "-d", server.dsn("postgres"), *words], check=True)
 
 
 @pytest.fixture(scope="module")
@@ -87,7 +87,7 @@ def packaged(server: Server) -> Iterator[str]:
     """A database as the package's postinst makes it: by its owner, who may make no role."""
     as_postgres(server, "-f", OFFICE / "schema/roles.sql", "-f", LOGINS, "-f", LOGINS,
                 "-c", 'CREATE DATABASE packaged OWNER "mbdc-billing"')
-    name = server.name("packaged").replace("user=office", "user=mbdc-billing")
+    name = server.dsn("packaged").replace("user=office", "user=mbdc-billing")
     done = subprocess.run([OFFICE / "migrate", "--database", name], capture_output=True, text=True, check=False)
     assert done.returncode == 0, done.stderr
     yield "packaged"
@@ -97,7 +97,7 @@ def packaged(server: Server) -> Iterator[str]:
 @pytest.mark.parametrize("who", REFUSED, ids=" ".join)
 def test_each_login_is_refused(server: Server, packaged: str, who: Tuple[str, str]) -> None:
     login, role = who
-    connection = psycopg2.connect(server.name(packaged).replace("user=office", f"user={login}"))
+    connection = psycopg2.connect(server.dsn(packaged).replace("user=office", f"user={login}"))
     connection.autocommit = True
     wrong = []
     for query in REFUSED[who]:
