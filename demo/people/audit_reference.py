@@ -45,8 +45,7 @@ FORMS: Dict[str, Tuple[str, ...]] = {
     "of_flat": (NUMBER, WORD, USE, AMOUNT_UNIT, TEXT, MARK), "of_house": (NUMBER, USE, AMOUNT_UNIT, TEXT, COUNT, COUNT),
     "mean": (NUMBER, NUMBER, USE, AMOUNT_UNIT, TEXT), "change": (NUMBER, NUMBER, NUMBER, USE, AMOUNT_UNIT, TEXT),
     "carbon": (NUMBER, NUMBER, USE, TEXT), "cost": (NUMBER, NUMBER, USE, AMOUNT_UNIT, TEXT),
-    "weather": (NUMBER, NUMBER, NUMBER, USE, TEXT),
-    "end": ()}
+    "weather": (NUMBER, NUMBER, NUMBER, USE, TEXT), "end": ()}
 MANY = ("read", "stored", "ended")  # with one body and more
 FACTS = ("span", "use", "factor", "co2", "degrees", "price", "average", "user")
 VALUES = ("read", "stored", "hand", "estimated", "first", "last", "ended", "zero")
@@ -164,8 +163,7 @@ def records_of(body: bytes) -> Tuple[List[Record], bool]:
         found.append(Record(dif >> 4 & 3, sum((it >> 4 & 3) << 2 * n for n, it in enumerate(difes)),
                             sum((it >> 6 & 1) << n for n, it in enumerate(difes)),
                             (dif >> 6 & 1) + sum((it & 15) << 4 * n + 1 for n, it in enumerate(difes)), field,
-                            body[vif:data],
-                            body[begins:at]))
+                            body[vif:data], body[begins:at]))
     return found, body[at:at + 1] == b"\x1f"
 
 
@@ -306,8 +304,7 @@ def steps_of(entries: List[Entry]) -> List[Step]:
     pairs = list(zip(entries, entries[1:]))
     doubts = [False, *(is_doubtful(*pair) for pair in pairs), False]
     return [Step(one.moment, other.moment, amount_of(one, other), any(doubts[place:place + 3]),
-                 one.meter != other.meter)
-            for place, (one, other) in enumerate(pairs)]
+                 one.meter != other.meter) for place, (one, other) in enumerate(pairs)]
 
 
 def curve(entries: List[Entry], steps: List[Step], moment: int) -> Optional[int]:

@@ -121,8 +121,7 @@ class Files:
                     self.runs[run]["begins"] = self.runs[run - 1]["ends"] = begin
         for run, it in enumerate(self.runs, 1):
             self.add("meter", run, self.identity(it), it["begins"], "-" if it["ends"] is None else it["ends"],
-                     it["most"] or rng.choice(("-", 0)),
-                     it["size"] or "-", it["vib"])
+                     it["most"] or rng.choice(("-", 0)), it["size"] or "-", it["vib"])
         for span in self.spans:
             if rng.random() < 0.99:
                 self.window(span, flat)

@@ -19,8 +19,7 @@ QUARTER = 3  # months of a bill
 WHY = "readings came late"
 # What is out, but who it was of: months, what was printed, and versions with their reasons
 OUT = ("SELECT 'month', u.month::text, u.place, u.part, u.version, u.amount, u.grade, u.is_held, u.begins, u.ends FROM"
-       " month_use u"
-       " WHERE u.out_at IS NOT NULL",
+       " month_use u WHERE u.out_at IS NOT NULL",
        "SELECT 'printed', id, house, coalesce(month::text, days::text), version, kind, flat, use, place, period, unit,"
        " text, mark FROM published",
        "SELECT 'version', house, month::text, version, why, out_at FROM versions WHERE out_at IS NOT NULL",

@@ -59,8 +59,7 @@ class FamilyHouse:
 
     def run(self, program: str, *words: str) -> str:
         done = subprocess.run([self.office / program, "--database", self.server.name, *words], capture_output=True,
-                              text=True, check=False,
-                              env={**os.environ, "MBDC": str(self.mbdc)})
+                              text=True, check=False, env={**os.environ, "MBDC": str(self.mbdc)})
         print("\n".join(f"    {program}: {line}" for line in (done.stdout + done.stderr).splitlines()))
         return done.stdout
 
@@ -88,8 +87,7 @@ class FamilyHouse:
         self.sql("UPDATE fittings SET during = tstzrange(%s, NULL)", begin_of(self.days()[0]))
         self.sql("UPDATE flats SET area_m2 = 50")
         self.sql("INSERT INTO tenancies (house, flat, days, person, language) SELECT house, flat, daterange(%s, NULL),"
-                 " 'User of ' || flat, 'en'"
-                 " FROM flats", self.days()[0])
+                 " 'User of ' || flat, 'en' FROM flats", self.days()[0])
 
     def publish(self, out: pathlib.Path, pdf: str) -> None:
         self.run("close", "--all", "--since", str(self.days()[0]))

@@ -217,8 +217,7 @@ class Truth:
             "SELECT number FROM orders WHERE box = %s AND state = 'done' ORDER BY number", house.box)]
         (number, confirmed), = self.rows("SELECT number, confirmed FROM boxes WHERE name = %s", house.box)
         printed = house.run([PROBE, f"OFFICE WINDOW {confirmed + 1} 1", "OFFICE REGISTER"])
-        register = {(words[1], int(words[2]), words[3], words[4])
-                    for words in map(str.split, printed[2:-1])}
+        register = {(words[1], int(words[2]), words[3], words[4]) for words in map(str.split, printed[2:-1])}
         self.check(printed[:2] == [f"ERR ORDER {number}", "END 0"], f"{house.box} says {printed[:2]}, not {number}")
         first = number - len(numbers) + 1 if house.box.endswith("-b") else 1  # some were done by hand
         self.check(numbers == list(range(first, number + 1)), f"{house.box}: the numbers of the orders are {numbers}")

@@ -37,8 +37,7 @@ KINDS = {
     "heat in joules": Kind("heat", 0x04, 0x0E, "J", 1_000_000_000, 32, True),
     "warm water": Kind("warm water", 0x06, 0x13, "m3", 1_000, 60, False),
     "cold water": Kind("cold water", 0x07, 0x13, "m3", 1_000, 130, False),
-    "allocator": Kind("allocator", 0x08, 0x6E, "HCA", 1_000, 9, True),
-}
+    "allocator": Kind("allocator", 0x08, 0x6E, "HCA", 1_000, 9, True),}
 SHOWN_DIGIT = {0x03: ("Wh", 1, 0), 0x0E: ("J", 1_000_000, 0), 0x13: ("m3", 1, 3), 0x6E: ("HCA", 1, 0)}
 GAP_DAYS = 6
 LEAP = 53_000_000  # millilitres

@@ -97,8 +97,7 @@ def troubles_of(days: Days) -> list[Trouble]:
                 "collect", {}, "UPDATE boxes SET collected_at = now(), fault = NULL WHERE name = '{house}';"
                 "UPDATE meters SET heard = now(), stored_at = now(), at = now() WHERE box = '{house}'"),
         Trouble("silent", "UPDATE meters SET heard = now() - interval '5 days', stored_at = now() - interval '5 days',"
-                " at = now() - interval '5 days'"
-                " WHERE identity = " + METER, "exchange",
+                " at = now() - interval '5 days' WHERE identity = " + METER, "exchange",
                 {"new": "99000002.PAD.01.04", "at": f"{days.last}T12:00", "last": "5900000", "first": "0",
                  "unit": "Wh"},
                 "UPDATE orders SET state = 'done', number = 1, answer = 'OK', ended_at = now() WHERE box = '{house}';"
@@ -141,8 +140,7 @@ def troubles_of(days: Days) -> list[Trouble]:
         Trouble("changed", "", "correct_month", {}),
         Trouble("late", "UPDATE boxes SET late = jsonb_build_object('values', 12, 'meters', 2, 'first', '2026-01-01')"
                 " WHERE name = '{house}'", "take_over", {},
-                "UPDATE boxes SET late = NULL WHERE name = '{house}'"),
-    ]
+                "UPDATE boxes SET late = NULL WHERE name = '{house}'"),]
 
 
 def turned(days: Days) -> int:

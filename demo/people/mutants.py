@@ -68,8 +68,7 @@ def mutants_of(path: pathlib.Path) -> List[Mutant]:
         file, _, judge = place.removeprefix("in ").partition(" by ")
         texts = ["\n".join(line[1:] for line in run) for _, run in itertools.groupby(lines, lambda line: line[:1])]
         found.append(Mutant(head.partition(":")[0], file, judge.removesuffix(BY_AUDIT),
-                            judge.endswith((BY_AUDIT, AUDITED)),
-                            list(zip(texts[::2], texts[1::2]))))
+                            judge.endswith((BY_AUDIT, AUDITED)), list(zip(texts[::2], texts[1::2]))))
     return found
 
 

@@ -17,8 +17,7 @@ WORDS = {"de": {ESTIMATED: "geschätzt", HAND: "abgelesen", PROVISIONAL: "vorlä
                 "only": "Tagen,"},
          "en": {ESTIMATED: "estimated", HAND: "person", PROVISIONAL: "provisional:", MISSING: "wasn't read",
                 DISTURBED: "a reading is being checked", HELD: "unusually high", "before": "moved in",
-                "none": "no value",
-                "only": "days,"}}
+                "none": "no value", "only": "days,"}}
 MONTHS = {"de": "Jan Feb Mär Apr Mai Jun Jul Aug Sep Okt Nov Dez".split(),
           "en": "Jan Feb Mar Apr May Jun Jul Aug Sep Oct Nov Dec".split()}
 METER_CELLS = 6  # of a meter's row on a house page

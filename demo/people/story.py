@@ -59,8 +59,7 @@ class Office:
             self.flats(house)
         for (name, use), factor in factors.items():
             self.sql("INSERT INTO factors (house, use, months, kwh_per_unit) VALUES (%s, %s, '[2000-01-01,)', %s)",
-                     name, use,
-                     factor)
+                     name, use, factor)
 
     def flats(self, house: House) -> None:
         for flat, area in house.flats.items():
@@ -68,16 +67,14 @@ class Office:
             for user in house.users[flat]:
                 self.sql("INSERT INTO tenancies (house, flat, days, person, language)"
                          " VALUES (%s, %s, daterange(%s, %s), %s, %s)", house.name, flat, user.begins, user.ends,
-                         user.name,
-                         user.language)
+                         user.name, user.language)
         for place in house.places:
             self.first_value(place, place.devices[0])
             self.sql("UPDATE places SET weight = %s WHERE id = %s", place.weight, self.place_id(place))
 
     def place_id(self, place: Place) -> int:
         return int(self.sql("SELECT p.id FROM places p JOIN fittings f ON f.place = p.id WHERE f.house = %s AND"
-                            " f.identity = %s",
-                            place.house, place.devices[0].identity)[0][0])
+                            " f.identity = %s", place.house, place.devices[0].identity)[0][0])
 
     def first_value(self, place: Place, device: Device) -> None:
         """A person notes what a meter showed when it was fitted."""
@@ -94,8 +91,7 @@ class Office:
                  " WHERE (house, identity) = (%s, %s)", old.ends, old.shown(old.last), old.is_estimated, place.house,
                  old.identity)
         self.sql("UPDATE fittings SET during = tstzrange(%s, NULL) WHERE (house, identity) = (%s, %s)", new.begins,
-                 place.house,
-                 new.identity)
+                 place.house, new.identity)
         self.first_value(place, new)
 
     def strike(self, place: Place, at: Moment, device: Device) -> None:
@@ -138,8 +134,7 @@ class Office:
         self.sql("UPDATE boxes SET active = false WHERE name = %s", old)
         self.sql("INSERT INTO boxes (name, command, house) VALUES (%s, 'false', %s)", new, house.name)
         self.sql("INSERT INTO meters (box, identity, line, address, flat) SELECT %s, identity, line, address, flat"
-                 " FROM meters"
-                 " WHERE box = %s", new, old)
+                 " FROM meters WHERE box = %s", new, old)
         self.boxes[house.name], self.serials[new] = new, 0
 
     def as_if_in(self, month: datetime.date) -> None:

@@ -51,8 +51,7 @@ class Supplied:
         office.sql("INSERT INTO boxes (name, command) VALUES (%s, 'false')", house)
         office.sql("UPDATE boxes SET house = %s WHERE name = %s", house, house)
 
-    def meter(self, number: int, medium: str, flat: str, area: float = 50,
-              since: datetime.datetime = FITTED) -> int:
+    def meter(self, number: int, medium: str, flat: str, area: float = 50, since: datetime.datetime = FITTED) -> int:
         """A meter in the register; returns its fitting."""
         identity = f"{number:08}.PAD.01.{medium}"
         self.office.sql("INSERT INTO meters (box, identity, line, address, flat, since) VALUES (%s, %s, 1, %s, %s, %s)",
@@ -132,8 +131,7 @@ class Supplied:
             body = header(identity) + record(unit, value) + dated(day) + record(unit, value, 1)
             self.office.sql("WITH d AS (UPDATE day_values SET value = %s WHERE (fitting, day) = (%s, %s)"
                             " RETURNING month, box, serial) UPDATE readings r SET bodies = ARRAY[%s::bytea] FROM d"
-                            " WHERE (r.month, r.box, r.serial) = (d.month, d.box, d.serial)",
-                            value, fitting, day, body)
+                            " WHERE (r.month, r.box, r.serial) = (d.month, d.box, d.serial)", value, fitting, day, body)
 
     def months(self, *months: str) -> None:
         """Computes months: those that a sheet of January 2025 has."""

@@ -88,8 +88,7 @@ def test_alarms_are_told_once_until_they_end(office: Office, elm: Supplied, tmp_
     silent = office.run("alarms", "--at", "2025-01-24T12:00+00:00")
     assert [line for line in silent.printed.splitlines() if "silent" in line] == [
         f"NEW silent elm-1 0000000{number}.PAD.01.{kind}: A meter is silent (flat A{number}): The last telegram came"
-        " 19 Jan 2025, 24:00."
-        for number, kind in ((1, "04"), (3, "07"))]
+        " 19 Jan 2025, 24:00." for number, kind in ((1, "04"), (3, "07"))]
     office.sql("UPDATE alarms SET known_by = 'me'")
 
 

@@ -331,5 +331,4 @@ def test_each_kind_has_words(office: Office) -> None:
         facts: Dict[str, Any] = {"grade": detail} if kind == "no number" else {"why": detail} if detail else {}
         assert all(Words(language, "UTC").language == language for language in ("de", "en"))
         assert brief(kind, {**facts, "status": 9, "meters": 3, "boxes": 2, "month": "2025-01-01", "day": "2025-01-31",
-                            "nights": 7, "days": 45, "type": "0F",
-                            "places": 4, "use": "heat"})
+                            "nights": 7, "days": 45, "type": "0F", "places": 4, "use": "heat"})

@@ -71,8 +71,7 @@ def test_another_number_is_another_version(office: Office, elm: Supplied, tmp_pa
     printed = office.run("alarms").printed
     said = [line for line in printed.splitlines() if "NEW changed" in line]
     assert said == ["NEW changed elm-1 2025-01: A month that went out would be another now: elm-1/A1/heat/1: 310.0 kWh"
-                    " (measured) went out,"
-                    " now 315.0 kWh (read by a person)."]
+                    " (measured) went out, now 315.0 kWh (read by a person)."]
     assert office.sql("SELECT amount FROM month_kwh WHERE part = 0 AND month = '2025-01-01'") == [(310_000 * WH,)]
     assert office.run("close", "--month", "2025-01").status == 0 and rows(office) == before
     corrected = office.run("correct", "elm-1", "2025-01", "--why", "read at the meter")

@@ -109,8 +109,7 @@ def test_a_filled_database_of_0_2_0(older: Office, office: Office) -> None:
     assert older.sql("UPDATE sheets SET sent_at = now() RETURNING is_before_audits") == [(True,)]
     for query in ("UPDATE versions SET out_at = now() WHERE version = 2", "UPDATE sheets SET is_before_audits = false",
                   "INSERT INTO sheets (tenancy, month, form, path, sha256) SELECT id, '2025-01-01', 'pdf', 'x',"
-                  " repeat('0', 64)"
-                  " FROM tenancies",
+                  " repeat('0', 64) FROM tenancies",
                   "INSERT INTO bills (house, days, version, why, out_at) VALUES ('elm', '[2025-01-01,2025-02-01)', 1,"
                   " 'a', now())"):
         assert '"has_an_audit"' in refused(older, query), query

@@ -10,8 +10,7 @@ from test_schema import refused
 
 def days_of(office: Office) -> object:
     return office.sql("SELECT day::text, value::float, source FROM day_values WHERE struck_at IS NULL AND day <"
-                      " '2025-02-02'"
-                      " ORDER BY day")
+                      " '2025-02-02' ORDER BY day")
 
 
 def test_a_day_has_the_stored_value_or_the_last_reading(office: Office, elm: Supplied) -> None:
@@ -159,18 +158,14 @@ def test_what_the_tables_refuse(office: Office, elm: Supplied) -> None:
                   "UPDATE fittings SET unit = 'Wh', last_value = 1",
                   "UPDATE fittings SET unit = 'Wh', first_value = 0.0000001",
                   f"INSERT INTO day_values (fitting, day, at, value, unit, source) VALUES ({meter}, '2025-01-01',"
-                  " now(),"
-                  " -1, 'Wh', 'by hand')",
+                  " now(), -1, 'Wh', 'by hand')",
                   f"INSERT INTO day_values (fitting, day, at, value, unit, source) VALUES ({meter}, '2025-01-01',"
-                  " now(),"
-                  " 1, 'W', 'by hand')",
+                  " now(), 1, 'W', 'by hand')",
                   f"INSERT INTO day_values (fitting, day, at, value, unit, source) VALUES ({meter}, '2025-01-01',"
-                  " now(),"
-                  " 1, 'Wh', 'read')",
+                  " now(), 1, 'Wh', 'read')",
                   "INSERT INTO factors VALUES ('elm-1', 'heat', '[2025-01-01,)', 1)",
                   "INSERT INTO month_use SELECT '2025-01-01', place, 0, '2025-01-01', '2025-02-01', NULL, 5,"
-                  " 'disturbed',"
-                  " false, '[]' FROM fittings"):
+                  " 'disturbed', false, '[]' FROM fittings"):
         assert refused(office, query), query
 
 

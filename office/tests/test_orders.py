@@ -204,8 +204,7 @@ LIES: Dict[str, Callable[[Rows], Rows]] = {
     "a command of a meter that isn't there": changed(f"3 {SWAPPED}", "3 OUT 99999999.PAD.01.07"),
     "a meter that is there": changed(f"3 {SWAPPED}", f"3 {FITS[1]}"),
     "a command that no box has": changed(f"3 {SWAPPED}", "3 STRIKE 1"),
-    "two lines of one number": lambda rows: rows + [{**rows[2], "line": f"3 {FOURTH}"}],
-}
+    "two lines of one number": lambda rows: rows + [{**rows[2], "line": f"3 {FOURTH}"}],}
 
 
 @pytest.mark.parametrize("lie", LIES)

@@ -113,8 +113,7 @@ def test_each_digit_was_accepted(office: Office, elm: Supplied, tmp_path: pathli
         words = Catalogue(language, "Europe/Berlin")
         known = {words.printed(row[0].lstrip("-")) for row in office.sql(
             "SELECT text FROM published WHERE tenancy IS NULL OR tenancy = %s UNION SELECT"
-            " unnest(string_to_array(mark, ' ')) FROM published"
-            " WHERE kind = 'house'", tenancy)}
+            " unnest(string_to_array(mark, ' ')) FROM published WHERE kind = 'house'", tenancy)}
         declared = {words.exact(row[0]) for row in office.sql("SELECT co2_g_per_kwh FROM houses")}
         digits = digits_of(path.read_text(encoding="utf-8").replace("10115", ""), audit)
         assert len(digits) > 10 and digits <= known | declared | {"1"}, (path, digits - known)  # "1 m³ = .."

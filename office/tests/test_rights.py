@@ -74,8 +74,7 @@ REFUSED = {
     ("mbdc-desk", ""): (*NOBODY, *OWNER, *PUBLISHER, *CLERK, *COLLECTOR, *CLOSER, "SELECT * FROM houses"),
     ("mbdc-desk", "reader"): (*NOBODY, *OWNER, *PUBLISHER, *CLERK, *COLLECTOR, *CLOSER),
     ("mbdc-desk", "clerk"): (*NOBODY, *OWNER, *PUBLISHER, *COLLECTOR, *CLOSER),
-    ("mbdc-desk", "publisher"): (*NOBODY, *OWNER, *COLLECTOR, *CLOSER),
-}
+    ("mbdc-desk", "publisher"): (*NOBODY, *OWNER, *COLLECTOR, *CLOSER),}
 
 
 def as_postgres(server: Server, *words: Any) -> None:

@@ -101,8 +101,7 @@ def elm(office: Office) -> Supplied:
                   403, 1_000_000, 10_000 * number)
         water = made.meter(10 + number, WATER, flat, area=40 + 10 * number)
         made.values(water, {"2023-12-31": 1, "2024-01-31": 3, "2024-11-30": 20, "2024-12-31": "22.5", "2025-01-31": 26,
-                            "2025-02-01": 26},
-                    "m3")
+                            "2025-02-01": 26}, "m3")
         made.days(made.meter(20 + number, COLD, flat, area=40 + 10 * number), "2024-12-30", 40, 7, 1, "m3")
     office.sql("INSERT INTO factors (house, use, months, kwh_per_unit)"
                " VALUES ('elm-1', 'warm water', '[2023-01-01,)', 125)")

@@ -37,8 +37,7 @@ def moments(stamps: List[float], after: Optional[float], before: float) -> List[
     ([-200_000, 3], 0, 24, [24, 3]),  # 2000
     ([-200_000, 3], None, 24, [None, 3]),
     ([-9000, 3], None, 24, [-9000, 3]),  # the first collection: a year ago
-    ([], 0, 24, []),
-])
+    ([], 0, 24, []),])
 def test_moments(stamps: List[float], after: Optional[float], before: float, wanted: List[Optional[float]]) -> None:
     assert moments(stamps, after, before) == wanted
 
@@ -74,8 +73,7 @@ def test_a_collection_notes_a_wrong_clock(office: Office, box: Box) -> None:
     heard(box, now - 50_000, 946_684_800, now - 40_000)
     assert office.collect().status == 0
     rows = office.sql("SELECT at = heard[1], abs(extract(epoch FROM stored_at - at)) < 1, extract(year FROM"
-                      " heard[1])::integer"
-                      " FROM readings ORDER BY serial")
+                      " heard[1])::integer FROM readings ORDER BY serial")
     assert [row[0] for row in rows] == [True, True, False, True]
     assert rows[2] == (False, True, 2000)
     assert office.sql("SELECT clock FROM boxes") == [({"wrong": 1, "of": 3, "first": "2000-01-01 00:00"},)]

@@ -87,8 +87,7 @@ def test_a_device_type_that_nobody_knows(office: Office, box: Box) -> None:
         assert office.order("house-1", f"FIT 0000000{number}.PAD.01.{medium} 1 {number} A1").status == 0
     lines = [f"no use elm 0000000{number}.PAD.01.{medium}" for number, medium in ((3, "0E"), (4, "0F"))]
     assert told(office, "no use") == [f"NEW {line}: What does this meter count? (flat A1): Device type {line[-2:]} has"
-                                      " no use. The meter is read and"
-                                       " counts nowhere." for line in lines]
+                                      " no use. The meter is read and counts nowhere." for line in lines]
     for identity, use in (("00000003.PAD.01.0E", "heat"), ("00000004.PAD.01.0F", None)):
         office.sql("SELECT decide_use('elm', %s, %s)", identity, use, role="clerk")
     assert told(office, "no use") == [f"END {line}" for line in lines]
@@ -104,8 +103,7 @@ def second(office: Office, vib: str, value: int) -> None:
     office.sql("INSERT INTO points (month, box, serial, part, place, storage, function, tariff, subunit, vib, shown,"
                " value, unit)"
                " SELECT month, box, serial, 1, 9, 0, 0, 0, 0, %s, %s, %s, 'Wh' FROM readings ORDER BY serial DESC"
-               " LIMIT 1",
-               vib, str(value), value)
+               " LIMIT 1", vib, str(value), value)
 
 
 def test_heat_and_cooling(office: Office, elm: Supplied) -> None:
@@ -118,8 +116,7 @@ def test_heat_and_cooling(office: Office, elm: Supplied) -> None:
     assert office.run("close").status == 0
     assert office.sql("SELECT value::float FROM day_values") == [(1000.0,)]
     assert told(office, "no use") == ["NEW no use elm-1 00000001.PAD.01.0D: Which register counts? (flat A1): The"
-                                      " meter sends two energies, heat and"
-                                       " cold."]
+                                      " meter sends two energies, heat and cold."]
     office.sql("SELECT decide_use('elm-1', '00000001.PAD.01.0D', 'heat', '03')")
     office.sql("SELECT decide_use('elm-1', '00000001.PAD.01.0D', 'cooling', '863C')")
     office.sql("UPDATE fittings SET during = '[2024-01-01Z,)'")
@@ -138,8 +135,7 @@ def test_a_meter_without_a_record_of_its_use(office: Office, elm: Supplied) -> N
     elm.reads(other, at("2025-01-31T06:00"), 3)
     assert office.run("close").status == 0
     assert told(office, "no use") == ["NEW no use elm-1 00000001.PAD.01.04: A meter doesn't send its consumption (flat"
-                                      " A1): No record of Heating in its"
-                                       " telegram."]
+                                      " A1): No record of Heating in its telegram."]
     elm.reads(meter, at("2025-02-01T06:00"), 3000)
     assert office.run("close").status == 0
     assert told(office, "no use") == ["END no use elm-1 00000001.PAD.01.04"]
@@ -164,8 +160,7 @@ def test_18_digits(office: Office, elm: Supplied) -> None:
     assert office.run("close").status == 0
     assert office.sql("SELECT value FROM day_values") == [(most,)]
     assert told(office, "too large") == ["NEW too large elm-1 00000001.PAD.01.07: A reading is too large (flat A1):"
-                                         " More than 18 digits of the smallest unit,"
-                                          " Cold water."]
+                                         " More than 18 digits of the smallest unit, Cold water."]
     allocator = elm.meter(2, ALLOCATOR, "A2")
     new = elm.meter(3, ALLOCATOR, "A2")
     office.sql("DELETE FROM limits")
