@@ -5,8 +5,8 @@ import subprocess
 from typing import Any, List, Set, Tuple
 
 import pytest
-from conftest import OFFICE, OWNER, Box, Ended, Office, Server
-from fleet_database import PROGRAMS
+from conftest import OFFICE, Box, Ended, Office, Server
+from fleet_database import OWNER, PROGRAMS
 from supplied import COLD, HEAT, Supplied, at
 from test_boxes import housed
 from test_schema import refused
