@@ -1,5 +1,6 @@
 """office/close works off what was stored, whenever it comes, and computes the months that it decides."""
 
+import contextlib
 import subprocess
 import time
 from typing import Any, List, Tuple
@@ -10,6 +11,7 @@ from supplied import HEAT, WH, Supplied, at
 MONTHS = """
 SELECT to_char(month, 'YYYY-MM'), amount, grade::text FROM month_use
 WHERE part = 0 AND month >= '2024-12-01' ORDER BY 1"""
+WAITS = "SELECT count(*) > 0 FROM pg_stat_activity WHERE wait_event_type = 'Lock' AND datname = current_database()"
 
 
 def closed(office: Office, *words: str, status: int = 0, **environment: str) -> List[str]:
@@ -110,8 +112,13 @@ def test_a_reading_that_is_stored_meanwhile(office: Office, elm: Supplied) -> No
     elm.reads(meter, at("2025-01-31T18:00"), 1010)
     closing = subprocess.Popen([OFFICE / "close", "--database", office.name], env=office.environment,
                                stdout=subprocess.PIPE, text=True)
-    time.sleep(2)
-    assert closing.poll() is None
+    with contextlib.closing(office.server.connect(office.connection.info.dbname)) as other, other.cursor() as cursor:
+        is_waiting = False
+        while not is_waiting and closing.poll() is None:
+            time.sleep(0.1)
+            cursor.execute(WAITS)
+            is_waiting = cursor.fetchone()[0]
+    assert is_waiting
     office.connection.commit()
     assert closing.communicate(timeout=60)[0].startswith("1 days of meters in 1 houses, 1 values written")
     office.connection.autocommit = True
