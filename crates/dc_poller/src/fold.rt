@@ -1,14 +1,14 @@
 //! The engine of `fold`: from a source's telegrams and commands to a sink's text of the register.
 
-ghost use Rattle.std.specs.Prelude.{◌≡◌, ◌≢◌, ◌↔◌, ◌<◌, ◌≤◌, ◌*◌, ◌++◌, ℕ, List, length, IfSome};
-ghost use Rattle.std.specs.Prelude.{IfOk, IfErr, OnOk, IsOk, IsErrOf};
-ghost use Rattle.mbdc_io.specs.Failures.{HasRisen};
+ghost use Rattle.std.specs.Prelude.{◌≡◌, ◌↔◌, ◌<◌, ◌≤◌, ◌*◌, ◌++◌, ℕ, List, length, IfSome};
+ghost use Rattle.std.specs.Prelude.{IfOk, OnOk, IsOk};
 ghost use Rattle.mbdc_change.specs.ChangeLine.{longest_change_line};
 ghost use Rattle.mbdc_change.specs.Valid.{IsChange};
 ghost use Rattle.mbdc_io.specs.Written.{PutsInto, Wrote};
 ghost use Rattle.dc_poller.specs.Fold.{IsFolded, IsStep, AreSteps, change_answer, after_change};
 ghost use Rattle.dc_poller.specs.Fold.{order_line};
-ghost use Rattle.mbdc_io.specs.Lines.{lines_of, most_input};
+ghost use Rattle.mbdc_io.specs.Lines.{lines_of};
+ghost use Rattle.mbdc_decode.specs.Engine.{EngineEnds};
 
 use crate::register::put_register;
 use dc_meters::House;
@@ -148,22 +148,8 @@ pub fn fold_lines<A: Allocator + Copy, R: Source, W: Sink>(
     ensures text { IfOk result (λ found. IfSome (R.left reader.old) (λ input.
         (text : List ℕ) × IsFolded input text found
         × PutsInto W.Sink writer.old writer.new text)) }
-
-    // An input over the limit is refused, and no other is refused for its length.
-    ensures fits { OnOk result (IfSome (R.left reader.old) (λ input. length input ≤ most_input)) }
-    ensures too_long { IsErrOf result ProgramFault.TooLong
-        → IfSome (R.left reader.old) (λ input. most_input < length input) }
-
-    // A fault of an end is reported only where that end counted a failure.
-    ensures read { IsErrOf result ProgramFault.Read
-        → HasRisen (R.take_failures reader.old) (R.take_failures reader.new) }
-    ensures write { IsErrOf result ProgramFault.Write
-        → HasRisen (W.put_failures writer.old) (W.put_failures writer.new) }
-    ensures ok { OnOk result ((R.take_failures reader.new ≡ R.take_failures reader.old)
-        × (W.put_failures writer.new ≡ W.put_failures writer.old)) }
-
-    // After any fault but a failed write the writer is as it was.
-    ensures untouched { IfErr result (λ fault. fault ≢ ProgramFault.Write → writer.new ≡ writer.old) }
+    ensures ends { EngineEnds R.Source W.Sink ProgramFault.Read ProgramFault.TooLong ProgramFault.Write
+        reader.old reader.new writer.old writer.new result }
 {
     let mut bytes = room(alloc, LONGEST_CHANGE_LINE / 2)?;
     let mut chunk = room(alloc, CHUNK)?;

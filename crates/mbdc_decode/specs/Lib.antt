@@ -1,5 +1,7 @@
 -- the definitions that contracts cite
 
+-- what an engine leaves of its reader and its writer
+pub mod Engine
 -- the frames of a line, and their text
 pub mod Frames
 -- what is written for an input in any form

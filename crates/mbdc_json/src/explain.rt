@@ -2,10 +2,9 @@
 //!
 //! Its text has no contract: it is proved safe, and its faults are those of `decode_lines`.
 
-ghost use Rattle.std.specs.Prelude.{◌≡◌, ◌≢◌, ◌<◌, ◌≤◌, length, IfSome, IfOk, IfErr, OnOk, IsErrOf};
-ghost use Rattle.mbdc_io.specs.Failures.{HasRisen};
-ghost use Rattle.mbdc_io.specs.Lines.{most_input};
+ghost use Rattle.std.specs.Prelude.{◌≡◌, ◌<◌, IfSome, IfOk};
 ghost use Rattle.dc_linkframe.specs.Frame.{seen};
+ghost use Rattle.mbdc_decode.specs.Engine.{EngineEnds};
 ghost use Rattle.mbdc_decode.specs.Frames.{is_bad, is_bad_content, is_bad_frame};
 ghost use Rattle.mbdc_decode.specs.Text.{has_fault};
 
@@ -178,23 +177,8 @@ pub fn explain_lines<A: Allocator + Copy, R: Source, W: Sink>(
     // The result is whether a line, a frame or a body of the whole input has a fault.
     ensures fault { IfOk result (λ found.
         IfSome (R.left reader.old) (λ input. found ≡ has_fault input)) }
-
-    // Exactly the inputs over the limit are rejected for their length.
-    ensures fits { OnOk result (IfSome (R.left reader.old) (λ input. length input ≤ most_input)) }
-    ensures too_long { IsErrOf result TextFault.TooLong
-        → IfSome (R.left reader.old) (λ input. most_input < length input) }
-
-    // A read or write fault is returned only if that end counted a failure.
-    ensures read { IsErrOf result TextFault.Read
-        → HasRisen (R.take_failures reader.old) (R.take_failures reader.new) }
-    ensures write { IsErrOf result TextFault.Write
-        → HasRisen (W.put_failures writer.old) (W.put_failures writer.new) }
-
-    ensures ok { OnOk result ((R.take_failures reader.new ≡ R.take_failures reader.old)
-        × (W.put_failures writer.new ≡ W.put_failures writer.old)) }
-
-    // After any fault but a failed write the writer is unchanged.
-    ensures untouched { IfErr result (λ fault. fault ≢ TextFault.Write → writer.new ≡ writer.old) }
+    ensures ends { EngineEnds R.Source W.Sink TextFault.Read TextFault.TooLong TextFault.Write
+        reader.old reader.new writer.old writer.new result }
 {
     let input = Input::read(alloc, reader)?;
     let mut text = Bytes::new(alloc);

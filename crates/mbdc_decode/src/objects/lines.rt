@@ -1,13 +1,10 @@
 //! The command `decode --json`: from lines of hex digits in a source to JSON objects in a sink.
 
-ghost use Rattle.std.specs.Prelude.{◌≡◌, ◌≢◌, ◌<◌, ◌≤◌, length, IfSome, IfOk, IfErr};
-ghost use Rattle.std.specs.Prelude.{OnOk, OnErr, IsErrOf};
-ghost use Rattle.json.specs.Print.{print};
-ghost use Rattle.json.specs.Tree.{json_tokens};
-ghost use Rattle.mbdc_io.specs.Failures.{HasRisen};
-ghost use Rattle.mbdc_io.specs.Lines.{longest_input_line, most_input, most_spelled};
+ghost use Rattle.std.specs.Prelude.{◌≡◌, ◌<◌, ◌≤◌, length, IfSome, IfOk};
+ghost use Rattle.std.specs.Prelude.{OnOk};
+ghost use Rattle.mbdc_io.specs.Lines.{longest_input_line, most_spelled};
 ghost use Rattle.mbdc_io.specs.Written.{PutsInto, Wrote};
-ghost use Rattle.mbdc_decode.specs.Frames.{is_bad};
+ghost use Rattle.mbdc_decode.specs.Engine.{EngineEnds};
 ghost use Rattle.mbdc_decode.specs.Text.{has_fault};
 ghost use Rattle.mbdc_decode.specs.Frame.{text_json, hex_fault_json};
 ghost use Rattle.mbdc_decode.specs.JsonText.{value_line, json_text};
@@ -92,22 +89,8 @@ pub fn json_lines<A: Allocator + Copy, R: Source, W: Sink>(
     // The result is whether a fault is in that text.
     ensures fault { IfOk result (λ found.
         IfSome (R.left reader.old) (λ input. found ≡ has_fault input)) }
-
-    // Exactly the inputs over the limit are rejected for their length.
-    ensures fits { OnOk result (IfSome (R.left reader.old) (λ input. length input ≤ most_input)) }
-    ensures too_long { IsErrOf result TextFault.TooLong
-        → IfSome (R.left reader.old) (λ input. most_input < length input) }
-
-    // A read or write fault is returned only if that end counted a failure.
-    ensures read { IsErrOf result TextFault.Read
-        → HasRisen (R.take_failures reader.old) (R.take_failures reader.new) }
-    ensures write { IsErrOf result TextFault.Write
-        → HasRisen (W.put_failures writer.old) (W.put_failures writer.new) }
-    ensures ok { OnOk result ((R.take_failures reader.new ≡ R.take_failures reader.old)
-        × (W.put_failures writer.new ≡ W.put_failures writer.old)) }
-
-    // After any fault but a failed write the writer is unchanged.
-    ensures untouched { IfErr result (λ fault. fault ≢ TextFault.Write → writer.new ≡ writer.old) }
+    ensures ends { EngineEnds R.Source W.Sink TextFault.Read TextFault.TooLong TextFault.Write
+        reader.old reader.new writer.old writer.new result }
 {
     Input::read(alloc, reader)?.put_as::<Objects, W>(writer)
 }
