@@ -14,8 +14,7 @@ use Rattle.dc_records.specs.Body.{continues}
 use Rattle.dc_readout.specs.declared.stage.Stage.{Stage}
 use Rattle.dc_readout.specs.declared.stage.Stage.TheVariants.{Resets, Selects, Requests, Pending, Ended}
 use Rattle.dc_readout.specs.Session.{commands}
-use Rattle.dc_readout.specs.Summary.{Summary, Verdict, again, ready, new, failed, begun, asked_at, asked_by, verdict_by, heard_by, after_command, settled_by, stage_settled}
-use Rattle.dc_readout.proofs.Taken.{taken}
+use Rattle.dc_readout.specs.Summary.{Summary, Verdict, again, ready, new, begun, asked_at, asked_by, verdict_by, heard_by, after_command, settled_by, stage_settled}
 use Rattle.dc_readout.specs.declared.world.event.Outcome.{Outcome}
 use Rattle.dc_readout.specs.declared.world.event.Outcome.TheVariants.{RequestLost, ReplyLost, ReplyUnreadable, AsSent}
 use Rattle.dc_readout.specs.Meter.{Meter, Position}
@@ -24,7 +23,6 @@ use Rattle.dc_readout.specs.InStep.{Agrees, IsRegularWorld}
 use Rattle.dc_readout.proofs.Asked.{sent_frame}
 use Rattle.dc_readout.proofs.Commits.{commit_keeps}
 use Rattle.dc_readout.proofs.Events.{exchange_keeps, start_keeps}
-use Rattle.mbdc_change.specs.Apply.{applied}
 use Rattle.mbdc_change.specs.declared.change.Change.{Change}
 use Rattle.mbdc_change.specs.State.{State, MeterRow, row_of}
 use Rattle.mbdc_change.proofs.History.{after_of_push}
@@ -35,109 +33,108 @@ use Rattle.mbdc_change.specs.Accepts.{refusal}
 use Rattle.dc_core.specs.declared.fault.HearFault.TheVariants.{Stopped}
 use Rattle.dc_core.specs.declared.line_heard.LineHeard.{LineHeard}
 use Rattle.dc_core.specs.Core.{Core, present, session_of, with_session}
-use Rattle.dc_core.specs.Event.{Event, Answer, starts, asks, hears, commits, offices, started, asked, heard, committed, replied}
-use Rattle.dc_core.specs.Step.{May, next, MayHear, is_on, address_in, ask_answer, hear_answer, answer_on, verdict_answer, session_after, judged, heard_on, settled_core}
+use Rattle.dc_core.specs.Event.{Event, Answer, starts, asks, hears, commits, offices, started, asked, heard, committed}
+use Rattle.dc_core.specs.Step.{May, next, MayHear, and_pending, is_on, address_in, ask_answer, hear_answer, answer_on, verdict_answer, session_after, judged, heard_on, settled_core}
 use Rattle.dc_core.specs.Transcript.{Turn, leads, IsChain}
+use Rattle.dc_core.proofs.Followed.{get_settled}
 use Rattle.mbdc_theorems.specs.Beside.{Bus, bus_at_first, bus_after, IsElsewhere, Serves, rests, asks_it, has_none, gives_it, commits_it, goes_by, IsOnlyOn, HasRead, IsHeardOn, IsNoFailure, IsNextPart, IsTakenUnlessFull, GoesBeside, ReadoutsEndBesideOthers}
-use Rattle.mbdc_theorems.specs.Needs.{IsOwnTelegram, CanBegin}
-use Rattle.mbdc_theorems.specs.Progress.{requests_of}
-use Rattle.mbdc_theorems.specs.Rounds.{IsHeard, Scene, begun_on, losses_by, row_after}
-use Rattle.mbdc_theorems.proofs.Heard.{Judged, who, resets_all, resets_again, selects_again, requests_again, resets, selects, requests}
-use Rattle.mbdc_theorems.proofs.Unanswered.{same_verdict}
-use Rattle.mbdc_theorems.proofs.Rounds.{get_settled, asks_nothing, right_answer, asked_is, hear_is, room_alone, some_more}
+use Rattle.mbdc_theorems.specs.Readout.{IsOwnTelegram, CanBegin, requests_of, IsHeard, Scene, begun_on, losses_by, row_after}
+use Rattle.mbdc_theorems.proofs.Heard.{Judged, who, resets_all, resets_again, selects_again, requests_again, resets, selects, requests, same_verdict}
+use Rattle.mbdc_theorems.proofs.Rounds.{asks_nothing, right_answer, asked_is, hear_is, room_alone}
 use Rattle.mbdc_theorems.proofs.Left.{IsLeft, IsDue, within_due, one_less, one_lost, some_asked}
 use Rattle.mbdc_theorems.proofs.Own.{Open, Telegram, some_left, telegram, told_by, told_is, open_more, is_read}
-use Rattle.mbdc_theorems.proofs.Others.{not_both, start_parts, row_line, heard_line, places_differ, low_place, settled_meter, Keeps, other_keeps}
+use Rattle.mbdc_theorems.proofs.Others.{not_both, start_parts, row_line, heard_line, places_differ, low_place, settled_meter, session_meter, some_more, pending_none, Keeps, judged_keeps}
 
 -- ---- the readout
 
-module _ (budget line : ℕ) (meters : List Meter) (start : Scene) (place : ℕ) (meter : Meter) (row : MeterRow) (parts : List (List ℕ)) (may : CanBegin line meters start place meter row parts) where
-  abbrev total : ℕ
+module _ (budget line : ℕ) (meters : List Meter) (start : Scene) (place : ℕ) (meter : Meter) (row : MeterRow) (parts : List (List ℕ)) (may : CanBegin line meters start place meter row parts) (Others : Type 0) where
+  abbrev pub total : ℕ
   total = requests_of meter.address parts
 
   abbrev first : State
   first = present start.core
 
-  begins : (is_line line ≡ true) × (start.core.stopped ≡ false) × (is_on line (row_of meter.identity first) ≡ true)
+  pub begins : (is_line line ≡ true) × (start.core.stopped ≡ false) × (is_on line (row_of meter.identity first) ≡ true)
   begins = start_parts (is_line line) start.core.stopped (is_on line (row_of meter.identity first)) (is_some (session_of start.core line)) tt (sym may.may_start)
 
   on_line : row.line ≡ line
   on_line = row_line line (row_of meter.identity first) row may.registered begins.2
 
-  abbrev OpenAt : List (List ℕ) → State → Type 0
+  abbrev pub OpenAt : List (List ℕ) → State → Type 0
   OpenAt past state = Open first meter row parts past state
 
   abbrev TelegramAt : ℕ → List (List ℕ) → Type 0
   TelegramAt settled left = Telegram first meter row parts settled left
 
-  abbrev Read : State → Type 0
+  abbrev pub Read : State → Type 0
   Read state = HasRead meter.identity row parts first state
 
   -- what is known of a readout that goes on, after this many exchanges with this many losses
-  record Facts (positions : List Position) (done lost tries : ℕ) (state : State) : Type 0 where
-    world : World
-    running : Running
-    regular : IsRegularWorld meters world
-    runs : world.running ≡ Some running
-    stand : world.positions ≡ positions
-    place_is : running.meter ≡ place
-    stage : Stage
-    stage_is : running.session.stage ≡ stage
-    past : List (List ℕ)
-    left : List (List ℕ)
-    count : length past ≡ running.session.settled
-    parts_are : past ++ left ≡ parts
-    whole : whole_readout (drop running.session.settled meter.bodies) ≡ Some left
-    own : AllByRecursion (IsOwnTelegram meter.identity) left
-    tried : running.session.tries ≤ tries
-    few : tries < 3
-    due : IsDue total stage running.session.address done lost tries (length left)
-    holds : OpenAt past state
+  pub record Facts (positions : List Position) (done lost tries : ℕ) (state : State) : Type 0 where
+    pub world : World
+    pub running : Running
+    pub regular : IsRegularWorld meters world
+    pub runs : world.running ≡ Some running
+    pub stand : world.positions ≡ positions
+    pub place_is : running.meter ≡ place
+    pub stage : Stage
+    pub stage_is : running.session.stage ≡ stage
+    pub past : List (List ℕ)
+    pub left : List (List ℕ)
+    pub count : length past ≡ running.session.settled
+    pub parts_are : past ++ left ≡ parts
+    pub whole : whole_readout (drop running.session.settled meter.bodies) ≡ Some left
+    pub own : AllByRecursion (IsOwnTelegram meter.identity) left
+    pub tried : running.session.tries ≤ tries
+    pub few : tries < 3
+    pub due : IsDue total stage running.session.address done lost tries (length left)
+    pub holds : OpenAt past state
 
-  abbrev FactsOf : Bus → State → Type 0
+  abbrev pub FactsOf : Bus → State → Type 0
   FactsOf bus state = Facts bus.positions bus.heard bus.lost bus.row state
 
-  record Finished (bus : Bus) (state : State) : Type 0 where
-    all : IsLeft total bus.heard bus.lost 0 0
-    read : Read state
+  pub record Finished (bus : Bus) (state : State) : Type 0 where
+    pub all : IsLeft total bus.heard bus.lost 0 0
+    pub read : Read state
 
   -- ---- what holds after each turn
 
-  record Going (core : Core) : Type 0 where
-    goes : core.stopped ≡ false
-    eight : length core.lines ≡ line_count
-    others : (k : ℕ) (s : Summary) → k ≢ line - 1 → get_or core.lines k None ≡ Some s → s.meter ≢ meter.identity
+  -- no other line reads the meter, if others are read at all
+  pub record Going (core : Core) : Type 0 where
+    pub goes : core.stopped ≡ false
+    pub eight : length core.lines ≡ line_count
+    pub others : Others → (k : ℕ) (s : Summary) → k ≢ line - 1 → get_or core.lines k None ≡ Some s → s.meter ≢ meter.identity
 
-  record Asks (bus : Bus) (core : Core) : Type 0 where
-    facts : FactsOf bus (present core)
-    on : session_of core line ≡ Some facts.running.session
-    out : (frame : FrameSeen) → bus.waits ≡ Some frame → asked_by facts.running.session ≡ Some frame
+  pub record Asks (bus : Bus) (core : Core) : Type 0 where
+    pub facts : FactsOf bus (present core)
+    pub on : session_of core line ≡ Some facts.running.session
+    pub out : (frame : FrameSeen) → bus.waits ≡ Some frame → asked_by facts.running.session ≡ Some frame
 
-  abbrev AfterCommit : Option Summary → Bus → State → Type 0
+  abbrev pub AfterCommit : Option Summary → Bus → State → Type 0
   AfterCommit (Some s) bus state = (f : FactsOf bus state) × (f.running.session ≡ s)
   AfterCommit None bus state = Finished bus state
 
-  record Waits (bus : Bus) (core : Core) : Type 0 where
-    session : Summary
-    on : session_of core line ≡ Some session
-    asks_none : asked_by session ≡ None
-    silent : bus.waits ≡ None
-    pends : core.pending ≢ []
-    later : AfterCommit (settled_on (Some session)) bus (present core)
+  pub record Waits (bus : Bus) (core : Core) : Type 0 where
+    pub session : Summary
+    pub on : session_of core line ≡ Some session
+    pub asks_none : asked_by session ≡ None
+    pub silent : bus.waits ≡ None
+    pub pends : core.pending ≢ []
+    pub later : AfterCommit (settled_on (Some session)) bus (present core)
 
-  record Over (bus : Bus) (core : Core) : Type 0 where
-    free : session_of core line ≡ None
-    silent : bus.waits ≡ None
-    all : IsLeft total bus.heard bus.lost 0 0
-    kept_read : Read core.committed
-    read : Read (present core)
+  pub record Over (bus : Bus) (core : Core) : Type 0 where
+    pub free : session_of core line ≡ None
+    pub silent : bus.waits ≡ None
+    pub all : IsLeft total bus.heard bus.lost 0 0
+    pub kept_read : Read core.committed
+    pub read : Read (present core)
 
-  abbrev IsAt : Bus → Core → Type 0
+  abbrev pub IsAt : Bus → Core → Type 0
   IsAt bus core = Asks bus core ⊎ (Waits bus core ⊎ Over bus core)
 
-  record Known (bus : Bus) (core : Core) : Type 0 where
-    going : Going core
-    at : IsAt bus core
+  pub record Known (bus : Bus) (core : Core) : Type 0 where
+    pub going : Going core
+    pub at : IsAt bus core
 
   -- ---- another state of the register, in which the meter is as before
 
@@ -199,12 +196,12 @@ module _ (budget line : ℕ) (meters : List Meter) (start : Scene) (place : ℕ)
   going_at core other session pending is ne fresh g = record {
     goes = g.goes;
     eight = length-set core.lines (other - 1) session ∙ g.eight;
-    others = λ k s away there. ⊎_elim
+    others = λ some k s away there. ⊎_elim
         (λ (e : k ≡ other - 1).
         let here : get_or (set core.lines (other - 1) session) k None ≡ session =
         ap (λ (j : ℕ). get_or (set core.lines (other - 1) session) j None) e ∙ get_or-set_same core.lines (other - 1) session None (low_place other core.lines is g.eight) in
         fresh s (sym here ∙ there))
-        (λ (apart : k ≢ other - 1). g.others k s away (sym (get_or-set_other core.lines (other - 1) k session None apart) ∙ there))
+        (λ (apart : k ≢ other - 1). g.others some k s away (sym (get_or-set_other core.lines (other - 1) k session None apart) ∙ there))
         (cases_eq k (other - 1));
   }
 
@@ -237,44 +234,34 @@ module _ (budget line : ℕ) (meters : List Meter) (start : Scene) (place : ℕ)
       let session : Summary = begun m (address_in (row_of m (present core))) in
       with_other bus core other (Some session) b.0 ne (λ s e. let same : session ≡ s = cc in subst (λ (x : Summary). x.meter ≢ meter.identity) same apart) k
 
-  module _ (bus : Bus) (core : Core) (other moment : ℕ) (bytes : List ℕ) (is : is_line other ≡ true) (ne : other ≢ line) (k : Known bus core) where
+  module _ (bus : Bus) (core : Core) (other moment : ℕ) (bytes : List ℕ) (is : is_line other ≡ true) (ne : other ≢ line) (some : Others) (k : Known bus core) where
     judged_beside : (s : Summary) (v : Verdict) → s.meter ≢ meter.identity → verdict_by s bytes ≡ v → Known bus (judged core other moment s v)
-    judged_beside s again apart e = with_other bus core other (Some (heard_by s again)) is ne (λ x same. let i : heard_by s again ≡ x = cc in subst (λ (y : Summary). y.meter ≢ meter.identity) i apart) k
-    judged_beside s ready apart e = with_other bus core other (Some (heard_by s ready)) is ne (λ x same. let i : heard_by s ready ≡ x = cc in subst (λ (y : Summary). y.meter ≢ meter.identity) i apart) k
-    judged_beside s (failed why) apart e = with_other bus core other None is ne (λ x same. absurd cc) k
-    judged_beside s (new part t) apart e =
-        let session : Summary = heard_by s (new part t) in
-        let change = change_of moment part t in
-        let now : Core = judged core other moment s (new part t) in
-        let away : t.header.identity ≢ meter.identity = λ same. apart (sym (taken s bytes part t e).own ∙ same) in
-        let same : Same (present core) (applied change (present core)) =
-        other_keeps meter.identity t.header.identity (continues t.ending) part (record { moment = moment; body = t.body }) (row_of t.header.identity (present core)) (present core) away in
-        record {
-          going = going_at core other (Some session) (core.pending ++ change ∷ []) is ne (λ x there. let i : session ≡ x = cc in subst (λ (y : Summary). y.meter ≢ meter.identity) i apart) k.going;
-          at = beside bus core now (stays_on core other (Some session) is ne) refl (λ none. absurd (some_more core.pending change none))
-              (subst (Same (present core)) (sym (after_of_push core.committed core.pending change)) same) k.at;
-        }
+    judged_beside s v apart e = record {
+      going = going_at core other (session_after s v) (and_pending moment core.pending v) is ne (λ x there. subst (λ (i : Identity). i ≢ meter.identity) (sym (session_meter s x v there)) apart) k.going;
+      at = beside bus core (judged core other moment s v) (stays_on core other (session_after s v) is ne) refl (pending_none moment core.pending v)
+          (judged_keeps meter.identity core other moment bytes s v apart e) k.at;
+    }
 
     heard_beside : (session : Option Summary) → session_of core other ≡ session → Known bus (heard_on core other moment bytes session)
     heard_beside None on = k
-    heard_beside (Some s) on = judged_beside s (verdict_by s bytes) (k.going.others (other - 1) s (λ same. places_differ line other begins.0 is ne (sym same)) on) refl
+    heard_beside (Some s) on = judged_beside s (verdict_by s bytes) (k.going.others some (other - 1) s (λ same. places_differ line other begins.0 is ne (sym same)) on) refl
 
-  hears_beside : (bus : Bus) (core : Core) (other moment : ℕ) (bytes : List ℕ) (good : LineHeard) → other ≢ line → May budget core (hears other moment bytes) (heard (Ok good)) → Known bus core → Known bus (next core (hears other moment bytes) (heard (Ok good)))
-  hears_beside bus core other moment bytes good ne is k =
+  hears_beside : (bus : Bus) (core : Core) (other moment : ℕ) (bytes : List ℕ) (good : LineHeard) → other ≢ line → Others → May budget core (hears other moment bytes) (heard (Ok good)) → Known bus core → Known bus (next core (hears other moment bytes) (heard (Ok good)))
+  hears_beside bus core other moment bytes good ne some is k =
       heard_beside bus core other moment bytes
-      (heard_line (is_line other) (if core.stopped then Err Stopped else answer_on budget core moment bytes (session_of core other)) good is) ne k (session_of core other) refl
+      (heard_line (is_line other) (if core.stopped then Err Stopped else answer_on budget core moment bytes (session_of core other)) good is) ne some k (session_of core other) refl
 
-  elsewhere : (bus : Bus) (core : Core) (event : Event) (answer : Answer) → IsElsewhere line event → May budget core event answer → Known bus core → Known bus (next core event answer)
-  elsewhere bus core (starts other m) (started (Ok done)) ne is k = starts_beside bus core other m done ne is k
-  elsewhere bus core (starts other m) (started (Err fault)) ne is k = k
-  elsewhere bus core (starts other m) answer ne is k = absurd is
-  elsewhere bus core (asks other) (asked answer) ne is k = k
-  elsewhere bus core (asks other) answer ne is k = absurd is
-  elsewhere bus core (hears other moment bytes) (heard (Ok good)) ne is k = hears_beside bus core other moment bytes good ne is k
-  elsewhere bus core (hears other moment bytes) (heard (Err fault)) ne is k = k
-  elsewhere bus core (hears other moment bytes) answer ne is k = absurd is
-  elsewhere bus core commits answer ne is k = absurd ne
-  elsewhere bus core (offices text) answer ne is k = absurd ne
+  elsewhere : (bus : Bus) (core : Core) (event : Event) (answer : Answer) → IsElsewhere line event → Others → May budget core event answer → Known bus core → Known bus (next core event answer)
+  elsewhere bus core (starts other m) (started (Ok done)) ne some is k = starts_beside bus core other m done ne is k
+  elsewhere bus core (starts other m) (started (Err fault)) ne some is k = k
+  elsewhere bus core (starts other m) answer ne some is k = absurd is
+  elsewhere bus core (asks other) (asked answer) ne some is k = k
+  elsewhere bus core (asks other) answer ne some is k = absurd is
+  elsewhere bus core (hears other moment bytes) (heard (Ok good)) ne some is k = hears_beside bus core other moment bytes good ne some is k
+  elsewhere bus core (hears other moment bytes) (heard (Err fault)) ne some is k = k
+  elsewhere bus core (hears other moment bytes) answer ne some is k = absurd is
+  elsewhere bus core commits answer ne some is k = absurd ne
+  elsewhere bus core (offices text) answer ne some is k = absurd ne
 
   -- ---- a commit
 
@@ -293,9 +280,9 @@ module _ (budget line : ℕ) (meters : List Meter) (start : Scene) (place : ℕ)
     going_settled = record {
       goes = g.goes;
       eight = length-map core.lines settled_on ∙ g.eight;
-      others = λ k s away there.
+      others = λ some k s away there.
           let old = settled_meter (get_or core.lines k None) s (sym (get_settled core.lines k) ∙ there) in
-          subst (λ (i : Identity). i ≢ meter.identity) old.2 (g.others k old.0 away old.1);
+          subst (λ (i : Identity). i ≢ meter.identity) old.2 (g.others some k old.0 away old.1);
     }
 
     settled_to : (o : Option Summary) → session_of settled_now line ≡ o → bus.waits ≡ None → AfterCommit o bus (present core) → IsAt bus settled_now
@@ -310,7 +297,7 @@ module _ (budget line : ℕ) (meters : List Meter) (start : Scene) (place : ℕ)
     at_settled (inr (inl x)) = settled_to (settled_on (Some x.session)) (get_settled core.lines (line - 1) ∙ ap settled_on x.on) x.silent x.later
     at_settled (inr (inr x)) = inr (inr (record { free = get_settled core.lines (line - 1) ∙ ap settled_on x.free; silent = x.silent; all = x.all; kept_read = x.read; read = x.read }))
 
-    commit_by : (pending : List Change) → IsAt bus core → Known bus (settled_core core pending)
+    pub commit_by : (pending : List Change) → IsAt bus core → Known bus (settled_core core pending)
     commit_by [] at = record { going = g; at = at }
     commit_by (change ∷ changes) at = record { going = going_settled; at = at_settled at }
 
@@ -319,7 +306,7 @@ module _ (budget line : ℕ) (meters : List Meter) (start : Scene) (place : ℕ)
   asks_none_of : (core : Core) (s : Summary) → Going core → session_of core line ≡ Some s → asked_by s ≡ None → ask_answer core line ≡ None
   asks_none_of core s g on none = asked_is budget line core s begins.0 g.goes on ∙ ap (option_map spelling) none
 
-  asked_on_it : (bus : Bus) (core : Core) (request : List ℕ) → Some request ≡ ask_answer core line → Known bus core → Known (record bus { waits = frame_of request }) core
+  pub asked_on_it : (bus : Bus) (core : Core) (request : List ℕ) → Some request ≡ ask_answer core line → Known bus core → Known (record bus { waits = frame_of request }) core
   asked_on_it bus core request is k = record { going = k.going; at = by k.at }
     where
       now : Bus
@@ -373,7 +360,7 @@ module _ (budget line : ℕ) (meters : List Meter) (start : Scene) (place : ℕ)
     going_then v = record {
       goes = g.goes;
       eight = length-set core.lines (line - 1) (session_after s v) ∙ g.eight;
-      others = λ k y away there. g.others k y away (sym (get_or-set_other core.lines (line - 1) k (session_after s v) None away) ∙ there);
+      others = λ some k y away there. g.others some k y away (sym (get_or-set_other core.lines (line - 1) k (session_after s v) None away) ∙ there);
     }
 
     on_then : (v : Verdict) → session_of (judged core line moment s v) line ≡ session_after s v
@@ -642,7 +629,7 @@ module _ (budget line : ℕ) (meters : List Meter) (start : Scene) (place : ℕ)
           let w = step_by outcome refl in
           subst (λ (o : Option Summary). Known now (heard_on core line moment given o)) (sym x.on) (subst (λ (v : Verdict). Known now (judged core line moment s v)) (sym (given_judged ∙ w.is)) w.known)
 
-  heard_at : (bus : Bus) (core : Core) (moment : ℕ) (bytes : List ℕ) (outcome : Outcome) (frame : FrameSeen) → bus.waits ≡ Some frame → IsHeard outcome frame meters bus.positions bytes → row_after bus.row outcome < 3
+  pub heard_at : (bus : Bus) (core : Core) (moment : ℕ) (bytes : List ℕ) (outcome : Outcome) (frame : FrameSeen) → bus.waits ≡ Some frame → IsHeard outcome frame meters bus.positions bytes → row_after bus.row outcome < 3
       → Known bus core → Known (bus_after meters outcome frame bus) (heard_on core line moment bytes (session_of core line))
   heard_at bus core moment bytes outcome frame waits bytes_are few k = by k.at
     where
@@ -652,13 +639,13 @@ module _ (budget line : ℕ) (meters : List Meter) (start : Scene) (place : ℕ)
       by (inr (inl x)) = absurd (let bad = sym x.silent ∙ waits in cc)
       by (inr (inr x)) = absurd (let bad = sym x.silent ∙ waits in cc)
 
-  fits_at : (bus : Bus) (core : Core) (moment : ℕ) (bytes : List ℕ) (outcome : Outcome) (frame : FrameSeen) → bus.waits ≡ Some frame → IsHeard outcome frame meters bus.positions bytes → row_after bus.row outcome < 3
+  pub fits_at : (bus : Bus) (core : Core) (moment : ℕ) (bytes : List ℕ) (outcome : Outcome) (frame : FrameSeen) → bus.waits ≡ Some frame → IsHeard outcome frame meters bus.positions bytes → row_after bus.row outcome < 3
       → Going core → IsAt bus core → IsTakenUnlessFull (hear_answer budget core line moment bytes)
   fits_at bus core moment bytes outcome frame waits bytes_are few g (inl x) = step_fits bus core moment g x outcome frame waits few bytes bytes_are
   fits_at bus core moment bytes outcome frame waits bytes_are few g (inr (inl x)) = absurd (let bad = sym x.silent ∙ waits in cc)
   fits_at bus core moment bytes outcome frame waits bytes_are few g (inr (inr x)) = absurd (let bad = sym x.silent ∙ waits in cc)
 
-  part_at : (bus : Bus) (core : Core) (y : Summary) (bytes : List ℕ) (outcome : Outcome) (frame : FrameSeen) → session_of core line ≡ Some y → bus.waits ≡ Some frame → IsHeard outcome frame meters bus.positions bytes → row_after bus.row outcome < 3
+  pub part_at : (bus : Bus) (core : Core) (y : Summary) (bytes : List ℕ) (outcome : Outcome) (frame : FrameSeen) → session_of core line ≡ Some y → bus.waits ≡ Some frame → IsHeard outcome frame meters bus.positions bytes → row_after bus.row outcome < 3
       → Going core → IsAt bus core → (y.meter ≡ meter.identity) × IsNextPart (drop y.settled parts) (verdict_by y bytes)
   part_at bus core y bytes outcome frame on waits bytes_are few g (inl x) = step_part bus core 0 g x outcome frame waits few bytes bytes_are y on
   part_at bus core y bytes outcome frame on waits bytes_are few g (inr (inl x)) = absurd (let bad = sym x.silent ∙ waits in cc)
@@ -675,28 +662,28 @@ module _ (budget line : ℕ) (meters : List Meter) (start : Scene) (place : ℕ)
   abbrev NeverFails : List Turn → Type 0
   NeverFails turns = AllByRecursion (λ (turn : Turn). IsHeardOn line turn.0 → IsNoFailure turn.1) turns
 
-  along : {bus last : Bus} {turns : List Turn} (core : Core) → Known bus core → IsChain budget core turns → Serves line meters bus turns last → Known last (leads core turns) × NeverFails turns
-  along core k chain rests = (k, tt)
-  along {bus = bus} core k chain (asks_it {request = request} more) =
-      let rest = along core (asked_on_it bus core request chain.0 k) chain.1 more in
+  along : {bus last : Bus} {turns : List Turn} (core : Core) → Others → Known bus core → IsChain budget core turns → Serves line meters bus turns last → Known last (leads core turns) × NeverFails turns
+  along core some k chain rests = (k, tt)
+  along {bus = bus} core some k chain (asks_it {request = request} more) =
+      let rest = along core some (asked_on_it bus core request chain.0 k) chain.1 more in
       (rest.0, ((λ e. absurd e), rest.1))
-  along core k chain (has_none more) =
-      let rest = along core k chain.1 more in
+  along core some k chain (has_none more) =
+      let rest = along core some k chain.1 more in
       (rest.0, ((λ e. absurd e), rest.1))
-  along {bus = bus} core k chain (gives_it {moment = moment} {bytes = given} {answer = answer} outcome frame waits bytes_are few more) =
+  along {bus = bus} core some k chain (gives_it {moment = moment} {bytes = given} {answer = answer} outcome frame waits bytes_are few more) =
       let good = good_at bus core moment given answer outcome frame waits bytes_are few chain.0 k in
-      let rest = along (heard_on core line moment given (session_of core line)) (heard_at bus core moment given outcome frame waits bytes_are few k) chain.1 more in
+      let rest = along (heard_on core line moment given (session_of core line)) some (heard_at bus core moment given outcome frame waits bytes_are few k) chain.1 more in
       (rest.0, ((λ e. good), rest.1))
-  along {bus = bus} core k chain (commits_it more) =
-      let rest = along (settled_core core core.pending) (commit_by bus core k.going core.pending k.at) chain.1 more in
+  along {bus = bus} core some k chain (commits_it more) =
+      let rest = along (settled_core core core.pending) some (commit_by bus core k.going core.pending k.at) chain.1 more in
       (rest.0, ((λ e. absurd e), rest.1))
-  along {bus = bus} core k chain (goes_by {turn = turn} away more) =
-      let rest = along (next core turn.0 turn.1) (elsewhere bus core turn.0 turn.1 away chain.0 k) chain.1 more in
+  along {bus = bus} core some k chain (goes_by {turn = turn} away more) =
+      let rest = along (next core turn.0 turn.1) some (elsewhere bus core turn.0 turn.1 away some chain.0 k) chain.1 more in
       (rest.0, ((λ e. absurd (not_both line turn.0 away e)), rest.1))
 
   -- ---- the start
 
-  abbrev begun_core : Core
+  abbrev pub begun_core : Core
   begun_core = (begun_on line meter.identity start).core
 
   facts_first : FactsOf (bus_at_first start.positions) first
@@ -724,42 +711,54 @@ module _ (budget line : ℕ) (meters : List Meter) (start : Scene) (place : ℕ)
         holds = record { opened = row.parts; found = may.registered; are_open = inl refl; readings = refl };
       }
 
-  at_first : IsOnlyOn line meter.identity start.core → Known (bus_at_first start.positions) begun_core
+  abbrev pub begun_session : Summary
+  begun_session = begun meter.identity (address_in (row_of meter.identity first))
+
+  pub on_first : session_of begun_core line ≡ Some begun_session
+  on_first = get_or-set_same start.core.lines (line - 1) (Some begun_session) None (low_place line start.core.lines begins.0 may.lines)
+
+  pub asks_first : Asks (bus_at_first start.positions) begun_core
   unfolding facts_first
-  at_first only =
+  asks_first =
       let address : address_in (row_of meter.identity first) ≡ meter.address = ap address_in may.registered ∙ may.address in
-      let session : Summary = begun meter.identity (address_in (row_of meter.identity first)) in
       record {
-        going = record {
-          goes = begins.1;
-          eight = length-set start.core.lines (line - 1) (Some session) ∙ may.lines;
-          others = λ k s away there.
-              let back : k + 1 - 1 ≡ k = omega arith in
-              only (k + 1) s (λ e. away (omega (arith, e))) (ap (λ (n : ℕ). get_or start.core.lines n None) back ∙ sym (get_or-set_other start.core.lines (line - 1) k (Some session) None away) ∙ there);
-        };
-        at = inl (record {
-          facts = facts_first;
-          on = get_or-set_same start.core.lines (line - 1) (Some session) None (low_place line start.core.lines begins.0 may.lines) ∙ ap (λ (o : Option ℕ). Some (begun meter.identity o)) address;
-          out = λ frame e. absurd cc;
-        });
+        facts = facts_first;
+        on = on_first ∙ ap (λ (o : Option ℕ). Some (begun meter.identity o)) address;
+        out = λ frame e. absurd cc;
       }
+
+  pub going_first : (Others → IsOnlyOn line meter.identity start.core) → Going begun_core
+  going_first only = record {
+    goes = begins.1;
+    eight = length-set start.core.lines (line - 1) (Some begun_session) ∙ may.lines;
+    others = λ some k s away there.
+        let back : k + 1 - 1 ≡ k = omega arith in
+        only some (k + 1) s (λ e. away (omega (arith, e))) (ap (λ (n : ℕ). get_or start.core.lines n None) back ∙ sym (get_or-set_other start.core.lines (line - 1) k (Some begun_session) None away) ∙ there);
+  }
 
   -- ---- the end
 
-  bounds : (bus : Bus) (state : State) (f : FactsOf bus state) → (bus.heard < total + bus.lost) × (bus.heard < 3 * total)
+  pub bounds : (bus : Bus) (state : State) (f : FactsOf bus state) → (bus.heard < total + bus.lost) × (bus.heard < 3 * total)
   bounds bus state f = within_due total f.stage f.running.session.address bus.heard bus.lost bus.row (length f.left) f.few (some_left first meter row parts f.running.session.settled f.left f.whole) f.due
 
   bounds_after : (o : Option Summary) (bus : Bus) (state : State) → AfterCommit o bus state → (bus.heard ≤ total + bus.lost) × (bus.heard ≤ 3 * total)
   bounds_after (Some s) bus state a = let b = bounds bus state a.0 in let most = b.0 in let thrice = b.1 in (omega (arith, most), omega (arith, thrice))
   bounds_after None bus state a = let most = a.all.most in let thrice = a.all.thrice in (omega (arith, most), omega (arith, thrice))
 
-  asks_some : (bus : Bus) (core : Core) → Going core → Asks bus core → (request : List ℕ) × (ask_answer core line ≡ Some request) × IsSome (frame_of request)
-  asks_some bus core g x =
+  pub asked_for : (bus : Bus) (core : Core) (x : Asks bus core) → (frame : FrameSeen) × (asked_by x.facts.running.session ≡ Some frame)
+  asked_for bus core x =
       let f = x.facts in
       let s = f.running.session in
       let asks_it = some_asked total f.stage s.address bus.heard bus.lost bus.row (length f.left) s.settled s.meter f.due in
-      let is : asked_by s ≡ Some asks_it.0 = ap (λ (y : Stage). asked_at y s.meter s.address s.settled) f.stage_is ∙ asks_it.1 in
-      (spelling asks_it.0, asked_is budget line core s begins.0 g.goes x.on ∙ ap (option_map spelling) is, ap is_some (frame_of-spelling asks_it.0))
+      (asks_it.0, ap (λ (y : Stage). asked_at y s.meter s.address s.settled) f.stage_is ∙ asks_it.1)
+
+  pub asks_here : (bus : Bus) (core : Core) → Going core → (x : Asks bus core) → ask_answer core line ≡ option_map spelling (asked_by x.facts.running.session)
+  asks_here bus core g x = asked_is budget line core x.facts.running.session begins.0 g.goes x.on
+
+  asks_some : (bus : Bus) (core : Core) → Going core → Asks bus core → (request : List ℕ) × (ask_answer core line ≡ Some request) × IsSome (frame_of request)
+  asks_some bus core g x =
+      let due = asked_for bus core x in
+      (spelling due.0, asks_here bus core g x ∙ ap (option_map spelling) due.1, ap is_some (frame_of-spelling due.0))
 
   bounds_at : (bus : Bus) (core : Core) → IsAt bus core → (bus.heard ≤ total + bus.lost) × (bus.heard ≤ 3 * total)
   bounds_at bus core (inl x) = let b = bounds bus (present core) x.facts in let most = b.0 in let thrice = b.1 in (omega (arith, most), omega (arith, thrice))
@@ -795,5 +794,6 @@ module _ (budget line : ℕ) (meters : List Meter) (start : Scene) (place : ℕ)
 
 pub readouts_end_beside_others : ReadoutsEndBesideOthers
 readouts_end_beside_others budget line meters scene place meter row parts turns last may only chain serves =
-    let k = along budget line meters scene place meter row parts may (begun_on line meter.identity scene).core (at_first budget line meters scene place meter row parts may only) chain serves in
-    goes_beside budget line meters scene place meter row parts may turns last (leads (begun_on line meter.identity scene).core turns) k.1 k.0.going k.0.at
+    let k = along budget line meters scene place meter row parts may (Unit {0}) (begun_on line meter.identity scene).core tt
+    (record { going = going_first budget line meters scene place meter row parts may (Unit {0}) (λ some. only); at = inl (asks_first budget line meters scene place meter row parts may (Unit {0})) }) chain serves in
+    goes_beside budget line meters scene place meter row parts may (Unit {0}) turns last (leads (begun_on line meter.identity scene).core turns) k.1 k.0.going k.0.at

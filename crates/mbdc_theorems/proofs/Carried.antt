@@ -1,56 +1,147 @@
--- A talk that its line carries, readout after readout (for the theorem of specs/Every).
-use Rattle.std.proofs.Common.{◌≡◌, ℕ, Bool, true, false, ◌+◌, ◌*◌, ◌<◌, ◌≤◌, Option, Some, None, Result, Ok, Err, List, [], ◌∷◌, ◌++◌, length, arith, refl, sym, ◌∙◌, ap, subst, append_assoc, append-nil, map, drop}
+-- A readout within a talk, thing after thing (for the theorem of specs/Carried).
+use Rattle.std.proofs.Common.{◌≡◌, ℕ, ◌<◌, Some, None, Result, Ok, Err, List, [], ◌∷◌, ◌++◌, refl, sym, ◌∙◌, ap, subst, Bool, true, false, ◌+◌, ◌*◌, ◌≤◌, Option, length, arith, append_assoc, append-nil, map, drop}
+use Rattle.std.specs.List.{AllByRecursion}
 use Rattle.std.specs.Prelude.{is_some}
 use Rattle.std.proofs.lemmas.Bool.{eq-eqb}
-use Rattle.std.specs.List.{AllByRecursion}
 use Rattle.dc_linkframe.specs.Frame.{FrameSeen}
 use Rattle.dc_linkframe.specs.Reading.{frame_of}
+use Rattle.dc_readout.specs.declared.world.event.Outcome.{Outcome}
+use Rattle.dc_readout.specs.Meter.{Meter, Position}
+use Rattle.dc_core.specs.declared.line_heard.LineHeard.{LineHeard}
+use Rattle.dc_core.specs.declared.fault.HearFault.{HearFault}
+use Rattle.dc_core.specs.declared.fault.CommitFault.{CommitFault}
+use Rattle.dc_core.specs.Event.{asks, hears, commits, asked, heard, committed, starts, started}
+use Rattle.dc_core.specs.Transcript.{Turn, leads, IsChain}
+use Rattle.mbdc_poll.specs.Bus.{Bus}
+use Rattle.mbdc_poll.specs.Happening.{Happening, does, tells, happened_on, happened_turns, turns_of, last_of, newest_serial}
+use Rattle.mbdc_poll.specs.Talking.{Talk, Talks, rests, begins, has_none, sends_it, waits_it, takes_it, hears_it, stands_by, tells_it, loses_it}
+use Rattle.mbdc_poll.specs.declared.phase.Request.{Request}
+use Rattle.mbdc_poll.specs.declared.phase.Request.TheVariants.{Quiet, Sent, Answered}
 use Rattle.dc_address.specs.declared.identity.Identity.{Identity}
 use Rattle.dc_readout.specs.Session.{commands}
 use Rattle.dc_readout.specs.Summary.{Summary, verdict_by}
-use Rattle.dc_readout.specs.declared.world.event.Outcome.{Outcome}
-use Rattle.dc_readout.specs.Meter.{Meter, Position}
 use Rattle.dc_readout.proofs.Events.{length-after}
 use Rattle.mbdc_change.specs.State.{State, MeterRow, PartRow, row_of, ReadingRow}
 use Rattle.dc_core.specs.Lines.{is_line}
-use Rattle.dc_core.specs.declared.line_heard.LineHeard.{LineHeard}
-use Rattle.dc_core.specs.declared.fault.HearFault.{HearFault}
 use Rattle.dc_core.specs.declared.fault.HearFault.TheVariants.{Full, Idle, NoLine, NoMemory, PendingFull, Stopped}
 use Rattle.dc_core.specs.declared.fault.StartFault.{StartFault}
-use Rattle.dc_core.specs.declared.fault.CommitFault.{CommitFault}
 use Rattle.dc_core.specs.Core.{Core, present, opened, session_of}
-use Rattle.dc_core.specs.Event.{starts, asks, hears, commits, started, asked, heard, committed}
 use Rattle.dc_core.specs.Step.{ask_answer, hear_answer, is_on, next}
-use Rattle.dc_core.specs.Transcript.{Turn, leads, IsChain}
 use Rattle.dc_core.proofs.Going.{leads_append, leads_push}
 use Rattle.dc_core.proofs.Told.{chain_parts}
-use Rattle.mbdc_theorems.specs.Beside.{Bus as Line, bus_at_first, bus_after, IsElsewhere, HasRead, IsHeardOn, IsNextPart, IsNoFailure, IsOfLines, readings_of, Serves, GoesBeside, rests as none_more, asks_it, has_none as asks_none, gives_it, commits_it, goes_by}
-use Rattle.mbdc_theorems.specs.Needs.{IsThere}
-use Rattle.mbdc_theorems.specs.Rounds.{IsHeard, row_after}
-use Rattle.mbdc_theorems.proofs.Rows.{readouts_of_a_run_end}
-use Rattle.mbdc_poll.specs.Bus.{Bus}
-use Rattle.mbdc_poll.specs.Happening.{Happening, does, tells, happened_on, happened_turns, turns_of, last_of, newest_serial}
 use Rattle.mbdc_poll.specs.Queue.{starts_in}
-use Rattle.mbdc_poll.specs.Talking.{Talk, Talks, rests, begins, has_none, sends_it, waits_it, takes_it, hears_it, stands_by, tells_it, loses_it}
 use Rattle.mbdc_poll.specs.declared.event.Event.{Event as Told}
-use Rattle.mbdc_poll.specs.declared.event.Event.TheVariants.{Read as told_read, Failed as has_failed}
-use Rattle.mbdc_poll.specs.declared.event.Event.TheVariants.{Refused as was_refused, Lost as is_lost}
-use Rattle.mbdc_poll.specs.declared.event.Event.TheVariants.{Late as came_late, End as has_ended}
+use Rattle.mbdc_poll.specs.declared.event.Event.TheVariants.{Read as told_read, Failed as has_failed, Refused as was_refused, Lost as is_lost, Late as came_late, End as has_ended}
 use Rattle.mbdc_poll.specs.Keeping.{AreTrue, IsNewest, IsSettled, Store, some_wait, store_behind}
 use Rattle.mbdc_poll.proofs.Meanings.{none_pends}
 use Rattle.mbdc_poll.proofs.Polling.{store_append}
-use Rattle.mbdc_poll.specs.declared.phase.Request.{Request}
-use Rattle.mbdc_poll.specs.declared.phase.Request.TheVariants.{Quiet, Sent, Answered}
-use Rattle.mbdc_theorems.specs.Carried.{Wire, IsCarried}
-use Rattle.mbdc_theorems.proofs.Facts.{IsWiredOn, TellFact, WasNew, WasRead, Facts}
-use Rattle.mbdc_theorems.proofs.Free.{all_free, commit_free, heard_full, hears_free, start_ok}
-use Rattle.mbdc_theorems.proofs.New.{present_is}
-use Rattle.mbdc_theorems.proofs.Parted.{PartAt, CutBy, PartsIn, cut, parts_away, parts_none}
-use Rattle.mbdc_theorems.proofs.Supplied.{IsSupplied, IsSuppliedIn}
-use Rattle.mbdc_theorems.proofs.Turns.{never_unkept, settled_kept}
-use Rattle.mbdc_theorems.proofs.Whole.{all_running}
-use Rattle.mbdc_theorems.proofs.Kept.{IsPlaced, stays_placed}
-use Rattle.mbdc_theorems.proofs.Lists.{AreOfLines, Split, none_on, split_at, all_left, all_right}
+use Rattle.mbdc_theorems.specs.Beside.{Bus as Line, bus_at_first, bus_after, IsElsewhere, Serves, rests as none_more, asks_it, has_none as asks_none, gives_it, commits_it, goes_by, HasRead, IsHeardOn, IsNextPart, IsNoFailure, IsOfLines, readings_of, GoesBeside}
+use Rattle.mbdc_theorems.specs.Readout.{IsHeard, row_after, IsThere}
+use Rattle.mbdc_theorems.proofs.Facts.{AreOfLines, Split, none_on, split_at, IsWiredOn, TellFact, WasNew, WasRead, Facts, PartAt, CutBy, PartsIn, cut, parts_away, parts_none, IsSupplied, IsSuppliedIn, all_left, all_right}
+use Rattle.mbdc_theorems.proofs.Rows.{readouts_of_a_run_end, all_free, commit_free, heard_full, hears_free, start_ok, present_is, IsPlaced, stays_placed}
+use Rattle.mbdc_theorems.specs.Carried.{GivesTo, IsCarried, IsDone, ReadoutsOfAPollEnd, Wire}
+use Rattle.mbdc_theorems.proofs.Turns.{never_unkept, settled_kept, all_running}
+
+pub serves_both : {line : ℕ} {meters : List Meter} {old between last : Line} {front back : List Turn} → Serves line meters old front between → Serves line meters between back last → Serves line meters old (front ++ back) last
+serves_both none_more b = b
+serves_both (asks_it a) b = asks_it (serves_both a b)
+serves_both (asks_none a) b = asks_none (serves_both a b)
+serves_both (gives_it outcome frame waits bytes few a) b = gives_it outcome frame waits bytes few (serves_both a b)
+serves_both (commits_it a) b = commits_it (serves_both a b)
+serves_both (goes_by away a) b = goes_by away (serves_both a b)
+
+module _ (line : ℕ) (meters : List Meter) where
+  pub serves_away : (turns : List Turn) (now : Line) → AllByRecursion (λ (turn : Turn). IsElsewhere line turn.0) turns → Serves line meters now turns now
+  serves_away [] now all = none_more
+  serves_away (turn ∷ turns) now all = goes_by all.0 (serves_away turns now all.1)
+
+  -- ---- an answer that was given and isn't received yet
+
+  pub record Given (bytes : List ℕ) (now start : Line) : Type 0 where
+    pub outcome : Outcome
+    pub frame : FrameSeen
+    pub waited : start.waits ≡ Some frame
+    pub bytes_are : IsHeard outcome frame meters start.positions bytes
+    pub few : row_after start.row outcome < 3
+    pub now_is : now ≡ bus_after meters outcome frame start
+
+  abbrev pub Stands : Request → Line → Line → Type 0
+  Stands Quiet now start = now ≡ start
+  Stands Sent now start = now ≡ start
+  Stands (Answered bytes) now start = Given bytes now start
+
+  pub given_by : (bytes : List ℕ) (now start : Line) (goes_on : Line → Type 0) → now ≡ start → (g : GivesTo meters now bytes goes_on) → Given bytes (bus_after meters g.outcome g.frame now) start
+  given_by bytes now start goes_on at g = record {
+    outcome = g.outcome;
+    frame = g.frame;
+    waited = ap (λ (l : Line). l.waits) (sym at) ∙ g.waited;
+    bytes_are = subst (λ (l : Line). IsHeard g.outcome g.frame meters l.positions bytes) at g.bytes_are;
+    few = subst (λ (l : Line). row_after l.row g.outcome < 3) at g.few;
+    now_is = ap (bus_after meters g.outcome g.frame) at;
+  }
+
+  -- ---- the talk
+
+  record Left (start : Line) (turns : List Turn) : Type 0 where
+    last : Line
+    serves : Serves line meters start turns last
+
+  over : (x : Happening) (more full : List Happening) (start next : Line) (p : Split line x more full) → Left next (happened_turns p.rest)
+      → ((last : Line) → Serves line meters next (happened_turns p.rest) last → Serves line meters start (turns_of x ++ happened_turns p.rest) last) → Left start (happened_turns full)
+  over x more full start next p left step = record {
+    last = left.last;
+    serves = subst (λ (turns : List Turn). Serves line meters start turns left.last) (sym p.turns_are)
+        (serves_both (serves_away p.away start p.elsewhere) (step left.last left.serves));
+  }
+
+  hears_on : (start now : Line) (moment : ℕ) (bytes : List ℕ) (answer : Result LineHeard HearFault) (more full : List Happening) → Given bytes now start → IsDone (does (hears line moment bytes, heard answer))
+      → (p : Split line (does (hears line moment bytes, heard answer)) more full) → Left now (happened_turns p.rest) → Left start (happened_turns full)
+  hears_on start now moment bytes (Err fault) more full given done p left = absurd done
+  hears_on start now moment bytes (Ok answer) more full given done p left =
+      over (does (hears line moment bytes, heard (Ok answer))) more full start now p left
+      (λ last s. gives_it given.outcome given.frame given.waited given.bytes_are given.few (subst (λ (l : Line). Serves line meters l (happened_turns p.rest) last) given.now_is s))
+
+  commits_on : (start : Line) (stored : Result ℕ CommitFault) (more full : List Happening) → IsDone (does (commits, committed stored)) → (p : Split line (does (commits, committed stored)) more full) → Left start (happened_turns p.rest) → Left start (happened_turns full)
+  commits_on start (Err fault) more full done p left = absurd done
+  commits_on start (Ok count) more full done p left = over (does (commits, committed (Ok count))) more full start start p left (λ last s. commits_it s)
+
+  module _ {B : Type 0} {g : Bus B} where
+    served : {first last : Talk B} {on : List Happening} (talk : Talks g line first on last) (full : List Happening) (now start : Line) → on ≡ happened_on line full → AreOfLines full
+        → Stands first.request now start → IsCarried meters now talk → AllByRecursion IsDone on → Left start (happened_turns full)
+    served rests full now start is of at carried done = record { last = start; serves = serves_away (happened_turns full) start (none_on line full is of) }
+    served (begins more) full now start is of at carried done = absurd done.0
+    served (has_none {more = later} more) full now start is of at carried done =
+        let p = split_at line (does (asks line, asked None)) later full is of in
+        over (does (asks line, asked None)) later full start start p (served more p.rest now start p.more_is p.of at carried done.1) (λ last s. asks_none s)
+    served (sends_it {request = request} {more = later} sends more) full now start is of at carried done =
+        let p = split_at line (does (asks line, asked (Some request))) later full is of in
+        let next : Line = record start { waits = frame_of request } in
+        over (does (asks line, asked (Some request))) later full start next p
+        (served more p.rest (record now { waits = frame_of request }) next p.more_is p.of (ap (λ (l : Line). record l { waits = frame_of request }) at) carried done.1) (λ last s. asks_it s)
+    served (waits_it waits more) full now start is of at carried done = served more full now start is of at carried done
+    served (takes_it {bytes = bytes} gives more) full now start is of at carried done =
+        served more full (bus_after meters carried.outcome carried.frame now) start is of (given_by bytes now start (λ (l : Line). IsCarried meters l more) at carried) carried.then_on done
+    served (hears_it {moment = moment} {bytes = bytes} {answer = answer} {more = later} more) full now start is of at carried done =
+        let p = split_at line (does (hears line moment bytes, heard answer)) later full is of in
+        hears_on start now moment bytes answer later full at done.0 p (served more p.rest now now p.more_is p.of refl carried done.1)
+    served (stands_by {stored = stored} {more = later} more) full now start is of at carried done =
+        let p = split_at line (does (commits, committed stored)) later full is of in
+        commits_on start stored later full done.0 p (served more p.rest now start p.more_is p.of at carried done.1)
+    served (tells_it {told = told} {more = later} other more) full now start is of at carried done =
+        let p = split_at line (tells line told) later full is of in
+        over (tells line told) later full start start p (served more p.rest now start p.more_is p.of at carried done.1) (λ last s. s)
+    served (loses_it lost more) full now start is of at carried done = absurd carried
+
+pub readouts_of_a_poll_end : {B : Type 0} (g : Bus B) → ReadoutsOfAPollEnd g
+readouts_of_a_poll_end g budget line state before happened meters positions place meter row parts first last talk of_before of chain there registered address quiet carried done =
+    let at_first : Line = bus_at_first positions in
+    let left = served line meters talk happened at_first at_first refl of (subst (λ (r : Request). Stands line meters r at_first at_first) (sym quiet) refl) carried done in
+    record {
+      last = left.last;
+      goes = readouts_of_a_run_end budget state (happened_turns before) line meters positions place meter row parts (happened_turns happened) left.last of_before chain there registered address left.serves;
+    }
+
+-- A talk that its line carries, readout after readout (for the theorem of specs/Every).
 
 -- ---- a readout has few requests
 
@@ -60,20 +151,6 @@ few_commands (Some a) = omega arith
 
 few_requests : (address : Option ℕ) (parts : List (List ℕ)) → length parts ≤ 32 → 3 * (commands address + length parts) ≤ 102
 few_requests address parts few = let two = few_commands address in omega (arith, two, few)
-
--- ---- turns that a line serves
-
-serves_both : {line : ℕ} {meters : List Meter} {old between last : Line} {front back : List Turn} → Serves line meters old front between → Serves line meters between back last → Serves line meters old (front ++ back) last
-serves_both none_more b = b
-serves_both (asks_it a) b = asks_it (serves_both a b)
-serves_both (asks_none a) b = asks_none (serves_both a b)
-serves_both (gives_it outcome frame waits bytes few a) b = gives_it outcome frame waits bytes few (serves_both a b)
-serves_both (commits_it a) b = commits_it (serves_both a b)
-serves_both (goes_by away a) b = goes_by away (serves_both a b)
-
-serves_away : (line : ℕ) (meters : List Meter) (bus : Line) (turns : List Turn) → AllByRecursion (λ (turn : Turn). IsElsewhere line turn.0) turns → Serves line meters bus turns bus
-serves_away line meters bus [] away = none_more
-serves_away line meters bus (turn ∷ turns) away = goes_by away.0 (serves_away line meters bus turns away.1)
 
 all_last : (P : Turn → Type 0) (turns : List Turn) (turn : Turn) → AllByRecursion P (turns ++ turn ∷ []) → P turn
 all_last P turns turn all = (all_right P turns (turn ∷ []) all).0
@@ -99,9 +176,9 @@ module _ (budget line : ℕ) (state : State) (wire : Wire) (all : List Turn) (ch
     since : List Turn
     before_is : before ≡ front ++ start_of x ∷ since
     positions : List Position
-    there : IsThere wire.meters positions wired.place wired.meter (wire.parts x)
+    there : IsThere wire.meters positions wired.wired.place wired.wired.meter (wire.parts x)
     registered : row_of x (present (core_at front)) ≡ Some row
-    address : row.address ≡ wired.meter.address
+    address : row.address ≡ wired.wired.meter.address
     serves : Serves line wire.meters (bus_at_first positions) since now
 
   abbrev since_more : (x : Identity) (before turns : List Turn) (now next : Line) → Since x before now → Serves line wire.meters now turns next → Since x (before ++ turns) next
@@ -120,25 +197,25 @@ module _ (budget line : ℕ) (state : State) (wire : Wire) (all : List Turn) (ch
 
   -- so it goes
   goes_as : (x : Identity) (before more : List Turn) (now : Line) → all ≡ before ++ more → (s : Since x before now)
-      → GoesBeside budget line wire.meters s.wired.meter s.row (wire.parts x) (core_at s.front) (core_at before) s.since now
+      → GoesBeside budget line wire.meters s.wired.wired.meter s.row (wire.parts x) (core_at s.front) (core_at before) s.since now
   goes_as x before more now is s =
-      let start : Turn = start_of s.wired.meter.identity in
-      let same : s.front ++ start ∷ s.since ≡ before = ap (λ (i : Identity). s.front ++ start_of i ∷ s.since) s.wired.who ∙ sym s.before_is in
+      let start : Turn = start_of s.wired.wired.meter.identity in
+      let same : s.front ++ start ∷ s.since ≡ before = ap (λ (i : Identity). s.front ++ start_of i ∷ s.since) s.wired.wired.who ∙ sym s.before_is in
       let here : all ≡ (s.front ++ start ∷ s.since) ++ more = is ∙ ap (λ (ts : List Turn). ts ++ more) (sym same) in
       let chain_here = (chain_parts budget (opened state) (s.front ++ start ∷ s.since) more (subst (IsChain budget (opened state)) here chain)).0 in
       let of_here = all_left IsOfLines (s.front ++ start ∷ s.since) more (subst (AllByRecursion IsOfLines) here of_all) in
       let of_front = all_left IsOfLines s.front (start ∷ s.since) of_here in
-      let registered : row_of s.wired.meter.identity (present (core_at s.front)) ≡ Some s.row = ap (λ (i : Identity). row_of i (present (core_at s.front))) s.wired.who ∙ s.registered in
-      let ends = readouts_of_a_run_end budget state s.front line wire.meters s.positions s.wired.place s.wired.meter s.row (wire.parts x) s.since now of_front chain_here s.there registered s.address s.serves in
-      subst (λ (ts : List Turn). GoesBeside budget line wire.meters s.wired.meter s.row (wire.parts x) (core_at s.front) (core_at ts) s.since now) same ends
+      let registered : row_of s.wired.wired.meter.identity (present (core_at s.front)) ≡ Some s.row = ap (λ (i : Identity). row_of i (present (core_at s.front))) s.wired.wired.who ∙ s.registered in
+      let ends = readouts_of_a_run_end budget state s.front line wire.meters s.positions s.wired.wired.place s.wired.wired.meter s.row (wire.parts x) s.since now of_front chain_here s.there registered s.address s.serves in
+      subst (λ (ts : List Turn). GoesBeside budget line wire.meters s.wired.wired.meter s.row (wire.parts x) (core_at s.front) (core_at ts) s.since now) same ends
 
   few_asked : (x : Identity) (before more : List Turn) (request : List ℕ) (now : Line) → all ≡ before ++ (asks line, asked (Some request)) ∷ more → Since x before now → now.heard < 102
   few_asked x before more request now is s =
       let turn : Turn = (asks line, asked (Some request)) in
       let asks_it_now : Some request ≡ ask_answer (core_at before) line = (chain_parts budget (opened state) before (turn ∷ more) (subst (IsChain budget (opened state)) is chain)).1.0 in
       let g = goes_as x before (turn ∷ more) now is s in
-      let most : now.heard < 3 * (commands s.wired.meter.address + length (wire.parts x)) = g.asks_few request (sym asks_it_now) in
-      let few = few_requests s.wired.meter.address (wire.parts x) s.wired.there.few in
+      let most : now.heard < 3 * (commands s.wired.wired.meter.address + length (wire.parts x)) = g.asks_few request (sym asks_it_now) in
+      let few = few_requests s.wired.wired.meter.address (wire.parts x) s.wired.wired.there.few in
       omega (arith, most, few)
 
   -- ---- where it has no request any more, its meter was read
@@ -168,7 +245,7 @@ module _ (budget line : ℕ) (state : State) (wire : Wire) (all : List Turn) (ch
         free = ap (λ (ts : List Turn). session_of (core_at ts) line) (sym same) ∙ free;
         settled = ap (λ (ts : List Turn). (core_at ts).pending) (sym same) ∙ none;
         read = subst (λ (ts : List Turn). HasRead x s.row (wire.parts x) (present (core_at s.front)) (core_at ts).committed) same
-            (subst (λ (i : Identity). HasRead i s.row (wire.parts x) (present (core_at s.front)) (core_at before).committed) s.wired.who (g.ends free));
+            (subst (λ (i : Identity). HasRead i s.row (wire.parts x) (present (core_at s.front)) (core_at before).committed) s.wired.wired.who (g.ends free));
       }
 
   none_asked : (x : Identity) (before more : List Turn) (now : Line) → all ≡ before ++ (asks line, asked None) ∷ more → Since x before now → Read x
@@ -243,7 +320,7 @@ module _ (budget line : ℕ) (state : State) (wire : Wire) (all : List Turn) (ch
       is ∙ ap (λ (ts : List Turn). before ++ ts) p.turns_are ∙ sym (append_assoc before p.away (turns_of x ++ happened_turns p.rest))
 
   since_away : (x : Identity) (before : List Turn) (now : Line) (h : Happening) (more full : List Happening) (p : Split line h more full) → Since x before now → Since x (before ++ p.away) now
-  since_away x before now h more full p s = since_more x before p.away now now s (serves_away line wire.meters now p.away p.elsewhere)
+  since_away x before now h more full p s = since_more x before p.away now now s (serves_away line wire.meters p.away now p.elsewhere)
 
   -- ---- no readout goes on
 
@@ -271,8 +348,8 @@ module _ (budget line : ℕ) (state : State) (wire : Wire) (all : List Turn) (ch
       let may = (chain_parts budget (opened state) before (turn ∷ more) (subst (IsChain budget (opened state)) is chain)).1.0 in
       let of = all_left IsOfLines before (turn ∷ more) (subst (AllByRecursion IsOfLines) is of_all) in
       let has = all_left (λ (t : Turn). IsSupplied t.1) before (turn ∷ more) (subst (AllByRecursion (λ (t : Turn). IsSupplied t.1)) is supplied) in
-      let at = stays_placed y w.row (opened state) before of (record { now = w.row; found = w.registered; line_is = refl; address_is = refl }) in
-      let on : is_on line (row_of y (present core)) ≡ true = ap (is_on line) at.found ∙ eq-eqb at.now.line line (at.line_is ∙ w.on_line) in
+      let at = stays_placed y w.wired.row (opened state) before of (record { row = w.wired.row; found = w.wired.registered; is = (refl, refl) }) in
+      let on : is_on line (row_of y (present core)) ≡ true = ap (is_on line) at.found ∙ eq-eqb at.row.line line (at.is.0 ∙ w.on_line) in
       let ok = start_ok (is_line line) core.stopped (is_on line (row_of y (present core))) (is_some (session_of core line)) is_one (all_running (opened state) before of has refl) on (ap is_some free) in
       let bad : ◌≡◌ {A = Result (Unit {0}) StartFault} (Err fault) (Ok tt) = may ∙ ok in
       cc
@@ -288,18 +365,18 @@ module _ (budget line : ℕ) (state : State) (wire : Wire) (all : List Turn) (ch
   -- a readout begins
   begun : (x : Identity) (before : List Turn) (now : Line) → AllByRecursion IsOfLines before → IsCounted now → IsWiredOn line state wire x → Since x (before ++ start_of x ∷ []) (bus_at_first now.positions)
   begun x before now of counted w =
-      let at : IsPlaced x w.row (present (core_at before)) =
-      stays_placed x w.row (opened state) before of (record { now = w.row; found = w.registered; line_is = refl; address_is = refl }) in
+      let at : IsPlaced x w.wired.row (present (core_at before)) =
+      stays_placed x w.wired.row (opened state) before of (record { row = w.wired.row; found = w.wired.registered; is = (refl, refl) }) in
       record {
         wired = w;
-        row = at.now;
+        row = at.row;
         front = before;
         since = [];
         before_is = refl;
         positions = now.positions;
-        there = record { regular = w.there.regular; counted = counted; stands = w.there.stands; whole = w.there.whole; few = w.there.few; own = w.there.own };
+        there = record { regular = w.wired.there.regular; counted = counted; stands = w.wired.there.stands; whole = w.wired.there.whole; few = w.wired.there.few; own = w.wired.there.own };
         registered = at.found;
-        address = at.address_is ∙ w.address;
+        address = at.is.1 ∙ w.wired.address;
         serves = none_more;
       }
 
@@ -308,18 +385,8 @@ module _ (budget line : ℕ) (state : State) (wire : Wire) (all : List Turn) (ch
 
   -- ---- an answer that was given and isn't received yet
 
-  record Given (bytes : List ℕ) (now start : Line) : Type 0 where
-    outcome : Outcome
-    frame : FrameSeen
-    waited : start.waits ≡ Some frame
-    bytes_are : IsHeard outcome frame wire.meters start.positions bytes
-    few : row_after start.row outcome < 3
-    now_is : now ≡ bus_after wire.meters outcome frame start
-
-  abbrev Stands : Request → Line → Line → Type 0
-  Stands Quiet now start = now ≡ start
-  Stands Sent now start = now ≡ start
-  Stands (Answered bytes) now start = Given bytes now start
+  abbrev GivenOn : List ℕ → Line → Line → Type 0
+  GivenOn bytes now start = Given line wire.meters bytes now start
 
   -- how many requests were sent
   abbrev asks_at : Request → Line → ℕ
@@ -356,10 +423,10 @@ module _ (budget line : ℕ) (state : State) (wire : Wire) (all : List Turn) (ch
       subst (PartsIn line wire (core_at before)) (sym p.turns_are) (parts_away line wire (core_at before) p.away more p.elsewhere here)
 
   -- a telegram is the next of the meter's parts
-  part_of_it : (x : Identity) (start : Line) (moment : ℕ) (bytes : List ℕ) (before more : List Turn) (now : Line) → Given bytes now start → all ≡ before ++ more → Since x before start → PartAt line wire (core_at before) (hears line moment bytes)
+  part_of_it : (x : Identity) (start : Line) (moment : ℕ) (bytes : List ℕ) (before more : List Turn) (now : Line) → GivenOn bytes now start → all ≡ before ++ more → Since x before start → PartAt line wire (core_at before) (hears line moment bytes)
   part_of_it x start moment bytes before more now given is s same session on =
       let part = (goes_as x before more start is s).next_part session given.outcome given.frame bytes on given.waited given.bytes_are given.few in
-      let who : session.meter ≡ x = part.0 ∙ s.wired.who in
+      let who : session.meter ≡ x = part.0 ∙ s.wired.wired.who in
       subst (λ (i : Identity). IsNextPart (drop session.settled (wire.parts i)) (verdict_by session bytes)) (sym who) part.1
 
   -- ---- each thing on the line
@@ -384,7 +451,7 @@ module _ (budget line : ℕ) (state : State) (wire : Wire) (all : List Turn) (ch
   full_facts None n idle moment bytes fault later e = subst (λ (f : HearFault). FactsOf None n idle (does (hears line moment bytes, heard (Err f)) ∷ later)) (sym e) (tt, tt)
   full_facts (Some x) n idle moment bytes fault later e = subst (λ (f : HearFault). FactsOf (Some x) n idle (does (hears line moment bytes, heard (Err f)) ∷ later)) (sym e) (tt, tt)
 
-  hears_one : (x : Identity) (now start : Line) (idle : Bool) (moment : ℕ) (bytes : List ℕ) (answer : Result LineHeard HearFault) (before : List Turn) (later full : List Happening) → Given bytes now start → IsCounted start → IsSuppliedIn (does (hears line moment bytes, heard answer))
+  hears_one : (x : Identity) (now start : Line) (idle : Bool) (moment : ℕ) (bytes : List ℕ) (answer : Result LineHeard HearFault) (before : List Turn) (later full : List Happening) → GivenOn bytes now start → IsCounted start → IsSuppliedIn (does (hears line moment bytes, heard answer))
       → all ≡ before ++ happened_turns full → Since x before start → (p : Split line (does (hears line moment bytes, heard answer)) later full)
       → ((next : Line) → now ≡ next → IsCounted next → Since x ((before ++ p.away) ++ (hears line moment bytes, heard answer) ∷ []) next → Going (Some x) next.heard false later ((before ++ p.away) ++ (hears line moment bytes, heard answer) ∷ []) p.rest)
       → Going (Some x) (start.heard + 1) idle (does (hears line moment bytes, heard answer) ∷ later) before full
@@ -462,7 +529,7 @@ module _ (budget line : ℕ) (state : State) (wire : Wire) (all : List Turn) (ch
 
   module _ {B : Type 0} {g : Bus B} where
     along : {first last : Talk B} {on : List Happening} (talk : Talks g line first on last) (x : Identity) (idle : Bool) (full : List Happening) (before : List Turn) (now start : Line) → on ≡ happened_on line full → AreOfLines full → all ≡ before ++ happened_turns full → AreTrueAt before full
-        → Stands first.request now start → IsCounted start → (idle ≡ true → IsFree before) → Since x before start → IsCarried wire.meters now talk → AllByRecursion IsSuppliedIn on → AllByRecursion (IsWiredOn line state wire) (starts_in on) → Going (Some x) (asks_at first.request start) idle on before full
+        → Stands line wire.meters first.request now start → IsCounted start → (idle ≡ true → IsFree before) → Since x before start → IsCarried wire.meters now talk → AllByRecursion IsSuppliedIn on → AllByRecursion (IsWiredOn line state wire) (starts_in on) → Going (Some x) (asks_at first.request start) idle on before full
     along (rests {last = t}) x idle full before now start on of is truth at counted free s carried well wired = record { facts = tt; parts = parts_none line wire (core_at before) (happened_turns full) (none_on line full on of) }
     along (begins {meter = y} {answer = answer} {more = later} more) x idle full before now start on of is truth at counted free s carried well wired =
         let p = split_at line (does (starts line y, started answer)) later full on of in
@@ -492,16 +559,8 @@ module _ (budget line : ℕ) (state : State) (wire : Wire) (all : List Turn) (ch
     along (waits_it waits more) x idle full before now start on of is truth at counted free s carried well wired =
         along more x idle full before now start on of is truth at counted free s carried well wired
     along (takes_it {bytes = bytes} gives more) x idle full before now start on of is truth at counted free s carried well wired =
-        let later : Line = bus_after wire.meters carried.outcome carried.frame now in
-        let given : Given bytes later start = record {
-          outcome = carried.outcome;
-          frame = carried.frame;
-          waited = ap (λ (l : Line). l.waits) (sym at) ∙ carried.waited;
-          bytes_are = subst (λ (l : Line). IsHeard carried.outcome carried.frame wire.meters l.positions bytes) at carried.bytes_are;
-          few = subst (λ (l : Line). row_after l.row carried.outcome < 3) at carried.few;
-          now_is = ap (bus_after wire.meters carried.outcome carried.frame) at;
-        } in
-        along more x idle full before later start on of is truth given counted free s carried.then_on well wired
+        along more x idle full before (bus_after wire.meters carried.outcome carried.frame now) start on of is truth
+        (given_by line wire.meters bytes now start (λ (l : Line). IsCarried wire.meters l more) at carried) counted free s carried.then_on well wired
     along (hears_it {moment = moment} {bytes = bytes} {answer = answer} {more = later} more) x idle full before now start on of is truth at counted free s carried well wired =
         let turn : Turn = (hears line moment bytes, heard answer) in
         let p = split_at line (does turn) later full on of in

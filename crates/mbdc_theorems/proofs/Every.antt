@@ -1,62 +1,178 @@
--- Every meter is read (the theorem of specs/Every).
-use Rattle.std.proofs.Common.{Some, ◌≡◌, ◌≢◌, ◌⊎◌, inl, inr, ⊎_elim, ℕ, zero, suc, ◌+◌, ◌-◌, ◌<◌, ◌≤◌, ◌^◌, min, Bool, true, false, None, List, [], ◌∷◌, ◌++◌, length, get_or, map, take, drop, arith, refl, sym, ◌∙◌, ap, subst, append-nil}
-use Rattle.std.specs.Prelude.{sum, sum_by}
-use Rattle.std.specs.List.{All, AllByRecursion}
-use Rattle.std.proofs.lemmas.Bool.{cases_lt}
+-- As many meters are counted as read as the queues have (for the theorem of specs/Every).
+use Rattle.std.proofs.Common.{◌≡◌, ◌⊎◌, inl, inr, ℕ, ◌+◌, ◌<◌, ◌≤◌, Bool, true, false, List, [], ◌∷◌, ◌++◌, length, get_or, map, arith, refl, ◌∙◌, ap, length-append, zero, suc, ◌-◌, ◌*◌, ◌/◌, Option, Some, None, sym, ◌≢◌, ⊎_elim, ◌^◌, min, take, drop, subst, append-nil}
+use Rattle.std.specs.Prelude.{sum, if◌then◌else◌, ◌==◌, sum_by}
+use Rattle.std.specs.List.{AllByRecursion, All}
+use Rattle.std.proofs.lemmas.Bool.{eq-eqb, ne_eqb, cases_lt}
+use Rattle.std.proofs.lemmas.List.Concat.{flat_map-append}
+use Rattle.std.proofs.lemmas.List.Sums.{sum_by-cons}
+use Rattle.std.proofs.Math.Nat.{div-mul-le_self, mul-le-mul_right, suc-mul}
 use Rattle.std.proofs.lemmas.Bool.Decides.{nat_tests}
 use Rattle.std.proofs.lemmas.List.{length-map, length-take, take_all, drop_all, get_or_past, get_or_default}
 use Rattle.std.proofs.lemmas.List.Elements.{recursion_from_All}
-use Rattle.std.proofs.lemmas.List.Sums.{sum_by-cons}
+use Rattle.dc_core.specs.Transcript.{Turn, leads, IsChain}
+use Rattle.mbdc_poll.specs.Happening.{Happening, does, tells, is_on, kept_on, happened_on, counts_read, reads_in, failures_in, happened_turns, happened_events}
+use Rattle.mbdc_poll.specs.declared.event.Event.{Event as Told}
+use Rattle.mbdc_poll.specs.declared.event.Event.TheVariants.{Read as was_read, Failed as has_failed, Refused as was_refused, Lost as is_lost, Late as came_late, End as has_ended, Read as told_read}
+use Rattle.mbdc_poll.specs.Queue.{read_by, read_in, read_of, AreApart, Goes, GoesWell, Part, part, starts_in, stays, passes_on, starts_it, is_refused, asks_it, has_no_request, is_given_up, goes_on, is_accepted, is_put_off, fails_at_last, is_faulty, is_stored, is_unstored, stands_by, is_told, loses_it}
+use Rattle.mbdc_poll.specs.Round.{IsCommitTurn, meters_left, HasFew, IsFresh, IsOver, IsSilent, LineGoes, lates_from, most_lines}
+use Rattle.mbdc_poll.specs.declared.station.Station.{Station}
 use Rattle.dc_address.specs.declared.identity.Identity.{Identity}
+use Rattle.mbdc_change.specs.Size.{size_of}
 use Rattle.mbdc_change.specs.State.{State, MeterRow, row_of}
+use Rattle.mbdc_shown.specs.Room.{bytes_a_reading}
+use Rattle.mbdc_poll.specs.Bus.{Bus}
 use Rattle.dc_core.specs.Lines.{is_line}
 use Rattle.dc_core.specs.Core.{opened}
 use Rattle.dc_core.specs.Event.{asks, asked}
-use Rattle.dc_core.specs.Transcript.{Turn, leads, IsChain}
 use Rattle.dc_core.specs.Images.{IsAt}
 use Rattle.dc_sectors.specs.Disk.{IsImage}
 use Rattle.dc_sectors.specs.declared.device.Disk.{Ghosts}
 use Rattle.mbdc_log.specs.Halves.{half_of}
 use Rattle.dc_core.specs.PendingImages.{Stands}
-use Rattle.mbdc_theorems.specs.Beside.{IsOfLines, bus_at_first}
-use Rattle.mbdc_poll.specs.Bus.{Bus}
-use Rattle.mbdc_poll.specs.Happening.{Happening, does, tells, failures_in, happened_on, happened_turns, reads_in, happened_events}
 use Rattle.mbdc_poll.specs.Keeping.{AreTrue, Store, all_kept, some_wait, unkept}
 use Rattle.mbdc_poll.specs.Planned.{asked_for, has_bus, queue_on, refused_count, refused_events}
 use Rattle.mbdc_poll.specs.Polls.{store_of}
-use Rattle.mbdc_poll.specs.Queue.{AreApart, Goes, GoesWell, Part, part, read_in, starts_in, stays, passes_on, starts_it, is_refused, asks_it, has_no_request, is_given_up, goes_on, is_accepted, is_put_off, fails_at_last, is_faulty, is_stored, is_unstored, stands_by, is_told, loses_it}
-use Rattle.mbdc_poll.specs.Round.{HasFew, IsCommitTurn, IsFresh, IsOver, IsSilent, LineGoes, lates_from, meters_left, most_lines}
 use Rattle.mbdc_poll.specs.Station.{part_of}
 use Rattle.mbdc_poll.specs.declared.phase.Phase.TheVariants.{Free}
 use Rattle.mbdc_poll.specs.declared.phase.Request.TheVariants.{Quiet}
-use Rattle.mbdc_poll.specs.declared.event.Event.{Event as Told}
-use Rattle.mbdc_poll.specs.declared.event.Event.TheVariants.{Read as told_read, Failed as has_failed}
-use Rattle.mbdc_poll.specs.declared.event.Event.TheVariants.{Refused as was_refused, Lost as is_lost}
-use Rattle.mbdc_poll.specs.declared.event.Event.TheVariants.{Late as came_late, End as has_ended}
-use Rattle.mbdc_poll.specs.declared.station.Station.{Station}
 use Rattle.mbdc_poll.proofs.Apart.{queue_apart}
 use Rattle.mbdc_poll.proofs.Meanings.{none_pends}
 use Rattle.mbdc_poll.proofs.Queues.{part_is}
 use Rattle.mbdc_poll.proofs.Reading.{all_read}
 use Rattle.mbdc_poll.proofs.Taking.{takes_both}
+use Rattle.mbdc_theorems.proofs.Facts.{all_right, Facts, IsWiredOn, WasNew, WasRead, wired_on, all_as, all_with, all_both, all_left, PartsIn, AreRoomy, AreSupplied, IsRoomyIn, IsSuppliedIn}
+use Rattle.mbdc_theorems.proofs.Rooms.{sum_from, sum_none, sum_both, sum_one, sum_total, total, AllHave, LineHas, all_roomy, first_has}
+use Rattle.mbdc_theorems.proofs.Turns.{first_of, told_here, queue_of_line, are_supplied, no_fault, none_pends_at, roomy_on, rounds_of_lines, starts_same, supplied_on, IsWellOn, all_running, all_well, none_failed, none_left}
 use Rattle.mbdc_theorems.specs.Carried.{Wire}
-use Rattle.mbdc_theorems.specs.Every.{EveryMeterIsRead, HasRoom, IsInOrder, IsOfNew, IsRead, IsWired, LineIsRead, room_of, room_on}
+use Rattle.mbdc_theorems.specs.Every.{room_of, room_on, AreUsual, RoomRowSuffices, EveryMeterIsRead, HasRoom, IsInOrder, IsOfNew, IsRead, IsWired, LineIsRead}
+use Rattle.mbdc_theorems.specs.Beside.{IsOfLines, bus_at_first}
 use Rattle.mbdc_theorems.proofs.Carried.{along_first}
-use Rattle.mbdc_theorems.proofs.Counted.{IsHere, queues_over, reads_over}
-use Rattle.mbdc_theorems.proofs.Facts.{Facts, IsWiredOn, WasNew, WasRead, wired_on}
-use Rattle.mbdc_theorems.proofs.Following.{IsNew, follow}
-use Rattle.mbdc_theorems.proofs.Free.{free_at_first}
-use Rattle.mbdc_theorems.proofs.Kept.{starts_on}
-use Rattle.mbdc_theorems.proofs.Lists.{all_as, all_with, all_both, all_left, all_right}
-use Rattle.mbdc_theorems.proofs.New.{is_read}
-use Rattle.mbdc_theorems.proofs.Ordered.{OrderOn, alone_on, orders, orders_on}
-use Rattle.mbdc_theorems.proofs.OwnLine.{queue_of_line}
-use Rattle.mbdc_theorems.proofs.Parted.{PartsIn}
-use Rattle.mbdc_theorems.proofs.Rooms.{AllHave, LineHas, all_roomy, first_has}
-use Rattle.mbdc_theorems.proofs.Sums.{sum_from, sum_total, total}
-use Rattle.mbdc_theorems.proofs.Supplied.{AreRoomy, AreSupplied, IsRoomyIn, IsSuppliedIn}
-use Rattle.mbdc_theorems.proofs.Turns.{are_supplied, no_fault, none_pends_at, roomy_on, rounds_of_lines, starts_same, supplied_on}
-use Rattle.mbdc_theorems.proofs.Whole.{IsWellOn, all_running, all_well, none_failed, none_left}
+use Rattle.mbdc_theorems.proofs.Following.{IsNew, follow, OrderOn, alone_on, orders, orders_on}
+use Rattle.mbdc_theorems.proofs.Rows.{free_at_first, starts_on, is_read}
+
+-- ---- what is counted on a line
+
+abbrev pub reads_on : ℕ → List Happening → ℕ
+reads_on line happened = length (read_in (happened_on line happened))
+
+-- something happens on one of so many lines, or there are only commits
+abbrev pub IsHere : ℕ → ℕ → List Happening → Type 0
+IsHere n line happened = ((1 ≤ line) × (line ≤ n)) ⊎ AllByRecursion IsCommitTurn (happened_on line happened)
+
+rest_here : (n line : ℕ) (h : Happening) (happened : List Happening) → IsHere n line (h ∷ happened) → IsHere n line happened
+rest_here n line h happened (inl here) = inl here
+rest_here n line h happened (inr none) = inr (all_right IsCommitTurn (kept_on line h) (happened_on line happened) none)
+
+first_here : (n line : ℕ) (told : Told) (happened : List Happening) → IsHere n line (tells line told ∷ happened) → (1 ≤ line) × (line ≤ n)
+first_here n line told happened (inl here) = here
+first_here n line told happened (inr none) = absurd (first_of IsCommitTurn line (tells line told) happened (told_here line told) none)
+
+reads_append : (line : ℕ) (h : Happening) (happened : List Happening) → reads_on line (h ∷ happened) ≡ length (read_in (kept_on line h)) + reads_on line happened
+reads_append line h happened =
+    ap length (flat_map-append read_of (kept_on line h) (happened_on line happened)) ∙ length-append (read_in (kept_on line h)) (read_in (happened_on line happened))
+
+turn_none : (line : ℕ) (turn : Turn) → length (read_in (kept_on line (does turn))) ≡ 0
+turn_none line turn = by (is_on line turn.0)
+  where
+    by : (b : Bool) → length (read_in (if b then does turn ∷ [] else [])) ≡ 0
+    by true = refl
+    by false = refl
+
+told_counts : (line : ℕ) (told : Told) → length (read_by told ++ []) ≡ counts_read (tells line told)
+told_counts line (was_read meter serial parts last) = refl
+told_counts line (has_failed at meter why brought) = refl
+told_counts line (was_refused meter refusal) = refl
+told_counts line (is_lost lost) = refl
+told_counts line (came_late late answers) = refl
+told_counts line (has_ended read failed) = refl
+
+told_once : (n line : ℕ) (told : Told) → 1 ≤ line → line ≤ n → sum_from (λ (other : ℕ). length (read_in (kept_on other (tells line told)))) 1 n ≡ counts_read (tells line told)
+told_once n line told some few =
+    sum_one (λ (other : ℕ). length (read_in (kept_on other (tells line told)))) 1 n line some (omega (arith, few))
+    (λ other not. ap (λ (b : Bool). length (read_in (if b then tells line told ∷ [] else []))) (ne_eqb line other not))
+    ∙ (ap (λ (b : Bool). length (read_in (if b then tells line told ∷ [] else []))) (eq-eqb line line refl) ∙ told_counts line told)
+
+pub reads_over : (n : ℕ) (happened : List Happening) → ((line : ℕ) → IsHere n line happened) → sum_from (λ (line : ℕ). reads_on line happened) 1 n ≡ reads_in happened
+reads_over n [] here = sum_none (λ (line : ℕ). reads_on line []) 1 n (λ k low. refl)
+reads_over n (does turn ∷ happened) here =
+    let both = sum_both (λ (line : ℕ). reads_on line (does turn ∷ happened)) (λ (line : ℕ). length (read_in (kept_on line (does turn)))) (λ (line : ℕ). reads_on line happened) 1 n (λ line. reads_append line (does turn) happened) in
+    let none = sum_none (λ (line : ℕ). length (read_in (kept_on line (does turn)))) 1 n (λ k low. turn_none (1 + k) turn) in
+    let rest = reads_over n happened (λ line. rest_here n line (does turn) happened (here line)) in
+    omega (arith, both, none, rest)
+reads_over n (tells l told ∷ happened) here =
+    let both = sum_both (λ (line : ℕ). reads_on line (tells l told ∷ happened)) (λ (line : ℕ). length (read_in (kept_on line (tells l told)))) (λ (line : ℕ). reads_on line happened) 1 n (λ line. reads_append line (tells l told) happened) in
+    let at = first_here n l told happened (here l) in
+    let one = told_once n l told at.0 at.1 in
+    let rest = reads_over n happened (λ line. rest_here n line (tells l told) happened (here line)) in
+    omega (arith, both, one, rest)
+
+-- ---- as many as the queues have
+
+module _ {B : Type 0} where
+  abbrev pub count_by : ℕ → Station B → ℕ
+  count_by line station = length station.left.now
+
+  pub count_is : (line : ℕ) (stations : List (Station B)) → total count_by line stations ≡ meters_left stations
+  count_is line [] = refl
+  count_is line (s ∷ stations) =
+      let count : Station B → ℕ = λ x. length x.left.now in
+      let sums : sum (count s ∷ map count stations) ≡ count s + sum (map count stations) = sum_by-cons (λ (n : ℕ). n) (count s) (map count stations) in
+      let rest = count_is (line + 1) stations in
+      omega (arith, sums, rest)
+
+  pub queues_over : (stations : List (Station B)) (count : ℕ → ℕ) → ((k : ℕ) (d : Station B) → k < length stations → count (k + 1) ≡ length (get_or stations k d).left.now) → sum_from count 1 (length stations) ≡ meters_left stations
+  queues_over stations count each =
+      sum_total count_by count 1 (length stations) stations (omega arith)
+      (λ k d low. let one : 1 + k ≡ k + 1 = omega arith in ap count one ∙ each k d low) (λ k past low. absurd (omega (arith, past, low)))
+      ∙ count_is 1 stations
+
+-- A register whose row ROOM suffices has room for a reading of each meter (the law of specs/Every).
+
+times_both : (a b each : ℕ) → (a + b) * each ≡ a * each + b * each
+times_both zero b each = let same : 0 + b ≡ b = omega arith in let one : (0 + b) * each ≡ b * each = ap (λ (n : ℕ). n * each) same in omega (arith, one)
+times_both (suc a) b each =
+    let same : suc a + b ≡ suc (a + b) = omega arith in
+    let one : (suc a + b) * each ≡ (a + b) * each + each = ap (λ (n : ℕ). n * each) same ∙ suc-mul (a + b) each in
+    let rest = times_both a b each in
+    let other = suc-mul a each in
+    omega (arith, one, rest, other)
+
+queue_most : (f : Identity → ℕ) (each : ℕ) (xs : List Identity) → AllByRecursion (λ (x : Identity). f x ≤ each) xs → sum_by f xs ≤ length xs * each
+queue_most f each [] all = omega arith
+queue_most f each (x ∷ xs) all =
+    let sums = sum_by-cons f x xs in
+    let rest = queue_most f each xs all.1 in
+    let count : suc (length xs) * each ≡ length xs * each + each = suc-mul (length xs) each in
+    let one = all.0 in
+    omega (arith, sums, rest, count, one)
+
+room_most : {B : Type 0} (state : State) (wires : ℕ → Wire) (line : ℕ) (stations : List (Station B)) → AreUsual state wires line stations → room_on state wires line stations ≤ meters_left stations * bytes_a_reading state
+room_most state wires line [] usual = omega arith
+room_most {B} state wires line (s ∷ stations) usual =
+    let each : ℕ = bytes_a_reading state in
+    let count : Station B → ℕ = λ x. length x.left.now in
+    let sums : sum (count s ∷ map count stations) ≡ count s + sum (map count stations) = sum_by-cons (λ (n : ℕ). n) (count s) (map count stations) in
+    let all : meters_left (s ∷ stations) * each ≡ length s.left.now * each + meters_left stations * each = ap (λ (n : ℕ). n * each) sums ∙ times_both (length s.left.now) (meters_left stations) each in
+    let one = queue_most (room_of state (wires line)) each s.left.now usual.0 in
+    let rest = room_most state wires (line + 1) stations usual.1 in
+    omega (arith, all, one, rest)
+
+left_is : (none : Bool) (n readings : ℕ) → ◌≡◌ {A = Option ℕ} (if none then None else Some n) (Some readings) → readings ≡ n
+left_is true n readings e = absurd cc
+left_is false n readings e = let same : n ≡ readings = cc in sym same
+
+pub room_row_suffices : {B : Type 0} (g : Bus B) → RoomRowSuffices g
+room_row_suffices g budget readings state wires stations within row few usual serials =
+    let each : ℕ = bytes_a_reading state in
+    let free : ℕ = budget - size_of state in
+    let is : readings ≡ free / each = left_is (each == 0) (free / each) readings row in
+    let most = room_most state wires 1 stations usual in
+    let more : meters_left stations * each ≤ readings * each = mul-le-mul_right each few in
+    let all : readings * each ≡ free / each * each = ap (λ (n : ℕ). n * each) is in
+    let fits : free / each * each ≤ free = div-mul-le_self free each in
+    record { room = omega (arith, most, more, all, fits, within); serials = serials }
+
+-- Every meter is read (the theorem of specs/Every).
 
 -- ---- which meters are started
 
@@ -259,20 +375,9 @@ module _ {B : Type 0} (state : State) (wires : ℕ → Wire) where
   abbrev room_by : ℕ → Station B → ℕ
   room_by line station = room_at state wires line station.left.now
 
-  abbrev count_by : ℕ → Station B → ℕ
-  count_by line station = length station.left.now
-
   room_is : (line : ℕ) (stations : List (Station B)) → total room_by line stations ≡ room_on state wires line stations
   room_is line [] = refl
   room_is line (s ∷ stations) = ap (λ (n : ℕ). room_by line s + n) (room_is (line + 1) stations)
-
-  count_is : (line : ℕ) (stations : List (Station B)) → total count_by line stations ≡ meters_left stations
-  count_is line [] = refl
-  count_is line (s ∷ stations) =
-      let count : Station B → ℕ = λ x. length x.left.now in
-      let sums : sum (count s ∷ map count stations) ≡ count s + sum (map count stations) = sum_by-cons (λ (n : ℕ). n) (count s) (map count stations) in
-      let rest = count_is (line + 1) stations in
-      omega (arith, sums, rest)
 
   module _ (stations : List (Station B)) (few : length stations ≤ 8) where
     abbrev rooms : ℕ → ℕ
@@ -288,14 +393,14 @@ module _ {B : Type 0} (state : State) (wires : ℕ → Wire) where
     all_rooms =
         sum_total room_by rooms 1 8 stations few
         (λ k d low. ap (λ (j : ℕ). room_at state wires (1 + k) (queue_in stations j)) (place k) ∙ ap (room_at state wires (1 + k)) (queue_at stations k d low))
-        (λ k past. ap (λ (j : ℕ). room_at state wires (1 + k) (queue_in stations j)) (place k) ∙ ap (room_at state wires (1 + k)) (queue_past stations k past))
+        (λ k past low. ap (λ (j : ℕ). room_at state wires (1 + k) (queue_in stations j)) (place k) ∙ ap (room_at state wires (1 + k)) (queue_past stations k past))
         ∙ room_is 1 stations
 
     all_counts : sum_from counts 1 8 ≡ meters_left stations
     all_counts =
         sum_total count_by counts 1 8 stations few
         (λ k d low. ap (λ (j : ℕ). length (queue_in stations j)) (place k) ∙ ap length (queue_at stations k d low))
-        (λ k past. ap (λ (j : ℕ). length (queue_in stations j)) (place k) ∙ ap length (queue_past stations k past))
+        (λ k past low. ap (λ (j : ℕ). length (queue_in stations j)) (place k) ∙ ap length (queue_past stations k past))
         ∙ count_is 1 stations
 
 -- at first there is room for all

@@ -1,11 +1,9 @@
 -- A house in which a meter of two telegrams is registered, read, lost by a stop, and read anew.
-use Rattle.std.proofs.Common.{◌≡◌, ℕ, zero, suc, ◌+◌, inl, inr, Bool, true, false, eqb, Option, Some, None, Ok, List, [], ◌∷◌, ◌++◌, length, take, drop, get_or, cond, arith, refl, sym, ◌∙◌, ap, subst, length-append}
-use Rattle.std.specs.Prelude.{slice_get, slice_index}
+use Rattle.std.proofs.Common.{◌≡◌, ℕ, zero, suc, ◌+◌, inl, inr, Bool, true, false, eqb, Option, Some, None, Ok, List, [], ◌∷◌, ◌++◌, cond, arith, refl, sym, ◌∙◌, ap, subst}
+use Rattle.std.specs.Prelude.{slice_get}
 use Rattle.std.specs.BTreeMap.{is_at}
 use Rattle.std.specs.Ordering.{is_eq}
-use Rattle.std.proofs.Math.Seq.{take-append_seam}
 use Rattle.std.proofs.lemmas.Bool.{ne_eqb}
-use Rattle.std.proofs.lemmas.List.{get_or-append-add}
 use Rattle.std.proofs.lemmas.Slice.Eq.{bytes_eq-Decides}
 use Rattle.dc_linkframe.specs.Frame.{FrameSeen, ack, long, spelling}
 use Rattle.dc_linkframe.specs.Reading.{frame_of}
@@ -13,14 +11,10 @@ use Rattle.std.specs.Str.{bytes_eq}
 use Rattle.dc_linkframe.specs.Control.{reset_to, request_to, variable_data}
 use Rattle.dc_linkframe.proofs.Spellings.{frame_of-spelling}
 use Rattle.dc_address.specs.declared.identity.Identity.{Identity}
-use Rattle.dc_address.specs.Identity.{identity_cmp, wire_of}
-use Rattle.dc_address.proofs.Identities.{length-wire_of}
+use Rattle.dc_address.specs.Identity.{identity_cmp}
 use Rattle.dc_address.proofs.Order.{equal_to_itself}
-use Rattle.dc_records.specs.declared.header.Header.{Header}
-use Rattle.dc_records.specs.Body.{Ending, plain, more, IsEnd}
-use Rattle.dc_records.specs.Header.{BeginsWithHeader}
-use Rattle.dc_records.specs.Telegram.{Parsed, IsTelegram, telegram_at}
-use Rattle.dc_records.proofs.Spellings.Telegrams.{telegram_again}
+use Rattle.dc_records.specs.Body.{plain, more}
+use Rattle.dc_records.specs.Telegram.{Parsed, telegram_at}
 use Rattle.dc_readout.specs.Answer.{answered, to_request}
 use Rattle.dc_readout.specs.Summary.{Summary, again, ready, new, begun, heard_by, settled_by, meaning_at, verdict_by, verdict_of_meaning}
 use Rattle.dc_readout.specs.Meter.{Meter, Position, first_position, moved_by, answer_to, rsp_ud}
@@ -48,65 +42,10 @@ use Rattle.dc_core.specs.Step.{May, next, held}
 use Rattle.dc_core.specs.Transcript.{Turn, leads, accepted_by}
 use Rattle.dc_core.specs.Headline.{accepted}
 use Rattle.dc_core.proofs.Ordered.{own}
-use Rattle.mbdc_theorems.specs.House.{Bus, Buses, House, formatted, goes_on, opens_again, HaveBodies, IsOnBuses, IsExchanged, not_heard, reply_heard, put_bus}
-use Rattle.mbdc_theorems.specs.Whole.{SpeakForThemselves}
-use Rattle.mbdc_theorems.specs.HouseMet.{bare_body, first_body, last_body, sends_two, IsRead, PremisesAreMet}
+use Rattle.mbdc_theorems.specs.House.{Bus, Buses, House, formatted, goes_on, opens_again, HaveBodies, IsOnBuses, IsExchanged, not_heard, reply_heard, put_bus, SpeakForThemselves}
+use Rattle.mbdc_theorems.specs.HouseMet.{first_body, last_body, sends_two, IsRead, PremisesAreMet}
 use Rattle.dc_core.proofs.Going.{accepted_push, leads_push}
-
-drop_past : (xs ys : List ℕ) (k : ℕ) → drop (length xs + k) (xs ++ ys) ≡ drop k ys
-drop_past [] ys k = let e : 0 + k ≡ k = omega arith in ap (λ (n : ℕ). drop n ys) e
-drop_past (x ∷ xs) ys k =
-    let e : length (x ∷ xs) + k ≡ suc (length xs + k) = omega arith in
-    ap (λ (n : ℕ). drop n (x ∷ xs ++ ys)) e ∙ drop_past xs ys k
-
--- ---- telegrams without records
-
-module _ (identity : Identity) (end : List ℕ) (ending : Ending) (ends : IsEnd end ending) where
-  abbrev wire : List ℕ
-  wire = wire_of identity
-
-  eight : length wire ≡ 8
-  eight = length-wire_of identity
-
-  abbrev behind : List ℕ
-  behind = 1 ∷ 0 ∷ 0 ∷ 0 ∷ end
-
-  abbrev header : Header
-  header = record { identity = identity; access = 1; status = 0; config = 0 }
-
-  abbrev telegram : Parsed
-  telegram = record { body = bare_body identity end; header = header; records = []; ending = ending }
-
-  byte_at : (k : ℕ) → slice_index (bare_body identity end) (8 + k) ≡ get_or behind k 0
-  byte_at k = ap (λ (n : ℕ). get_or (bare_body identity end) (n + k) 0) (sym eight) ∙ get_or-append-add wire behind k 0
-
-  begins : BeginsWithHeader (bare_body identity end) header
-  begins = record {
-    enough = let sum = length-append wire behind in omega (arith, sum, eight);
-    identity = ap (λ (n : ℕ). take n (bare_body identity end)) (sym eight) ∙ take-append_seam wire behind;
-    access = sym (byte_at 0);
-    status = sym (byte_at 1);
-    config = let low = byte_at 2 in let high = byte_at 3 in omega (arith, low, high);
-  }
-
-  content_is : drop 12 (bare_body identity end) ≡ end
-  content_is = let e : 12 ≡ length wire + 4 = omega (arith, eight) in ap (λ (n : ℕ). drop n (bare_body identity end)) e ∙ drop_past wire behind 4
-
-  is_telegram : IsTelegram (bare_body identity end) telegram
-  is_telegram = record {
-    header = begins;
-    unencrypted = refl;
-    content = record { items = []; tail = end; parts = content_is; each = tt; ends = ends; records_are = refl };
-    body = refl;
-  }
-
-  reads : telegram_at (bare_body identity end) ≡ Ok telegram
-  reads = telegram_again (bare_body identity end) telegram is_telegram
-
-  long_as : length (bare_body identity end) ≡ 12 + length end
-  long_as =
-      let sum = length-append wire behind in
-      omega (arith, sum, eight)
+use Rattle.mbdc_theorems.proofs.Example.{telegram, reads, long_as}
 
 abbrev one : Identity → Parsed
 one meter = telegram meter (0x1F ∷ []) (more []) refl

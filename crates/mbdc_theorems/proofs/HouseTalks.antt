@@ -7,7 +7,7 @@ use Rattle.std.proofs.lemmas.Bool.{eq-eqb, eqb-true}
 use Rattle.mbdc_change.specs.State.{State}
 use Rattle.dc_address.specs.declared.identity.Identity.{Identity}
 use Rattle.dc_core.specs.Core.{Core, opened}
-use Rattle.dc_core.specs.Event.{Event, Answer, starts, asks, hears, commits, offices, started, asked, heard, committed, replied}
+use Rattle.dc_core.specs.Event.{Event, Answer, starts, asks, hears, commits, offices, started, asked, heard, committed}
 use Rattle.dc_core.specs.Transcript.{Turn, leads, IsChain}
 use Rattle.dc_core.proofs.Going.{leads_push}
 use Rattle.mbdc_theorems.specs.Beside.{IsOfLines}
@@ -122,11 +122,7 @@ module _ {B : Type 0} (g : Link B) (sends : Sends) where
     there = put_there line line (quiet (old line)) old refl ∙ sym is;
     elsewhere = λ other ne. put_elsewhere line other (quiet (old line)) old ne;
   }
-  begins_on line meter (started (Err fault)) old new is = stays line (starts line meter) (started (Err fault)) old new (λ buses. refl) is
-  begins_on line meter (asked request) old new is = stays line (starts line meter) (asked request) old new (λ buses. refl) is
-  begins_on line meter (heard answer) old new is = stays line (starts line meter) (heard answer) old new (λ buses. refl) is
-  begins_on line meter (committed stored) old new is = stays line (starts line meter) (committed stored) old new (λ buses. refl) is
-  begins_on line meter (replied reply) old new is = stays line (starts line meter) (replied reply) old new (λ buses. refl) is
+  begins_on line meter answer old new is = stays line (starts line meter) answer old new (λ buses. refl) is
 
   asks_on : (line : ℕ) (answer : Answer) (old : Buses) (new : Bus) → Does (does (asks line, answer)) (old line) new → Moves line (asks line) answer old new
   asks_on line (asked (Some request)) old new is =
@@ -141,11 +137,7 @@ module _ {B : Type 0} (g : Link B) (sends : Sends) where
         there = put_there line line new between refl;
         elsewhere = λ other ne. put_elsewhere line other new between ne ∙ put_elsewhere line other fresh old ne;
       }
-  asks_on line (asked None) old new is = stays line (asks line) (asked None) old new (λ buses. refl) is
-  asks_on line (started answer) old new is = stays line (asks line) (started answer) old new (λ buses. refl) is
-  asks_on line (heard answer) old new is = stays line (asks line) (heard answer) old new (λ buses. refl) is
-  asks_on line (committed stored) old new is = stays line (asks line) (committed stored) old new (λ buses. refl) is
-  asks_on line (replied reply) old new is = stays line (asks line) (replied reply) old new (λ buses. refl) is
+  asks_on line answer old new is = stays line (asks line) answer old new (λ buses. refl) is
 
   hears_on : (line moment : ℕ) (bytes : List ℕ) (answer : Answer) (old : Buses) (new : Bus) → Does (does (hears line moment bytes, answer)) (old line) new → Moves line (hears line moment bytes) answer old new
   hears_on line moment bytes (heard (Ok answer)) old new is = record {
@@ -157,10 +149,7 @@ module _ {B : Type 0} (g : Link B) (sends : Sends) where
     elsewhere = λ other ne. put_elsewhere line other (quiet (old line)) old ne;
   }
   hears_on line moment bytes (heard (Err fault)) old new is = stays line (hears line moment bytes) (heard (Err fault)) old new (λ buses. refl) is.1
-  hears_on line moment bytes (started answer) old new is = stays line (hears line moment bytes) (started answer) old new (λ buses. refl) is
-  hears_on line moment bytes (asked request) old new is = stays line (hears line moment bytes) (asked request) old new (λ buses. refl) is
-  hears_on line moment bytes (committed stored) old new is = stays line (hears line moment bytes) (committed stored) old new (λ buses. refl) is
-  hears_on line moment bytes (replied reply) old new is = stays line (hears line moment bytes) (replied reply) old new (λ buses. refl) is
+  hears_on line moment bytes answer old new is = stays line (hears line moment bytes) answer old new (λ buses. refl) is
 
   -- the talks of all lines after it
   talks_after : (line : ℕ) (thing : Happening) (more : List Happening) (old later : Buses) (s : Step line thing (happened_on line more) (old line))

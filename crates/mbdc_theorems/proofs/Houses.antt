@@ -40,7 +40,7 @@ use Rattle.dc_upload.proofs.Verdicts.{IsOrder, order_of}
 use Rattle.dc_core.specs.Lines.{is_line, settled_on}
 use Rattle.dc_core.specs.Core.{Core, present, session_of, with_session, opened}
 use Rattle.dc_core.specs.Event.{Event, Answer, starts, asks, hears, commits, offices, started, asked, heard, committed, replied}
-use Rattle.dc_core.specs.Event.{Reply, unread, unstored, repeated, refused, shown, out_of_memory, obeyed, uncommitted}
+use Rattle.dc_core.specs.Event.{Reply, unread, unstored, obeyed, uncommitted}
 use Rattle.dc_core.specs.declared.fault.StartFault.{StartFault}
 use Rattle.dc_core.specs.declared.fault.HearFault.{HearFault}
 use Rattle.dc_core.specs.declared.fault.HearFault.TheVariants.{NoLine, Idle, Stopped}
@@ -56,10 +56,8 @@ use Rattle.dc_core.proofs.Going.{accepted_push, chain_push, leads_push}
 use Rattle.dc_core.proofs.Registered.{row_of_same, row_of_other}
 use Rattle.dc_core.proofs.Ordered.{at_meter, insert_other, remove_other, apart_from_new, left_on, get_left, other_meter, accepted_new}
 use Rattle.dc_core.proofs.Followed.{start_split, asks_split, get_settled, get_nobody, nothing_left, length-lines_after}
-use Rattle.mbdc_theorems.specs.House.{Sends, Bus, Buses, House, formatted, goes_on, opens_again, time_passes, meters_change, HaveBodies, AreRenewed, IsOnBuses, IsSent, put_bus, quiet}
-use Rattle.mbdc_theorems.specs.Whole.{IsWholeReading, AreWhole, SpeakForThemselves, HasOpen, GoesOnFromCommitted, EachReadingIsWhole, MetersGoOnFromCommitted}
-use Rattle.mbdc_theorems.proofs.Wires.{AreInStep, exchanged_bodies}
-use Rattle.mbdc_theorems.proofs.Sessions.{Agrees, AgreesOn, IsSameRow, held_at, renewed_on, row_kept, begun_agrees, sent_agrees, again_agrees, ready_agrees, given, joined_all, told_agrees, told_whole, told_beside, settled_agrees}
+use Rattle.mbdc_theorems.specs.House.{Sends, Bus, Buses, House, formatted, goes_on, opens_again, time_passes, meters_change, HaveBodies, AreRenewed, IsOnBuses, IsSent, put_bus, quiet, IsWholeReading, AreWhole, SpeakForThemselves, HasOpen, GoesOnFromCommitted, EachReadingIsWhole, MetersGoOnFromCommitted}
+use Rattle.mbdc_theorems.proofs.Sessions.{AreInStep, exchanged_bodies, Agrees, AgreesOn, IsSameRow, held_at, renewed_on, row_kept, begun_agrees, sent_agrees, again_agrees, ready_agrees, given, joined_all, told_agrees, told_whole, told_beside, settled_agrees}
 
 -- ---- the lines of a house
 
@@ -427,14 +425,6 @@ turn_office : (sends : Sends) (text : List ℕ) (reply : Reply) → OneTurn send
 turn_office sends text unread budget core old buses sound keeps may on = record { keeps = stays sends core old buses keeps on; few = tt }
 turn_office sends text (unstored fault) budget core old buses sound keeps may on =
     record { keeps = stays sends _ old buses (failed_keeps sends core fault old keeps) on; few = tt }
-turn_office sends text (repeated number) budget core old buses sound keeps may on =
-    record { keeps = stays sends _ old buses (settled_keeps sends core core.pending old keeps) on; few = tt }
-turn_office sends text (refused code) budget core old buses sound keeps may on =
-    record { keeps = stays sends _ old buses (settled_keeps sends core core.pending old keeps) on; few = tt }
-turn_office sends text (shown bytes) budget core old buses sound keeps may on =
-    record { keeps = stays sends _ old buses (settled_keeps sends core core.pending old keeps) on; few = tt }
-turn_office sends text out_of_memory budget core old buses sound keeps may on =
-    record { keeps = stays sends _ old buses (settled_keeps sends core core.pending old keeps) on; few = tt }
 turn_office sends text (obeyed number change) budget core old buses sound keeps may on =
     let order = order_of (held budget (settled core)) may.line change may.answer.0 in
     let none = nothing_left core core.pending refl in
@@ -451,6 +441,8 @@ turn_office sends text (uncommitted change fault) budget core old buses sound ke
           (ordered_keeps sends budget (settled core) change old none order (settled_keeps sends core core.pending old keeps))) on;
       few = tt;
     }
+turn_office sends text reply budget core old buses sound keeps may on =
+    record { keeps = stays sends _ old buses (settled_keeps sends core core.pending old keeps) on; few = tt }
 
 -- ---- any turn
 
@@ -460,26 +452,7 @@ turn sends (asks line) (asked answer) = turn_ask sends line answer
 turn sends (hears line moment bytes) (heard answer) = turn_hear sends line moment bytes answer
 turn sends commits (committed answer) = turn_commit sends answer
 turn sends (offices text) (replied reply) = turn_office sends text reply
-turn sends (starts line meter) (asked answer) = λ budget core old buses sound keeps may on. absurd may
-turn sends (starts line meter) (heard answer) = λ budget core old buses sound keeps may on. absurd may
-turn sends (starts line meter) (committed answer) = λ budget core old buses sound keeps may on. absurd may
-turn sends (starts line meter) (replied reply) = λ budget core old buses sound keeps may on. absurd may
-turn sends (asks line) (started answer) = λ budget core old buses sound keeps may on. absurd may
-turn sends (asks line) (heard answer) = λ budget core old buses sound keeps may on. absurd may
-turn sends (asks line) (committed answer) = λ budget core old buses sound keeps may on. absurd may
-turn sends (asks line) (replied reply) = λ budget core old buses sound keeps may on. absurd may
-turn sends (hears line moment bytes) (started answer) = λ budget core old buses sound keeps may on. absurd may
-turn sends (hears line moment bytes) (asked answer) = λ budget core old buses sound keeps may on. absurd may
-turn sends (hears line moment bytes) (committed answer) = λ budget core old buses sound keeps may on. absurd may
-turn sends (hears line moment bytes) (replied reply) = λ budget core old buses sound keeps may on. absurd may
-turn sends commits (started answer) = λ budget core old buses sound keeps may on. absurd may
-turn sends commits (asked answer) = λ budget core old buses sound keeps may on. absurd may
-turn sends commits (heard answer) = λ budget core old buses sound keeps may on. absurd may
-turn sends commits (replied reply) = λ budget core old buses sound keeps may on. absurd may
-turn sends (offices text) (started answer) = λ budget core old buses sound keeps may on. absurd may
-turn sends (offices text) (asked answer) = λ budget core old buses sound keeps may on. absurd may
-turn sends (offices text) (heard answer) = λ budget core old buses sound keeps may on. absurd may
-turn sends (offices text) (committed answer) = λ budget core old buses sound keeps may on. absurd may
+turn sends event answer = λ budget core old buses sound keeps may on. absurd may
 
 -- ---- a life
 

@@ -14,9 +14,8 @@ use Rattle.mbdc_raw.specs.declared.line.Line.{Line}
 use Rattle.mbdc_raw.specs.declared.state.Kind.TheVariants.{One}
 use Rattle.mbdc_raw.specs.declared.state.State.TheVariants.{Quiet, Answered, Busy}
 use Rattle.mbdc_raw.specs.declared.wire.Wire.{Ghosts as WireGhosts}
-use Rattle.mbdc_theorems.specs.Asked.{Asks}
+use Rattle.mbdc_theorems.specs.Asked.{Asks, OnWay, Passes, no_frame, oldest, on_way, puts_one, puts_two}
 use Rattle.mbdc_theorems.specs.InTime.{IsMet, any_wire, telegram_with}
-use Rattle.mbdc_theorems.specs.Way.{OnWay, Passes, no_frame, oldest, on_way, puts_one, puts_two}
 
 abbrev On : Type 0
 On = OnWay (Unit {0})

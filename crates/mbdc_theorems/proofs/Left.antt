@@ -4,7 +4,7 @@ use Rattle.dc_readout.specs.declared.stage.Stage.{Stage}
 use Rattle.dc_readout.specs.declared.stage.Stage.TheVariants.{Resets, Selects, Requests, Pending, Ended}
 use Rattle.dc_readout.specs.Session.{commands}
 use Rattle.dc_readout.specs.declared.world.event.Outcome.{Outcome}
-use Rattle.mbdc_theorems.specs.Rounds.{losses_by, row_after}
+use Rattle.mbdc_theorems.specs.Readout.{losses_by, row_after}
 use Rattle.dc_linkframe.specs.Frame.{FrameSeen}
 use Rattle.dc_address.specs.declared.identity.Identity.{Identity}
 use Rattle.dc_readout.specs.Summary.{reset_of, selection_of, request_of, asked_at}

@@ -9,8 +9,7 @@ use Rattle.mbdc_bus.specs.WorldLine.{seen_by}
 use Rattle.dc_readout.specs.Meter.{Meter, Position}
 use Rattle.dc_readout.specs.World.{all_moved, heard_in, positions_after}
 use Rattle.dc_readout.proofs.Moves.{heard_from, no_frame_of_nothing, no_frame_of_zero}
-use Rattle.mbdc_theorems.specs.House.{Bus, IsExchanged, not_seen, not_heard, reply_heard}
-use Rattle.mbdc_theorems.specs.Outcomes.{standings, IsHeardOf, LossyLinesAreBuses}
+use Rattle.mbdc_theorems.specs.House.{Bus, IsExchanged, not_seen, not_heard, reply_heard, standings, IsHeardOf, LossyLinesAreBuses}
 
 all_stand : (frame : FrameSeen) (meters : List Meter) (positions : List Position) → standings meters (all_moved frame meters positions) ≡ map (seen_by frame) (standings meters positions)
 all_stand frame [] positions = refl

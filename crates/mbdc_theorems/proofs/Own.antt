@@ -17,7 +17,7 @@ use Rattle.dc_meters.specs.Orders.{is_of}
 use Rattle.dc_core.specs.Taking.{change_of}
 use Rattle.dc_core.proofs.Registered.{row_of_same}
 use Rattle.mbdc_theorems.specs.Beside.{readings_of, HasRead}
-use Rattle.mbdc_theorems.specs.Needs.{IsOwnTelegram}
+use Rattle.mbdc_theorems.specs.Readout.{IsOwnTelegram}
 use Rattle.mbdc_theorems.proofs.Parts.{Next, next_of}
 use Rattle.mbdc_theorems.proofs.Register.{bodies_of, IsOpen, joined_bodies}
 use Rattle.mbdc_theorems.proofs.Others.{one_of}

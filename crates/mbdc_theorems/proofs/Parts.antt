@@ -52,3 +52,17 @@ next_of (body ∷ bodies) (suc n) left e =
       goes = λ more. ap (λ k. whole_readout (drop k (body ∷ bodies))) (suc_plus n) ∙ next.goes more;
       ends = next.ends;
     }
+
+-- ---- what is left after one more
+
+drop_none : {X : Type 0} (k : ℕ) (x : X) (rest : List X) → drop k [] ≡ x ∷ rest → ⊥
+drop_none zero x rest e = cc
+drop_none (suc k) x rest e = cc
+
+drop_suc : {X : Type 0} (n : ℕ) (xs : List X) (x : X) (rest : List X) → drop n xs ≡ x ∷ rest → drop (suc n) xs ≡ rest
+drop_suc n [] x rest e = absurd (drop_none n x rest e)
+drop_suc zero (y ∷ ys) x rest e = cc
+drop_suc (suc n) (y ∷ ys) x rest e = drop_suc n ys x rest e
+
+pub drop_next : {X : Type 0} (n : ℕ) (xs : List X) (x : X) (rest : List X) → drop n xs ≡ x ∷ rest → drop (n + 1) xs ≡ rest
+drop_next n xs x rest e = let more : n + 1 ≡ suc n = omega arith in ap (λ (k : ℕ). drop k xs) more ∙ drop_suc n xs x rest e

@@ -20,8 +20,7 @@ use Rattle.mbdc_change.specs.Fields.{end_of_numbers}
 use Rattle.dc_meters.proofs.Sizes.{size_of-heard_open, size_of-heard_last, parts_size-joined}
 use Rattle.dc_core.specs.Taking.{change_of}
 use Rattle.dc_core.proofs.Registered.{row_of_same}
-use Rattle.mbdc_theorems.specs.Needs.{body_size, room_for}
-use Rattle.mbdc_theorems.specs.Progress.{with_reading}
+use Rattle.mbdc_theorems.specs.Readout.{body_size, room_for, with_reading}
 
 abbrev pub bodies_of : List PartRow → List (List ℕ)
 bodies_of parts = map (λ (part : PartRow). part.body) parts

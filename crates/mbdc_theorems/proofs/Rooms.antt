@@ -1,31 +1,32 @@
--- Where the register has room for one reading of each meter of the queues, no telegram is refused for want of room (for
--- the theorem of specs/Every).
-use Rattle.std.proofs.Common.{◌≡◌, ◌≢◌, ⊎_elim, inl, inr, ℕ, ◌+◌, ◌-◌, ◌<◌, ◌≤◌, Bool, true, false, not, Option, Some, None, Result, Ok, Err, List, [], ◌∷◌, ◌++◌, length, drop, get_or, arith, refl, sym, ◌∙◌, ap, subst, append_assoc, get_or-set_same, get_or-set_other, if◌then◌else◌}
-use Rattle.std.specs.Prelude.{◌&&◌, nat_le, nat_lt, is_some, sum_by}
+-- Sums over the lines, one of which changes (for the theorem of specs/Every).
+use Rattle.std.proofs.Common.{◌≡◌, ◌≢◌, ⊎_elim, ℕ, zero, suc, ◌+◌, ◌<◌, ◌≤◌, Bool, List, [], ◌∷◌, length, get_or, arith, refl, sym, ◌∙◌, ap, subst, if◌then◌else◌, true, false, Option, Some, None, drop, inl, inr, ◌-◌, not, Result, Ok, Err, ◌++◌, append_assoc, get_or-set_same, get_or-set_other}
+use Rattle.std.specs.Prelude.{◌==◌, sum_by, ◌&&◌, nat_le, nat_lt, is_some}
+use Rattle.std.proofs.lemmas.Bool.{cases_eq, eq-eqb, ne_eqb, and_right, le-ltb, lt-leb, or_from}
+use Rattle.std.proofs.lemmas.List.Sums.{sum_by-cons}
 use Rattle.std.specs.List.{AllByRecursion}
 use Rattle.std.proofs.Math.ListN.{set}
-use Rattle.std.proofs.lemmas.Bool.{and_right, cases_eq, eq-eqb, le-ltb, lt-leb, ne_eqb, or_from}
 use Rattle.std.proofs.lemmas.Bool.Decides.{nat_tests}
-use Rattle.std.proofs.lemmas.List.Sums.{sum_by-cons}
 use Rattle.std.specs.Ordering.{is_eq}
 use Rattle.dc_address.specs.declared.identity.Identity.{Identity}
-use Rattle.dc_address.specs.Identity.{identity_cmp}
-use Rattle.dc_address.proofs.Order.{same_from_tie}
 use Rattle.dc_records.specs.Body.{continues}
 use Rattle.dc_records.specs.Telegram.{Parsed}
-use Rattle.dc_readout.proofs.Taken.{taken}
-use Rattle.dc_readout.specs.Summary.{Summary, Verdict, again, ready, new, failed, asked_by, begun, heard_by, verdict_by}
-use Rattle.mbdc_change.specs.Accepts.{continues as is_continued, refusal, telegram_stands}
+use Rattle.dc_readout.specs.declared.stage.Stage.{Stage}
+use Rattle.dc_readout.specs.declared.stage.Stage.TheVariants.{Resets, Selects, Requests, Pending, Ended}
+use Rattle.dc_readout.specs.Summary.{Summary, ready, new, after_command, asked_at, heard_by, stage_settled, Verdict, again, failed, asked_by, begun, verdict_by}
 use Rattle.mbdc_change.specs.Apply.{applied, heard as told_at, joined, told}
-use Rattle.mbdc_change.specs.Body.{body_of}
-use Rattle.mbdc_change.specs.Size.{size_of}
+use Rattle.mbdc_change.specs.Size.{part_size, size_of}
 use Rattle.mbdc_change.specs.State.{State, MeterRow, PartRow, row_of}
+use Rattle.dc_core.specs.Lines.{settled_at, settled_on, is_line, line_count}
+use Rattle.dc_core.specs.Taking.{change_of}
+use Rattle.dc_address.specs.Identity.{identity_cmp}
+use Rattle.dc_address.proofs.Order.{same_from_tie}
+use Rattle.dc_readout.proofs.Taken.{taken}
+use Rattle.mbdc_change.specs.Accepts.{continues as is_continued, refusal, telegram_stands}
+use Rattle.mbdc_change.specs.Body.{body_of}
 use Rattle.mbdc_change.specs.Fields.{end_of_numbers}
 use Rattle.mbdc_change.specs.declared.change.Change.{Change}
 use Rattle.mbdc_change.specs.declared.fault.ChangeFault.TheVariants.{Full as RegisterFull, Unknown as RegisterUnknown}
 use Rattle.mbdc_change.proofs.History.{after_of_push}
-use Rattle.dc_core.specs.Lines.{is_line, line_count, settled_on}
-use Rattle.dc_core.specs.Taking.{change_of}
 use Rattle.dc_core.specs.declared.fault.StartFault.{StartFault}
 use Rattle.dc_core.specs.declared.fault.HearFault.{HearFault}
 use Rattle.dc_core.specs.declared.fault.HearFault.TheVariants.{Full, Idle, NoLine, NoMemory, PendingFull, Stopped}
@@ -35,22 +36,267 @@ use Rattle.dc_core.specs.Event.{Event, Answer, starts, asks, hears, commits, off
 use Rattle.dc_core.specs.Known.{IsForWantOfRoom}
 use Rattle.dc_core.specs.Step.{May, MayHear, next, is_on, address_in, answer_on, hear_answer, judged, heard_on, settled_core, session_after}
 use Rattle.dc_core.specs.Transcript.{Turn, leads, IsChain}
-use Rattle.dc_core.proofs.Followed.{none_is_unknown}
+use Rattle.dc_core.proofs.Followed.{none_is_unknown, get_settled}
 use Rattle.dc_core.proofs.Going.{leads_push}
 use Rattle.dc_core.proofs.Registered.{row_of_same, row_of_other}
 use Rattle.dc_core.proofs.Told.{chain_parts}
 use Rattle.mbdc_theorems.specs.Beside.{IsNextPart, IsOfLines}
-use Rattle.mbdc_theorems.proofs.Eight.{lines_are_kept}
-use Rattle.mbdc_theorems.proofs.Others.{start_parts, heard_line, low_place, places_differ}
-use Rattle.mbdc_theorems.proofs.Rounds.{get_settled}
+use Rattle.mbdc_theorems.specs.Readout.{body_size, room_for}
+use Rattle.mbdc_theorems.proofs.Parts.{drop_next}
+use Rattle.mbdc_theorems.proofs.Register.{size_open, size_last}
 use Rattle.mbdc_theorems.specs.Carried.{Wire}
 use Rattle.mbdc_theorems.specs.Every.{flat_in, room_of}
-use Rattle.mbdc_theorems.proofs.Free.{free_at_first}
-use Rattle.mbdc_theorems.proofs.Ordered.{OrderOn, StartsIt, todo_on}
-use Rattle.mbdc_theorems.proofs.Parted.{CutBy, PartsIn, uncut}
-use Rattle.mbdc_theorems.proofs.Spending.{Spends, flat_of, left_count, left_most, left_room, ready_left, session_count, session_room, settled_room, spends}
-use Rattle.mbdc_theorems.proofs.Sums.{set_at, set_here, set_other, sum_from, sum_most, sum_set}
-use Rattle.mbdc_theorems.proofs.Supplied.{IsRoomy, IsSupplied}
+use Rattle.mbdc_theorems.proofs.Rounds.{lines_are_kept}
+use Rattle.mbdc_theorems.proofs.Others.{start_parts, heard_line, low_place, places_differ}
+use Rattle.mbdc_theorems.proofs.Rows.{free_at_first}
+use Rattle.mbdc_theorems.proofs.Following.{OrderOn, StartsIt, todo_on}
+use Rattle.mbdc_theorems.proofs.Facts.{CutBy, PartsIn, uncut, IsRoomy, IsSupplied}
+
+-- this number on a line, and the others as before
+abbrev pub set_at : ℕ → ℕ → (ℕ → ℕ) → ℕ → ℕ
+set_at line v f k = if k == line then v else f k
+
+pub set_here : (line v : ℕ) (f : ℕ → ℕ) → set_at line v f line ≡ v
+set_here line v f = ap (λ (b : Bool). if b then v else f line) (eq-eqb line line refl)
+
+pub set_other : (line other v : ℕ) (f : ℕ → ℕ) → line ≢ other → set_at line v f other ≡ f other
+set_other line other v f ne = ap (λ (b : Bool). if b then v else f other) (ne_eqb other line (λ e. ne (sym e)))
+
+-- as many lines, from the first one on
+abbrev pub sum_from : (ℕ → ℕ) → ℕ → ℕ → ℕ
+sum_from f first zero = 0
+sum_from f first (suc n) = f first + sum_from f (first + 1) n
+
+sum_past : (line v : ℕ) (f : ℕ → ℕ) (first n : ℕ) → line < first → sum_from (set_at line v f) first n ≡ sum_from f first n
+sum_past line v f first zero less = refl
+sum_past line v f first (suc n) less =
+    let one = set_other line first v f (λ e. omega (arith, less, e)) in
+    let rest = sum_past line v f (first + 1) n (omega (arith, less)) in
+    omega (arith, one, rest)
+
+pub sum_set : (line v : ℕ) (f : ℕ → ℕ) (first n : ℕ) → first ≤ line → line < first + n → sum_from (set_at line v f) first n + f line ≡ sum_from f first n + v
+sum_set line v f first zero low high = absurd (omega (arith, low, high))
+sum_set line v f first (suc n) low high = ⊎_elim
+    (λ (e : first ≡ line).
+    let one : set_at line v f first ≡ v = ap (set_at line v f) e ∙ set_here line v f in
+    let rest = sum_past line v f (first + 1) n (omega (arith, e)) in
+    let same : f first ≡ f line = ap f e in
+    omega (arith, one, rest, same))
+    (λ (ne : first ≢ line).
+    let one = set_other line first v f (λ e. ne (sym e)) in
+    let rest = sum_set line v f (first + 1) n (next_low first line low ne) (omega (arith, high)) in
+    omega (arith, one, rest))
+    (cases_eq first line)
+  where
+    next_low : (a b : ℕ) → a ≤ b → a ≢ b → a + 1 ≤ b
+    next_low zero zero low ne = absurd (ne refl)
+    next_low zero (suc b) low ne = omega arith
+    next_low (suc a) zero low ne = absurd (omega (arith, low))
+    next_low (suc a) (suc b) low ne = let rest = next_low a b (omega (arith, low)) (λ e. ne (ap suc e)) in omega (arith, rest)
+
+pub sum_most : (line : ℕ) (f : ℕ → ℕ) (first n : ℕ) → first ≤ line → line < first + n → f line ≤ sum_from f first n
+sum_most line f first n low high =
+    let same = sum_set line 0 f first n low high in
+    omega (arith, same)
+
+pub sum_none : (f : ℕ → ℕ) (first n : ℕ) → ((k : ℕ) → k < n → f (first + k) ≡ 0) → sum_from f first n ≡ 0
+sum_none f first zero none = refl
+sum_none f first (suc n) none =
+    let here : first + 0 ≡ first = omega arith in
+    let one : f first ≡ 0 = ap f (sym here) ∙ none 0 (omega arith) in
+    let rest = sum_none f (first + 1) n (λ k low. let there : first + 1 + k ≡ first + (k + 1) = omega arith in ap f there ∙ none (k + 1) (omega (arith, low))) in
+    omega (arith, one, rest)
+
+pub sum_both : (f one other : ℕ → ℕ) (first n : ℕ) → ((k : ℕ) → f k ≡ one k + other k) → sum_from f first n ≡ sum_from one first n + sum_from other first n
+sum_both f one other first zero both = refl
+sum_both f one other first (suc n) both =
+    let here = both first in
+    let rest = sum_both f one other (first + 1) n both in
+    omega (arith, here, rest)
+
+-- where only this line counts
+pub sum_one : (f : ℕ → ℕ) (first n line : ℕ) → first ≤ line → line < first + n → ((other : ℕ) → line ≢ other → f other ≡ 0) → sum_from f first n ≡ f line
+sum_one f first n line low high others =
+    let same = sum_set line 0 f first n low high in
+    let none = sum_none (set_at line 0 f) first n (λ k less. zero_at (first + k)) in
+    omega (arith, same, none)
+  where
+    zero_at : (k : ℕ) → set_at line 0 f k ≡ 0
+    zero_at k = ⊎_elim
+        (λ (e : line ≡ k). ap (set_at line 0 f) (sym e) ∙ set_here line 0 f)
+        (λ (ne : line ≢ k). set_other line k 0 f ne ∙ others k ne)
+        (cases_eq line k)
+
+-- ---- of a list
+
+module _ {X : Type 0} (count : ℕ → X → ℕ) where
+  abbrev pub total : ℕ → List X → ℕ
+  total line [] = 0
+  total line (x ∷ xs) = count line x + total (line + 1) xs
+
+  pub sum_total : (f : ℕ → ℕ) (first n : ℕ) (xs : List X) → length xs ≤ n → ((k : ℕ) (d : X) → k < length xs → f (first + k) ≡ count (first + k) (get_or xs k d)) → ((k : ℕ) → length xs ≤ k → k < n → f (first + k) ≡ 0) → sum_from f first n ≡ total first xs
+  sum_total f first n [] few each past = sum_none f first n (λ k low. past k (omega arith) low)
+  sum_total f first zero (x ∷ xs) few each past = absurd (omega (arith, few))
+  sum_total f first (suc n) (x ∷ xs) few each past =
+      let here : first + 0 ≡ first = omega arith in
+      let one : f first ≡ count first x = subst (λ (j : ℕ). f j ≡ count j x) here (each 0 x (omega arith)) in
+      let rest = sum_total f (first + 1) n xs (omega (arith, few))
+      (λ k d low. let there : first + suc k ≡ first + 1 + k = omega arith in subst (λ (j : ℕ). f j ≡ count j (get_or xs k d)) there (each (suc k) d (omega (arith, low))))
+      (λ k low less. let there : first + 1 + k ≡ first + suc k = omega arith in ap f there ∙ past (suc k) (omega (arith, low)) (omega (arith, less))) in
+      omega (arith, one, rest)
+
+-- How much room in the register a readout needs yet, and what its next telegram leaves of that (for the theorem of
+-- specs/Every).
+
+-- ---- what is left of a readout
+
+-- the room of these parts and of the reading that they make; none where all are accepted
+abbrev pub left_room : List ℕ → List (List ℕ) → ℕ
+left_room flat [] = 0
+left_room flat (body ∷ more) = room_for flat (body ∷ more)
+
+-- the serials that it needs yet
+abbrev pub left_count : List (List ℕ) → ℕ
+left_count [] = 0
+left_count (body ∷ more) = 1
+
+pub left_most : (flat : List ℕ) (parts : List (List ℕ)) → (left_room flat parts ≤ room_for flat parts) × (left_count parts ≤ 1)
+left_most flat [] = (omega arith, omega arith)
+left_most flat (body ∷ more) = (omega arith, omega arith)
+
+-- the parts that aren't accepted yet
+abbrev pub parts_left : Stage → ℕ → List (List ℕ) → List (List ℕ)
+parts_left Resets n parts = drop n parts
+parts_left Selects n parts = drop n parts
+parts_left Requests n parts = drop n parts
+parts_left (Pending true) n parts = drop (n + 1) parts
+parts_left (Pending false) n parts = []
+parts_left Ended n parts = []
+
+module _ (state : State) (wire : Wire) where
+  abbrev pub unread : Summary → List (List ℕ)
+  unread s = parts_left s.stage s.settled (wire.parts s.meter)
+
+  abbrev pub flat_of : Summary → List ℕ
+  flat_of s = flat_in (row_of s.meter state)
+
+  abbrev pub session_room : Option Summary → ℕ
+  session_room None = 0
+  session_room (Some s) = left_room (flat_of s) (unread s)
+
+  abbrev pub session_count : Option Summary → ℕ
+  session_count None = 0
+  session_count (Some s) = left_count (unread s)
+
+  -- ---- what a commit leaves
+
+  settled_by_stage : (stage : Stage) (s : Summary) → s.stage ≡ stage → (session_room (settled_at stage s) ≡ left_room (flat_of s) (parts_left stage s.settled (wire.parts s.meter))) × (session_count (settled_at stage s) ≡ left_count (parts_left stage s.settled (wire.parts s.meter)))
+  settled_by_stage Resets s is = (ap (λ (x : Stage). left_room (flat_of s) (parts_left x s.settled (wire.parts s.meter))) is, ap (λ (x : Stage). left_count (parts_left x s.settled (wire.parts s.meter))) is)
+  settled_by_stage Selects s is = (ap (λ (x : Stage). left_room (flat_of s) (parts_left x s.settled (wire.parts s.meter))) is, ap (λ (x : Stage). left_count (parts_left x s.settled (wire.parts s.meter))) is)
+  settled_by_stage Requests s is = (ap (λ (x : Stage). left_room (flat_of s) (parts_left x s.settled (wire.parts s.meter))) is, ap (λ (x : Stage). left_count (parts_left x s.settled (wire.parts s.meter))) is)
+  settled_by_stage Ended s is = (ap (λ (x : Stage). left_room (flat_of s) (parts_left x s.settled (wire.parts s.meter))) is, ap (λ (x : Stage). left_count (parts_left x s.settled (wire.parts s.meter))) is)
+  settled_by_stage (Pending true) s is =
+      (ap (λ (x : Stage). left_room (flat_of s) (parts_left (stage_settled x) (s.settled + 1) (wire.parts s.meter))) is, ap (λ (x : Stage). left_count (parts_left (stage_settled x) (s.settled + 1) (wire.parts s.meter))) is)
+  settled_by_stage (Pending false) s is = (refl, refl)
+
+  pub settled_room : (session : Option Summary) → (session_room (settled_on session) ≡ session_room session) × (session_count (settled_on session) ≡ session_count session)
+  settled_room None = (refl, refl)
+  settled_room (Some s) = settled_by_stage s.stage s refl
+
+  -- ---- what an answer leaves that is no telegram
+
+  ready_by_stage : (stage : Stage) (address : Option ℕ) (n : ℕ) (meter : Identity) (parts : List (List ℕ)) → (asked_at stage meter address n ≡ None → ⊥) → parts_left (after_command stage address) n parts ≡ parts_left stage n parts
+  ready_by_stage Resets None n meter parts due = refl
+  ready_by_stage Resets (Some a) n meter parts due = refl
+  ready_by_stage Selects None n meter parts due = refl
+  ready_by_stage Selects (Some a) n meter parts due = refl
+  ready_by_stage Requests None n meter parts due = refl
+  ready_by_stage Requests (Some a) n meter parts due = refl
+  ready_by_stage (Pending more) address n meter parts due = absurd (due refl)
+  ready_by_stage Ended address n meter parts due = absurd (due refl)
+
+  pub ready_left : (s : Summary) → (asked_at s.stage s.meter s.address s.settled ≡ None → ⊥) → unread (heard_by s ready) ≡ unread s
+  ready_left s due = ready_by_stage s.stage s.address s.settled s.meter (wire.parts s.meter) due
+
+  -- ---- and a telegram
+
+  told_grows : (more : Bool) (number : ℕ) (piece : PartRow) (m : Identity) (row : Option MeterRow) (s : State) → row_of m s ≡ row
+      → (size_of (told_at m more number piece row s) ≤ size_of s + ((if more then 0 else 18 + length (flat_in row)) + part_size piece)) × ((told_at m more number piece row s).next_serial ≤ s.next_serial + (if more then 0 else 1))
+  told_grows more number piece m None s found = (omega arith, omega arith)
+  told_grows true number piece m (Some r) s found = (let most = size_open m number piece r s found in omega (arith, most), omega arith)
+  told_grows false number piece m (Some r) s found = (let most = size_last m number piece r s found in omega (arith, most), omega arith)
+
+  -- what the register has, and what the session needs yet, don't grow together
+  pub record Spends (s : Summary) (part : ℕ) (t : Parsed) (moment : ℕ) (now : State) : Type 0 where
+    pub some : size_of (applied (change_of moment part t) now) + session_room (Some (heard_by s (new part t))) ≤ size_of now + session_room (Some s)
+    pub serials : (applied (change_of moment part t) now).next_serial + session_count (Some (heard_by s (new part t))) ≤ now.next_serial + session_count (Some s)
+    pub last : continues t.ending ≡ false → session_count (Some s) ≡ 1
+
+  module _ (s : Summary) (part moment : ℕ) (t : Parsed) (now : State) (stage : s.stage ≡ Requests) (own : t.header.identity ≡ s.meter) (flats : flat_in (row_of s.meter now) ≡ flat_of s) where
+    abbrev parts : List (List ℕ)
+    parts = wire.parts s.meter
+
+    left_is : unread s ≡ drop s.settled parts
+    left_is = ap (λ (x : Stage). parts_left x s.settled parts) stage
+
+    flat_is : flat_in (row_of t.header.identity now) ≡ flat_of s
+    flat_is = ap (λ (m : Identity). flat_in (row_of m now)) own ∙ flats
+
+    abbrev then_state : State
+    then_state = applied (change_of moment part t) now
+
+    abbrev Grown : Bool → List ℕ → Type 0
+    Grown more flat = (size_of then_state ≤ size_of now + ((if more then 0 else 18 + length flat) + (9 + length t.body))) × (then_state.next_serial ≤ now.next_serial + (if more then 0 else 1))
+
+    grows : Grown (continues t.ending) (flat_of s)
+    grows = subst (Grown (continues t.ending)) flat_is (told_grows (continues t.ending) part (record { moment = moment; body = t.body }) t.header.identity (row_of t.header.identity now) now refl)
+
+    module _ (rest : List (List ℕ)) (here : drop s.settled parts ≡ t.body ∷ rest) where
+      room_before : session_room (Some s) ≡ 18 + length (flat_of s) + ((9 + length t.body) + sum_by body_size rest)
+      room_before = ap (left_room (flat_of s)) (left_is ∙ here) ∙ ap (λ (n : ℕ). 18 + length (flat_of s) + n) (sum_by-cons body_size t.body rest)
+
+      count_before : session_count (Some s) ≡ 1
+      count_before = ap left_count (left_is ∙ here)
+
+      room_then : (more : Bool) → continues t.ending ≡ more → session_room (Some (heard_by s (new part t))) ≡ left_room (flat_of s) (parts_left (Pending more) s.settled parts)
+      room_then more is = ap (λ (x : Bool). left_room (flat_of s) (parts_left (Pending x) s.settled parts)) is
+
+      count_then : (more : Bool) → continues t.ending ≡ more → session_count (Some (heard_by s (new part t))) ≡ left_count (parts_left (Pending more) s.settled parts)
+      count_then more is = ap (λ (x : Bool). left_count (parts_left (Pending x) s.settled parts)) is
+
+      by_more : (more : Bool) → continues t.ending ≡ more → (more ≡ false → rest ≡ []) → Spends s part t moment now
+      by_more true is ends =
+          let grown : Grown true (flat_of s) = subst (λ (b : Bool). Grown b (flat_of s)) is grows in
+          let size = grown.0 in
+          let serial = grown.1 in
+          let next : drop (s.settled + 1) parts ≡ rest = drop_next s.settled parts t.body rest here in
+          let room : session_room (Some (heard_by s (new part t))) ≡ left_room (flat_of s) rest = room_then true is ∙ ap (left_room (flat_of s)) next in
+          let count : session_count (Some (heard_by s (new part t))) ≡ left_count rest = count_then true is ∙ ap left_count next in
+          let most = left_most (flat_of s) rest in
+          let most_room = most.0 in
+          let most_count = most.1 in
+          record {
+            some = omega (arith, room_before, room, most_room, size);
+            serials = omega (arith, count_before, count, most_count, serial);
+            last = λ none. count_before;
+          }
+      by_more false is ends =
+          let grown : Grown false (flat_of s) = subst (λ (b : Bool). Grown b (flat_of s)) is grows in
+          let size = grown.0 in
+          let serial = grown.1 in
+          let room : session_room (Some (heard_by s (new part t))) ≡ 0 = room_then false is in
+          let count : session_count (Some (heard_by s (new part t))) ≡ 0 = count_then false is in
+          record {
+            some = omega (arith, room_before, room, size);
+            serials = omega (arith, count_before, count, serial);
+            last = λ none. count_before;
+          }
+
+    pub spends : IsNextPart (drop s.settled parts) (new part t) → Spends s part t moment now
+    spends next = by_more next.0 next.1 (continues t.ending) refl next.2
+
+-- Where the register has room for one reading of each meter of the queues, no telegram is refused for want of room (for
+-- the theorem of specs/Every).
 
 -- an answer that was given, of a line that exists, where nothing has stopped
 asked_one : (on stopped : Bool) (s : Summary) (budget : ℕ) (core : Core) (moment : ℕ) (bytes : List ℕ) (good : LineHeard) → MayHear (if not on then Err NoLine else if stopped then Err Stopped else answer_on budget core moment bytes (Some s)) (Ok good) → (asked_by s ≡ None → ⊥)

@@ -1,29 +1,38 @@
 -- What a round makes of a concentrator.
-use Rattle.std.proofs.Common.{◌≡◌, ⊎_elim, ℕ, zero, suc, ◌-◌, ◌<◌, Bool, true, false, not, ◌||◌, Option, Some, None, Result, Ok, Err, List, [], ◌∷◌, ◌++◌, length, get_or, cond, arith, refl, sym, ◌∙◌, ap, subst, get_or-set_same}
+use Rattle.std.proofs.Common.{◌≡◌, ⊎_elim, ℕ, ◌-◌, ◌<◌, Bool, true, false, not, ◌||◌, Option, Some, None, Result, Ok, Err, List, [], ◌∷◌, length, cond, arith, refl, sym, ◌∙◌, ap, subst, get_or-set_same}
 use Rattle.std.specs.Prelude.{is_some, nat_le, option_map, if◌then◌else◌, ◌≢◌}
-use Rattle.std.proofs.lemmas.List.{length-set, length-map}
 use Rattle.std.proofs.lemmas.Bool.Decides.{nat_tests}
+use Rattle.std.proofs.lemmas.List.{length-set, length-map}
 use Rattle.dc_linkframe.specs.Frame.{FrameSeen, spelling}
 use Rattle.dc_records.specs.Body.{continues}
 use Rattle.dc_records.specs.Telegram.{Parsed}
-use Rattle.dc_readout.specs.Summary.{Summary, Verdict, again, ready, new, failed, asked_by, verdict_by}
+use Rattle.dc_readout.specs.Summary.{Summary, Verdict, again, ready, new, failed, asked_by, verdict_by, begun}
 use Rattle.mbdc_change.specs.declared.change.Change.{Change}
 use Rattle.mbdc_change.specs.declared.fault.ChangeFault.{ChangeFault}
 use Rattle.mbdc_change.specs.Accepts.{refusal}
 use Rattle.mbdc_change.specs.History.{after}
 use Rattle.dc_core.specs.declared.pending.fault.TakeFault.{TakeFault}
-use Rattle.dc_core.specs.declared.pending.fault.TakeFault.TheVariants.{PendingFull as TakePendingFull, Full as TakeFull}
-use Rattle.dc_core.specs.Lines.{is_line, line_count, settled_on, settled_lines}
+use Rattle.dc_core.specs.declared.pending.fault.TakeFault.TheVariants.{PendingFull as TakePendingFull, Full as TakeFull, PendingFull, Full}
+use Rattle.dc_core.specs.Lines.{is_line, line_count, settled_on, unless_of}
 use Rattle.dc_core.specs.Taking.{change_of, refuses}
 use Rattle.dc_core.specs.Waiting.{most_waiting}
 use Rattle.dc_core.specs.declared.line_heard.LineHeard.{LineHeard}
 use Rattle.dc_core.specs.declared.line_heard.LineHeard.TheVariants.{Again, Ready, Accepted, Failed}
 use Rattle.dc_core.specs.declared.fault.HearFault.{HearFault}
 use Rattle.dc_core.specs.declared.fault.HearFault.TheVariants.{NoLine, Idle, NoMemory, Stopped}
-use Rattle.dc_core.specs.Core.{Core, present, session_of}
-use Rattle.dc_core.specs.Step.{ask_answer, asked_on, hear_answer, answer_on, verdict_answer, unless_refused, MayHear, session_after, judged, heard_on, after_hear, settled_core}
+use Rattle.dc_core.specs.Core.{Core, present, session_of, opened}
+use Rattle.dc_core.specs.Step.{ask_answer, asked_on, hear_answer, answer_on, verdict_answer, unless_refused, MayHear, session_after, judged, heard_on, after_hear, settled_core, and_pending, next, address_in, after_start, settled, removed_by, lines_after, ordered, after_commit, after_reply}
+use Rattle.dc_core.proofs.Followed.{get_settled}
 use Rattle.dc_core.proofs.Refused.{answer_is}
+use Rattle.dc_address.specs.declared.identity.Identity.{Identity}
+use Rattle.mbdc_change.specs.State.{row_of}
+use Rattle.dc_core.specs.declared.fault.StartFault.{StartFault}
+use Rattle.dc_core.specs.declared.fault.CommitFault.{CommitFault}
+use Rattle.dc_core.specs.declared.fault.CommitFault.TheVariants.{Device, Worn, Stopped as CommitStopped}
+use Rattle.dc_core.specs.Event.{Event, Answer, starts, hears, commits, offices, started, heard, committed, replied, Reply, unread, unstored, obeyed, uncommitted}
+use Rattle.dc_core.specs.Transcript.{Turn, leads}
 use Rattle.mbdc_theorems.specs.Beside.{IsTakenUnlessFull}
+use Rattle.mbdc_theorems.specs.Readout.{LinesAreKept}
 
 -- ---- a commit
 
@@ -32,13 +41,6 @@ pub record Settled (old : Core) (line : ℕ) (session : Option Summary) (now : C
   pub on : session_of now line ≡ session
   pub register : now.committed ≡ present old
   pub none_waits : now.pending ≡ []
-  pub running : now.stopped ≡ old.stopped
-  pub eight : length now.lines ≡ length old.lines
-
-pub get_settled : (lines : List (Option Summary)) (place : ℕ) → get_or (settled_lines lines) place None ≡ settled_on (get_or lines place None)
-get_settled [] place = refl
-get_settled (s ∷ lines) zero = refl
-get_settled (s ∷ lines) (suc place) = get_settled lines place
 
 settles : (core : Core) (line : ℕ) (pending : List Change) (session later : Option Summary) → core.pending ≡ pending → session_of core line ≡ session → (pending ≡ [] → session ≡ later) → settled_on session ≡ later
     → Settled core line later (settled_core core pending)
@@ -46,15 +48,11 @@ settles core line [] session later waits on none goes = record {
   on = on ∙ none refl;
   register = sym (ap (after core.committed) waits);
   none_waits = waits;
-  running = refl;
-  eight = refl;
 }
 settles core line (change ∷ changes) session later waits on none goes = record {
   on = get_settled core.lines (line - 1) ∙ ap settled_on on ∙ goes;
   register = refl;
   none_waits = refl;
-  running = refl;
-  eight = length-map core.lines settled_on;
 }
 
 -- an answer that isn't the end of the session
@@ -131,16 +129,6 @@ module _ (budget line : ℕ) (core : Core) (s : Summary) (is : is_line line ≡ 
   pub asked_is : ask_answer core line ≡ option_map spelling (asked_by s)
   asked_is = rw (is, runs, on) refl
 
-  pub hears_ready : (moment : ℕ) (bytes : List ℕ) (frame : FrameSeen) → asked_by s ≡ Some frame → verdict_by s bytes ≡ ready → hear_answer budget core line moment bytes ≡ Ok Ready
-  hears_ready moment bytes frame asks verdict =
-      let some : is_some (asked_by s) ≡ true = ap is_some asks in
-      rw (is, runs, on, some, verdict) refl
-
-  pub hears_again : (moment : ℕ) (bytes : List ℕ) (frame : FrameSeen) → asked_by s ≡ Some frame → verdict_by s bytes ≡ again → hear_answer budget core line moment bytes ≡ Ok Again
-  hears_again moment bytes frame asks verdict =
-      let some : is_some (asked_by s) ≡ true = ap is_some asks in
-      rw (is, runs, on, some, verdict) refl
-
   -- the answer by the verdict
   pub hear_is : (moment : ℕ) (bytes : List ℕ) (frame : FrameSeen) → asked_by s ≡ Some frame → hear_answer budget core line moment bytes ≡ verdict_answer budget core moment (verdict_by s bytes)
   hear_is moment bytes frame asks =
@@ -178,10 +166,99 @@ module _ (budget line : ℕ) (core : Core) (s : Summary) (is : is_line line ≡ 
       let there : session_of one line ≡ session_after s v = get_or-set_same core.lines (line - 1) (session_after s v) None (low eight) in
       subst (λ (c : Core). Settled one line later (settled_core c c.pending)) (sym heard) (settles one line one.pending (session_after s v) later refl there none goes)
 
-  pub lines_judged : (moment : ℕ) (v : Verdict) → length (judged core line moment s v).lines ≡ length core.lines
-  lines_judged moment v = length-set core.lines (line - 1) (session_after s v)
+-- An answer without a telegram leaves the pending changes.
 
--- a list with one more isn't empty
-pub some_more : {X : Type 0} (xs : List X) (x : X) → xs ++ x ∷ [] ≡ [] → ⊥
-some_more [] x e = cc
-some_more (y ∷ xs) x e = cc
+abbrev pub IsCommand : LineHeard → Type 0
+IsCommand Again = Unit {0}
+IsCommand Ready = Unit {0}
+IsCommand (Accepted part more) = ⊥
+IsCommand (Failed why) = ⊥
+
+no_command : (few is : Bool) (part : ℕ) (more : Bool) (good : LineHeard) → unless_refused (if few then Some PendingFull else if is then Some Full else None) (Accepted part more) ≡ Ok good → IsCommand good → ⊥
+no_command true is part more good e command = absurd cc
+no_command false true part more good e command = absurd cc
+no_command false false part more good e command =
+    let same : Accepted part more ≡ good = cc in
+    subst IsCommand (sym same) command
+
+module _ (budget : ℕ) (core : Core) (moment : ℕ) (bytes : List ℕ) (good : LineHeard) (command : IsCommand good) where
+  by_verdict : (v : Verdict) → verdict_answer budget core moment v ≡ Ok good → and_pending moment core.pending v ≡ core.pending
+  by_verdict again e = refl
+  by_verdict ready e = refl
+  by_verdict (new part t) e =
+      absurd (no_command (nat_le most_waiting (length core.pending)) (is_some (refusal budget (change_of moment part t) (present core))) part (continues t.ending) good e command)
+  by_verdict (failed why) e = refl
+
+  when_asked : (b : Bool) (answer : Result LineHeard HearFault) → cond b answer (Err Idle) ≡ Ok good → answer ≡ Ok good
+  when_asked true answer e = e
+  when_asked false answer e = absurd cc
+
+  by_session : (line : ℕ) (session : Option Summary) → answer_on budget core moment bytes session ≡ Ok good → (heard_on core line moment bytes session).pending ≡ core.pending
+  by_session line None e = refl
+  by_session line (Some s) e = by_verdict (verdict_by s bytes) (when_asked (is_some (asked_by s)) (verdict_answer budget core moment (verdict_by s bytes)) e)
+
+  when_running : (a b : Bool) (answer : Result LineHeard HearFault) → (if not a then Err NoLine else if b then Err Stopped else answer) ≡ Ok good → answer ≡ Ok good
+  when_running false b answer e = absurd cc
+  when_running true true answer e = absurd cc
+  when_running true false answer e = e
+
+  pub quiet_heard : (line : ℕ) → hear_answer budget core line moment bytes ≡ Ok good → (after_hear core line moment bytes (Ok good)).pending ≡ core.pending
+  quiet_heard line e = by_session line (session_of core line) (when_running (is_line line) core.stopped (answer_on budget core moment bytes (session_of core line)) e)
+
+-- A concentrator keeps its lines.
+
+abbrev Keeps : Core → Core → Type 0
+Keeps old now = length now.lines ≡ length old.lines
+
+start_keeps : (core : Core) (line : ℕ) (meter : Identity) (answer : Result (Unit {0}) StartFault) → Keeps core (after_start core line meter answer)
+start_keeps core line meter (Ok done) = length-set core.lines (line - 1) (Some (begun meter (address_in (row_of meter (present core)))))
+start_keeps core line meter (Err fault) = refl
+
+hear_keeps : (core : Core) (line moment : ℕ) (bytes : List ℕ) (answer : Result LineHeard HearFault) → Keeps core (after_hear core line moment bytes answer)
+hear_keeps core line moment bytes (Err fault) = refl
+hear_keeps core line moment bytes (Ok answer) = go (session_of core line)
+  where
+    go : (session : Option Summary) → Keeps core (heard_on core line moment bytes session)
+    go None = refl
+    go (Some s) = length-set core.lines (line - 1) (session_after s (verdict_by s bytes))
+
+settled_keeps : (core : Core) (pending : List Change) → Keeps core (settled_core core pending)
+settled_keeps core [] = refl
+settled_keeps core (change ∷ changes) = length-map core.lines settled_on
+
+failed_keeps : (core : Core) (fault : CommitFault) → Keeps core (after_commit core (Err fault))
+failed_keeps core Device = refl
+failed_keeps core Worn = refl
+failed_keeps core CommitStopped = refl
+
+commit_keeps : (core : Core) (answer : Result ℕ CommitFault) → Keeps core (after_commit core answer)
+commit_keeps core (Ok count) = settled_keeps core core.pending
+commit_keeps core (Err fault) = failed_keeps core fault
+
+removed_keeps : (removed : Option Identity) (lines : List (Option Summary)) → length (lines_after removed lines) ≡ length lines
+removed_keeps None lines = refl
+removed_keeps (Some meter) lines = length-map lines (unless_of meter)
+
+ordered_keeps : (core : Core) (change : Change) → Keeps core (ordered change (settled core))
+ordered_keeps core change = removed_keeps (removed_by change) (settled core).lines ∙ settled_keeps core core.pending
+
+reply_keeps : (core : Core) (reply : Reply) → Keeps core (after_reply core reply)
+reply_keeps core unread = refl
+reply_keeps core (unstored fault) = failed_keeps core fault
+reply_keeps core (obeyed number change) = settled_keeps (ordered change (settled core)) (change ∷ []) ∙ ordered_keeps core change
+reply_keeps core (uncommitted change fault) = failed_keeps (ordered change (settled core)) fault ∙ ordered_keeps core change
+reply_keeps core reply = settled_keeps core core.pending
+
+turn_keeps : (core : Core) (event : Event) (answer : Answer) → Keeps core (next core event answer)
+turn_keeps core (starts line meter) (started answer) = start_keeps core line meter answer
+turn_keeps core (hears line moment bytes) (heard answer) = hear_keeps core line moment bytes answer
+turn_keeps core commits (committed answer) = commit_keeps core answer
+turn_keeps core (offices text) (replied reply) = reply_keeps core reply
+turn_keeps core event answer = refl
+
+turns_keep : (core : Core) (turns : List Turn) → Keeps core (leads core turns)
+turns_keep core [] = refl
+turns_keep core (t ∷ turns) = turns_keep (next core t.0 t.1) turns ∙ turn_keeps core t.0 t.1
+
+pub lines_are_kept : LinesAreKept
+lines_are_kept budget state turns chain = turns_keep (opened state) turns

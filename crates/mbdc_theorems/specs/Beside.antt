@@ -7,7 +7,7 @@ use Rattle.dc_linkframe.specs.Frame.{FrameSeen}
 use Rattle.dc_linkframe.specs.Reading.{frame_of}
 use Rattle.dc_address.specs.declared.identity.Identity.{Identity}
 use Rattle.dc_records.specs.Body.{continues}
-use Rattle.dc_readout.specs.Summary.{Summary, Verdict, again, ready, new, failed, verdict_by}
+use Rattle.dc_readout.specs.Summary.{Summary, Verdict, new, verdict_by}
 use Rattle.dc_readout.specs.declared.world.event.Outcome.{Outcome}
 use Rattle.dc_readout.specs.Meter.{Meter, Position}
 use Rattle.dc_readout.specs.World.{positions_after}
@@ -22,9 +22,9 @@ use Rattle.dc_core.specs.Event.{Event, Answer, starts, asks, hears, commits, off
 use Rattle.dc_core.specs.Event.{asked, heard, committed}
 use Rattle.dc_core.specs.Step.{ask_answer, hear_answer}
 use Rattle.dc_core.specs.Transcript.{Turn, leads, IsChain}
-use Rattle.mbdc_theorems.specs.Needs.{IsThere, CanBegin}
-use Rattle.mbdc_theorems.specs.Progress.{requests_of}
-use Rattle.mbdc_theorems.specs.Rounds.{IsHeard, Scene, begun_on, losses_by, row_after}
+use Rattle.mbdc_theorems.specs.Readout.{IsThere, CanBegin}
+use Rattle.mbdc_theorems.specs.Readout.{requests_of}
+use Rattle.mbdc_theorems.specs.Readout.{IsHeard, Scene, begun_on, losses_by, row_after}
 
 -- ---- the line
 

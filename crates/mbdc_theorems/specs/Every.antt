@@ -1,7 +1,7 @@
 -- Every meter is read (this product): a poll goes through the meters of the register, and where its
 -- lines carry what is said and nothing is wanting, each has one reading more.
-use Rattle.std.specs.Prelude.{◌≡◌, ℕ, ◌+◌, ◌-◌, ◌<◌, ◌≤◌, ◌^◌, min, Bool, false, Option, None, Some}
-use Rattle.std.specs.Prelude.{List, [], ◌∷◌, ◌++◌, take, length, slice_index_or, sum_by}
+use Rattle.std.specs.Prelude.{◌≡◌, ℕ, ◌+◌, ◌-◌, ◌<◌, ◌≤◌, ◌^◌, min, Bool, false, Option, None, Some, List, []}
+use Rattle.std.specs.Prelude.{◌∷◌, ◌++◌, take, length, slice_index_or, sum_by}
 use Rattle.std.specs.List.{AllByRecursion}
 use Rattle.std.specs.List.Sorted.{IsStrictlySortedBy}
 use Rattle.std.specs.Map.{keys_of}
@@ -17,14 +17,10 @@ use Rattle.dc_sectors.specs.declared.device.Disk.{Ghosts}
 use Rattle.mbdc_log.specs.Halves.{half_of}
 use Rattle.dc_core.specs.PendingImages.{Stands}
 use Rattle.dc_readout.specs.Meter.{Meter}
-use Rattle.mbdc_theorems.specs.Beside.{HasRead, bus_at_first}
-use Rattle.mbdc_theorems.specs.Needs.{IsThere, room_for}
 use Rattle.mbdc_poll.specs.Bus.{Bus}
-use Rattle.mbdc_poll.specs.Happening.{Happening, does, tells, happened_events}
-use Rattle.mbdc_poll.specs.Happening.{happened_on, happened_turns}
+use Rattle.mbdc_poll.specs.Happening.{Happening, does, tells, happened_events, happened_on, happened_turns}
 use Rattle.mbdc_poll.specs.ImagePoll.{ImageTurned, PlanPolled}
-use Rattle.mbdc_poll.specs.Planned.{asked_for, has_bus, queue_on, refused_count}
-use Rattle.mbdc_poll.specs.Planned.{refused_events}
+use Rattle.mbdc_poll.specs.Planned.{asked_for, has_bus, queue_on, refused_count, refused_events}
 use Rattle.mbdc_poll.specs.Queue.{GoesWell, read_in}
 use Rattle.mbdc_poll.specs.Round.{HasFew, LineGoes, lates_from, meters_left, most_lines}
 use Rattle.mbdc_poll.specs.Telling.{TakesAll}
@@ -32,6 +28,9 @@ use Rattle.mbdc_poll.specs.declared.event.Event.{Event as Told}
 use Rattle.mbdc_poll.specs.declared.event.Event.TheVariants.{Read as was_read, End as has_ended}
 use Rattle.mbdc_poll.specs.declared.outcome.Outcome.{Outcome}
 use Rattle.mbdc_poll.specs.declared.station.Station.{Station}
+use Rattle.mbdc_shown.specs.Room.{bytes_a_reading, readings_left}
+use Rattle.mbdc_theorems.specs.Beside.{HasRead, bus_at_first}
+use Rattle.mbdc_theorems.specs.Readout.{IsThere, room_for}
 use Rattle.mbdc_theorems.specs.Carried.{Wire, IsCarried, NothingIsWanting}
 
 -- ---- the premises
@@ -145,3 +144,26 @@ EveryMeterIsRead {D} {B} {T} {N} g bus told passes warned takes =
     → EachIsRead g poll.first.store.disk new bus (TakesAll takes old fresh) poll.state only buses
     poll.happens.are_such.olds poll.happens.are_such.news wires outcome
     poll.happens.happened (leads (opened poll.state) (happened_turns poll.happens.happened))
+
+-- What the row ROOM of `status` says of a poll (this product).
+
+-- What is to be read of each meter that is left on these lines takes no more than a reading that is
+-- held, as the row ROOM counts: the size of the register apart from its fixed part, for each.
+abbrev pub AreUsual : {B : Type 0} → State → (ℕ → Wire) → ℕ → List (Station B) → Type 0
+AreUsual state wires line [] = Unit {0}
+AreUsual state wires line (station ∷ stations) =
+    AllByRecursion (λ (meter : Identity).
+    room_of state (wires line) meter ≤ bytes_a_reading state) station.left.now
+    × AreUsual state wires (line + 1) stations
+
+-- THE ROW ROOM SUFFICES: a register whose row ROOM has at least as many readings as meters are left
+-- has room for them, where their readings are of the usual size and serials are left.
+abbrev pub RoomRowSuffices : {B : Type 0} → Bus B → Type 0
+RoomRowSuffices {B} g = (budget readings : ℕ) (state : State) (wires : ℕ → Wire)
+    (stations : List (Station B))
+    → size_of state ≤ budget
+    → readings_left budget state ≡ Some readings
+    → meters_left stations ≤ readings
+    → AreUsual state wires 1 stations
+    → state.next_serial + meters_left stations ≤ end_of_numbers
+    → HasRoom budget state wires stations

@@ -8,22 +8,28 @@
 --   all meters or none           IsExchanged: a request is seen by all meters of its line or by none
 --   a reply to the last request  IsExchanged: what is received is no frame, or the reply of a meter that saw it
 --   no restart in a readout      House: only a line without a readout gets other meters, or restarted ones
-use Rattle.std.specs.Prelude.{◌≡◌, ℕ, Bool, true, ◌==◌, if◌then◌else◌, List, [], ◌∷◌, ◌++◌, map}
-use Rattle.std.specs.Prelude.{Option, Some, None, Ok, slice_get}
+use Rattle.std.specs.Prelude.{◌≡◌, ℕ, Bool, true, ◌==◌, if◌then◌else◌, List, [], ◌∷◌, ◌++◌, map, Option, Some}
+use Rattle.std.specs.Prelude.{None, Ok, slice_get, ◌+◌, ◌≤◌, length, ◌⊎◌}
+use Rattle.std.specs.List.{AllByRecursion, zip}
 use Rattle.dc_linkframe.specs.Frame.{FrameSeen}
 use Rattle.dc_linkframe.specs.Reading.{frame_of}
 use Rattle.dc_address.specs.declared.identity.Identity.{Identity}
-use Rattle.dc_readout.specs.Meter.{answer_to}
+use Rattle.dc_readout.specs.Meter.{answer_to, moved_by, Meter, Position}
 use Rattle.mbdc_bus.specs.WorldLine.{seen_by}
 use Rattle.dc_readout.specs.Standing.{Standing}
-use Rattle.mbdc_change.specs.State.{State, empty_state}
+use Rattle.mbdc_change.specs.State.{State, empty_state, MeterRow, PartRow, ReadingRow, row_of}
 use Rattle.mbdc_change.specs.declared.change.Change.{Change}
 use Rattle.mbdc_change.specs.History.{after}
-use Rattle.dc_core.specs.Core.{opened, session_of}
+use Rattle.dc_core.specs.Core.{opened, session_of, Core}
 use Rattle.dc_core.specs.Event.{Event, Answer, starts, asks, hears, started, asked, heard}
 use Rattle.dc_core.specs.Step.{May}
 use Rattle.dc_core.specs.Transcript.{Turn, leads}
 use Rattle.dc_core.specs.Headline.{IsPrefix, accepted}
+use Rattle.dc_records.specs.Telegram.{Parsed, telegram_at}
+use Rattle.dc_readout.specs.Summary.{Summary, asked_by}
+use Rattle.dc_readout.specs.World.{whole_readout, heard_in, positions_after}
+use Rattle.dc_core.specs.Lines.{is_line}
+use Rattle.dc_readout.specs.declared.world.event.Outcome.{Outcome}
 
 -- ---- the bus lines
 
@@ -150,3 +156,87 @@ pub data House (budget : ℕ) (sends : Sends) : State → List Turn → Buses �
       → session_of (leads (opened state) turns) line ≡ None → HaveBodies sends meters
       → new ≡ put_bus line (record (old line) { meters = meters }) old
       → House budget sends state turns new
+
+-- Each reading is one whole readout of the meter that it names (this product).
+
+-- the bodies of the telegrams of a reading, or of an open readout
+abbrev pub bodies_of : List PartRow → List (List ℕ)
+bodies_of parts = map (λ (part : PartRow). part.body) parts
+
+-- each body is one that the meter may send in that place
+abbrev pub AreSentBy : Sends → Identity → List PartRow → Type 0
+AreSentBy sends meter parts =
+    (k : ℕ) (body : List ℕ) → slice_get (bodies_of parts) k ≡ Some body
+    → sends meter k body ≡ true
+
+-- A WHOLE READING: each body is one that the meter it names may send in that place of a readout, from the first to the
+-- first after which no more follow, in order, each once.
+pub record IsWholeReading (sends : Sends) (reading : ReadingRow) : Type 0 where
+  pub sent : AreSentBy sends reading.meter reading.parts
+  pub whole : whole_readout (bodies_of reading.parts) ≡ Some (bodies_of reading.parts)
+
+-- each reading of the state is whole
+abbrev pub AreWhole : Sends → State → Type 0
+AreWhole sends state = AllByRecursion (IsWholeReading sends) state.readings
+
+-- THE PREMISE: a telegram that a meter sends carries that meter's identity.
+abbrev pub SpeakForThemselves : Sends → Type 0
+SpeakForThemselves sends =
+    (meter : Identity) (k : ℕ) (body : List ℕ) (telegram : Parsed) → sends meter k body ≡ true
+    → telegram_at body ≡ Ok telegram → telegram.header.identity ≡ meter
+
+-- ---- the theorems
+
+-- EACH READING IS WHOLE: of the state with which a life begins, and of every state that may be found after a crash at
+-- any moment of that life.
+abbrev pub EachReadingIsWhole : Type 0
+EachReadingIsWhole = (budget : ℕ) (sends : Sends) (state : State) (turns : List Turn)
+    (buses : Buses) (prefix : List Change)
+    → SpeakForThemselves sends → House budget sends state turns buses
+    → IsPrefix prefix (accepted state turns) → AreWhole sends (after state prefix)
+
+-- this many telegrams of the meter are open in the register, each one that it may send in its place
+pub record HasOpen (sends : Sends) (meter : Identity) (count : ℕ) (state : State) : Type 0 where
+  pub row : MeterRow
+  pub found : row_of meter state ≡ Some row
+  pub counted : length row.parts ≡ count
+  pub sent : AreSentBy sends meter row.parts
+
+-- A METER GOES ON FROM WHAT IS COMMITTED. If the request that is due on a line makes the meter of its session discard
+-- its k-th telegram, k from 1, then k telegrams of it are committed.
+abbrev pub GoesOnFromCommitted : Sends → Core → Buses → Type 0
+GoesOnFromCommitted sends core buses =
+    (line i : ℕ) (s : Summary) (request : FrameSeen) (x : Standing) → is_line line ≡ true
+    → session_of core line ≡ Some s → asked_by s ≡ Some request
+    → slice_get (buses line).meters i ≡ Some x → x.meter.identity ≡ s.meter
+    → (moved_by request x.meter x.position).place ≡ x.position.place + 1 → 1 ≤ x.position.place
+    → HasOpen sends s.meter x.position.place core.committed
+
+-- so it is in every house
+abbrev pub MetersGoOnFromCommitted : Type 0
+MetersGoOnFromCommitted = (budget : ℕ) (sends : Sends) (state : State) (turns : List Turn)
+    (buses : Buses) → SpeakForThemselves sends → House budget sends state turns buses
+    → GoesOnFromCommitted sends (leads (opened state) turns) buses
+
+-- The lossy line of dc_readout as a bus line of a house (this product).
+
+-- meters at their positions
+abbrev pub standings : List Meter → List Position → List Standing
+standings meters positions = map (λ x. record { meter = x.0; position = x.1 }) (zip meters positions)
+
+-- no frame, or what is received where this is the outcome of the exchange
+abbrev pub IsHeardOf : Outcome → FrameSeen → List Meter → List Position → List ℕ → Type 0
+IsHeardOf outcome frame meters positions bytes =
+    (frame_of bytes ≡ None) ⊎ (bytes ≡ heard_in outcome frame meters positions)
+
+-- EACH OUTCOME OF AN EXCHANGE ON THE LOSSY LINE, and anything that is no frame in place of its answer, is an exchange
+-- of a bus line.
+abbrev pub LossyLinesAreBuses : Type 0
+LossyLinesAreBuses = (meters : List Meter) (positions : List Position) (waits : Option (List ℕ))
+    (outcome : Outcome) (frame : FrameSeen) (bytes : List ℕ)
+    → IsHeardOf outcome frame meters positions bytes
+    → IsExchanged frame (record { meters = standings meters positions; answer = waits })
+    (record {
+      meters = standings meters (positions_after outcome frame meters positions);
+      answer = Some bytes;
+    })

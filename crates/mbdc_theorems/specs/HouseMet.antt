@@ -10,7 +10,7 @@ use Rattle.mbdc_change.specs.State.{State, PartRow}
 use Rattle.dc_core.specs.Core.{opened}
 use Rattle.dc_core.specs.Transcript.{Turn, leads}
 use Rattle.mbdc_theorems.specs.House.{Sends, Buses, House}
-use Rattle.mbdc_theorems.specs.Whole.{bodies_of, SpeakForThemselves}
+use Rattle.mbdc_theorems.specs.House.{bodies_of, SpeakForThemselves}
 
 -- a telegram without records: its header, and how it ends
 abbrev pub bare_body : Identity → List ℕ → List ℕ

@@ -10,7 +10,7 @@ use Rattle.dc_core.specs.Headline.{IsPrefix, accepted}
 use Rattle.dc_core.specs.Transcript.{Turn, leads, IsChain}
 use Rattle.mbdc_theorems.specs.Beside.{IsOfLines}
 use Rattle.mbdc_theorems.specs.House.{Sends, Bus, Buses, House, HaveBodies, AreRenewed, IsSent, quiet}
-use Rattle.mbdc_theorems.specs.Whole.{AreWhole, SpeakForThemselves}
+use Rattle.mbdc_theorems.specs.House.{AreWhole, SpeakForThemselves}
 use Rattle.mbdc_poll.specs.Bus.{Bus as Link}
 use Rattle.mbdc_poll.specs.Happening.{Happening, happened_on, happened_turns}
 use Rattle.mbdc_poll.specs.Talking.{Talk, Talks, rests, begins, has_none, sends_it}

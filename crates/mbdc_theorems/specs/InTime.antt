@@ -10,7 +10,7 @@ use Rattle.mbdc_raw.specs.declared.line.Line.{Line}
 use Rattle.mbdc_raw.specs.declared.wire.Wire.{Ghosts as WireGhosts}
 use Rattle.mbdc_theorems.specs.Asked.{Asks, IsNew, Runs}
 use Rattle.mbdc_theorems.specs.House.{Bus, IsExchanged}
-use Rattle.mbdc_theorems.specs.Way.{OnWay}
+use Rattle.mbdc_theorems.specs.Asked.{OnWay}
 
 -- A LINE IN TIME IS A BUS LINE. The meters of a bus line exchange a request, and what they reply goes on the way, or is
 -- lost. Then whatever the line takes for the answer is what the bus line may have received.

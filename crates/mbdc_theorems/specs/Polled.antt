@@ -5,30 +5,22 @@ use Rattle.std.specs.Prelude.{◌≡◌, ◌≢◌, ℕ, ◌+◌, ◌*◌, ◌�
 use Rattle.dc_linkframe.specs.Frame.{FrameSeen}
 use Rattle.dc_linkframe.specs.Reading.{frame_of}
 use Rattle.dc_readout.specs.declared.world.event.Outcome.{Outcome}
-use Rattle.dc_readout.specs.Meter.{Meter, Position}
-use Rattle.dc_readout.specs.World.{positions_after, heard_in}
+use Rattle.dc_readout.specs.Meter.{Meter}
+use Rattle.dc_readout.specs.World.{heard_in}
 use Rattle.mbdc_bus.specs.Bus.{Exchange}
 use Rattle.mbdc_change.specs.State.{MeterRow}
 use Rattle.dc_core.specs.declared.fault.HearFault.TheVariants.{NoMemory}
 use Rattle.dc_core.specs.Core.{Core}
 use Rattle.dc_core.specs.Event.{Event, Answer, asks, hears, commits, heard, committed}
 use Rattle.dc_core.specs.Transcript.{Turn, leads, IsChain}
-use Rattle.mbdc_theorems.specs.Needs.{MayBeRead}
-use Rattle.mbdc_theorems.specs.Progress.{IsRead, requests_of}
-use Rattle.mbdc_theorems.specs.Rounds.{Scene, row_after}
+use Rattle.mbdc_theorems.specs.Beside.{Bus, bus_after, bus_at_first}
+use Rattle.mbdc_theorems.specs.Readout.{MayBeRead}
+use Rattle.mbdc_theorems.specs.Readout.{IsRead, requests_of}
+use Rattle.mbdc_theorems.specs.Readout.{Scene, row_after}
 use Rattle.dc_poller.specs.Link.{Link, linked}
 use Rattle.dc_poller.specs.Poll.{Happening, does, talks, loses, Polls}
 
 -- ---- what the line and the machine do
-
--- the meters' positions, and the number of exchanges in a row that lost something
-pub record Bus : Type 0 where
-  pub positions : List Position
-  pub row : ℕ
-
--- before the first exchange
-abbrev pub bus_at_first : List Position → Bus
-bus_at_first positions = record { positions = positions; row = 0 }
 
 -- The concentrator isn't out of memory, and no commit fails.
 abbrev pub Works : Event → Answer → Type 0
@@ -37,12 +29,6 @@ Works commits (committed (Err fault)) = ⊥
 Works event answer = Unit {0}
 
 module _ (meters : List Meter) where
-  abbrev pub bus_after : Outcome → FrameSeen → Bus → Bus
-  bus_after outcome frame bus = record {
-    positions = positions_after outcome frame meters bus.positions;
-    row = row_after bus.row outcome;
-  }
-
   -- The request reaches the meters of the line, and this is what comes back. It isn't the third
   -- loss in a row, and so it goes on.
   pub record GivesTo (bus : Bus) (exchange : Exchange) (goes_on : Bus → Type 0) : Type 0 where
@@ -51,7 +37,7 @@ module _ (meters : List Meter) where
     pub is_frame : frame_of exchange.request ≡ Some frame
     pub answer_is : exchange.answer ≡ heard_in outcome frame meters bus.positions
     pub few : row_after bus.row outcome < 3
-    pub then_on : goes_on (bus_after outcome frame bus)
+    pub then_on : goes_on (bus_after meters outcome frame bus)
 
   -- ALL THAT HAPPENS IS SERVED by the line and by the machine. The bus isn't lost.
   abbrev pub IsServed : Bus → List Happening → Type 0
@@ -68,14 +54,10 @@ abbrev pub asks_by : Event → ℕ
 asks_by (asks line) = 1
 asks_by event = 0
 
-abbrev pub count_of : Happening → ℕ
-count_of (does turn) = asks_by turn.0
-count_of (talks exchange) = 0
-count_of loses = 0
-
 abbrev pub rounds_in : List Happening → ℕ
 rounds_in [] = 0
-rounds_in (happening ∷ more) = count_of happening + rounds_in more
+rounds_in (does turn ∷ more) = asks_by turn.0 + rounds_in more
+rounds_in (happening ∷ more) = rounds_in more
 
 -- The meter is read, after no more requests than three for each that its readout has. The last
 -- look, at which nothing is asked any more, counts as one.

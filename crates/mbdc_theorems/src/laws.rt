@@ -1,8 +1,8 @@
 //! Theorems about readouts. The functions have no effect; their contracts state the theorems.
 
 ghost use Rattle.mbdc_theorems.specs.Beside.{ReadoutsEndBesideOthers, ReadoutsOfARunEnd};
-ghost use Rattle.mbdc_theorems.specs.Needs.{PremisesAreMet};
-ghost use Rattle.mbdc_theorems.specs.Progress.{LinesAreKept, ReadoutsEnd, UndisturbedReadoutsEnd};
+ghost use Rattle.mbdc_theorems.specs.Readout.{PremisesAreMet};
+ghost use Rattle.mbdc_theorems.specs.Readout.{LinesAreKept, ReadoutsEnd, UndisturbedReadoutsEnd};
 
 /// A readout over a line that loses nothing ends in one whole reading, after as many rounds as it
 /// has requests.

@@ -9,8 +9,8 @@ ghost use Rattle.dc_core.specs.Transcript.{Turn};
 ghost use Rattle.mbdc_theorems.specs.House.{Buses, House, Sends};
 ghost use Rattle.mbdc_theorems.specs.HouseMet.{PremisesAreMet};
 ghost use Rattle.mbdc_theorems.specs.HouseTalks.{PollsAreWhole};
-ghost use Rattle.mbdc_theorems.specs.Outcomes.{LossyLinesAreBuses};
-ghost use Rattle.mbdc_theorems.specs.Whole.{AreWhole, EachReadingIsWhole, MetersGoOnFromCommitted, SpeakForThemselves};
+ghost use Rattle.mbdc_theorems.specs.House.{LossyLinesAreBuses};
+ghost use Rattle.mbdc_theorems.specs.House.{AreWhole, EachReadingIsWhole, MetersGoOnFromCommitted, SpeakForThemselves};
 
 use dc_sectors::Disk;
 use mbdc_bus::HalfBus;

@@ -4,7 +4,7 @@ ghost use Rattle.std.specs.Prelude.{ℕ, List, Option};
 ghost use Rattle.mbdc_raw.specs.declared.line.Line.{Line};
 ghost use Rattle.mbdc_theorems.specs.Asked.{Asks, IsToIt, Runs};
 ghost use Rattle.mbdc_theorems.specs.InTime.{IsMet, LinesInTimeAreBuses};
-ghost use Rattle.mbdc_theorems.specs.Way.{OnWay};
+ghost use Rattle.mbdc_theorems.specs.Asked.{OnWay};
 
 use mbdc_raw::Wire;
 

@@ -2,14 +2,14 @@
 
 ghost use Rattle.mbdc_theorems.specs.Every.{EveryMeterIsRead};
 ghost use Rattle.mbdc_theorems.specs.Met.{IsMet};
-ghost use Rattle.mbdc_theorems.specs.RoomRow.{RoomRowSuffices};
-ghost use Rattle.mbdc_theorems.specs.Talked.{ReadoutsOfAPollEnd};
+ghost use Rattle.mbdc_theorems.specs.Every.{RoomRowSuffices};
+ghost use Rattle.mbdc_theorems.specs.Carried.{ReadoutsOfAPollEnd};
 
 use dc_sectors::Disk;
 use mbdc_bus::HalfBus;
 use mbdc_poll::{Teller, Timer};
 
-/// Each readout of a poll ends in one whole reading, while the talk on its bus is served.
+/// Each readout of a poll ends in one whole reading, where its line carries the talk on its bus.
 ///
 /// The meters of its line follow the standard, nothing is lost three times in a row, no answer is
 /// refused, and no commit fails. What the other lines do is free.

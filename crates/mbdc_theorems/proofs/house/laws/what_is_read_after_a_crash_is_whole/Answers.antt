@@ -1,6 +1,6 @@
 use Rattle.std.proofs.Common.{◌++◌, sym, subst}
 use Rattle.dc_core.proofs.Headline.{stopped_reads}
-use Rattle.mbdc_theorems.specs.Whole.{AreWhole}
+use Rattle.mbdc_theorems.specs.House.{AreWhole}
 use Rattle.mbdc_theorems.proofs.Houses.{each_reading_is_whole}
 use Rattle.mbdc_theorems.proofs.house.laws.what_is_read_after_a_crash_is_whole.Goals as goal
 

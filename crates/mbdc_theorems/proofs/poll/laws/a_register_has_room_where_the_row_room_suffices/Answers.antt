@@ -1,4 +1,4 @@
-use Rattle.mbdc_theorems.proofs.RoomRow.{room_row_suffices}
+use Rattle.mbdc_theorems.proofs.Every.{room_row_suffices}
 use Rattle.mbdc_theorems.proofs.poll.laws.a_register_has_room_where_the_row_room_suffices.Goals as goal
 
 pub returns : goal.returns
