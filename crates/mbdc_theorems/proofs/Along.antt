@@ -41,7 +41,7 @@ use Rattle.mbdc_theorems.proofs.Beside.{FactsOf, Going, Asks, Known, IsAt, Over 
 use Rattle.mbdc_theorems.proofs.Left.{IsLeft}
 use Rattle.mbdc_theorems.proofs.Others.{some_more}
 use Rattle.mbdc_theorems.proofs.Parts.{drop_next}
-use Rattle.mbdc_theorems.proofs.Register.{Holds, row_same, told_by, told_is, unrefused, read_now, joined_is, holds_more, reads}
+use Rattle.mbdc_theorems.proofs.Register.{Holds, row_same, told_by, told_is, unrefused, read_now, joined_is, holds_more, reads, less_room}
 use Rattle.mbdc_theorems.proofs.Rounds.{Settled, Told, asks_nothing, right_answer, still_running, never_memory, hear_is, hears_new, settled_behind}
 
 present_settled : (old : Core) (line : ℕ) (session : Option Summary) (now : Core) → Settled old line session now → present now ≡ present old
@@ -71,6 +71,10 @@ module _ (budget line : ℕ) (meters : List Meter) (start : Scene) (place : ℕ)
   abbrev pub first : State
   first = present start.core
 
+  -- as much as the register has once the meter is read
+  abbrev pub bound : ℕ
+  bound = size_of first + room_for row.flat parts
+
   abbrev GoingIs : Core → Type 0
   GoingIs core = Going budget line meters start place meter row parts may.begins ⊥ core
 
@@ -93,7 +97,7 @@ module _ (budget line : ℕ) (meters : List Meter) (start : Scene) (place : ℕ)
     pub quiet : s.stage ≡ Requests → core.pending ≡ []
     pub now : MeterRow
     pub state_is : present core ≡ with_row meter.identity now first
-    pub room : size_of (present core) + room_for row.flat (drop s.settled parts) ≤ budget
+    pub room : size_of (present core) + room_for row.flat (drop s.settled parts) ≤ bound
 
   pub record Runs (bus : Bus) (core : Core) : Type 0 where
     pub going : GoingIs core
@@ -102,6 +106,8 @@ module _ (budget line : ℕ) (meters : List Meter) (start : Scene) (place : ℕ)
 
   pub record Over (bus : Bus) (core : Core) : Type 0 where
     pub all : IsLeft total bus.heard bus.lost 0 0
+    pub goes : core.stopped ≡ false
+    pub small : size_of core.committed ≤ bound
     pub read : IsRead line meter.identity row parts start.core core
 
   abbrev pub Behind : Bus → Core → Type 0
@@ -209,8 +215,8 @@ module _ (budget line : ℕ) (meters : List Meter) (start : Scene) (place : ℕ)
               quiet = λ e. settled.none_waits;
               now = x.held.now;
               state_is = register ∙ x.held.state_is;
-              room = subst (λ (n : ℕ). size_of (present last_core) + room_for row.flat (drop n parts) ≤ budget) (sym count)
-                  (subst (λ (st : State). size_of st + room_for row.flat (drop s.settled parts) ≤ budget) (sym register) x.held.room);
+              room = subst (λ (n : ℕ). size_of (present last_core) + room_for row.flat (drop n parts) ≤ bound) (sym count)
+                  (subst (λ (st : State). size_of st + room_for row.flat (drop s.settled parts) ≤ bound) (sym register) x.held.room);
             };
           }
 
@@ -242,19 +248,24 @@ module _ (budget line : ℕ) (meters : List Meter) (start : Scene) (place : ℕ)
             let both : Some x.held.now ≡ Some now_row = sym (row_of_same meter.identity row x.held.now first may.begins.registered) ∙ ap (row_of meter.identity) (sym x.held.state_is) ∙ f.holds.found in
             cc
 
-        holds : Holds budget meter.identity row first f.past (t.body ∷ next.0) (present core)
-        holds = record {
+        holds : (limit : ℕ) → bound ≤ limit → Holds limit meter.identity row first f.past (t.body ∷ next.0) (present core)
+        holds limit most = record {
           opened = f.holds.opened;
           state_is = x.held.state_is ∙ ap (λ (r : MeterRow). with_row meter.identity r first) now_is;
           are_open = f.holds.are_open;
-          room = subst (λ (left : List (List ℕ)). size_of (present core) + room_for row.flat left ≤ budget) next.1 x.held.room;
+          room =
+              let here = subst (λ (left : List (List ℕ)). size_of (present core) + room_for row.flat left ≤ bound) next.1 x.held.room in
+              omega (arith, here, most);
         }
+
+        tight : Holds bound meter.identity row first f.past (t.body ∷ next.0) (present core)
+        tight = holds bound (omega arith)
 
         is_taken : answer ≡ Ok (Accepted part (continues t.ending))
         is_taken =
             right ∙ hears_new budget line core s on_it x.going.goes x.asks.on moment bytes frame part t asks_it is_new (x.held.quiet took.was_asked)
             (subst (λ (n : ℕ). refusal budget (change_of moment n t) (present core) ≡ None) (sym took.next_part)
-            (unrefused budget s.settled moment meter.identity row first f.past next.0 t.body t (present core) may.begins.registered f.count own refl may.serial holds))
+            (unrefused budget s.settled moment meter.identity row first f.past next.0 t.body t (present core) may.begins.registered f.count own refl may.serial (holds budget may.room)))
 
         settled : (more : Bool) → continues t.ending ≡ more → Settled change_core line (settled_at (Pending more) session) last_core
         settled more is =
@@ -262,14 +273,14 @@ module _ (budget line : ℕ) (meters : List Meter) (start : Scene) (place : ℕ)
             (λ none. absurd (some_more core.pending (change_of moment part t) none)) (ap (λ (b : Bool). settled_at (Pending b) session) is)
 
         abbrev told_then : Bool → State
-        told_then more = told_by budget s.settled moment meter.identity row first f.past next.0 t.body t (present core) may.begins.registered f.count own refl may.serial holds more
+        told_then more = told_by bound s.settled moment meter.identity row first f.past next.0 t.body t (present core) may.begins.registered f.count own refl may.serial tight more
 
         present_then : (more : Bool) → continues t.ending ≡ more → present last_core ≡ told_then more
         present_then more is =
             present_settled change_core line (settled_at (Pending more) session) last_core (settled more is)
             ∙ after_of_push core.committed core.pending (change_of moment part t)
             ∙ ap (λ (n : ℕ). applied (change_of moment n t) (present core)) took.next_part
-            ∙ told_is budget s.settled moment meter.identity row first f.past next.0 t.body t (present core) may.begins.registered f.count own refl may.serial holds
+            ∙ told_is bound s.settled moment meter.identity row first f.past next.0 t.body t (present core) may.begins.registered f.count own refl may.serial tight
             ∙ ap told_then is
 
         goes_on_reading : continues t.ending ≡ true → Runs next_bus last_core
@@ -279,7 +290,7 @@ module _ (budget line : ℕ) (meters : List Meter) (start : Scene) (place : ℕ)
             let y = asks_on next_bus last_core (settled_by session) c.on c.none_waits k in
             let count : y.0.facts.running.session.settled ≡ s.settled + 1 = ap (λ (z : Summary). z.settled) y.1 in
             let rest : drop (s.settled + 1) parts ≡ next.0 = drop_next s.settled parts t.body next.0 next.1 in
-            let h = holds_more budget s.settled moment meter.identity row first f.past next.0 t.body t (present core) may.begins.registered f.count own refl may.serial holds in
+            let h = holds_more bound s.settled moment meter.identity row first f.past next.0 t.body t (present core) may.begins.registered f.count own refl may.serial tight in
             let register = present_then true more in
             record {
               going = k.going;
@@ -288,31 +299,36 @@ module _ (budget line : ℕ) (meters : List Meter) (start : Scene) (place : ℕ)
                 quiet = λ e. c.none_waits;
                 now = record row { parts = h.opened };
                 state_is = register ∙ h.state_is;
-                room = subst (λ (n : ℕ). size_of (present last_core) + room_for row.flat (drop n parts) ≤ budget) (sym count)
-                    (subst (λ (left : List (List ℕ)). size_of (present last_core) + room_for row.flat left ≤ budget) (sym rest)
-                    (subst (λ (st : State). size_of st + room_for row.flat next.0 ≤ budget) (sym register) h.room));
+                room = subst (λ (n : ℕ). size_of (present last_core) + room_for row.flat (drop n parts) ≤ bound) (sym count)
+                    (subst (λ (left : List (List ℕ)). size_of (present last_core) + room_for row.flat left ≤ bound) (sym rest)
+                    (subst (λ (st : State). size_of st + room_for row.flat next.0 ≤ bound) (sym register) h.room));
               };
             }
 
         is_read : continues t.ending ≡ false → Over next_bus last_core
         is_read last =
             let c = settled false last in
-            let over = over_on next_bus last_core c.on c.none_waits (known (Accepted part (continues t.ending)) is_taken) in
+            let k = known (Accepted part (continues t.ending)) is_taken in
+            let over = over_on next_bus last_core c.on c.none_waits k in
+            let committed_is : last_core.committed ≡ told_then false = sym (ap (after last_core.committed) c.none_waits) ∙ present_then false last in
             let none : next.0 ≡ [] = next.2 last in
             let here : drop s.settled parts ≡ f.left = ap (λ (n : ℕ). drop n parts) (sym f.count) ∙ ap (drop (length f.past)) (sym f.parts_are) ∙ drop-append_seam f.past f.left in
             let left : t.body ∷ [] ≡ f.left = ap (λ (l : List (List ℕ)). t.body ∷ l) (sym none) ∙ sym next.1 ∙ here in
             record {
               all = over.all;
+              goes = k.going.goes;
+              small = subst (λ (st : State). size_of st ≤ bound) (sym committed_is)
+                  (less_room bound s.settled moment meter.identity row first f.past next.0 t.body t (present core) may.begins.registered f.count own refl may.serial tight false);
               read = record {
                 free = c.on;
                 none_waits = c.none_waits;
-                read = read_now budget s.settled moment meter.identity row first f.past next.0 t.body t (present core) may.begins.registered f.count own refl may.serial holds;
+                read = read_now bound s.settled moment meter.identity row first f.past next.0 t.body t (present core) may.begins.registered f.count own refl may.serial tight;
                 bodies_are =
-                    joined_is budget s.settled moment meter.identity row first f.past next.0 t.body t (present core) may.begins.registered f.count own refl may.serial holds
+                    joined_is bound s.settled moment meter.identity row first f.past next.0 t.body t (present core) may.begins.registered f.count own refl may.serial tight
                     ∙ ap (λ (l : List (List ℕ)). f.past ++ l) left ∙ f.parts_are;
                 register =
-                    sym (ap (after last_core.committed) c.none_waits) ∙ present_then false last
-                    ∙ reads budget s.settled moment meter.identity row first f.past next.0 t.body t (present core) may.begins.registered f.count own refl may.serial holds;
+                    committed_is
+                    ∙ reads bound s.settled moment meter.identity row first f.past next.0 t.body t (present core) may.begins.registered f.count own refl may.serial tight;
               };
             }
 
@@ -351,7 +367,7 @@ module _ (budget line : ℕ) (meters : List Meter) (start : Scene) (place : ℕ)
           quiet = λ e. absurd (let bad : Resets ≡ Requests = sym (ap (λ (z : Summary). z.stage) same) ∙ e in cc);
           now = row;
           state_is = sym (row_same meter.identity row first may.begins.registered);
-          room = subst (λ (n : ℕ). size_of first + room_for row.flat (drop n parts) ≤ budget) (sym (ap (λ (z : Summary). z.settled) same)) may.room;
+          room = subst (λ (n : ℕ). size_of first + room_for row.flat (drop n parts) ≤ bound) (sym (ap (λ (z : Summary). z.settled) same)) (omega arith);
         };
       }
 

@@ -102,7 +102,7 @@ module _ (identity : Identity) (address : Option ℕ) (position : Position) (own
   only zero m e = (refl, cc)
   only (suc i) m e = absurd cc
 
-  fits : (j : ℕ) (b : List ℕ) → slice_get parts j ≡ Some b → length b ≤ 252
+  pub fits : (j : ℕ) (b : List ℕ) → slice_get parts j ≡ Some b → length b ≤ 252
   fits zero b e =
       let same : first_body identity ≡ b = cc in
       let size = long_as identity (0x1F ∷ []) (more []) refl in

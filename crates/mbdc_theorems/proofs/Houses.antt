@@ -557,7 +557,7 @@ changed_keeps sends core old line meters keeps nobody have =
     let at : place ≡ line - 1 = omega (arith, e) in
     subst (λ x. AgreesOn sends line (record (old line) { meters = meters }) core.committed (present core) x) (sym (ap (λ k. get_or core.lines k None) at ∙ nobody)) tt)
 
-every_house : (budget : ℕ) (sends : Sends) (state : State) (turns : List Turn) (buses : Buses) → SpeakForThemselves sends → House budget sends state turns buses → Holds budget sends state turns buses
+pub every_house : (budget : ℕ) (sends : Sends) (state : State) (turns : List Turn) (buses : Buses) → SpeakForThemselves sends → House budget sends state turns buses → Holds budget sends state turns buses
 every_house budget sends state turns buses sound (formatted first none have) =
     subst (λ ts. Holds budget sends state ts buses) (sym none) (opened_holds budget sends state buses (subst (AreWhole sends) (sym first) tt) have)
 every_house budget sends state turns buses sound (goes_on {turns = before} {old = old} event answer house may on all) =

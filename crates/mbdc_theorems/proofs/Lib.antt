@@ -29,6 +29,8 @@ pub mod Rows
 pub mod Sessions
 -- every house that may be reached
 pub mod Houses
+-- in a house a meter that may be read is read
+pub mod HouseReads
 -- a house in which a meter is read
 pub mod HouseLife
 -- a poll makes the turns of a house, thing after thing

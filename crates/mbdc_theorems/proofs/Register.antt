@@ -125,7 +125,7 @@ module _ (budget n moment : ℕ) (meter : Identity) (row : MeterRow) (first : St
   piece_size : part_size piece ≡ body_size body
   piece_size = ap (λ (b : List ℕ). 9 + length b) is
 
-  less_room : (more : Bool) → size_of (told_by more) ≤ budget
+  pub less_room : (more : Bool) → size_of (told_by more) ≤ budget
   less_room true =
       let room = holds.room in
       omega (arith, size_open meter (n + 1) piece now state found, piece_size, sum_by-cons body_size body rest, room)

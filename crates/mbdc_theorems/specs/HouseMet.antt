@@ -1,6 +1,5 @@
 -- A house that meets the premises (this product): a meter of two telegrams is registered and read, though a reply is
--- lost, the billing office lists the register between the telegrams, and the house crashes within the last commit and
--- reads anew.
+-- lost. A crash loses the reading, and the house reads the meter anew.
 use Rattle.std.specs.Prelude.{◌≡◌, ℕ, ◌==◌, if◌then◌else◌, List, [], ◌∷◌, ◌++◌}
 use Rattle.std.specs.Str.{bytes_eq}
 use Rattle.dc_address.specs.declared.identity.Identity.{Identity}

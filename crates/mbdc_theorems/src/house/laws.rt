@@ -50,7 +50,7 @@ pub fn what_a_poll_reads_is_whole<B: HalfBus>()
 {}
 
 /// A house exists for any meter of two telegrams: it is registered and read, though a reply is lost, and the house
-/// crashes within the last commit and reads it anew.
+/// crashes and reads it anew.
 pub fn a_meter_of_a_house_may_be_read()
     ensures { PremisesAreMet }
 {}
