@@ -1,9 +1,9 @@
 -- What a search makes of the answers of its meters: the selections of the walk over them.
-use Rattle.std.proofs.Common.{◌≡◌, ◌≢◌, inl, inr, ◌&&◌, ℕ, ◌+◌, ◌*◌, ◌<◌, ◌≤◌, Bool, true, false, not, List, [], ◌∷◌, Option, Some, None, length, filter, nat_lt, arith, refl, sym, ap, ◌∙◌, subst, ◌==◌, ◌++◌, take, drop, length-append}
+use Rattle.std.proofs.Common.{◌≡◌, ◌≢◌, inl, inr, ◌&&◌, ℕ, ◌+◌, ◌*◌, ◌<◌, ◌≤◌, Bool, true, false, not, List, [], ◌∷◌, Option, Some, None, length, filter, nat_lt, arith, refl, sym, ap, ◌∙◌, subst, ◌++◌, take, drop, length-append}
 use Rattle.std.specs.Prelude.{IsTrue, option_map}
 use Rattle.std.proofs.lemmas.Bool.{and_parts}
 use Rattle.std.proofs.Math.Seq.{take-append_seam, drop-append_seam}
-use Rattle.dc_address.specs.Mask.{MaskParts, mask_wire, matches}
+use Rattle.dc_address.specs.Mask.{MaskParts, matches}
 use Rattle.dc_address.specs.declared.identity.Identity.{Identity}
 use Rattle.dc_linkframe.specs.Control.{request_to, selected, selection_by}
 use Rattle.dc_linkframe.specs.Frame.{FrameSeen, ack, spelling, long}
@@ -12,22 +12,22 @@ use Rattle.dc_linkframe.proofs.Spellings.{frame_of-spelling}
 use Rattle.dc_search.specs.Answer.{answer_of, identity_at, identity_in, identity_of}
 use Rattle.dc_search.specs.Request.{request_by}
 use Rattle.dc_search.specs.State.{SearchState, after, after_step, is_idle, new_search, step_of}
-use Rattle.dc_search.specs.Walk.{FindsAll, walk_of}
+use Rattle.dc_search.specs.Walk.{FindsAll}
 use Rattle.dc_search.specs.declared.step.Step.{Step}
 use Rattle.dc_search.specs.declared.step.Step.TheVariants.{Select, Request, Done, Budget}
 use Rattle.dc_search.proofs.Lengths.{length-walk_of-le}
 use Rattle.dc_search.proofs.Sweeps.{noise as no_telegram, heard_one}
-use Rattle.mbdc_bus.specs.Bus.{AreAskedBy, AreExchanged, Exchange, IsSearched, Respond, HasAsked}
+use Rattle.mbdc_bus.specs.Bus.{AreAskedBy, AreExchanged, Exchange, IsSearched, Respond}
 use Rattle.mbdc_bus.specs.Windows.{Asking, IsAskedAll, Questions, Reads, are_several, comes_twice, data_request, differs, is_one, is_unread, noise, reads, selection_of, selects, skips, hears}
 use Rattle.mbdc_bus.proofs.Asked.{IsNext}
-use Rattle.mbdc_bus.proofs.Searching.{Asked, Calm, Searching, asked_step, no_data, response, searched, searching_new, selection}
+use Rattle.mbdc_bus.proofs.Searching.{Calm, Searching, asked_step, no_data, response, searched, searching_new, selection}
 use Rattle.dc_address.specs.Identity.{wire_of}
 use Rattle.dc_address.proofs.Identities.{length-wire_of}
 use Rattle.dc_records.proofs.Spellings.Headers.{at_found}
 use Rattle.dc_search.specs.Prefix.{mask_of_digits}
 use Rattle.dc_search.proofs.Prefixes.{node_root}
 use Rattle.dc_search.proofs.Matching.{node_from}
-use Rattle.mbdc_theorems.specs.Answered.{Acknowledge, Answer, AreAnswered, AreRead, IsAnswered, IsAnsweredBy, Counted, OneIsAnswered}
+use Rattle.mbdc_theorems.specs.Answered.{Acknowledge, AreAnswered, AreRead, IsAnswered, IsAnsweredBy, Counted, OneIsAnswered}
 
 some_is : {X : Type 0} (x y : X) → Some x ≡ Some y → x ≡ y
 some_is x y e = cc

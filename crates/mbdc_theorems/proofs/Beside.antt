@@ -33,7 +33,7 @@ use Rattle.mbdc_change.specs.Accepts.{refusal}
 use Rattle.dc_core.specs.declared.fault.HearFault.TheVariants.{Stopped}
 use Rattle.dc_core.specs.declared.line_heard.LineHeard.{LineHeard}
 use Rattle.dc_core.specs.Core.{Core, present, session_of, with_session}
-use Rattle.dc_core.specs.Event.{Event, Answer, starts, asks, hears, commits, offices, started, asked, heard, committed}
+use Rattle.dc_core.specs.Event.{Event, Answer, starts, asks, hears, commits, offices, started, asked, heard}
 use Rattle.dc_core.specs.Step.{May, next, MayHear, and_pending, is_on, address_in, ask_answer, hear_answer, answer_on, verdict_answer, session_after, judged, heard_on, settled_core}
 use Rattle.dc_core.specs.Transcript.{Turn, leads, IsChain}
 use Rattle.dc_core.proofs.Followed.{get_settled}

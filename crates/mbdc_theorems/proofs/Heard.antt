@@ -2,7 +2,7 @@
 use Rattle.std.proofs.Common.{◌≡◌, ◌⊎◌, ℕ, ◌+◌, ◌-◌, ◌≤◌, ◌<◌, Bool, true, false, not, ◌&&◌, List, Option, Some, None, Ok, cond, ◌==◌, arith, refl, sym, ◌∙◌, ap, subst, ◌≢◌, inl, inr}
 use Rattle.std.specs.Prelude.{slice_get, unwrap_or, if◌then◌else◌}
 use Rattle.std.proofs.lemmas.Bool.{eq-eqb, eqb-true, lt-ltb}
-use Rattle.dc_linkframe.specs.Control.{variable_data, req_ud2, request_to, reset_to, selected, snd_nke}
+use Rattle.dc_linkframe.specs.Control.{variable_data, req_ud2, reset_to, selected, snd_nke}
 use Rattle.dc_linkframe.specs.Frame.{FrameSeen, ack, long, short}
 use Rattle.dc_linkframe.specs.Reading.{frame_of}
 use Rattle.dc_linkframe.proofs.Spellings.{frame_of-spelling}
@@ -28,7 +28,7 @@ use Rattle.dc_readout.proofs.Moves.{answer_to-request, selected_kept, no_frame_o
 use Rattle.dc_readout.proofs.Replies.{answer_to-reset, answer_to-selection, heard_as_sent}
 use Rattle.dc_readout.specs.declared.why.Why.{Why}
 use Rattle.dc_readout.proofs.Requests.{selection_is_long}
-use Rattle.mbdc_theorems.specs.Readout.{losses_by, IsHeard, IsUnanswered, is_answered, row_after, clear_after, has_answer, is_command}
+use Rattle.mbdc_theorems.specs.Readout.{losses_by, IsHeard, is_answered, row_after, clear_after, has_answer, is_command}
 
 -- ---- the meter's own telegram
 

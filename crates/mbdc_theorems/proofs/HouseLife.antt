@@ -12,7 +12,6 @@ use Rattle.dc_address.specs.Identity.{identity_cmp}
 use Rattle.dc_address.proofs.Order.{equal_to_itself}
 use Rattle.dc_records.specs.Body.{plain, more}
 use Rattle.dc_records.specs.Telegram.{Parsed, telegram_at}
-use Rattle.dc_readout.specs.Summary.{again}
 use Rattle.dc_readout.specs.Meter.{Meter, Position, first_position}
 use Rattle.dc_readout.specs.Standing.{Standing}
 use Rattle.mbdc_change.specs.Fields.{IsOfBytes}
@@ -28,9 +27,8 @@ use Rattle.dc_upload.specs.declared.verdict.Verdict.TheVariants.{Do}
 use Rattle.dc_upload.specs.Line.{office_text}
 use Rattle.dc_upload.specs.Verdict.{verdict_of}
 use Rattle.dc_core.specs.Core.{Core, opened}
-use Rattle.dc_core.specs.Event.{offices, committed, replied, obeyed}
+use Rattle.dc_core.specs.Event.{offices, replied, obeyed}
 use Rattle.dc_core.specs.Step.{May, held}
-use Rattle.dc_core.proofs.Ordered.{own}
 use Rattle.mbdc_theorems.specs.House.{Bus, Buses, House, formatted, goes_on, opens_again, HaveBodies, put_bus, SpeakForThemselves}
 use Rattle.mbdc_theorems.specs.HouseMet.{first_body, last_body, sends_two, IsRead, PremisesAreMet}
 use Rattle.dc_linkframe.specs.Control.{selected}
@@ -52,7 +50,7 @@ names meter body mine t is same reads_as who read =
     let t_is : t ≡ is = cc in
     ap (λ (x : Parsed). x.header.identity) t_is ∙ who
 
-speaks : SpeakForThemselves sends_two
+pub speaks : SpeakForThemselves sends_two
 speaks meter zero body t is read = names meter body (first_body meter) t (one meter) is (reads meter (0x1F ∷ []) (more []) refl) refl read
 speaks meter (suc k) body t is read =
     let later : eqb (suc k) 0 ≡ false = ne_eqb (suc k) 0 (λ e. omega (arith, e)) in

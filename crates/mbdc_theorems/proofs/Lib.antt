@@ -33,6 +33,8 @@ pub mod Houses
 pub mod HouseReads
 -- a house in which a meter is read
 pub mod HouseLife
+-- a house in which three meters on two lines are read
+pub mod ThreeMeters
 -- a poll makes the turns of a house, thing after thing
 pub mod HouseTalks
 -- a lossy line and a line in time are bus lines

@@ -7,7 +7,7 @@ ghost use Rattle.dc_core.specs.Headline.{WasStopped};
 ghost use Rattle.dc_core.specs.PendingImages.{Reads};
 ghost use Rattle.dc_core.specs.Transcript.{Turn};
 ghost use Rattle.mbdc_theorems.specs.House.{Buses, House, Sends};
-ghost use Rattle.mbdc_theorems.specs.HouseMet.{PremisesAreMet};
+ghost use Rattle.mbdc_theorems.specs.HouseMet.{PremisesAreMet, ThreeAreRead};
 ghost use Rattle.mbdc_theorems.specs.HouseTalks.{PollsAreWhole};
 ghost use Rattle.mbdc_theorems.specs.House.{LossyLinesAreBuses};
 ghost use Rattle.mbdc_theorems.specs.House.{AreWhole, EachReadingIsWhole, MetersGoOnFromCommitted, SpeakForThemselves};
@@ -50,9 +50,9 @@ pub fn what_a_poll_reads_is_whole<B: HalfBus>()
 {}
 
 /// A house exists for any meter of two telegrams: it is registered and read, though a reply is lost, and the house
-/// crashes and reads it anew.
+/// crashes and reads it anew. So are three meters on two lines, one of them by secondary addressing.
 pub fn a_meter_of_a_house_may_be_read()
-    ensures { PremisesAreMet }
+    ensures { PremisesAreMet × ThreeAreRead }
 {}
 
 /// Each outcome of an exchange on the lossy line of dc_readout is an exchange of a house's bus line, and so is anything
