@@ -35,6 +35,8 @@ pub mod ReadMoments
 -- the refusals of an image exclude each other, and a state's image is refused only for an exhausted
 -- counter
 pub mod Refusals
+-- why a state isn't written into a new image
+pub mod Renewed
 -- what a write of a root to a disk that is settled may leave
 pub mod RootWrite
 -- what opening's root leaves: the state that the image stood for

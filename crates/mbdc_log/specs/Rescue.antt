@@ -1,15 +1,25 @@
--- What is rescued of a damaged image (this product): what it reads as without the sector where reading stops.
+-- What is rescued of a damaged image (this product): what it reads as without the sector where reading stops. And why
+-- a state isn't written to a new one.
 use Rattle.std.specs.Prelude.{◌≡◌, ◌<◌, ◌+◌, ◌*◌, ℕ, replicate}
 use Rattle.dc_sectors.specs.Disk.{Image, put}
+use Rattle.dc_sectors.specs.declared.device.Disk.{Ghosts}
 use Rattle.dc_roots.specs.declared.root.Root.{Root}
 use Rattle.dc_roots.specs.Root.{slot}
-use Rattle.dc_roots.specs.Choice.{IsChosen}
+use Rattle.dc_roots.specs.Choice.{HasRoot, IsChosen}
+use Rattle.mbdc_log.specs.declared.fault.FormatFault.{FormatFault}
+use Rattle.mbdc_log.specs.declared.fault.FormatFault.TheVariants.{TooSmall, AlreadyFormatted, Device as Unformatted}
 use Rattle.mbdc_log.specs.declared.fault.OpenFault.{OpenFault}
 use Rattle.mbdc_log.specs.declared.fault.OpenFault.TheVariants.{NotImage, Damaged, Version, Worn, Device, NoMemory}
+use Rattle.mbdc_log.specs.declared.fault.StoreFault.{StoreFault}
+use Rattle.mbdc_log.specs.declared.fault.StoreFault.TheVariants.{Device as Failed, Worn as Exhausted, Stopped}
+use Rattle.mbdc_log.specs.declared.rescuing.RenewFault.{RenewFault}
+use Rattle.mbdc_log.specs.declared.rescuing.RenewFault.TheVariants.{Format, Open, Store}
 use Rattle.mbdc_log.specs.declared.rescuing.Source.{Source}
 use Rattle.mbdc_log.specs.declared.rescuing.Source.TheVariants.{Whole, Without, OtherRoot}
+use Rattle.mbdc_log.specs.Halves.{fewest_sectors}
 use Rattle.mbdc_log.specs.Refusal.{IsUnread, TellsOfImage}
 use Rattle.mbdc_log.specs.Stands.{IsRead}
+use Rattle.mbdc_io.specs.Failures.{HasRisen}
 use Rattle.mbdc_io.specs.declared.kept.kept.Language.{Ghosts as Language}
 
 -- the image with zeros in a sector
@@ -69,3 +79,32 @@ module _ {K : Type 0} (lang : Language K) where
       (state : lang.State) (image : Image) : Type 0 where
     pub reason : IsReason half_len source image
     pub read : IsRead lang half_len root place last state (part_of source image)
+
+module _ {D : Type 0} (g : Ghosts D) (disk left : D) where
+  -- the disk isn't formatted: it is too small, or has a root, or failed
+  abbrev pub IsFormatRefused : FormatFault → Type 0
+  IsFormatRefused TooSmall = g.sectors disk < fewest_sectors
+  IsFormatRefused AlreadyFormatted = g.keeps left → (root : Root) × HasRoot root (g.reads disk)
+  IsFormatRefused Unformatted = HasRisen (g.failures disk) (g.failures left)
+
+  -- The new image isn't opened: the disk failed, or memory ran out. Of a disk that keeps the disk model nothing else
+  -- keeps it shut.
+  abbrev pub IsOpenRefused : OpenFault → Type 0
+  IsOpenRefused NotImage = g.keeps left → ⊥
+  IsOpenRefused (Damaged n) = g.keeps left → ⊥
+  IsOpenRefused Version = g.keeps left → ⊥
+  IsOpenRefused Worn = g.keeps left → ⊥
+  IsOpenRefused Device = HasRisen (g.failures disk) (g.failures left)
+  IsOpenRefused NoMemory = Unit {0}
+
+  -- the state isn't written: the disk failed
+  abbrev pub IsStoreRefused : StoreFault → Type 0
+  IsStoreRefused Failed = HasRisen (g.failures disk) (g.failures left)
+  IsStoreRefused Exhausted = g.keeps left → ⊥
+  IsStoreRefused Stopped = ⊥
+
+  -- WHY A STATE ISN'T IN A NEW IMAGE, by the step that failed.
+  abbrev pub IsRenewRefused : RenewFault → Type 0
+  IsRenewRefused (Format fault) = IsFormatRefused fault
+  IsRenewRefused (Open fault) = IsOpenRefused fault
+  IsRenewRefused (Store fault) = IsStoreRefused fault

@@ -8,7 +8,8 @@ ghost use Rattle.mbdc_log.specs.declared.fault.OpenFault.TheVariants.{NotImage, 
 ghost use Rattle.mbdc_log.specs.Greatest.{IsGreatest};
 ghost use Rattle.mbdc_log.specs.Halves.{budget_of, fewest_sectors, half_of, longest_half};
 ghost use Rattle.mbdc_log.specs.Refusal.{IsUnread, TellsOfImage};
-ghost use Rattle.mbdc_log.specs.Rescue.{HasNoOlder, IsLost, IsRescued, IsSlot, Stops, sector_in, without};
+ghost use Rattle.mbdc_log.specs.Rescue.{HasNoOlder, IsLost, IsRescued, IsSlot, IsRenewRefused, Stops};
+ghost use Rattle.mbdc_log.specs.Rescue.{sector_in, without};
 ghost use Rattle.mbdc_log.specs.Stands.{IsRead, Stands};
 
 use crate::greatest::{Greatest, greatest_of};
@@ -295,6 +296,8 @@ pub fn renew<K: Kept, D: Disk + Drop>(
     ensures stands { IfOk result (λ d. D.keeps d → (image : Image) → IsImage (D.choices d) image
         → Stands K.Language (half_of D.Disk d) (K.state kept.now) image) }
     ensures durable { IfOk result (λ d. D.keeps d → IsSettled D.Disk d) }
+    // A fault is a fact: of a disk that keeps the disk model only its size, a root, a failure or memory is one.
+    ensures refused { IfErr result (λ e. IsRenewRefused D.Disk disk e.1 e.0) }
 {
     let disk = match Log::<D, Own<K>>::format(disk) {
         Ok(disk) => disk,
