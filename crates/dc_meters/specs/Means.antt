@@ -1,5 +1,5 @@
 -- Which meter a name means in a register (this product).
-use Rattle.std.specs.Prelude.{◌≡◌, ℕ, ◌<◌, Bool, List, [], ◌∷◌, length, filter, nat_eq}
+use Rattle.std.specs.Prelude.{◌≡◌, ◌⊎◌, ℕ, ◌<◌, Bool, List, [], ◌∷◌, length, filter, nat_eq}
 use Rattle.std.specs.List.{starts_with}
 use Rattle.std.specs.Map.{keys_of}
 use Rattle.dc_address.specs.Text.{text_of}
@@ -41,3 +41,15 @@ AreMeant state [] (meter ∷ meters) = ⊥
 AreMeant state (name ∷ names) [] = ⊥
 AreMeant state (name ∷ names) (meter ∷ meters) =
     Means state name meter × AreMeant state names meters
+
+-- the first of the names that means no meter has this fault
+abbrev pub IsFirstFault : State → List Named → NameFault → Type 0
+IsFirstFault state [] fault = ⊥
+IsFirstFault state (name ∷ names) fault = IsNameFault state name fault
+    ⊎ ((meter : Meter) × Means state name meter × IsFirstFault state names fault)
+
+-- why names mean no meters: that of the first that means none, unless memory ran out
+abbrev pub AreUnmeant : State → List Named → NameFault → Type 0
+AreUnmeant state names (Unknown number) = IsFirstFault state names (Unknown number)
+AreUnmeant state names (Several number) = IsFirstFault state names (Several number)
+AreUnmeant state names NoMemory = Unit {0}

@@ -1,7 +1,8 @@
 //! The meter that a name means in a register.
 
 ghost use Rattle.std.specs.Prelude.{◌≡◌, ◌↔◌, IfOk, IfErr, IsTrue};
-ghost use Rattle.dc_meters.specs.Means.{AreMeant, IsNameFault, Means, has_number, having};
+ghost use Rattle.dc_meters.specs.Means.{AreMeant, AreUnmeant, IsNameFault, Means, has_number};
+ghost use Rattle.dc_meters.specs.Means.{having};
 
 use crate::House;
 use crate::named::name::Named;
@@ -88,7 +89,8 @@ pub fn resolve_all<A: Allocator + Copy>(
     house: &House<A>,
     names: &[Named],
 ) -> Result<Vec<Identity, A>, NameFault>
-    ensures { IfOk result (λ meters. AreMeant house.now.state names.now meters.items) }
+    ensures found { IfOk result (λ meters. AreMeant house.now.state names.now meters.items) }
+    ensures fault { IfErr result (λ fault. AreUnmeant house.now.state names.now fault) }
 {
     let mut meters = Vec::new(alloc);
     let mut rest = names;
