@@ -1,17 +1,26 @@
-//! What the commands put into the journal of their image: the events of a poll, and the commands that were done.
+//! What the commands put into the journal of their image: the events of a poll, and the commands that were done. A poll
+//! first reads there who was silent in the last one.
 
 use crate::clock::moment;
 use dc_address::Identity;
 use dc_meters::House;
 use dc_poller::CommandNotes;
+use dc_readout::Why;
 use mbdc_change::Numbered;
-use mbdc_files::{Host, Journal};
-use mbdc_io::Bytes;
-use mbdc_poll::Event;
+use mbdc_files::{Host, Journal, journal_lines, own_lines};
+use mbdc_io::{Bytes, NoMemory};
+use mbdc_json::journal::read_journal;
 use mbdc_poll::events::{Notes, put_command_note, put_note, put_object};
+use mbdc_poll::{Doubt, Event};
 use std::alloc::Global;
 use std::fs::File;
 use std::rt::{Clock, Files};
+use std::str;
+
+// What the lines of a poll's end and of a lost bus line have.
+const END: &str = "\"event\":\"end\"";
+
+const LOST: &str = "\"event\":\"lost\",\"line\":";
 
 /// Puts what happened into the journal of an image. It is opened for its first line: a file that is no image gets none.
 #[derive(Drop)]
@@ -66,6 +75,48 @@ impl<'h, 'i, R: Files<File = File> + Clock + Eprint + AllocGlobal> Noting<'h, 'i
         }
     }
 
+    /// The meters of each of this many lines that nobody answered for in the last poll, as the journal has it: none of
+    /// a line that was lost then, and none at all where there is no journal of this image.
+    ///
+    /// # Errors
+    /// Out of memory.
+    pub fn doubts(&mut self, lines: u8) -> Result<Vec<Vec<Doubt>>, NoMemory> {
+        let (alloc, now) = (self.rt.alloc(), self.now());
+        if self.house.is_some() {
+            self.open();
+        }
+        let journal = match &self.journal {
+            Some(_) => journal_lines(self.rt, self.image)?,
+            None => None,
+        };
+        let poll = match (&journal, &self.house) {
+            (Some(lines), Some(house)) => last_poll(own_lines(
+                lines.as_slice(),
+                house.next_serial(),
+            )),
+            _ => "",
+        };
+        let noted = read_journal(alloc, poll.as_bytes(), now)?;
+        let mut doubts = Vec::new(alloc);
+        for line in 1..=lines {
+            let mut silent = Vec::new(alloc);
+            if let Some(house) = &self.house
+                && !poll.contains(format!(in alloc; "{LOST}{line}")?.as_str())
+            {
+                for (meter, row) in house.meters() {
+                    if let Some(failing) = noted.of(meter).failing
+                        && failing.number == Why::NoAnswer.number()
+                        && row.line() == line
+                    {
+                        silent.push(Doubt::of(meter, row.address()))?;
+                    }
+                }
+            }
+            doubts.push(silent)?;
+        }
+        Ok(doubts)
+    }
+
     fn append(&mut self, line: &Bytes<Global>) {
         self.open();
         if let Some(journal) = &mut self.journal {
@@ -100,6 +151,18 @@ impl<R: Files<File = File> + Clock + Eprint + AllocGlobal> Notes for Noting<'_, 
         {
             self.append(&line);
         }
+    }
+}
+
+// The lines of the last poll that came to its end.
+fn last_poll(lines: &[u8]) -> &str {
+    let text = str::from_utf8(lines).unwrap_or_default();
+    let Some((before, _)) = text.rsplit_once(END) else {
+        return "";
+    };
+    match before.rsplit_once(END) {
+        Some((_, poll)) => poll,
+        None => before,
     }
 }
 

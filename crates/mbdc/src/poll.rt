@@ -9,12 +9,13 @@ use dc_address::Identity;
 use dc_sectors::FileDisk;
 use mbdc_bus::trace::{Observed, Observer};
 use mbdc_commands::words::PollTask;
-use mbdc_commands::{Printing, poll_over};
+use mbdc_commands::{Printing, SparingWatch, poll_over};
 use mbdc_ending::Ending;
 use mbdc_files::{Host, Patient, open_disk};
-use mbdc_poll::Plan;
-use mbdc_poll::events::Notes;
-use mbdc_raw::links::{LinkBus, Peer, SystemBus, Watch};
+use mbdc_io::NoMemory;
+use mbdc_poll::events::{Form, Notes};
+use mbdc_poll::{Doubt, Plan, Sparing};
+use mbdc_raw::links::{LinkBus, Peer, SystemBus};
 use std::alloc::Global;
 use std::fs::{File, OpenFile};
 use std::io;
@@ -50,21 +51,27 @@ where
     };
     let printing = Printing {
         begun,
-        is_json: task.is_json,
+        form: if task.is_json { Form::Json } else { Form::Text },
         is_shown: shows_progress(host, trace.as_ref()),
     };
-    let ending = match tracers_of(host, trace.as_ref(), peers.len()) {
-        Ok(observers) => poll_peers(
+    let mut notes = Noting::new(host, task.image, house);
+    let ending = match (
+        tracers_of(host, trace.as_ref(), peers.len()),
+        notes.doubts(u8::try_from(peers.len()).unwrap_or_default()),
+    ) {
+        (Ok(observers), Ok(mut doubts)) => poll_peers(
             host,
             disk,
             peers.as_slice(),
             observers,
+            doubts.as_mut_slice(),
             only.as_slice(),
             printing,
-            Noting::new(host, task.image, house),
+            notes,
             task,
         ),
-        Err(ending) => ending,
+        (Err(ending), _) => ending,
+        (_, Err(NoMemory)) => Ending::Memory,
     };
     released(host, peers.as_slice());
     ending
@@ -77,6 +84,7 @@ fn poll_peers<'a, D, O, J, R>(
     disk: FileDisk<D>,
     peers: &[Option<Peer<R>>],
     observers: Vec<O>,
+    doubts: &mut [Vec<Doubt>],
     only: &[Identity],
     printing: Printing,
     notes: J,
@@ -88,7 +96,13 @@ where
     J: Notes + Drop,
     R: Files<File = File> + Net<Stream = TcpStream> + Clock + Copy + Print + Eprint + AllocGlobal,
 {
-    let buses = match buses_of(host, peers, observers, task.patience) {
+    // A meter that is named gets all its tries.
+    if !only.is_empty() {
+        for named in doubts.iter_mut() {
+            named.clear();
+        }
+    }
+    let buses = match buses_of(host, peers, observers, doubts, task.patience) {
         Ok(buses) => buses,
         Err(ending) => return ending,
     };
@@ -104,7 +118,7 @@ where
         host.rt,
         disk,
         plan,
-        Watch::new(),
+        SparingWatch::new(),
         out,
         printing,
         notes,
@@ -113,19 +127,20 @@ where
     ending
 }
 
-// The bus of each line, with its observer; one without a link is absent.
-fn buses_of<'p, 'e, R, O>(
+// The bus of each line, with its observer, and who was silent on it; one without a link is absent.
+fn buses_of<'p, 'd, 'e, R, O>(
     host: &Host<'_, R>,
     peers: &'p [Option<Peer<R>>],
     observers: Vec<O>,
+    doubts: &'d mut [Vec<Doubt>],
     patience: Option<u16>,
-) -> Result<Vec<Observed<SystemBus<'p, R>, O>, Global>, Ending<'e>>
+) -> Result<Vec<Sparing<'d, Observed<SystemBus<'p, R>, O>>, Global>, Ending<'e>>
 where
     R: Net<Stream = TcpStream> + Clock + Copy + Eprint + AllocGlobal,
     O: Observer + Drop,
 {
     let mut buses = Vec::new(host.rt.alloc());
-    for (peer, observer) in peers.iter().zip(observers) {
+    for ((peer, observer), silent) in peers.iter().zip(observers).zip(doubts.iter_mut()) {
         let bus = match peer {
             Some(peer) => match peer.bus(*host.rt, patience.unwrap_or(peer.patience())) {
                 Ok(bus) => bus,
@@ -133,7 +148,8 @@ where
             },
             None => LinkBus::Absent,
         };
-        if buses.push(Observed { bus, observer }).is_err() {
+        let bus = Sparing::new(Observed { bus, observer }, silent.as_mut_slice());
+        if buses.push(bus).is_err() {
             return Err(Ending::Memory);
         }
     }

@@ -7,11 +7,12 @@ use Rattle.mbdc_commands.specs.Bytes.{IsPrinted, IsWrittenOut}
 use Rattle.mbdc_commands.specs.HostClock.{IsWarned, LetsPass, TellsTime}
 use Rattle.mbdc_commands.specs.declared.timer.HostTimer.{HostTimer}
 use Rattle.mbdc_poll.specs.declared.teller.Teller.{Ghosts as TellerGhosts}
-use Rattle.mbdc_poll.specs.Printed.{AreTakenUpToAFailure}
+use Rattle.mbdc_poll.specs.Printed.{AreTakenUpToAFailure, events_as}
+use Rattle.mbdc_poll.specs.declared.events.printer.Form.{Form}
 use Rattle.mbdc_poll.specs.Unfailing.{GoesOn}
 use Rattle.mbdc_poll.specs.declared.events.unfailing.Unfailing.{Unfailing}
 use Rattle.std.specs.Io.KnownBytes.{Keeps}
-use Rattle.mbdc_commands.specs.PollOver.{shown_text, IsNext, ArePolled, IsUnpolled, PollLeaves, StopsPoll}
+use Rattle.mbdc_commands.specs.PollOver.{IsNext, ArePolled, IsUnpolled, PollLeaves, StopsPoll}
 use Rattle.dc_core.specs.Core.{Core, present}
 use Rattle.dc_sectors.specs.Runs.{LeavesOnly}
 use Rattle.dc_sectors.specs.declared.device.Disk.{Ghosts}
@@ -165,16 +166,13 @@ module _ {D B W : Type 0} (R : Type 0) (g : Ghosts D) (bus : Bus B) (buses : Lis
       (λ done core happened p. record { first = p.first; last = p.last; begins = p.begins; events = p.events; polled = p.polled; are_such = shows p.events p.are_such })
 
   -- the text of the events is printed, by a clock that begins with these waits
-  pub prints_so : {O : Type 0} (contents : O → Option (List ℕ)) (known : Bool) (out : O) (held : Option (List ℕ)) (printed is_json json : Bool) (begun : W) (outcome : Result Outcome ProgramFault)
-      → begun ≡ waits → is_json ≡ json → known ≡ is_some (contents out) → Keeps (contents out) held
-      → PollLeaves g (ArePolled R bus buses only tries begun (λ events. IsWrittenOut contents known held printed (shown_text json events))) disk left outcome
-      → PollLeaves g (ArePolled R bus buses only tries waits (λ events. IsPrinted contents out printed (shown_text is_json events))) disk left outcome
-  prints_so contents known out held printed is_json json begun outcome waits_are json_is is kept l =
-      let begins : PollLeaves g (ArePolled R bus buses only tries waits (λ events. IsWrittenOut contents known held printed (shown_text json events))) disk left outcome =
-      subst (λ (w : W). PollLeaves g (ArePolled R bus buses only tries w (λ events. IsWrittenOut contents known held printed (shown_text json events))) disk left outcome) waits_are l in
-      let prints : PollLeaves g (ArePolled R bus buses only tries waits (λ events. IsPrinted contents out printed (shown_text json events))) disk left outcome =
-      holds_as _ _ outcome begins (λ events written. printed_so contents known out held printed (shown_text json events) is kept written) in
-      subst (λ (b : Bool). PollLeaves g (ArePolled R bus buses only tries waits (λ events. IsPrinted contents out printed (shown_text b events))) disk left outcome) (sym json_is) prints
+  pub prints_so : {O : Type 0} (contents : O → Option (List ℕ)) (known : Bool) (out : O) (held : Option (List ℕ)) (printed : Bool) (form : Form) (begun : W) (outcome : Result Outcome ProgramFault)
+      → begun ≡ waits → known ≡ is_some (contents out) → Keeps (contents out) held
+      → PollLeaves g (ArePolled R bus buses only tries begun (λ events. IsWrittenOut contents known held printed (events_as form events))) disk left outcome
+      → PollLeaves g (ArePolled R bus buses only tries waits (λ events. IsPrinted contents out printed (events_as form events))) disk left outcome
+  prints_so contents known out held printed form begun outcome waits_are is kept l =
+      holds_as _ _ outcome (subst (λ (w : W). PollLeaves g (ArePolled R bus buses only tries w (λ events. IsWrittenOut contents known held printed (events_as form events))) disk left outcome) waits_are l)
+      (λ events written. printed_so contents known out held printed (events_as form events) is kept written)
 
 module _ {D B W N S : Type 0} (R : Type 0) (g : Ghosts D) (bus : Bus B) (buses : List B) (only : List Identity) (tries : ℕ) (teller : TellerGhosts N) (of : S → Unfailing N) (begun ended : HostTimer R W) (old new : S) (first : N)
     (disk left : D) where

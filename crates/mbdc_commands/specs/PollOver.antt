@@ -24,19 +24,14 @@ use Rattle.mbdc_poll.specs.Happening.{Happening}
 use Rattle.mbdc_poll.specs.ImagePoll.{ImageTurned, PlanPolled}
 use Rattle.mbdc_poll.specs.declared.event.Event.{Event as Told}
 use Rattle.mbdc_poll.specs.declared.outcome.Outcome.{Outcome}
-use Rattle.mbdc_poll.specs.Object.{objects_of_all}
-use Rattle.mbdc_poll.specs.Text.{text_of_all}
+use Rattle.mbdc_poll.specs.Printed.{events_as}
+use Rattle.mbdc_poll.specs.declared.events.printer.Form.{Form}
 
 -- ---- the events of a poll
 
 -- the events so far, and one more
 abbrev pub IsNext : List Told → Told → List Told → Type 0
 IsNext events event more = more ≡ events ++ event ∷ []
-
--- the text of events: their JSON objects, or their lines
-abbrev pub shown_text : (is_json : Bool) → List Told → List ℕ
-shown_text true events = objects_of_all events
-shown_text false events = text_of_all events
 
 -- The meters of a plan are read by the clock of this system, which begins with these waits. All events of that poll, in
 -- order, are such.
@@ -88,9 +83,9 @@ pub record PollLeaves {D : Type 0} (g : Ghosts D)
 -- or wasn't. The ending follows from both.
 pub record PollsOver {D B W O : Type 0} (R : Type 0) (g : Ghosts D) (bus : Bus B)
     (contents : O → Option (List ℕ)) (buses : List B) (only : List Identity) (tries : ℕ) (waits : W)
-    (out : O) (is_json : Bool) (image : List ℕ) (disk left : D) (ending : Ending) : Type 0 where
+    (out : O) (form : Form) (image : List ℕ) (disk left : D) (ending : Ending) : Type 0 where
   pub outcome : Result Outcome ProgramFault
   pub is_printed : Bool
   pub ends : PollEnds outcome is_printed image ending
   pub leaves : PollLeaves g (ArePolled R bus buses only tries waits
-      (λ events. IsPrinted contents out is_printed (shown_text is_json events))) disk left outcome
+      (λ events. IsPrinted contents out is_printed (events_as form events))) disk left outcome

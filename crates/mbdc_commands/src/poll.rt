@@ -1,13 +1,14 @@
 //! The command `poll` over an image and buses that are open.
 
-ghost use Rattle.std.specs.Prelude.{◌≡◌, ◌<◌, IsTrue, false, true, is_some};
+ghost use Rattle.std.specs.Prelude.{◌≡◌, ◌<◌, IsTrue, false, is_some};
 ghost use Rattle.std.specs.Io.KnownBytes.{Keeps};
 ghost use Rattle.std.specs.Io.Buffered.{line_writer_contents};
+ghost use Rattle.mbdc_poll.specs.Printed.{events_as};
 ghost use Rattle.mbdc_poll.specs.Telling.{TakesAll};
 ghost use Rattle.mbdc_commands.specs.Bytes.{IsPrinted, IsWrittenOut};
 ghost use Rattle.mbdc_commands.specs.Guard.{Guards};
 ghost use Rattle.mbdc_ending.specs.Unopened.{Stands};
-ghost use Rattle.mbdc_commands.specs.PollOver.{ArePolled, PollLeaves, PollsOver, shown_text};
+ghost use Rattle.mbdc_commands.specs.PollOver.{ArePolled, PollLeaves, PollsOver};
 
 use crate::ending::poll_ending;
 use crate::guard::guarded;
@@ -20,8 +21,8 @@ use mbdc_bus::HalfBus;
 use mbdc_change::Moment;
 use mbdc_ending::{Ending, ProgramFault};
 use mbdc_poll::events::{
-    JsonTeller, Notes, Progress, Shown, TextTeller, Unfailing, events_are_printed_as_json,
-    events_are_printed_as_text, events_are_taken_up_to_a_failure,
+    Form, Notes, Printer, Progress, Shown, Unfailing, events_are_printed,
+    events_are_taken_up_to_a_failure,
 };
 use mbdc_poll::{Outcome, Plan, Teller, poll_image};
 use std::alloc::Global;
@@ -34,9 +35,8 @@ use std::rt::Clock;
 pub struct Printing {
     /// The time at which it begins, which stamps the readings as long as the clock has no other time.
     pub begun: Moment,
-    /// Whether its events are printed as JSON Lines. Else standard error says what the failed tries of a failed
-    /// readout brought.
-    pub is_json: bool,
+    /// The form of its events. Beside text, standard error says what the failed tries of a failed readout brought.
+    pub form: Form,
     /// Whether standard error shows the progress.
     pub is_shown: bool,
 }
@@ -65,7 +65,7 @@ where
     requires { 0 < plan.tries }
     // One poll of the image, whatever became of it before, gives the disk, the text and the ending.
     ensures { Guards D.Disk disk result.0 result.1 (λ ready. PollsOver R D.Disk B.HalfBus O.contents
-        plan.entry.buses.items plan.entry.only.now plan.entry.tries waits out printing.is_json image.now
+        plan.entry.buses.items plan.entry.only.now plan.entry.tries waits out printing.form image.now
         ready result.0 result.1) }
 {
     let mut disk = disk;
@@ -103,7 +103,7 @@ where
     requires stands { Stands D.Disk disk }
     ensures { PollLeaves D.Disk (ArePolled R B.HalfBus plan.entry.buses.items plan.entry.only.now
         plan.entry.tries waits (λ events.
-        IsPrinted O.contents out result.2 (shown_text printing.is_json events)))
+        IsPrinted O.contents out result.2 (events_as printing.form events)))
         disk result.0 result.1 }
 {
     let Ok(out) = LineWriter::new(alloc, out) else {
@@ -112,21 +112,21 @@ where
     let out: KnownSink<LineWriter<O>, K> = KnownSink::new(out);
     let progress = Progress::new(rt, printing.is_shown);
     let timer = HostTimer::new(rt, printing.begun, &progress, waits);
-    if printing.is_json {
-        poll_json(alloc, disk, plan, timer, &progress, out, notes)
-    } else {
-        poll_text(alloc, disk, plan, timer, &progress, out, notes)
-    }
+    let printer = Printer {
+        out,
+        form: printing.form,
+    };
+    poll_lines(alloc, disk, plan, timer, &progress, printer, notes)
 }
 
-// Reads the meters of the plan and prints their events as text.
-fn poll_text<'p, 'h, D, B, W, R, O, J, K>(
+// Reads the meters of the plan and prints their events.
+fn poll_lines<'p, 'h, D, B, W, R, O, J, K>(
     alloc: Global,
     disk: D,
     plan: Plan<'_, Global, B>,
     timer: HostTimer<'p, 'h, R, W>,
     progress: &'p Progress<'h, R>,
-    out: KnownSink<LineWriter<O>, K>,
+    printer: Printer<KnownSink<LineWriter<O>, K>>,
     notes: J,
 ) -> (D, Result<Outcome, ProgramFault>, bool)
 where
@@ -138,49 +138,16 @@ where
     J: Notes + Drop,
     K: Known,
     requires tries { 0 < plan.tries }
-    requires well { out.sink.failures ≡ 0 }
+    requires well { printer.out.sink.failures ≡ 0 }
     requires stands { Stands D.Disk disk }
     ensures { PollLeaves D.Disk (ArePolled R B.HalfBus plan.entry.buses.items plan.entry.only.now
         plan.entry.tries timer.entry.waits (λ events. IsWrittenOut O.contents K.writes
-        (line_writer_contents O.contents out.sink.writer) result.2 (shown_text false events)))
+        (line_writer_contents O.contents printer.out.sink.writer) result.2 (events_as printer.form events)))
         disk result.0 result.1 }
 {
-    events_are_printed_as_text::<KnownSink<LineWriter<O>, K>>();
-    let teller = TextTeller { out };
-    let (disk, outcome, done) = poll(alloc, disk, plan, timer, progress, teller, notes, true);
-    let is_printed = is_printed(done.has_failed, done.teller.out);
-    (disk, outcome, is_printed)
-}
-
-// Reads the meters of the plan and prints their events as JSON Lines.
-fn poll_json<'p, 'h, D, B, W, R, O, J, K>(
-    alloc: Global,
-    disk: D,
-    plan: Plan<'_, Global, B>,
-    timer: HostTimer<'p, 'h, R, W>,
-    progress: &'p Progress<'h, R>,
-    out: KnownSink<LineWriter<O>, K>,
-    notes: J,
-) -> (D, Result<Outcome, ProgramFault>, bool)
-where
-    D: Disk + Drop,
-    B: HalfBus + Drop,
-    W: Waits<B> + Drop,
-    R: Clock + Eprint,
-    O: Write + Drop,
-    J: Notes + Drop,
-    K: Known,
-    requires tries { 0 < plan.tries }
-    requires well { out.sink.failures ≡ 0 }
-    requires stands { Stands D.Disk disk }
-    ensures { PollLeaves D.Disk (ArePolled R B.HalfBus plan.entry.buses.items plan.entry.only.now
-        plan.entry.tries timer.entry.waits (λ events. IsWrittenOut O.contents K.writes
-        (line_writer_contents O.contents out.sink.writer) result.2 (shown_text true events)))
-        disk result.0 result.1 }
-{
-    events_are_printed_as_json::<KnownSink<LineWriter<O>, K>>();
-    let teller = JsonTeller { out };
-    let (disk, outcome, done) = poll(alloc, disk, plan, timer, progress, teller, notes, false);
+    events_are_printed::<KnownSink<LineWriter<O>, K>>();
+    let explains = matches!(printer.form, Form::Text);
+    let (disk, outcome, done) = poll(alloc, disk, plan, timer, progress, printer, notes, explains);
     let is_printed = is_printed(done.has_failed, done.teller.out);
     (disk, outcome, is_printed)
 }

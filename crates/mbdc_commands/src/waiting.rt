@@ -4,7 +4,7 @@ ghost use Rattle.mbdc_commands.specs.Waiting.{AddsAwaited, AddsOne};
 ghost use Rattle.mbdc_poll.specs.Waiting.{is_awaited};
 
 use mbdc_bus::HalfBus;
-use mbdc_poll::{Station, is_awaited};
+use mbdc_poll::{Sparing, Station, is_awaited};
 use mbdc_raw::links::{Watch, Watched};
 use std::mem;
 
@@ -25,19 +25,45 @@ pub trait Waits<B> {
         ensures { waited self.old self.new };
 }
 
-impl<B: Watched> Waits<B> for Watch {
+/// The wait for buses each of which may spare its request: then nothing is waited for.
+#[derive(Drop)]
+pub struct SparingWatch {
+    watch: Watch,
+    spares: bool,
+}
+
+impl SparingWatch {
+    /// Returns an empty set of buses.
+    pub fn new() -> Self {
+        SparingWatch {
+            watch: Watch::new(),
+            spares: false,
+        }
+    }
+}
+
+impl<B: HalfBus + Watched + Drop> Waits<Sparing<'_, B>> for SparingWatch {
     ghost use Rattle.std.specs.Prelude.{⊤};
 
     // What a wait does is in no contract.
     ghost adds = { λ _ _ _. ⊤ };
 
-    fn add_bus(&mut self, bus: &B) {
-        bus.add_to(self);
+    ghost waited = { λ _ _. ⊤ };
+
+    fn add_bus(&mut self, bus: &Sparing<'_, B>)
+        ensures { ⊤ }
+    {
+        self.spares = self.spares || bus.spares;
+        bus.bus.add_to(&mut self.watch);
     }
 
-    fn wait_for_all(&mut self) {
-        let watch = mem::replace(self, Watch::new());
-        watch.wait();
+    fn wait_for_all(&mut self)
+        ensures { ⊤ }
+    {
+        let watch = mem::replace(self, SparingWatch::new());
+        if !watch.spares {
+            watch.watch.wait();
+        }
     }
 }
 

@@ -16,6 +16,8 @@ pub mod Becoming
 pub mod Rounds
 -- what becomes of a line by a commit
 pub mod Storing
+-- where first questions are answered, none is spared
+pub mod Spared
 -- a queue that is at its end went through all its meters, in passes
 pub mod Tried
 -- a meter that is done with isn't started again

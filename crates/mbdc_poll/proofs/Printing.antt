@@ -6,24 +6,18 @@ use Rattle.mbdc_io.proofs.Pieces.{puts-both, puts-none}
 use Rattle.mbdc_poll.specs.Telling.{TakesAll}
 use Rattle.mbdc_poll.specs.declared.event.Event.{Event}
 use Rattle.mbdc_poll.specs.declared.teller.Teller.{Ghosts}
-use Rattle.mbdc_poll.specs.Object.{object_of, objects_of_all}
-use Rattle.mbdc_poll.specs.Printed.{ArePrintedAsJson, ArePrintedAsText, AreTakenUpToAFailure, IsCutShort, PrintsLine, PrintsObject}
-use Rattle.mbdc_poll.specs.Text.{line_of, text_of_all}
+use Rattle.mbdc_poll.specs.Printed.{ArePrinted, AreTakenUpToAFailure, IsCutShort, event_as, events_as}
 use Rattle.mbdc_poll.specs.Unfailing.{GoesOn}
-use Rattle.mbdc_poll.specs.declared.events.objects.JsonTeller.{JsonTeller}
-use Rattle.mbdc_poll.specs.declared.events.text.TextTeller.{TextTeller}
+use Rattle.mbdc_poll.specs.declared.events.printer.Form.{Form}
+use Rattle.mbdc_poll.specs.declared.events.printer.Printer.{Printer}
 use Rattle.mbdc_poll.specs.declared.events.unfailing.Unfailing.{Unfailing}
 
 module _ {W : Type 0} (g : SinkGhosts W) where
-  pub as_text : ArePrintedAsText g
-  as_text old new [] same = subst (λ (t : TextTeller W). Puts (g.written old.out) (g.written t.out) []) (sym same) (puts-none (g.written old.out))
-  as_text old new (event ∷ more) (next, took, rest) =
-      puts-both (g.written old.out) (g.written next.out) (g.written new.out) (line_of event) (text_of_all more) took (as_text next new more rest)
-
-  pub as_json : ArePrintedAsJson g
-  as_json old new [] same = subst (λ (t : JsonTeller W). Puts (g.written old.out) (g.written t.out) []) (sym same) (puts-none (g.written old.out))
-  as_json old new (event ∷ more) (next, took, rest) =
-      puts-both (g.written old.out) (g.written next.out) (g.written new.out) (object_of event) (objects_of_all more) took (as_json next new more rest)
+  pub are_printed : ArePrinted g
+  are_printed old new [] same = subst (λ (t : Printer W). Puts (g.written old.out) (g.written t.out) []) (sym same) (puts-none (g.written old.out))
+  are_printed old new (event ∷ more) (next, took, rest) =
+      puts-both (g.written old.out) (g.written next.out) (g.written new.out) (event_as old.form event) (events_as old.form more) took.puts
+      (subst (λ (f : Form). Puts (g.written next.out) (g.written new.out) (events_as f more)) took.form (are_printed next new more rest))
 
 module _ {N : Type 0} (g : Ghosts N) where
   -- once it has failed, it gets nothing more

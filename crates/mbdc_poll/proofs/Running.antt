@@ -1,14 +1,17 @@
 -- Turns that were run, one after the other, and what is said of them.
-use Rattle.std.proofs.Common.{◌≡◌, ℕ, List, [], ◌∷◌, ◌++◌, ap, sym, subst}
+use Rattle.std.proofs.Common.{◌≡◌, ℕ, List, [], ◌∷◌, ◌++◌, ap, refl, sym, subst}
 use Rattle.dc_sectors.specs.Disk.{Image, IsImage}
 use Rattle.dc_sectors.specs.declared.device.Disk.{Ghosts}
 use Rattle.mbdc_change.specs.State.{State}
 use Rattle.dc_core.specs.Core.{Core, opened, present}
 use Rattle.dc_core.specs.Event.{Event, Answer}
 use Rattle.dc_core.specs.Images.{Machine, IsAt}
+use Rattle.dc_core.specs.Run.{IsShown, fault_in}
+use Rattle.dc_core.specs.Step.{May, next}
 use Rattle.dc_core.specs.Transcript.{Turn, leads, IsChain}
 use Rattle.dc_core.proofs.Going.{leads_append}
 use Rattle.dc_core.specs.Went.{Went, TurnWent}
+use Rattle.dc_core.proofs.SingleTurns.{rested}
 use Rattle.dc_core.proofs.Wents.{went_chain, went_at, went_none, went_both}
 use Rattle.mbdc_poll.specs.Happening.{Happening, does, happened_turns}
 use Rattle.mbdc_poll.specs.Round.{Happens, Runs}
@@ -41,6 +44,16 @@ module _ {D : Type 0} (g : Ghosts D) where
       → Happens g origin state before (λ core happened. happened ≡ does (event, answer) ∷ []) first new
   turn_happens origin state before event answer first new turn =
       record { happened = does (event, turn.answer) ∷ []; are_such = ap (λ (a : Answer). does (event, a) ∷ []) turn.is_such; went = turn.went }
+
+  -- one turn that leaves the store
+  pub runs_one : (machine new : Machine D) (event : Event) (answer : Answer)
+      → ((image : Image) → g.images_since machine.store.disk (g.moment machine.store.disk) image → IsImage (g.choices machine.store.disk) image)
+      → ((origin : D) (core : Core) → IsAt g origin machine core → May machine.house.budget core event answer)
+      → ((origin : D) (core : Core) → IsAt g origin machine core → IsAt g origin new (next core event answer))
+      → IsShown g machine new (fault_in answer) → new.store ≡ machine.store → Runs g (λ core happened. happened ≡ does (event, answer) ∷ []) machine new
+  runs_one machine new event answer only may leads_on shown same origin state before chain at =
+      turn_happens origin state before event answer machine new
+      (rested g origin machine.house.budget state before event answer _ machine new chain at (λ keeps. only) (may origin _ at) (leads_on origin _ at) shown same refl)
 
   -- some, and then others
   pub runs_then : (one then_such such : Core → List Happening → Type 0) (first old new : Machine D)

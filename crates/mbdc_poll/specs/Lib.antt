@@ -10,6 +10,8 @@ pub mod Telling
 pub mod Queue
 -- what goes over the bus of a line
 pub mod Talking
+-- a bus that asks a meter that was silent in the last poll one question
+pub mod Sparing
 -- what a round commits
 pub mod Keeping
 -- what the tries of a readout brought

@@ -1,5 +1,5 @@
 -- The events of a poll as JSON objects (RFC 8259; this product), a line each.
-use Rattle.std.specs.Prelude.{ℕ, List, [], ◌∷◌, ◌++◌, Option, codes, flat_map, length, map}
+use Rattle.std.specs.Prelude.{ℕ, List, [], ◌∷◌, ◌++◌, Option, codes, length, map}
 use Rattle.json.specs.Json.{Json, string}
 use Rattle.dc_address.specs.Text.{text_of}
 use Rattle.dc_address.specs.declared.identity.Identity.{Identity}
@@ -100,7 +100,3 @@ json_of event = object_with (fields_of event)
 -- THE OBJECT OF AN EVENT, on a line of its own.
 abbrev pub object_of : Event → List ℕ
 object_of event = value_line (json_of event)
-
--- the objects of events, in order
-abbrev pub objects_of_all : List Event → List ℕ
-objects_of_all events = flat_map object_of events

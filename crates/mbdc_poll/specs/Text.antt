@@ -1,5 +1,5 @@
 -- The events of a poll as lines of text (this product).
-use Rattle.std.specs.Prelude.{ℕ, List, ◌++◌, codes, flat_map, length}
+use Rattle.std.specs.Prelude.{ℕ, List, ◌++◌, codes, length}
 use Rattle.dc_address.specs.Text.{text_of}
 use Rattle.dc_address.specs.declared.identity.Identity.{Identity}
 use Rattle.mbdc_io.specs.Words.{number_word}
@@ -47,7 +47,3 @@ line_of (Late line answers) =
     codes "LATE" ++ (number_word line ++ (number_word answers ++ codes "\n"))
 line_of (End read failed) =
     codes "END" ++ (number_word read ++ (number_word failed ++ codes "\n"))
-
--- the lines of events, in order
-abbrev pub text_of_all : List Event → List ℕ
-text_of_all events = flat_map line_of events

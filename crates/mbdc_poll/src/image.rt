@@ -23,7 +23,7 @@ use crate::end::Refusal;
 use crate::event::Event;
 use crate::lines::line_at;
 use crate::outcome::{Counts, Outcome};
-use crate::readout::read_on;
+use crate::readout::read_all;
 use crate::station::Station;
 use crate::teller::Teller;
 use crate::telling::tell_one;
@@ -167,7 +167,7 @@ fn poll<D: Disk + Drop, A: Allocator + Copy, B: HalfBus + Drop, T: Timer<B>, N: 
     };
     compare_clock(concentrator.house(), timer);
     let before = Counts { read: 0, failed };
-    match read_on(
+    match read_all(
         concentrator,
         stations.as_mut_slice(),
         tries,

@@ -19,6 +19,7 @@ ghost use Rattle.mbdc_poll.specs.Planned.{queue_on};
 ghost use Rattle.mbdc_poll.specs.Queue.{Part, part, AreApart, Goes, GoesWell, IsToldAs, IsTried};
 ghost use Rattle.mbdc_poll.specs.Queue.{Lacks, meter_of, most_asks, read_in, requests_in};
 ghost use Rattle.mbdc_poll.specs.Queue.{starts_in};
+ghost use Rattle.mbdc_poll.specs.Sparing.{IsAskedOnce, SparesNothing};
 ghost use Rattle.mbdc_poll.specs.declared.end.End.{End};
 ghost use Rattle.mbdc_poll.specs.declared.event.Event.{Event as Told};
 ghost use Rattle.mbdc_poll.specs.declared.phase.Phase.{Phase};
@@ -27,33 +28,36 @@ ghost use Rattle.mbdc_poll.specs.declared.phase.Phase.TheVariants.{Free};
 use crate::timer::Timer;
 use mbdc_bus::HalfBus;
 
-/// A queue that is at its end went through all its meters, in passes: in the first each was started, in order, and in
-/// each later one those that failed in the one before it. There are no more passes than tries, so each was started once
-/// at least and no more often than the tries.
-pub fn every_meter_of_a_queue_is_started()
-    ensures { (tries line : ℕ) (meters : List Identity) (happened : List Happening) (pass : ℕ)
+/// What holds of the queue of a line.
+///
+/// One that is at its end went through all its meters, in passes: in the first each was started, in order, and in each
+/// later one those that failed in the one before it. There are no more passes than tries, so each was started once at
+/// least and no more often than the tries. However far a queue went, no more starts were made than its meters times the
+/// tries, and in each no more requests were sent than any readout sends. After the event of how a meter ended (it was
+/// read, its last try failed, or it was refused) it isn't started again. Where no start, answer or commit of a line is
+/// refused and no readout of it fails, every meter of its queue is started once and read, in order. The queues of a
+/// plan have each meter once, where those of the register ascend.
+pub fn a_queue_goes_in_passes()
+    ensures started { (tries line : ℕ) (meters : List Identity) (happened : List Happening) (pass : ℕ)
         (stop : Phase) →
         Goes tries line (part meters [] 1 Free) happened (part [] [] pass stop) →
         IsTried tries meters (starts_in happened) }
-{}
-
-/// However far a queue went, no more starts were made than its meters times the tries, and in each no more requests
-/// were sent than any readout sends.
-pub fn a_queue_comes_to_its_end()
-    ensures { (tries line : ℕ) (meters : List Identity) (happened : List Happening) (last : Part) →
+    ensures few { (tries line : ℕ) (meters : List Identity) (happened : List Happening) (last : Part) →
         0 < tries → Goes tries line (part meters [] 1 Free) happened last →
         (length (starts_in happened) ≤ tries * length meters)
         × (requests_in happened ≤ most_asks * (tries * length meters)) }
-{}
-
-/// After the event of how a meter ended (it was read, its last try failed, or it was refused) it isn't
-/// started again.
-pub fn what_is_read_is_not_begun_again()
-    ensures { (tries line : ℕ) (meters : List Identity) (front back : List Happening) (end : End)
+    ensures once { (tries line : ℕ) (meters : List Identity) (front back : List Happening) (end : End)
         (told : Told) (last : Part) →
         AreApart meters → IsToldAs end told →
         Goes tries line (part meters [] 1 Free) (front ++ tells line told ∷ back) last →
         Lacks (meter_of end) (starts_in back) }
+    ensures read { (tries line : ℕ) (meters : List Identity) (happened : List Happening) (pass : ℕ) →
+        AllByRecursion GoesWell happened →
+        Goes tries line (part meters [] 1 Free) happened (part [] [] pass Free) →
+        (starts_in happened ≡ meters) × (read_in happened ≡ meters) }
+    ensures apart { (state : State) (only : List Identity) (line : ℕ) (lost : Bool) →
+        IsStrictlySortedBy identity_cmp (keys_of state.meters) →
+        AreApart (queue_on state only line lost) }
 {}
 
 /// The event of a failed readout has its line and its last answer, and says how many of its failed tries brought what.
@@ -61,41 +65,25 @@ pub fn what_a_failed_readout_brought_is_told<B: HalfBus + Drop>()
     ensures { BroughtIsTold B.HalfBus }
 {}
 
-/// The queues of a plan have each meter once, where those of the register ascend.
-pub fn the_meters_of_a_queue_are_apart()
-    ensures { (state : State) (only : List Identity) (line : ℕ) (lost : Bool) →
-        IsStrictlySortedBy identity_cmp (keys_of state.meters) →
-        AreApart (queue_on state only line lost) }
-{}
-
-/// Where no start, answer or commit of a line is refused and no readout of it fails, every meter of its queue is
-/// started once and read, in order.
-pub fn where_nothing_fails_every_meter_is_read()
-    ensures { (tries line : ℕ) (meters : List Identity) (happened : List Happening) (pass : ℕ) →
-        AllByRecursion GoesWell happened →
-        Goes tries line (part meters [] 1 Free) happened (part [] [] pass Free) →
-        (starts_in happened ≡ meters) × (read_in happened ≡ meters) }
-{}
-
-/// Where the turns of a run say that all is committed, nothing is pending in the concentrator.
-pub fn what_is_committed_waits_no_more()
-    ensures { (budget : ℕ) (core : Core) (turns : List Turn) →
-        core.pending ≡ [] → IsChain budget core turns →
-        store_behind all_kept turns ≡ all_kept → (leads core turns).pending ≡ [] }
-{}
-
-/// Where a line has no request any more, all that was accepted is committed, unless a commit answered
-/// a fault; and the same at each event.
+/// Where a line has no request any more, all that was accepted is committed, unless a commit answered a fault; and the
+/// same at each event. Where the turns of a run say so, nothing is pending in the concentrator. Each answer is received
+/// with fewer changes pending than the maximum, so none is refused because too many are.
 pub fn what_is_read_is_committed<B: HalfBus + Drop, T: Timer<B>>()
     ensures asked { IsCommittedWhereNoneIsAsked T.tells T.passes }
     ensures told { (core : Core) (store : Store) (front back : List Happening) (line : ℕ)
         (told : Told) →
         AreTrue core store (front ++ tells line told ∷ back) →
         IsSettled (store_behind store (happened_turns front)) }
+    ensures pending { (budget : ℕ) (core : Core) (turns : List Turn) →
+        core.pending ≡ [] → IsChain budget core turns →
+        store_behind all_kept turns ≡ all_kept → (leads core turns).pending ≡ [] }
+    ensures room { AnswersFindRoom T.tells T.passes }
 {}
 
-/// In a poll each answer is received with fewer changes pending than the maximum. So none is refused because too many
-/// are pending.
-pub fn each_answer_finds_room_among_the_pending_changes<B: HalfBus + Drop, T: Timer<B>>()
-    ensures { AnswersFindRoom T.tells T.passes }
+/// Where each meter that was silent in the last poll answers its first question in this one,
+/// [`Sparing`](crate::Sparing) spares nothing: the talk is one on the bus itself. Where silence comes of a first
+/// question, it goes out once, though the readout makes its request again.
+pub fn a_silent_meter_is_asked_once<B: HalfBus + Drop>()
+    ensures spares { SparesNothing B.HalfBus }
+    ensures once { (question : List ℕ) → IsAskedOnce question }
 {}

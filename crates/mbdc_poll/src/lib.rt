@@ -9,7 +9,6 @@
 #![tactic(auto)]
 
 mod brought;
-mod calls;
 mod clock;
 mod end;
 mod event;
@@ -22,6 +21,7 @@ mod newest;
 mod outcome;
 mod phase;
 mod readout;
+mod sparing;
 mod station;
 mod stepping;
 mod teller;
@@ -35,14 +35,13 @@ pub use event::Event;
 pub use image::{Plan, poll_image};
 pub use last_part::LastPart;
 pub use laws::{
-    a_queue_comes_to_its_end, every_meter_of_a_queue_is_started, the_meters_of_a_queue_are_apart,
-    what_a_failed_readout_brought_is_told, what_is_committed_waits_no_more,
-    what_is_read_is_committed, what_is_read_is_not_begun_again,
-    where_nothing_fails_every_meter_is_read,
+    a_queue_goes_in_passes, a_silent_meter_is_asked_once, what_a_failed_readout_brought_is_told,
+    what_is_read_is_committed,
 };
 pub use outcome::{Counts, Outcome};
 pub use phase::{Phase, Request};
 pub use readout::read_all;
+pub use sparing::{Doubt, Fate, Sparing};
 pub use station::Station;
 pub use teller::Teller;
 pub use timer::Timer;

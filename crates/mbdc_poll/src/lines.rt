@@ -8,7 +8,6 @@ ghost use Rattle.mbdc_poll.specs.Round.{IsRoom, IsStoredAs, Runs, most_lines};
 ghost use Rattle.mbdc_poll.specs.Round.{and_accepted, uncounted};
 ghost use Rattle.mbdc_poll.specs.Station.{IsSound, rounds_of};
 
-use crate::calls;
 use crate::station::Station;
 use crate::stepping::{hear, step};
 use dc_core::{CommitFault, Concentrator};
@@ -79,7 +78,7 @@ pub fn commit_all<D: Disk + Drop, A: Allocator + Copy, B: HalfBus + Drop>(
         stations.old stations.new }
     ensures budget { concentrator.new.house.budget ≡ concentrator.old.house.budget }
 {
-    let stored = calls::commit(concentrator);
+    let stored = concentrator.commit();
     store_all(stations, &stored);
     uncounted(stored)
 }

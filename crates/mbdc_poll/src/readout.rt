@@ -4,7 +4,7 @@ ghost use Rattle.std.specs.Prelude.{◌≡◌, ◌<◌, ◌≤◌, ◌-◌, ◌+
 ghost use Rattle.std.specs.Prelude.{OnOk, IfOk, None, min};
 ghost use Rattle.std.specs.List.{All, list_all};
 ghost use Rattle.mbdc_poll.specs.Polls.{GoesRound, Polled, PollsAll};
-ghost use Rattle.mbdc_poll.specs.Round.{EachFewer, IsFresh, Runs};
+ghost use Rattle.mbdc_poll.specs.Round.{EachFewer, Runs};
 ghost use Rattle.mbdc_poll.specs.Round.{late_on, lates_from, meters_left, most_lines};
 ghost use Rattle.mbdc_poll.specs.Station.{IsSound, rounds_of};
 ghost use Rattle.mbdc_poll.specs.Telling.{CountsFailures, HasTold, TakesAll};
@@ -203,52 +203,16 @@ fn tell_finish<B: HalfBus + Drop, N: Teller>(
 
 /// Reads the meters of up to eight lines, of which line k + 1 is that of the station at k.
 ///
-/// A line's meters are read in passes, at most `tries` of them: a meter whose readout failed is
-/// started again after the line's other meters. The poll ends whatever the lines give. On each line
-/// the requests of the concentrator go out, and nothing else, and it hears what the bus gave. Each
-/// round commits its telegrams, and then tells how readouts ended ([`Event::Read`],
-/// [`Event::Failed`], [`Event::Refused`]), and once of each line that became lost
-/// ([`Event::Lost`]). If a commit returns a fault, the poll ends, and the outcome has that fault. At
-/// the end it tells the late answers of each line ([`Event::Late`]) and the counts
-/// ([`Event::End`]).
+/// So many meters were counted before. A line's meters are read in passes, at most `tries` of them: a meter whose
+/// readout failed is started again after the line's other meters. The poll ends whatever the lines give. On each line
+/// the requests of the concentrator go out, and nothing else, and it hears what the bus gave. Each round commits its
+/// telegrams, and then tells how readouts ended ([`Event::Read`], [`Event::Failed`], [`Event::Refused`]), and once of
+/// each line that became lost ([`Event::Lost`]). If a commit returns a fault, the poll ends, and the outcome has that
+/// fault. At the end it tells the late answers of each line ([`Event::Late`]) and the counts ([`Event::End`]).
 ///
 /// # Errors
 /// The teller couldn't take an event.
 pub fn read_all<D: Disk + Drop, A: Allocator + Copy, B: HalfBus + Drop, T: Timer<B>, N: Teller>(
-    concentrator: &mut Concentrator<D, A>,
-    stations: &mut [Station<'_, B>],
-    tries: u8,
-    timer: &mut T,
-    teller: &mut N,
-) -> Result<Outcome, IoFault>
-    requires lines { length stations.old ≤ most_lines }
-    requires fresh { All IsFresh stations.old }
-    requires tries { 0 < tries }
-    ensures went { Runs D.Disk (λ core happened. IfOk result (λ outcome.
-        PollsAll B.HalfBus T.tells T.passes tries stations.old stations.new timer.old timer.new
-        (TakesAll N.takes teller.old teller.new) (record { read = 0; failed = 0 }) outcome core happened))
-        concentrator.old concentrator.new }
-    ensures budget { concentrator.new.house.budget ≡ concentrator.old.house.budget }
-    ensures counted { CountsFailures N.Teller result teller.old teller.new }
-{
-    read_on(
-        concentrator,
-        stations,
-        tries,
-        timer,
-        Counts { read: 0, failed: 0 },
-        teller,
-    )
-}
-
-/// The same, after this many meters were counted.
-pub(crate) fn read_on<
-    D: Disk + Drop,
-    A: Allocator + Copy,
-    B: HalfBus + Drop,
-    T: Timer<B>,
-    N: Teller,
->(
     concentrator: &mut Concentrator<D, A>,
     stations: &mut [Station<'_, B>],
     tries: u8,

@@ -8,7 +8,6 @@ ghost use Rattle.mbdc_poll.specs.Station.{IsSound, is_answered, rounds_of};
 ghost use Rattle.mbdc_poll.specs.declared.phase.Phase.TheVariants.{Free, Busy};
 ghost use Rattle.mbdc_poll.specs.declared.phase.Request.TheVariants.{Quiet};
 
-use crate::calls;
 use crate::end::End;
 use crate::phase::{Phase, Request};
 use crate::station::{MOST_ASKS, Station, taken_of};
@@ -120,7 +119,7 @@ fn start<D: Disk + Drop, A: Allocator + Copy, B: HalfBus + Drop>(
         × (station.new.left.now ≡ station.old.left.now) }
     ensures budget { concentrator.new.house.budget ≡ concentrator.old.house.budget }
 {
-    let answer = calls::start(concentrator, line, &meter);
+    let answer = concentrator.start(line, &meter);
     station.started(meter, answer);
     answer.is_ok()
 }
@@ -150,7 +149,7 @@ fn ask<D: Disk + Drop, A: Allocator + Copy, B: HalfBus + Drop>(
         station.leave(End::Failed(meter, Why::NoAnswer));
         return;
     }
-    let request = calls::ask(concentrator, line);
+    let request = concentrator.ask(line);
     station.asked(meter, asks - 1, request);
 }
 
@@ -203,7 +202,7 @@ fn judge<D: Disk + Drop, A: Allocator + Copy, B: HalfBus + Drop>(
     let Some(meter) = station.present() else {
         return false;
     };
-    let answer = calls::hear(concentrator, line, moment, taken_of(&station.request));
+    let answer = concentrator.hear(line, moment.seconds, taken_of(&station.request));
     station.judged(meter, asks, tries, answer);
     is_accepted(&answer)
 }

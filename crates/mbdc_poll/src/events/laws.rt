@@ -1,20 +1,13 @@
 //! What the tellers make of all events of a poll. The functions have no effect; their contracts state the theorems.
 
-ghost use Rattle.mbdc_poll.specs.Printed.{ArePrintedAsJson, ArePrintedAsText, AreTakenUpToAFailure};
+ghost use Rattle.mbdc_poll.specs.Printed.{ArePrinted, AreTakenUpToAFailure};
 
 use crate::Teller;
 use mbdc_io::Sink;
 
-/// Where a teller of text took the events of a poll, their lines are written, in order, and nothing
-/// else.
-pub fn events_are_printed_as_text<W: Sink + Drop>()
-    ensures { ArePrintedAsText W.Sink }
-{}
-
-/// Where a teller of JSON took the events of a poll, their objects are written, in order, and
-/// nothing else.
-pub fn events_are_printed_as_json<W: Sink + Drop>()
-    ensures { ArePrintedAsJson W.Sink }
+/// Where a printer took the events of a poll, they are written in its form, in order, and nothing else.
+pub fn events_are_printed<W: Sink + Drop>()
+    ensures { ArePrinted W.Sink }
 {}
 
 /// A teller that may fail takes each event of a poll, or those up to its first failure.

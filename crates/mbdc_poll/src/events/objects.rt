@@ -13,7 +13,7 @@ ghost use Rattle.mbdc_poll.specs.Object.{json_of, object_of, read_fields, refuse
 ghost use Rattle.mbdc_poll.specs.Read.{hex_json, last_fields};
 
 use crate::events::content::untaken;
-use crate::{Brought, Event, LastPart, Refusal, Teller};
+use crate::{Brought, Event, LastPart, Refusal};
 use dc_address::Identity;
 use dc_readout::Why;
 use dc_readout::misses::Misses;
@@ -22,27 +22,6 @@ use mbdc_decode::objects::{put_content, put_row};
 use mbdc_decode::tokens::TokenWriter;
 use mbdc_io::{IoFault, Sink};
 use mbdc_shown::{Bodies, put_reported};
-
-/// Prints a JSON object for each event, in a line of its own.
-#[derive(Drop)]
-pub struct JsonTeller<W: Sink + Drop> {
-    /// Where it prints to.
-    pub out: W,
-}
-
-impl<W: Sink + Drop> Teller for JsonTeller<W> {
-    ghost use Rattle.mbdc_poll.specs.Printed.{PrintsObject, PrintsSomeOfObject};
-
-    ghost takes = { λ old event new. PrintsObject W.Sink old event new };
-
-    ghost breaks = { λ old event new. PrintsSomeOfObject W.Sink old event new };
-
-    ghost failures = { λ teller. W.put_failures teller.out };
-
-    fn tell(&mut self, event: &Event<'_>) -> Result<(), IoFault> {
-        put_object(&mut self.out, event)
-    }
-}
 
 /// Writes the object of an event, with its line feed.
 #[tactic(auto, using(mbdc_decode::proofs::Adding::whole, mbdc_io::proofs::Pieces::written), unfolding(mbdc_decode::specs::JsonText::value_line))]

@@ -3,33 +3,12 @@
 ghost use Rattle.mbdc_io.specs.Written.{Wrote};
 ghost use Rattle.mbdc_poll.specs.Text.{failed_line, line_of, refused_line, why_end};
 
-use crate::{Event, Refusal, Teller};
+use crate::{Event, Refusal};
 use dc_address::Identity;
 use dc_readout::Why;
 use mbdc_decode::tokens::Piece::{Text, Word};
 use mbdc_decode::tokens::put_pieces;
 use mbdc_io::{IoFault, Sink};
-
-/// Prints a line of text for each event.
-#[derive(Drop)]
-pub struct TextTeller<W: Sink + Drop> {
-    /// Where it prints to.
-    pub out: W,
-}
-
-impl<W: Sink + Drop> Teller for TextTeller<W> {
-    ghost use Rattle.mbdc_poll.specs.Printed.{PrintsLine, PrintsSomeOfLine};
-
-    ghost takes = { λ old event new. PrintsLine W.Sink old event new };
-
-    ghost breaks = { λ old event new. PrintsSomeOfLine W.Sink old event new };
-
-    ghost failures = { λ teller. W.put_failures teller.out };
-
-    fn tell(&mut self, event: &Event<'_>) -> Result<(), IoFault> {
-        put_line(&mut self.out, event)
-    }
-}
 
 /// Writes the line of an event:
 ///

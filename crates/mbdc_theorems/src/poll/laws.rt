@@ -24,6 +24,9 @@ pub fn each_readout_of_a_poll_ends_in_a_reading<B: HalfBus>()
 /// refused because memory ran out, and no commit fails. Then what is read on each line is its queue,
 /// in order, and each meter of it has one reading more than before, whole and in order, whose serial
 /// the poll reports. No readout fails, and the counts say so.
+///
+/// A question that [`Sparing`](mbdc_poll::Sparing) doesn't send counts as lost: so each meter wasn't silent in the last
+/// poll, or answers its first question (`a_silent_meter_is_asked_once` of mbdc_poll).
 pub fn every_meter_is_read<D: Disk + Drop, B: HalfBus + Drop, T: Timer<B>, N: Teller>()
     ensures { EveryMeterIsRead D.Disk B.HalfBus T.tells T.passes T.warns N.takes }
 {}

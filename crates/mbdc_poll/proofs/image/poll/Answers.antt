@@ -38,10 +38,10 @@ pub returns-in-Err-refuse_others-clause-went : goal.returns-in-Err-refuse_others
 returns-in-Err-refuse_others-clause-went g c = runs_none g.D.Disk _ c.args.concentrator.now (λ image left. g.met.D.Disk.only_now c.args.concentrator.now.store.disk image left) (λ core. tt)
 
 pub returns-clause-write : goal.returns-clause-write
-returns-clause-write g c is = subst (λ (n : ℕ). HasRisen n (g.N.Teller.failures c.read_on.new.teller)) c.in-Ok-refuse_others.ensures.counted.0 c.in-Err-read_on.ensures.counted.1
+returns-clause-write g c is = subst (λ (n : ℕ). HasRisen n (g.N.Teller.failures c.read_all.new.teller)) c.in-Ok-refuse_others.ensures.counted.0 c.in-Err-read_all.ensures.counted.1
 
-pub returns-in-Ok-read_on-clause-went : goal.returns-in-Ok-read_on-clause-went
-returns-in-Ok-read_on-clause-went g c =
+pub returns-in-Ok-read_all-clause-went : goal.returns-in-Ok-read_all-clause-went
+returns-in-Ok-read_all-clause-went g c =
     let bus_of : Station g.row.B.Denot → g.row.B.Denot = λ s. s.bus in
     let lost = g.B.HalfBus.lost in
     let only : List Identity = c.args.plan.only.now in
@@ -64,7 +64,7 @@ returns-in-Ok-read_on-clause-went g c =
     let takes = g.N.Teller.takes in
     let old = c.args.teller.now in
     let between = c.refuse_others.new.teller in
-    runs_from g.D.Disk _ _ c.args.concentrator.now c.read_on.new.concentrator c.in-Ok-read_on.ensures.went
+    runs_from g.D.Disk _ _ c.args.concentrator.now c.read_all.new.concentrator c.in-Ok-read_all.ensures.went
     (λ core happened is p.
     let state : c.house.result.now.state ≡ present core = ap (λ h. h.state) c.house.ensures ∙ is in
     let state-2 : c.house-2.result.now.state ≡ present core = ap (λ h. h.state) c.house-2.ensures ∙ is in
@@ -73,7 +73,7 @@ returns-in-Ok-read_on-clause-went g c =
     let wanted_is : c.as_slice-3.result.now ≡ asked_for only (present core) = wanted ∙ ap (λ (s : State). asked_for only s) state-2 in
     record {
       olds = c.as_mut_slice-2.result.now;
-      news = c.read_on.new.stations;
+      news = c.read_all.new.stations;
       between = between;
       begun = c.compare_clock.new.timer;
       planned = subst (λ (xs : List (Station g.row.B.Denot)). ArePlanned lost (present core) only all xs) (sym slice) (subst (λ (s : State). ArePlanned lost s only all stations) state planned);
@@ -81,15 +81,15 @@ returns-in-Ok-read_on-clause-went g c =
       refuses = subst (λ (ms : List Identity). TakesAll takes old between (refused_events (has_bus lost (take most_lines all)) (present core) ms)) wanted_is
           (subst (λ (s : State). TakesAll takes old between (refused_events (has_bus lost (take most_lines all)) s c.as_slice-3.result.now)) state-3
           (subst (λ (bs : List g.row.B.Denot). TakesAll takes old between (refused_events (has_bus lost bs) c.house-3.result.now.state c.as_slice-3.result.now)) seen c.in-Ok-refuse_others.ensures.told));
-      polls = subst (λ (n : ℕ). PollsAll g.B.HalfBus g.T.Timer.tells g.T.Timer.passes c.args.plan.tries c.as_mut_slice-2.result.now c.read_on.new.stations c.compare_clock.new.timer c.read_on.new.timer (TakesAll takes between c.read_on.new.teller) (record { read = 0; failed = n }) c.in-Ok-read_on.outcome core happened)
+      polls = subst (λ (n : ℕ). PollsAll g.B.HalfBus g.T.Timer.tells g.T.Timer.passes c.args.plan.tries c.as_mut_slice-2.result.now c.read_all.new.stations c.compare_clock.new.timer c.read_all.new.timer (TakesAll takes between c.read_all.new.teller) (record { read = 0; failed = n }) c.in-Ok-read_all.outcome core happened)
           (c.in-Ok-refuse_others.ensures.count
           ∙ ap (λ (bs : List g.row.B.Denot). min 4294967295 (refused_count (has_bus lost bs) c.house-3.result.now.state c.as_slice-3.result.now)) seen
           ∙ ap (λ (s : State). min 4294967295 (refused_count (has_bus lost (take most_lines all)) s c.as_slice-3.result.now)) state-3
           ∙ ap (λ (ms : List Identity). min 4294967295 (refused_count (has_bus lost (take most_lines all)) (present core) ms)) wanted_is) p;
     })
 
-pub read_on-requires-clause-sound : goal.read_on-requires-clause-sound
-read_on-requires-clause-sound g c =
+pub read_all-requires-clause-sound : goal.read_all-requires-clause-sound
+read_all-requires-clause-sound g c =
     let bus_of : Station g.row.B.Denot → g.row.B.Denot = λ s. s.bus in
     let lost = g.B.HalfBus.lost in
     let only : List Identity = c.args.plan.only.now in

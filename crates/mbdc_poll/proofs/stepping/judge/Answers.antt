@@ -1,9 +1,10 @@
 use Rattle.std.proofs.Common.{◌≡◌, ℕ, List, ◌∷◌, drop, ap, sym, ◌∙◌}
+use Rattle.dc_core.specs.Event.{hears, heard}
 use Rattle.mbdc_poll.specs.Missed.{and_heard}
 use Rattle.mbdc_poll.specs.declared.phase.Request.TheVariants.{Answered}
-use Rattle.mbdc_poll.proofs.Becoming.{busy_due, first_of, taken_is, line_judged}
+use Rattle.mbdc_poll.proofs.Becoming.{busy_due, fewer_judged, first_of, taken_is, line_judged}
 use Rattle.mbdc_poll.proofs.Hearing.{hears_one}
-use Rattle.mbdc_poll.proofs.Running.{runs_as}
+use Rattle.mbdc_poll.proofs.Running.{runs_as, runs_one}
 use Rattle.mbdc_poll.proofs.stepping.judge.Goals as goal
 
 pub returns-clause-went : goal.returns-clause-went
@@ -13,9 +14,16 @@ returns-clause-went g c =
     let bytes = c.taken_of.result.now in
     let first : old.left.now ≡ c.in-Some.meter ∷ drop 1 old.left.now = first_of old.left.now c.in-Some.meter (sym c.present.ensures ∙ c.in-Some.is) in
     let took : old.request ≡ Answered bytes = taken_is old.request c.requires.answered ∙ ap Answered (sym c.taken_of.ensures) in
-    runs_as g.D.Disk _ _ c.args.concentrator.now c.hear-answer.new.concentrator c.hear-answer.ensures.went
+    runs_as g.D.Disk _ _ c.args.concentrator.now c.hear-answer.new.self
+    (runs_one g.D.Disk c.args.concentrator.now c.hear-answer.new.self (hears c.args.line c.args.moment.seconds bytes) (heard c.hear-answer.result) (λ image left. g.met.D.Disk.only_now c.args.concentrator.now.store.disk image left) c.hear-answer.ensures.may c.hear-answer.ensures.at tt c.hear-answer.ensures.store)
     (λ core happened is. hears_one c.args.tries c.args.line c.args.moment.seconds bytes c.hear-answer.result c.is_accepted.result old c.judged.new.self happened is c.is_accepted.ensures
     (line_judged b c.args.tries c.args.line c.args.moment.seconds c.in-Busy.asks c.in-Some.meter bytes c.hear-answer.result old c.judged.new.self c.in-Busy.is took first c.requires.sound c.judged.ensures.after (c.judged.ensures.brought ∙ ap (λ (xs : List ℕ). and_heard xs c.hear-answer.result old.brought) (sym c.taken_of.ensures))))
 
 pub judged-requires-clause-due : goal.judged-requires-clause-due
 judged-requires-clause-due g c = busy_due g.B.HalfBus c.args.tries c.in-Busy.asks c.args.station.now c.in-Busy.is c.requires.sound
+
+pub hear-answer-requires : goal.hear-answer-requires
+hear-answer-requires g c = c.args.moment.fits
+
+pub returns-clause-fewer : goal.returns-clause-fewer
+returns-clause-fewer g c = fewer_judged g.B.HalfBus c.args.tries c.in-Busy.asks c.in-Some.meter c.hear-answer.result c.args.station.now c.judged.new.self c.in-Busy.is c.requires.sound c.judged.ensures.after

@@ -2,7 +2,7 @@ use Rattle.std.proofs.Common.{ap}
 use Rattle.mbdc_poll.specs.declared.outcome.Outcome.{Outcome}
 use Rattle.mbdc_poll.proofs.Polling.{if_ok_both, polls_all}
 use Rattle.mbdc_poll.proofs.Running.{runs_as}
-use Rattle.mbdc_poll.proofs.readout.read_on.Goals as goal
+use Rattle.mbdc_poll.proofs.readout.read_all.Goals as goal
 
 pub returns-in-Ok-clause-went : goal.returns-in-Ok-clause-went
 returns-in-Ok-clause-went g c =
