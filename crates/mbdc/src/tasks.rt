@@ -1,5 +1,8 @@
 //! The commands: an engine of a library between the files and links that the words name.
 
+ghost use Rattle.std.specs.Prelude.{IfOk};
+ghost use Rattle.mbdc.specs.Tasks.{Answers};
+
 use crate::bench::on_bus;
 use crate::demo;
 use crate::fit::fit_on_image;
@@ -122,20 +125,34 @@ fn work<R: Files<File = File> + Print + Eprint + AllocGlobal, S: Source>(
     host: &Host<'_, R>,
     engine: Engine,
     reader: &mut S,
-) -> Result<bool, ProgramFault> {
-    let alloc = host.rt.alloc();
+) -> Result<bool, ProgramFault>
+    ensures { IfOk result (λ faulty. Answers engine (S.left reader.old) faulty) }
+{
     let printer = Output::new(io::writer(host.rt), host);
-    let mut writer = Buffered::new(alloc, ROOM, WriteSink::new(printer))?;
-    let found = match engine {
-        Engine::Decode(Form::Text) => decode_lines(alloc, reader, &mut writer)?,
-        Engine::Decode(Form::Json) => json_lines(alloc, reader, &mut writer)?,
-        Engine::Decode(Form::Table) => explain_lines(alloc, reader, &mut writer)?,
-        Engine::Fold => fold_lines(alloc, reader, &mut writer)?,
-        Engine::Audit => !audit(alloc, reader, &mut writer)?,
-        Engine::Fill => filled(host, reader, &mut writer)?,
-    };
+    let mut writer = Buffered::new(host.rt.alloc(), ROOM, WriteSink::new(printer))?;
+    let faulty = answer_of(host, engine, reader, &mut writer)?;
     flushed(writer)?;
-    Ok(found)
+    Ok(faulty)
+}
+
+// Runs the engine from the source to the sink.
+fn answer_of<R: Eprint + AllocGlobal, S: Source, W: Sink>(
+    host: &Host<'_, R>,
+    engine: Engine,
+    reader: &mut S,
+    writer: &mut W,
+) -> Result<bool, ProgramFault>
+    ensures { IfOk result (λ faulty. Answers engine (S.left reader.old) faulty) }
+{
+    let alloc = host.rt.alloc();
+    match engine {
+        Engine::Decode(Form::Text) => Ok(decode_lines(alloc, reader, writer)?),
+        Engine::Decode(Form::Json) => Ok(json_lines(alloc, reader, writer)?),
+        Engine::Decode(Form::Table) => Ok(explain_lines(alloc, reader, writer)?),
+        Engine::Fold => fold_lines(alloc, reader, writer),
+        Engine::Audit => Ok(!audit(alloc, reader, writer)?),
+        Engine::Fill => filled(host, reader, writer),
+    }
 }
 
 // Fills a file of published numbers in, and says on standard error what differs.
@@ -143,7 +160,9 @@ fn filled<R: Eprint + AllocGlobal, S: Source, W: Sink>(
     host: &Host<'_, R>,
     reader: &mut S,
     writer: &mut W,
-) -> Result<bool, ProgramFault> {
+) -> Result<bool, ProgramFault>
+    ensures { IfOk result (λ faulty. Answers Engine.Fill (S.left reader.old) faulty) }
+{
     let alloc = host.rt.alloc();
     let mut says = Bytes::new(alloc);
     let is_right = fill(alloc, reader, writer, &mut says)?;

@@ -1,0 +1,4 @@
+-- the definitions that contracts cite
+
+-- what an engine's answer says of its input
+pub mod Tasks
