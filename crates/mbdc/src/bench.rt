@@ -6,7 +6,7 @@ use mbdc_bus::Both;
 use mbdc_bus::trace::{Observed, Observer, Pair};
 use mbdc_commands::words::BusTask;
 use mbdc_ending::Ending;
-use mbdc_files::{Host, Output};
+use mbdc_files::{Host, Output, refused};
 use mbdc_installer::bench::{Listing, Progress, Show, Work, run_over};
 use mbdc_raw::links::{Peer, Waiter};
 use std::fs::File;
@@ -94,10 +94,10 @@ where
         bus: Observed { bus, observer },
         pause: Waiter,
     };
-    let out = Output::new(io::writer(host.rt), host);
+    let out = Output::new(io::writer(host.rt), host, false);
     let ending = run_over(host.rt.alloc(), work, listing, bus, out, progress);
     if matches!(ending, Ending::Gateway) {
-        host.why.say("the connection ended or failed");
+        host.why.note(refused("the connection ended or failed"));
     }
     ending
 }

@@ -9,11 +9,13 @@ use dc_recovery::Store;
 use dc_sectors::MemoryDisk;
 use mbdc_bus::world::{Looped, SimulatedBus};
 use mbdc_ending::{Ending, ProgramFault, STREAM, ending_of};
-use mbdc_files::{Host, Noted};
+use mbdc_files::{Host, Output};
 use mbdc_io::{Buffered, Bytes, NoMemory, ReadSource, WriteSink};
 use std::alloc::Global;
+use std::fs::File;
 use std::io;
 use std::net::{Net, TcpListener, TcpStream};
+use std::rt::Files;
 
 // A port that the system chooses, on this machine alone.
 const LOOPBACK: &str = "127.0.0.1:0";
@@ -43,7 +45,7 @@ type Ends = (
 /// Plays the demo, and prints what `run` prints of its script.
 pub fn play<R>(host: &Host<'_, R>) -> Ending<'static>
 where
-    R: Net<Stream = TcpStream, Listener = TcpListener> + Print + AllocGlobal,
+    R: Files<File = File> + Net<Stream = TcpStream, Listener = TcpListener> + Print + AllocGlobal,
 {
     let Ok(bus) = one_meter(host.rt.alloc()) else {
         return Ending::Memory;
@@ -91,13 +93,13 @@ where
     Ok((reader, WriteSink::new(own)))
 }
 
-fn work<R: Print + AllocGlobal>(
+fn work<R: Files<File = File> + Print + AllocGlobal>(
     host: &Host<'_, R>,
     disk: MemoryDisk<Global>,
     ends: Ends,
 ) -> Result<bool, ProgramFault> {
     let mut reader = Bytes::from_slice(host.rt.alloc(), SCRIPT)?;
-    let printer = Noted::new(io::writer(host.rt), host.why);
+    let printer = Output::new(io::writer(host.rt), host, false);
     let mut writer = Buffered::new(host.rt.alloc(), ROOM, WriteSink::new(printer))?;
     let (_, outcome) = run_script(host.rt.alloc(), disk, &mut reader, &mut writer, Some(ends));
     let faulty = outcome?;

@@ -84,12 +84,6 @@ pub fn told(rt: &HostRuntime, ending: &Ending) -> ExitCode
     ExitCode::from(ending.status())
 }
 
-/// Whether the reader of standard output has gone away.
-pub fn is_cut_off(ending: &Ending, why: &Why) -> bool {
-    matches!(ending, Ending::File(STREAM))
-        && matches!(why.last.get(), Some(reason) if reason.error.kind() == io::ErrorKind::BrokenPipe)
-}
-
 /// Prints on a second line why the run failed, if the system gave a reason, and for a person the next step.
 pub fn told_why(rt: &HostRuntime, ending: &Ending, why: &Why, is_watched: bool) {
     let reason = match ending {

@@ -2,7 +2,7 @@
 
 use crate::journal::Noting;
 use dc_meters::House;
-use dc_sectors::{Disk, FileDisk};
+use dc_sectors::FileDisk;
 use mbdc_commands::fit_over;
 use mbdc_ending::{Ending, ProgramFault};
 use mbdc_files::{Host, Noted, Output, open_disk};
@@ -33,20 +33,15 @@ where
         Ok(rows) => rows,
         Err(fault) => return host.why.ended(Err(fault), list),
     };
-    let house = house_in(host.rt.alloc(), &mut disk);
+    // The register of an image that doesn't open is missing, and the image is refused next.
+    let house = register_of(host.rt.alloc(), &mut disk, &Greatest::NONE)
+        .ok()
+        .map(|read| read.0);
     let list = match read_list(host.rt.alloc(), rows.as_slice(), house.as_ref()) {
         Ok(list) => list,
         Err(NoMemory) => return Ending::Memory,
     };
     wished(host, disk, image, house, &Wish::List(&list))
-}
-
-/// The register of an image on that disk. One that doesn't open is refused next.
-pub fn house_in<D: Disk>(alloc: Global, disk: &mut D) -> Option<House<Global>> {
-    match register_of(alloc, disk, &Greatest::NONE) {
-        Ok((house, _)) => Some(house),
-        Err(_) => None,
-    }
 }
 
 /// Does what is asked on the image with this register, and puts the commands that were done into its journal.
@@ -61,7 +56,7 @@ where
     D: FileExt + OpenFile + Drop,
     R: Files<File = File> + Clock + Print + Eprint + AllocGlobal,
 {
-    let out = Output::new(io::writer(host.rt), host);
+    let out = Output::new(io::writer(host.rt), host, false);
     let mut notes = Noting::new(host, image, house);
     let (_disk, ending) = fit_over(host.rt.alloc(), disk, wish, out, &mut notes);
     ending

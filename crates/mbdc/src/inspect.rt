@@ -2,6 +2,7 @@
 
 use crate::clock;
 use crate::table::table_of;
+use dc_sectors::snapshot::Sample;
 use mbdc_commands::look_ending;
 use mbdc_commands::words::Layout;
 use mbdc_ending::{Ending, ProgramFault, STREAM, ending_of};
@@ -72,7 +73,7 @@ fn printed<'a, R: Files<File = File> + Print>(
     text: &[u8],
     ending: Ending<'a>,
 ) -> Ending<'a> {
-    let mut out = Output::new(io::writer(host.rt), host);
+    let mut out = Output::new(io::writer(host.rt), host, false);
     if out.write_all(text).is_err() || out.flush().is_err() {
         return ending_of(Err(ProgramFault::Write), STREAM);
     }
@@ -155,7 +156,7 @@ fn look_once<'a, R: AllocGlobal>(
     journal: &Journal<Global>,
     image: &'a str,
 ) -> Result<Option<Shown<Global>>, Ending<'a>> {
-    let mut sample = file.sample(host.rt.alloc(), image)?;
+    let mut sample = Sample::new(host.rt.alloc(), file.disk(image)?);
     let shown = match answer(host.rt.alloc(), &mut sample, greatest, *asked, journal) {
         Ok(shown) => shown,
         Err(fault) => return Err(ending_of(Err(fault), image)),

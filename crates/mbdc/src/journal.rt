@@ -49,7 +49,7 @@ impl<'h, 'i, R: Files<File = File> + Clock + Eprint + AllocGlobal> Noting<'h, 'i
     }
 
     fn complete(&mut self) {
-        let (now, image) = (self.now(), self.image);
+        let now = self.now();
         let mut line = Bytes::new(self.rt.alloc());
         match &self.house {
             Some(house) if house.last_number() > 0 => {
@@ -60,12 +60,7 @@ impl<'h, 'i, R: Files<File = File> + Clock + Eprint + AllocGlobal> Noting<'h, 'i
             }
             _ => return,
         }
-        self.open();
-        if let Some(journal) = &mut self.journal
-            && let Ok(false) = journal.has(image, line.as_slice())
-        {
-            journal.append(line.as_slice());
-        }
+        self.append(&line, true);
     }
 
     fn open(&mut self) {
@@ -117,9 +112,12 @@ impl<'h, 'i, R: Files<File = File> + Clock + Eprint + AllocGlobal> Noting<'h, 'i
         Ok(doubts)
     }
 
-    fn append(&mut self, line: &Bytes<Global>) {
+    // Appends a line, or only one that isn't there.
+    fn append(&mut self, line: &Bytes<Global>, is_new: bool) {
         self.open();
-        if let Some(journal) = &mut self.journal {
+        if let Some(journal) = &mut self.journal
+            && (!is_new || matches!(journal.has(self.image, line.as_slice()), Ok(false)))
+        {
             journal.append(line.as_slice());
         }
     }
@@ -149,7 +147,7 @@ impl<R: Files<File = File> + Clock + Eprint + AllocGlobal> Notes for Noting<'_, 
         if put_object(&mut object, event).is_ok()
             && put_note(&mut line, self.now(), flat, object.as_slice()).is_ok()
         {
-            self.append(&line);
+            self.append(&line, false);
         }
     }
 }
@@ -180,7 +178,7 @@ impl<R: Files<File = File> + Clock + Eprint + AllocGlobal> CommandNotes for Noti
         let command = done.command.line(done.number);
         let mut line = Bytes::new(self.rt.alloc());
         if put_command_note(&mut line, self.now(), done.number, command.as_slice()).is_ok() {
-            self.append(&line);
+            self.append(&line, false);
         }
     }
 }

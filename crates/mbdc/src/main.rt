@@ -20,9 +20,9 @@ mod table;
 mod tasks;
 mod tracing;
 
-use ending::{is_cut_off, told, told_disk, told_why, told_words};
+use ending::{told, told_disk, told_why, told_words};
 use mbdc_commands::words::{Call, call_of};
-use mbdc_ending::Ending;
+use mbdc_ending::{Ending, STREAM};
 use mbdc_files::{ERRORS, Host, NOWHERE, Why, hold, is_full};
 use std::env::FillError;
 use std::io::{ErrorKind, IsTerminal, Write};
@@ -83,7 +83,10 @@ fn answer(rt: &HostRuntime, call: &Call<'_>) -> ExitCode {
     let is_coloured = is_terminal && takes_all;
     let ending = tasks::run(&host, &call.task, is_terminal, is_coloured);
     // A reader that has seen enough, as head, is no mistake to tell a person of.
-    if host.is_watched && is_cut_off(&ending, &why) {
+    if host.is_watched
+        && matches!(ending, Ending::File(STREAM))
+        && matches!(why.last.get(), Some(reason) if reason.error.kind() == ErrorKind::BrokenPipe)
+    {
         return ExitCode::from(ending.status());
     }
     let status = told(rt, &ending);

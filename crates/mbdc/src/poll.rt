@@ -11,7 +11,7 @@ use mbdc_bus::trace::{Observed, Observer};
 use mbdc_commands::words::PollTask;
 use mbdc_commands::{Printing, SparingWatch, poll_over};
 use mbdc_ending::Ending;
-use mbdc_files::{Host, Patient, open_disk};
+use mbdc_files::{Host, Output, open_disk};
 use mbdc_io::NoMemory;
 use mbdc_poll::events::{Form, Notes};
 use mbdc_poll::{Doubt, Plan, Sparing};
@@ -112,7 +112,7 @@ where
         tries: task.tries.max(1),
     };
     // The readings go on where nobody takes what is printed.
-    let out = Patient::new(io::writer(host.rt), host);
+    let out = Output::new(io::writer(host.rt), host, true);
     let (_, ending) = poll_over(
         host.rt.alloc(),
         host.rt,

@@ -1,7 +1,7 @@
 //! The command `run`: a script over an image in a file.
 
 use crate::connecting::{connected, released};
-use crate::fit::{house_in, read_whole};
+use crate::fit::read_whole;
 use crate::journal::Noting;
 use dc_sectors::FileDisk;
 use mbdc_bus::Both;
@@ -10,6 +10,8 @@ use mbdc_commands::words::RunTask;
 use mbdc_ending::Ending;
 use mbdc_files::{Host, Noted, Output, open_disk};
 use mbdc_io::ReadSource;
+use mbdc_log::Greatest;
+use mbdc_looks::register_of;
 use mbdc_raw::links::{Peer, SystemBus, Waiter};
 use std::fs::{File, OpenFile};
 use std::io::Read;
@@ -64,9 +66,12 @@ where
         Ok(lines) => lines,
         Err(fault) => return host.why.ended(Err(fault), task.script),
     };
-    let out = Output::new(io::writer(host.rt), host);
+    let out = Output::new(io::writer(host.rt), host, false);
     let mut disk = disk;
-    let house = house_in(host.rt.alloc(), &mut disk);
+    // The register of an image that doesn't open is missing, and the image is refused next.
+    let house = register_of(host.rt.alloc(), &mut disk, &Greatest::NONE)
+        .ok()
+        .map(|read| read.0);
     let mut notes = Noting::new(host, task.image, house);
     let (_, ending) = run_over(
         host.rt.alloc(),

@@ -54,7 +54,10 @@ where
         Task::Lines {
             engine,
             file: Some(name),
-        } => work_on_file(host, *engine, name),
+        } => match fs::open(host.rt, name) {
+            Ok(file) => work_on(host, *engine, file, name),
+            Err(error) => host.why.file(name, error),
+        },
         Task::Lines { engine, file: None } => { work_on(host, *engine, host.rt.reader(), STREAM) }
         Task::Format { image, sectors } => format_image(host, image, *sectors),
         Task::Run(task) => run_on_image(host, task),
@@ -94,17 +97,6 @@ where
     }
 }
 
-fn work_on_file<'a, R: Files<File = File> + Print + Eprint + AllocGlobal>(
-    host: &Host<'_, R>,
-    engine: Engine,
-    name: &'a str,
-) -> Ending<'a> {
-    match fs::open(host.rt, name) {
-        Ok(file) => work_on(host, engine, file, name),
-        Err(error) => host.why.file(name, error),
-    }
-}
-
 fn work_on<'a, R: Files<File = File> + Print + Eprint + AllocGlobal, F: Read + Drop>(
     host: &Host<'_, R>,
     engine: Engine,
@@ -128,7 +120,7 @@ fn work<R: Files<File = File> + Print + Eprint + AllocGlobal, S: Source>(
 ) -> Result<bool, ProgramFault>
     ensures { IfOk result (λ faulty. Answers engine (S.left reader.old) faulty) }
 {
-    let printer = Output::new(io::writer(host.rt), host);
+    let printer = Output::new(io::writer(host.rt), host, false);
     let mut writer = Buffered::new(host.rt.alloc(), ROOM, WriteSink::new(printer))?;
     let faulty = answer_of(host, engine, reader, &mut writer)?;
     flushed(writer)?;

@@ -14,7 +14,7 @@ pub mod HostClock
 pub mod FitOver
 -- what `poll` does to an image, what it prints, and how it ends
 pub mod PollOver
--- what `rescue` leaves in a new image
+-- what `rescue` leaves in a new image, and why it rescues nothing
 pub mod Rescue
 -- what `run` does to an image, what it writes, and how it ends
 pub mod RunOver

@@ -1,11 +1,21 @@
--- What the command `rescue` leaves in a new image, and what it prints (this product).
-use Rattle.std.specs.Prelude.{◌≡◌, ◌-◌, ℕ, List, ◌++◌, codes}
+-- What the command `rescue` leaves in a new image, what it prints, and why it rescues nothing (this product).
+use Rattle.std.specs.Prelude.{◌≡◌, ◌⊎◌, ◌<◌, ◌≤◌, ◌-◌, ℕ, List, ◌++◌, codes}
 use Rattle.dc_sectors.specs.Disk.{Image, IsImage}
 use Rattle.dc_sectors.specs.declared.device.Disk.{Ghosts}
 use Rattle.mbdc_io.specs.Words.{number_word}
 use Rattle.mbdc_log.specs.Greatest.{IsGreatest}
-use Rattle.mbdc_log.specs.Halves.{half_of}
-use Rattle.mbdc_log.specs.Rescue.{IsRescued}
+use Rattle.mbdc_commands.specs.FitOver.{commit_fault}
+use Rattle.mbdc_ending.specs.Outcome.{opening_ended}
+use Rattle.mbdc_ending.specs.declared.ending.Ending.{Ending}
+use Rattle.mbdc_ending.specs.declared.ending.Ending.TheVariants.{Format as NotFormatted, Disk as NotWritten}
+use Rattle.mbdc_io.specs.Failures.{HasRisen}
+use Rattle.mbdc_log.specs.Halves.{fewest_sectors, half_of}
+use Rattle.mbdc_log.specs.Refusal.{TellsOfImage}
+use Rattle.mbdc_log.specs.Rescue.{IsLost, IsRescued}
+use Rattle.mbdc_log.specs.declared.fault.OpenFault.{OpenFault}
+use Rattle.mbdc_log.specs.declared.fault.OpenFault.TheVariants.{Device, NotImage}
+use Rattle.mbdc_log.specs.declared.rescuing.RenewFault.{RenewFault}
+use Rattle.mbdc_log.specs.declared.rescuing.RenewFault.TheVariants.{Format, Open, Store}
 use Rattle.mbdc_log.specs.declared.greatest.Greatest.{Greatest}
 use Rattle.mbdc_log.specs.declared.rescuing.Source.{Source}
 use Rattle.mbdc_log.specs.declared.rescuing.Source.TheVariants.{Whole, Without, OtherRoot}
@@ -41,3 +51,23 @@ pub record Renews {C D : Type 0} (c : Ghosts C) (g : Ghosts D) (copy cleared : C
   pub seen : c.keeps cleared → IsGreatest (half_of c copy) greatest (c.reads copy)
   pub stands : g.keeps new → (image : Image) → IsImage (g.choices new) image
       → Stands (half_of g new) state image
+
+-- neither the image nor a part of it reads as a state, or the copy failed, or memory ran out
+pub record IsAllLost {C : Type 0} (c : Ghosts C) (copy cleared : C) (ending : Ending) : Type 0 where
+  pub fault : OpenFault
+  pub ends : ending ≡ opening_ended fault
+  pub small : c.sectors copy < fewest_sectors → fault ≡ NotImage
+  pub device : fault ≡ Device → HasRisen (c.failures copy) (c.failures cleared)
+  pub lost : fewest_sectors ≤ c.sectors copy → c.keeps cleared → TellsOfImage fault
+      → IsLost register (half_of c copy) fault (c.reads copy)
+
+-- the ending where the state isn't written into a new image
+abbrev pub renewing_ended : RenewFault → Ending
+renewing_ended (Format fault) = NotFormatted fault
+renewing_ended (Open fault) = opening_ended fault
+renewing_ended (Store fault) = NotWritten (commit_fault fault)
+
+-- WHY NOTHING IS RESCUED, with the ending: all is lost, or the state isn't written.
+abbrev pub IsUnrescued : {C : Type 0} → Ghosts C → (copy cleared : C) → Ending → Type 0
+IsUnrescued c copy cleared ending =
+    IsAllLost c copy cleared ending ⊎ ((fault : RenewFault) × (ending ≡ renewing_ended fault))

@@ -1,6 +1,6 @@
 -- the definitions that contracts cite
 
--- how copying an image may fail
+-- how an image is copied, and how that may fail
 pub mod Copied
--- how `format` may end
+-- how the file of an image is made, and what is in it at status 0
 pub mod Formatted

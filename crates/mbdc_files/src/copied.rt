@@ -1,18 +1,17 @@
 //! A copy of an image as it is at one instant: in memory, and by the command `copy` in a new file.
 
-ghost use Rattle.std.specs.Prelude.{◌≡◌, ◌⊎◌, IfErr};
-ghost use Rattle.mbdc_ending.specs.Outcome.{IsOfFile};
+ghost use Rattle.std.specs.Prelude.{◌≡◌, ◌⊎◌, IfErr, OnOk};
 ghost use Rattle.mbdc_ending.specs.declared.ending.Ending.TheVariants.{Open};
-ghost use Rattle.mbdc_log.specs.declared.fault.OpenFault.TheVariants.{NotImage};
-ghost use Rattle.mbdc_files.specs.Copied.{IsOfCopy};
-ghost use Rattle.mbdc_files.specs.Formatted.{IsOfFormat};
+ghost use Rattle.mbdc_log.specs.declared.fault.OpenFault.TheVariants.{Device};
+ghost use Rattle.mbdc_files.specs.Copied.{IsCopied, IsUncopied};
+ghost use Rattle.mbdc_files.specs.Formatted.{IsUnmade};
 
-use crate::half_made::{begin_image, end_image};
 use crate::host::Host;
 use crate::looking::{LookedAt, ROUNDS, ending_of_sample};
+use crate::shelf::Shelf;
 use dc_roots::{RootFault, choose};
-use dc_sectors::snapshot::SampleFault;
-use dc_sectors::{Disk, FileDisk, ReadFault, Sector};
+use dc_sectors::snapshot::{Sample, SampleFault};
+use dc_sectors::{Disk, ReadFault, Sector};
 use libc::EIO;
 use mbdc_ending::Ending;
 use mbdc_log::{FEWEST_SECTORS, OpenFault};
@@ -39,17 +38,22 @@ pub struct Copied {
 /// Copies the image in that file, while another program may write it: a look at all its sectors.
 ///
 /// # Errors
-/// The ending of the command: the file can't be opened or read, it changed within each look for two seconds, or out of
-/// memory.
+/// The ending of the command: the file can't be opened or read or holds no image, it changed within each look for two
+/// seconds, or out of memory.
 pub fn copy_image<'a, R: Files<File = File> + AllocGlobal>(
     host: &Host<'_, R>,
     name: &'a str,
 ) -> Result<Copied, Ending<'a>>
-    ensures { IfErr result (λ ending. IsOfCopy ending name.now) }
+    ensures { IfErr result (λ ending. IsUncopied ending name.now) }
 {
     let looked = LookedAt::open(host, name)?;
+    let mut disk = looked.disk(name)?;
+    // It is too small, or both root slots can be read and neither has a root.
+    if disk.count() < FEWEST_SECTORS || matches!(choose(&mut disk), Err(RootFault::NoRoot(None))) {
+        return Err(Ending::Open(OpenFault::NotImage));
+    }
     for _ in 0..ROUNDS {
-        let mut sample = looked.sample(host.rt.alloc(), name)?;
+        let mut sample = Sample::new(host.rt.alloc(), looked.disk(name)?);
         let sectors = match read_all(host.rt.alloc(), &mut sample) {
             Ok(sectors) => sectors,
             Err(fault) => return Err(ending_of_sample(fault)),
@@ -66,23 +70,6 @@ pub fn copy_image<'a, R: Files<File = File> + AllocGlobal>(
         }
     }
     Err(looked.busy(name))
-}
-
-/// Copies the image in that file, as [`copy_image`] does, as a disk.
-///
-/// # Errors
-/// The ending of the command, as of [`copy_image`].
-pub fn copy_disk<'a, R: Files<File = File> + AllocGlobal>(
-    host: &Host<'_, R>,
-    name: &'a str,
-) -> Result<FileDisk<Copied>, Ending<'a>>
-    ensures { IfErr result (λ ending. IsOfCopy ending name.now) }
-{
-    let copy = copy_image(host, name)?;
-    match FileDisk::lenient(copy) {
-        Ok(disk) => Ok(disk),
-        Err(error) => Err(host.why.file(name, error)),
-    }
 }
 
 // Reads all sectors of a disk.
@@ -104,69 +91,62 @@ fn read_all<D: Disk>(
     Ok(cells)
 }
 
-// Whether the file holds no image: it is too small, or both root slots can be read and neither has a root.
-fn holds_no_image<'a>(looked: &LookedAt<'_>, name: &'a str) -> Result<bool, Ending<'a>>
-    ensures { IfErr result (λ ending. IsOfFile ending name.now) }
-{
-    let mut disk = looked.disk(name)?;
-    if disk.count() < FEWEST_SECTORS {
-        return Ok(true);
-    }
-    Ok(matches!(choose(&mut disk), Err(RootFault::NoRoot(None))))
-}
-
-/// Copies the image in that file, as [`copy_image`] does, to a new file, which gets its name once it is whole and
-/// durable.
+/// Copies an image as it stands at one instant to a new file, which gets its name once it is whole and durable.
 ///
 /// # Errors
-/// `Open(NotImage)` of a file that holds no image, or as of [`copy_image`]; or the new file can't be made.
-pub fn back_up<'a, R: Files<File = File> + AllocGlobal>(
-    host: &Host<'_, R>,
-    image: &'a str,
-    name: &'a str,
-) -> Ending<'a>
-    ensures { (result ≡ Open NotImage) ⊎ (IsOfCopy result image.now ⊎ IsOfFormat result name.now) }
+/// `Open(NotImage)` of a file that holds no image; the image can't be copied, or a sector of it not be read; or the new
+/// file can't be made.
+pub fn back_up<'a, S: Shelf>(shelf: &S, image: &'a str, name: &'a str) -> Ending<'a>
+    // At status 0 the file of that name was made of a disk that has what the image had.
+    ensures { (IsUncopied result image.now ⊎ IsUnmade result name.now) ⊎ ((result ≡ Ending.Clean)
+        × (copy : S.Old) × (read : S.Old) × (made : S.New) × S.copied shelf.now image.now copy
+        × S.named shelf.now name.now made × IsCopied S.Old.Disk S.New.Disk copy read made) }
 {
-    let looked = match LookedAt::open(host, image) {
-        Ok(looked) => looked,
-        Err(ending) => return ending,
-    };
-    match holds_no_image(&looked, image) {
-        Ok(false) => {}
-        Ok(true) => return Ending::Open(OpenFault::NotImage),
-        Err(ending) => return ending,
-    }
-    let copy = match copy_image(host, image) {
+    let mut copy = match shelf.copy(image) {
         Ok(copy) => copy,
         Err(ending) => return ending,
     };
-    // A copy can't hold what the drive can't read.
-    if host.why.has_unreadable.get() {
-        return Ending::Open(OpenFault::Device);
-    }
-    let length = SECTOR.saturating_mul(copy.sectors.len() as u64);
-    let half_made = match begin_image(host, name, length) {
-        Ok(half_made) => half_made,
+    let (draft, mut new) = match shelf.begin(name, copy.count(), false) {
+        Ok(begun) => begun,
         Err(ending) => return ending,
     };
-    match write_out(&copy, &half_made.file) {
-        Ok(()) => end_image(host, half_made, name),
-        Err(error) => {
-            half_made.unlink(host.rt);
-            host.why.file(name, error)
+    match copy_sectors(&mut copy, &mut new, name) {
+        Ok(()) => match shelf.end(draft, &new, name) {
+            Ok(()) => Ending::Clean,
+            Err(ending) => ending,
+        },
+        Err(ending) => {
+            shelf.give_up(draft);
+            ending
         }
     }
 }
 
-// Writes the copy to the file, and makes it durable.
-fn write_out(copy: &Copied, file: &File) -> io::Result<()> {
-    for (n, cell) in copy.sectors.iter().enumerate() {
-        match cell.get() {
-            Sector::Bytes(bytes) => file.write_all_at(&bytes, SECTOR.saturating_mul(n as u64))?,
-            Sector::Unreadable => return Err(io::Error::from_raw_os_error(EIO)),
+// Writes each sector of a copy to a new disk of as many, and makes that durable. A sector that the drive can't read has
+// no copy.
+fn copy_sectors<'a, C: Disk, D: Disk>(
+    copy: &mut C,
+    new: &mut D,
+    name: &'a str,
+) -> Result<(), Ending<'a>>
+    requires { D.sectors new.old ≡ C.sectors copy.old }
+    ensures copied { OnOk result (IsCopied C.Disk D.Disk copy.old copy.new new.new) }
+    ensures failed { IfErr result (λ ending. (ending ≡ Open Device) ⊎ IsUnmade ending name.now) }
+{
+    for n in 0..copy.count() {
+        let bytes = match copy.read(n) {
+            Ok(bytes) => bytes,
+            Err(_) => return Err(Ending::Open(OpenFault::Device)),
+        };
+        match new.write(n, &bytes) {
+            Ok(()) => {}
+            Err(_) => return Err(Ending::File(name)),
         }
     }
-    file.sync_all()
+    match new.sync() {
+        Ok(()) => Ok(()),
+        Err(_) => Err(Ending::File(name)),
+    }
 }
 
 impl FileExt for Copied {

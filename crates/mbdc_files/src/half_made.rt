@@ -1,17 +1,19 @@
-//! The file in which an image is built, until it is whole.
+//! The files in which images are made, until they are whole.
 
-ghost use Rattle.std.specs.Prelude.{[], IfErr, IfOk};
-ghost use Rattle.dc_sectors.specs.File.{IsOpened};
-ghost use Rattle.mbdc_files.specs.Formatted.{IsOfFormat};
+ghost use Rattle.std.specs.Prelude.{IfErr};
+ghost use Rattle.mbdc_files.specs.Formatted.{IsUnmade};
 
+use crate::copied::{Copied, copy_image};
 use crate::host::Host;
-use crate::image::{lock, within_limit};
-use crate::why::{Noted, Why};
-use dc_sectors::FileDisk;
+use crate::image::{OTHER_LENGTH, is_same_file, lock, refused, within_limit};
+use crate::shelf::Shelf;
+use crate::why::Noted;
+use crate::zeros::zeros_at;
+use dc_sectors::{Disk, FileDisk};
 use mbdc_ending::Ending;
-use std::fs::{File, Metadata, OpenOptions};
+use std::fs::{File, OpenOptions};
 use std::io::ErrorKind;
-use std::os::unix::fs::{MetadataExt, OpenOptionsExt};
+use std::os::unix::fs::OpenOptionsExt;
 use std::rt::Files;
 use std::{fs, io};
 
@@ -26,12 +28,12 @@ const NAMES: u32 = 100;
 // take names of 255 bytes.
 const LONGEST: usize = 230;
 
-/// A file that this run created, and holds open.
+/// A file in which an image is made, open and locked, so that no program runs the image before the command has ended.
 #[derive(Drop)]
 pub struct HalfMade {
-    /// The file, open to read and write.
-    pub file: File,
-    name: String,
+    file: File,
+    // The name under which this run created it; none of a file of zeros that had its name before.
+    name: Option<String>,
 }
 
 impl HalfMade {
@@ -49,7 +51,10 @@ impl HalfMade {
         for n in 0..NAMES {
             let name = format!(in rt.alloc(); "{folder}{slash}{file}.{n}.half-made")?;
             match options.open(rt, name.as_str()) {
-                Ok(file) => return Ok(HalfMade { file, name }),
+                Ok(file) => return Ok(HalfMade {
+                    file,
+                    name: Some(name),
+                }),
                 Err(error) if error.kind() == ErrorKind::AlreadyExists => {}
                 Err(error) => return Err(error),
             }
@@ -57,23 +62,16 @@ impl HalfMade {
         Err(io::Error::from(ErrorKind::AlreadyExists))
     }
 
-    /// The file as a disk.
-    ///
-    /// # Errors
-    /// A call of the file failed.
-    pub fn disk<'w>(&self, why: &'w Why) -> io::Result<FileDisk<Noted<'w, File>>>
-        ensures { IfOk result (λ disk. IsOpened [] disk) }
-    {
-        FileDisk::new(Noted::new(self.file.try_clone()?, why))
-    }
-
     // Gives the file the name `image` as well, and makes that durable: a name is once its folder is synced. Something
     // may have that name, and the file system may have no hard links.
     fn link<R: Files<File = File>>(&self, rt: &R, image: &str) -> io::Result<()> {
-        if !self.is_named(rt) {
+        let Some(name) = &self.name else {
+            return Ok(());
+        };
+        if !self.is_named(rt, name.as_str()) {
             return Err(io::Error::from(ErrorKind::NotFound));
         }
-        fs::hard_link(rt, self.name.as_str(), image)?;
+        fs::hard_link(rt, name.as_str(), image)?;
         let folder = match image.rsplit_once('/') {
             Some(("", _)) => "/",
             Some((folder, _)) => folder,
@@ -82,87 +80,134 @@ impl HalfMade {
         fs::open(rt, folder)?.sync_all()
     }
 
-    /// Removes the name under which the file was created, unless another file has it now.
-    pub fn unlink<R: Files<File = File>>(&self, rt: &R) {
-        if self.is_named(rt) {
-            let _ = fs::remove_file(rt, self.name.as_str());
+    // Removes the name under which the file was created, unless another file has it now.
+    fn unlink<R: Files<File = File>>(&self, rt: &R) {
+        if let Some(name) = &self.name
+            && self.is_named(rt, name.as_str())
+        {
+            let _ = fs::remove_file(rt, name.as_str());
         }
     }
 
     // The file is open, so its number isn't given to another one.
-    fn is_named<R: Files<File = File>>(&self, rt: &R) -> bool {
-        match (
-            self.file.metadata(),
-            fs::symlink_metadata(rt, self.name.as_str()),
-        ) {
+    fn is_named<R: Files<File = File>>(&self, rt: &R, name: &str) -> bool {
+        match (self.file.metadata(), fs::symlink_metadata(rt, name)) {
             (Ok(own), Ok(seen)) => is_same_file(&own, &seen),
             _ => false,
         }
     }
 }
 
-/// Begins an image of that length, in a file of its own beside `name`. The file is locked, so that no program runs the
-/// image before the command has ended.
-///
-/// # Errors
-/// The ending of the command: no file can be made there.
-pub fn begin_image<'a, R: Files<File = File> + AllocGlobal>(
+impl<'h, R: Files<File = File> + AllocGlobal> Shelf for Host<'h, R> {
+    ghost use Rattle.std.specs.Prelude.{⊤};
+
+    type Draft = HalfMade;
+
+    type New = FileDisk<Noted<'h, File>>;
+
+    type Old = FileDisk<Copied>;
+
+    // What the system's files hold is in no contract.
+    ghost copied = { λ _ _ _. ⊤ };
+
+    ghost named = { λ _ _ _. ⊤ };
+
+    fn copy<'a>(&self, image: &'a str) -> Result<FileDisk<Copied>, Ending<'a>> {
+        let copy = copy_image(self, image)?;
+        match FileDisk::lenient(copy) {
+            Ok(disk) => Ok(disk),
+            Err(error) => Err(self.why.file(image, error)),
+        }
+    }
+
+    fn begin<'a>(
+        &self,
+        name: &'a str,
+        sectors: u32,
+        takes_zeros: bool,
+    ) -> Result<(HalfMade, FileDisk<Noted<'h, File>>), Ending<'a>> {
+        let length = 512 * u64::from(sectors);
+        if let Err(error) = within_limit(length) {
+            return Err(self.why.file(name, error));
+        }
+        let draft = match fs::symlink_metadata(self.rt, name) {
+            Ok(seen) => {
+                if !takes_zeros {
+                    return Err(
+                        self.why
+                            .file(name, io::Error::from(ErrorKind::AlreadyExists)),
+                    );
+                }
+                HalfMade {
+                    file: zeros_at(self, name, &seen, length)?,
+                    name: None,
+                }
+            }
+            Err(error) if error.kind() == ErrorKind::NotFound => new_at(self, name, length)?,
+            Err(error) => return Err(self.why.file(name, error)),
+        };
+        let disk = match draft.file.try_clone() {
+            Ok(file) => FileDisk::new(Noted::new(file, self.why)),
+            Err(error) => Err(error),
+        };
+        let error = match disk {
+            Ok(disk) => {
+                if disk.count() == sectors {
+                    return Ok((draft, disk));
+                }
+                refused(OTHER_LENGTH)
+            }
+            Err(error) => error,
+        };
+        draft.unlink(self.rt);
+        Err(self.why.file(name, error))
+    }
+
+    fn end<'a>(
+        &self,
+        draft: HalfMade,
+        _made: &FileDisk<Noted<'h, File>>,
+        name: &'a str,
+    ) -> Result<(), Ending<'a>> {
+        let linked = draft.link(self.rt, name);
+        draft.unlink(self.rt);
+        match linked {
+            Ok(()) => Ok(()),
+            Err(error) => Err(self.why.file(name, error)),
+        }
+    }
+
+    fn give_up(&self, draft: HalfMade) {
+        draft.unlink(self.rt);
+    }
+}
+
+// A new file of that length, locked, beside a name that nothing has.
+fn new_at<'a, R: Files<File = File> + AllocGlobal>(
     host: &Host<'_, R>,
     name: &'a str,
     length: u64,
 ) -> Result<HalfMade, Ending<'a>>
-    ensures { IfErr result (λ ending. IsOfFormat ending name.now) }
+    ensures { IfErr result (λ ending. IsUnmade ending name.now) }
 {
     // `format ""` and `format folder/` name no file.
     if name.is_empty() || name.ends_with('/') {
-        host.why.say("it is no name of a file");
-        return Err(Ending::File(name));
+        return Err(host.why.file(name, refused("it is no name of a file")));
     }
-    if fs::symlink_metadata(host.rt, name).is_ok() {
-        return Err(
-            host.why
-                .file(name, io::Error::from(ErrorKind::AlreadyExists)),
-        );
-    }
-    if let Err(error) = within_limit(length) {
-        return Err(host.why.file(name, error));
-    }
-    let half_made = match HalfMade::create(host.rt, name) {
-        Ok(half_made) => half_made,
+    let draft = match HalfMade::create(host.rt, name) {
+        Ok(draft) => draft,
         Err(error) if error.kind() == ErrorKind::OutOfMemory => return Err(Ending::Memory),
         Err(error) => return Err(host.why.file(name, error)),
     };
-    let prepared = match lock(&half_made.file) {
-        Ok(()) => half_made.file.set_len(length),
+    let prepared = match lock(&draft.file) {
+        Ok(()) => draft.file.set_len(length),
         Err(error) => Err(error),
     };
     match prepared {
-        Ok(()) => Ok(half_made),
+        Ok(()) => Ok(draft),
         Err(error) => {
-            half_made.unlink(host.rt);
+            draft.unlink(host.rt);
             Err(host.why.file(name, error))
         }
     }
-}
-
-/// Gives a whole image its name.
-pub fn end_image<'a, R: Files<File = File>>(
-    host: &Host<'_, R>,
-    half_made: HalfMade,
-    name: &'a str,
-) -> Ending<'a>
-    ensures { IsOfFormat result name.now }
-{
-    let linked = half_made.link(host.rt, name);
-    half_made.unlink(host.rt);
-    match linked {
-        Ok(()) => Ending::Clean,
-        Err(error) => host.why.file(name, error),
-    }
-}
-
-/// Whether both are the same file, by device and inode number. The contracts of std state neither number, so this
-/// function has no contract.
-pub fn is_same_file(one: &Metadata, other: &Metadata) -> bool {
-    one.dev() == other.dev() && one.ino() == other.ino()
 }

@@ -5,20 +5,24 @@ ghost use Rattle.std.specs.IoError.{error_kind};
 
 use libc::net::poll;
 use libc::types::rlimit;
-use std::fs::{File, OpenOptions, TryLockError};
+use std::fs::{File, Metadata, OpenOptions, TryLockError};
 use std::io::ErrorKind;
 use std::os::fd::AsRawFd;
+use std::os::unix::fs::MetadataExt;
 use std::rt::Files;
 use std::{fs, io};
 
-// Number of times that a lock is tried before it is refused, and the milliseconds between them:
-// two seconds, so that a short command stops nobody.
+// Number of times that a lock is tried before it is refused: two seconds, so that a short command stops nobody.
 const TRIES: u32 = 100;
 
-const PAUSE: i32 = 20;
+/// The milliseconds between two tries.
+pub const PAUSE: i32 = 20;
 
 /// Why a folder, a pipe or a device is refused.
 pub const NO_FILE: &str = "it is no regular file";
+
+/// Why a file is refused in which no image of so many sectors fits.
+pub const OTHER_LENGTH: &str = "it has another length";
 
 // The limit of a file's length, of Linux.
 const RLIMIT_FSIZE: i32 = 1;
@@ -118,7 +122,9 @@ pub fn lock(file: &File) -> io::Result<()> {
     for tried in 0..=TRIES {
         match file.try_lock() {
             Ok(()) => return Ok(()),
-            Err(TryLockError::WouldBlock) if tried < TRIES => wait(),
+            Err(TryLockError::WouldBlock) if tried < TRIES => {
+                poll(&mut [], PAUSE);
+            }
             Err(TryLockError::WouldBlock) => {}
             Err(TryLockError::Error(error)) => return Err(error),
         }
@@ -126,7 +132,8 @@ pub fn lock(file: &File) -> io::Result<()> {
     Err(io::Error::new(ErrorKind::WouldBlock, "it is open in another mbdc"))
 }
 
-/// Waits for the time between two tries.
-pub fn wait() {
-    poll(&mut [], PAUSE);
+/// Whether both are the same file, by device and inode number. The contracts of std state neither number, so this
+/// function has no contract.
+pub fn is_same_file(one: &Metadata, other: &Metadata) -> bool {
+    one.dev() == other.dev() && one.ino() == other.ino()
 }

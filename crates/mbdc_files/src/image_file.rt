@@ -3,10 +3,9 @@
 ghost use Rattle.std.specs.Prelude.{IfErr};
 ghost use Rattle.mbdc_ending.specs.Outcome.{IsOfFile};
 
-use crate::half_made::is_same_file;
 use crate::host::Host;
-use crate::image::open_image;
-use crate::why::{Noted, unread};
+use crate::image::{is_same_file, open_image};
+use crate::why::Noted;
 use dc_sectors::FileDisk;
 use libc::EIO;
 use mbdc_ending::Ending;
@@ -77,9 +76,9 @@ impl<R: Files<File = File>> FileExt for ImageFile<'_, '_, R> {
     // failure there: a write that a power cut stopped, or what had been synced. Elsewhere it is one that nothing needs.
     fn read_at(&self, room: &mut [u8], at: u64) -> io::Result<usize> {
         match self.file.read_at(room, at) {
-            Err(error) if self.syncs.get() >= OPENS && error.raw_os_error() == Some(EIO) => Err(
-                unread(),
-            ),
+            Err(error) if self.syncs.get() >= OPENS && error.raw_os_error() == Some(EIO) => {
+                Err(io::Error::new(ErrorKind::Other, "the drive can't read a sector"))
+            }
             answer => answer,
         }
     }

@@ -1,7 +1,6 @@
 //! The file of an image's journal. What fails here costs a view, and nothing else.
 
-use crate::half_made::is_same_file;
-use crate::image::{NO_FILE, file_limit, refused};
+use crate::image::{NO_FILE, file_limit, is_same_file, refused};
 use crate::why::without_number;
 use mbdc_io::first_line;
 use std::alloc::AllocError;

@@ -8,10 +8,11 @@ ghost use Rattle.dc_sectors.specs.File.{IsOpened};
 ghost use Rattle.mbdc_files.specs.Copied.{IsOfCopy};
 
 use crate::host::Host;
-use crate::image::{drop_cached, open_to_look, wait};
+use crate::image::{PAUSE, drop_cached, open_to_look};
 use crate::why::{Noted, Why};
 use dc_sectors::snapshot::{Sample, SampleFault};
 use dc_sectors::{FileDisk, Logged};
+use libc::net::poll;
 use libc::types::timespec;
 use mbdc_ending::Ending;
 use mbdc_log::OpenFault;
@@ -81,19 +82,6 @@ impl<'h> LookedAt<'h> {
         }
     }
 
-    /// The same as a disk that keeps what is read of it.
-    ///
-    /// # Errors
-    /// The ending of the command: a call of the file failed.
-    pub fn sample<'a>(&self, alloc: Global, name: &'a str) -> Result<LookDisk<'h>, Ending<'a>>
-        ensures { IfErr result (λ ending. IsOfFile ending name.now) }
-    {
-        match self.disk(name) {
-            Ok(disk) => Ok(Sample::new(alloc, disk)),
-            Err(ending) => Err(ending),
-        }
-    }
-
     /// Whether what was read stood in the file at one instant, and is durable. If it doesn't, waits, so that the look
     /// may begin anew.
     ///
@@ -106,7 +94,7 @@ impl<'h> LookedAt<'h> {
         match sample.stands() {
             (Ok(true), _) if self.is_durable() => Ok(true),
             (Ok(_), _) if milliseconds().saturating_sub(self.begun) < PATIENCE => {
-                wait();
+                poll(&mut [], PAUSE);
                 Ok(false)
             }
             (Ok(_), _) => Err(self.busy(name)),

@@ -1,8 +1,10 @@
-//! Standard output, up to the limit of files.
+//! Standard output: what fails of it is noted.
 
 use crate::host::Host;
 use crate::image::file_limit;
-use crate::why::{Noted, Why};
+use crate::why::Why;
+use libc::net::{POLLOUT, poll};
+use libc::types::pollfd;
 use std::fs::File;
 use std::io::{ErrorKind, Write};
 use std::rt::Files;
@@ -16,39 +18,79 @@ pub const ERRORS: i32 = 2;
 
 const SEEK_CUR: i32 = 1;
 
+// Number of bytes that a pipe with any room takes at once (PIPE_BUF of Linux).
+const PIECE: usize = 4096;
+
+// Milliseconds for which output that nobody takes is waited for.
+const PATIENCE: i32 = 5000;
+
 /// Standard output, whose failed calls are noted. A write to a file that is as long as the limit of files (`ulimit -f`)
 /// would end the program by a signal: it fails instead.
 #[derive(Drop)]
 pub struct Output<'h, W: Write + Drop, R> {
-    inner: Noted<'h, W>,
+    inner: W,
     rt: &'h R,
     why: &'h Why,
+    goes_on: bool,
+    has_given_up: bool,
 }
 
 impl<'h, W: Write + Drop, R: Files<File = File>> Output<'h, W, R> {
-    /// Wraps standard output.
-    pub fn new(output: W, host: &Host<'h, R>) -> Self {
+    /// Wraps standard output. A command that goes on without it gives it up once nobody takes it for five seconds: a
+    /// write would stop the command.
+    pub fn new(output: W, host: &Host<'h, R>, goes_on: bool) -> Self {
         Output {
-            inner: Noted::new(output, host.why),
+            inner: output,
             rt: host.rt,
             why: host.why,
+            goes_on,
+            has_given_up: false,
         }
+    }
+
+    // Why nothing is written.
+    fn refusal(&mut self) -> Option<io::Error> {
+        let mut output = [pollfd {
+            fd: OUTPUT,
+            events: POLLOUT,
+            revents: 0,
+        }];
+        // One that takes bytes takes a piece within the time.
+        if self.goes_on && (self.has_given_up || poll(&mut output, PATIENCE) == 0) {
+            self.has_given_up = true;
+            return Some(io::Error::new(ErrorKind::TimedOut, "nothing takes it for five seconds"));
+        }
+        if is_full(self.rt, OUTPUT) {
+            let words = "it is as long as the limit of files (ulimit -f)";
+            return Some(io::Error::new(ErrorKind::FileTooLarge, words));
+        }
+        None
     }
 }
 
 impl<W: Write + Drop, R: Files<File = File>> Write for Output<'_, W, R> {
     fn write(&mut self, bytes: &[u8]) -> io::Result<usize> {
-        if is_full(self.rt, OUTPUT) {
-            let words = "it is as long as the limit of files (ulimit -f)";
-            let error = io::Error::new(ErrorKind::FileTooLarge, words);
+        let piece = if self.goes_on {
+            bytes.get(..PIECE).unwrap_or(bytes)
+        } else {
+            bytes
+        };
+        let answer = match self.refusal() {
+            Some(error) => Err(error),
+            None => self.inner.write(piece),
+        };
+        if let Err(error) = answer {
             self.why.note(error);
-            return Err(error);
         }
-        self.inner.write(bytes)
+        answer
     }
 
     fn flush(&mut self) -> io::Result<()> {
-        self.inner.flush()
+        let answer = self.inner.flush();
+        if let Err(error) = answer {
+            self.why.note(error);
+        }
+        answer
     }
 }
 

@@ -3,12 +3,13 @@
 ghost use Rattle.std.specs.Prelude.{◌≡◌, true, false};
 ghost use Rattle.mbdc_ending.specs.Outcome.{EndsAs, IsOfFile};
 
+use crate::image::refused;
 use libc::EIO;
 use mbdc_ending::{Ending, ProgramFault, ending_of};
 use std::cell::Cell;
 use std::fs::{File, Metadata, OpenFile};
 use std::io;
-use std::io::{ErrorKind, Read, Write};
+use std::io::{ErrorKind, Read};
 use std::os::fd::{AsRawFd, RawFd};
 use std::os::unix::fs::FileExt;
 
@@ -81,11 +82,6 @@ impl Why {
         }
     }
 
-    /// Notes a refusal that isn't the system's.
-    pub fn say(&self, words: &str) {
-        self.note(io::Error::new(ErrorKind::InvalidInput, words));
-    }
-
     /// The ending of a run by a fault of a file.
     pub fn file<'a>(&self, name: &'a str, error: io::Error) -> Ending<'a>
         ensures { IsOfFile result name.now }
@@ -99,7 +95,7 @@ impl Why {
         ensures { EndsAs outcome input.now result }
     {
         if let Err(ProgramFault::TooLong) = outcome {
-            self.say("it has more than 1 MiB");
+            self.note(refused("it has more than 1 MiB"));
         }
         ending_of(outcome, input)
     }
@@ -113,7 +109,7 @@ impl Why {
     }
 }
 
-/// A file or a stream whose failed calls are noted.
+/// A file or an input whose failed calls are noted.
 #[derive(Drop)]
 pub struct Noted<'w, T: Drop> {
     inner: T,
@@ -121,7 +117,7 @@ pub struct Noted<'w, T: Drop> {
 }
 
 impl<'w, T: Drop> Noted<'w, T> {
-    /// Wraps the file or stream; its failed calls are noted in `why`.
+    /// Wraps the file or input; its failed calls are noted in `why`.
     pub fn new(inner: T, why: &'w Why) -> Self
         ensures { result.inner ≡ inner }
     {
@@ -157,32 +153,9 @@ impl Noted<'_, File> {
     }
 }
 
-/// A failure of the disk, and no unreadable sector.
-pub(crate) fn unread() -> io::Error {
-    io::Error::new(ErrorKind::Other, "the drive can't read a sector")
-}
-
 impl<T: Read + Drop> Read for Noted<'_, T> {
     fn read(&mut self, room: &mut [u8]) -> io::Result<usize> {
         let answer = self.inner.read(room);
-        if let Err(error) = answer {
-            self.why.note(error);
-        }
-        answer
-    }
-}
-
-impl<T: Write + Drop> Write for Noted<'_, T> {
-    fn write(&mut self, bytes: &[u8]) -> io::Result<usize> {
-        let answer = self.inner.write(bytes);
-        if let Err(error) = answer {
-            self.why.note(error);
-        }
-        answer
-    }
-
-    fn flush(&mut self) -> io::Result<()> {
-        let answer = self.inner.flush();
         if let Err(error) = answer {
             self.why.note(error);
         }

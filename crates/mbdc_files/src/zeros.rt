@@ -1,0 +1,79 @@
+//! A file of zeros, which `format` makes an image in its place.
+
+ghost use Rattle.std.specs.Prelude.{IfErr};
+ghost use Rattle.mbdc_files.specs.Formatted.{IsUnmade};
+
+use crate::host::Host;
+use crate::image::{NO_FILE, OTHER_LENGTH, is_same_file, open_image, refused};
+use crate::why::Noted;
+use dc_roots::{RootFault, choose};
+use dc_sectors::{Disk, FileDisk};
+use mbdc_ending::Ending;
+use mbdc_log::FormatFault;
+use std::fs::{File, Metadata};
+use std::io;
+use std::io::ErrorKind;
+use std::os::unix::fs::FileExt;
+use std::rt::Files;
+
+// Why a file isn't formatted.
+const OTHER_CONTENT: &str = "it holds other bytes than zeros";
+
+/// The regular file that was found under the name, if it has that length and holds only zeros. If it holds an image,
+/// that is the ending, and any other content is kept. Another file may have replaced it since.
+pub(crate) fn zeros_at<'a, R: Files<File = File>>(
+    host: &Host<'_, R>,
+    name: &'a str,
+    seen: &Metadata,
+    length: u64,
+) -> Result<File, Ending<'a>>
+    ensures { IfErr result (λ ending. IsUnmade ending name.now) }
+{
+    match zeros_in(host, name, seen, length) {
+        Ok(Ok(file)) => Ok(file),
+        Ok(Err(fault)) => Err(Ending::Format(fault)),
+        Err(error) => Err(host.why.file(name, error)),
+    }
+}
+
+fn zeros_in<R: Files<File = File>>(
+    host: &Host<'_, R>,
+    name: &str,
+    seen: &Metadata,
+    length: u64,
+) -> io::Result<Result<File, FormatFault>> {
+    if !seen.is_file() {
+        return Err(refused(NO_FILE));
+    }
+    let file = open_image(host.rt, name)?;
+    if !is_same_file(&file.metadata()?, seen) {
+        return Err(io::Error::new(ErrorKind::NotFound, "another file came under that name"));
+    }
+    if is_blank(&file, length)? {
+        return Ok(Ok(file));
+    }
+    let mut disk = FileDisk::new(Noted::new(file, host.why))?;
+    if disk.count() <= 2 {
+        return Err(refused(OTHER_CONTENT));
+    }
+    match choose(&mut disk) {
+        Ok(_) => Ok(Err(FormatFault::AlreadyFormatted)),
+        Err(RootFault::Device) => Ok(Err(FormatFault::Device)),
+        Err(RootFault::NoRoot(_) | RootFault::Worn) => Err(refused(OTHER_CONTENT)),
+    }
+}
+
+// Whether a file of that length holds only zeros, as `truncate` makes it.
+fn is_blank(file: &File, length: u64) -> io::Result<bool> {
+    if file.metadata()?.len() != length {
+        return Err(refused(OTHER_LENGTH));
+    }
+    for place in 0..length / 512 {
+        let mut sector = [1; 512];
+        file.read_exact_at(&mut sector, 512 * place)?;
+        if sector != [0; 512] {
+            return Ok(false);
+        }
+    }
+    Ok(true)
+}
