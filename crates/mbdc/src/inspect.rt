@@ -24,6 +24,15 @@ const SILENT: u64 = 172_800;
 const NO_TABLE: &str =
     "TABLE is neither 'register' nor a date that exists, as 2024-12-31; try mbdc --help";
 
+/// Where standard output goes.
+#[derive(Clone, Copy)]
+pub struct Screen {
+    /// It is a terminal.
+    pub is_terminal: bool,
+    /// It is one that takes colours.
+    pub is_coloured: bool,
+}
+
 /// How what the meters say is printed.
 #[derive(Clone, Copy)]
 pub enum Shape {
@@ -184,13 +193,16 @@ where
     look_into(host, Asked::Table(report, form), image)
 }
 
-/// How what the meters say is printed. At a terminal it is a table, which may be coloured.
-pub fn shape_of(layout: Layout, is_terminal: bool, is_coloured: bool) -> Shape {
-    match layout {
-        Layout::Json => Shape::Lines(Form::Json),
-        Layout::Table => Shape::Table { is_coloured },
-        Layout::Default if is_terminal => Shape::Table { is_coloured },
-        Layout::Default | Layout::Lines => Shape::Lines(Form::Text),
+impl Screen {
+    /// How what the meters say is printed. At a terminal it is a table, which may be coloured.
+    pub fn shape_of(self, layout: Layout) -> Shape {
+        let is_coloured = self.is_coloured;
+        match layout {
+            Layout::Json => Shape::Lines(Form::Json),
+            Layout::Table => Shape::Table { is_coloured },
+            Layout::Default if self.is_terminal => Shape::Table { is_coloured },
+            Layout::Default | Layout::Lines => Shape::Lines(Form::Text),
+        }
     }
 }
 

@@ -21,6 +21,7 @@ mod tasks;
 mod tracing;
 
 use ending::{told, told_disk, told_why, told_words};
+use inspect::Screen;
 use mbdc_commands::words::{Call, call_of};
 use mbdc_ending::{Ending, STREAM};
 use mbdc_files::{ERRORS, Host, NOWHERE, Why, hold, is_full};
@@ -80,8 +81,11 @@ fn answer(rt: &HostRuntime, call: &Call<'_>) -> ExitCode {
         rt.var("NO_COLOR", &mut room),
         Ok(0) | Err(FillError::NotPresent)
     );
-    let is_coloured = is_terminal && takes_all;
-    let ending = tasks::run(&host, &call.task, is_terminal, is_coloured);
+    let screen = Screen {
+        is_terminal,
+        is_coloured: is_terminal && takes_all,
+    };
+    let ending = tasks::run(&host, &call.task, screen);
     // A reader that has seen enough, as head, is no mistake to tell a person of.
     if host.is_watched
         && matches!(ending, Ending::File(STREAM))

@@ -4,10 +4,12 @@ use crate::clock::moment;
 use crate::connecting::{reached, released};
 use crate::journal::Noting;
 use crate::names::meters_of;
-use crate::tracing::{shows_progress, trace_of, tracers_of};
+use crate::tracing::{Trace, shows_progress, trace_of, tracers_of};
 use dc_address::Identity;
+use dc_meters::House;
 use dc_sectors::FileDisk;
 use mbdc_bus::trace::{Observed, Observer};
+use mbdc_change::Moment;
 use mbdc_commands::words::PollTask;
 use mbdc_commands::{Printing, SparingWatch, poll_over};
 use mbdc_ending::Ending;
@@ -49,20 +51,49 @@ where
         Ok(peers) => peers,
         Err(ending) => return ending,
     };
+    let known = (only, house);
+    let ending = poll_reached(
+        host,
+        disk,
+        peers.as_slice(),
+        trace.as_ref(),
+        known,
+        begun,
+        task,
+    );
+    released(host, peers.as_slice());
+    ending
+}
+
+// Reads the meters of this register, or only those that are named, over connected links.
+fn poll_reached<'a, D, R>(
+    host: &Host<'_, R>,
+    disk: FileDisk<D>,
+    peers: &[Option<Peer<R>>],
+    trace: Option<&Trace<'_, R>>,
+    known: (Vec<Identity>, Option<House<Global>>),
+    begun: Moment,
+    task: &PollTask<'a>,
+) -> Ending<'a>
+where
+    D: FileExt + OpenFile + Drop,
+    R: Files<File = File> + Net<Stream = TcpStream> + Clock + Copy + Print + Eprint + AllocGlobal,
+{
+    let (only, house) = known;
     let printing = Printing {
         begun,
         form: if task.is_json { Form::Json } else { Form::Text },
-        is_shown: shows_progress(host, trace.as_ref()),
+        is_shown: shows_progress(host, trace),
     };
     let mut notes = Noting::new(host, task.image, house);
-    let ending = match (
-        tracers_of(host, trace.as_ref(), peers.len()),
+    match (
+        tracers_of(host, trace, peers.len()),
         notes.doubts(u8::try_from(peers.len()).unwrap_or_default()),
     ) {
         (Ok(observers), Ok(mut doubts)) => poll_peers(
             host,
             disk,
-            peers.as_slice(),
+            peers,
             observers,
             doubts.as_mut_slice(),
             only.as_slice(),
@@ -72,9 +103,7 @@ where
         ),
         (Err(ending), _) => ending,
         (_, Err(NoMemory)) => Ending::Memory,
-    };
-    released(host, peers.as_slice());
-    ending
+    }
 }
 
 // Makes the buses of connected links, and reads the meters over them. The observers are any, for the checker meets its

@@ -6,7 +6,7 @@ ghost use Rattle.mbdc.specs.Tasks.{Answers};
 use crate::bench::on_bus;
 use crate::demo;
 use crate::fit::fit_on_image;
-use crate::inspect::{look_into, report_on_image, shape_of, tell_status, tell_values};
+use crate::inspect::{Screen, look_into, report_on_image, tell_status, tell_values};
 use crate::order::order_on_image;
 use crate::pointed::Pointed;
 use crate::poll::poll_on_image;
@@ -32,14 +32,8 @@ use std::{fs, io, str};
 /// Number of bytes that go to standard output at once.
 pub const ROOM: usize = 65_536;
 
-/// Runs the task that the words name; `is_terminal` says that standard output is one, and `is_coloured` that it takes
-/// colours.
-pub fn run<'a, R>(
-    host: &Host<'a, R>,
-    task: &Task<'a>,
-    is_terminal: bool,
-    is_coloured: bool,
-) -> Ending<'a>
+/// Runs the task that the words name.
+pub fn run<'a, R>(host: &Host<'a, R>, task: &Task<'a>, screen: Screen) -> Ending<'a>
 where
     R: Files<File = File>
         + Net<Stream = TcpStream, Listener = TcpListener>
@@ -54,11 +48,8 @@ where
         Task::Lines {
             engine,
             file: Some(name),
-        } => match fs::open(host.rt, name) {
-            Ok(file) => work_on(host, *engine, file, name),
-            Err(error) => host.why.file(name, error),
-        },
-        Task::Lines { engine, file: None } => { work_on(host, *engine, host.rt.reader(), STREAM) }
+        } => work_on_file(host, *engine, name),
+        Task::Lines { engine, file: None } => work_on(host, *engine, host.rt.reader(), STREAM),
         Task::Format { image, sectors } => format_image(host, image, *sectors),
         Task::Run(task) => run_on_image(host, task),
         Task::Report {
@@ -67,19 +58,12 @@ where
             is_json,
         } => report_on_image(host, image, table, *is_json),
         Task::Inspect { image } => look_into(host, Asked::Contents, image),
-        Task::Values { image, layout } => {
-            tell_values(host, image, shape_of(*layout, is_terminal, is_coloured))
-        }
+        Task::Values { image, layout } => tell_values(host, image, screen.shape_of(*layout)),
         Task::Status {
             image,
             silent,
             layout,
-        } => tell_status(
-            host,
-            image,
-            *silent,
-            shape_of(*layout, is_terminal, is_coloured),
-        ),
+        } => tell_status(host, image, *silent, screen.shape_of(*layout)),
         Task::Fit { image, list } => fit_on_image(host, image, list),
         Task::Order(task) => order_on_image(host, task),
         Task::Copy { image, file } => back_up(host, image, file),
@@ -88,12 +72,23 @@ where
         Task::Poll(task) => {
             let ending = poll_on_image(host, task);
             let is_polled = matches!(ending, Ending::Clean | Ending::Faulty);
-            if is_terminal && is_polled && !task.is_json {
-                let _ = tell_values(host, task.image, shape_of(Layout::Table, true, is_coloured));
+            if screen.is_terminal && is_polled && !task.is_json {
+                let _ = tell_values(host, task.image, screen.shape_of(Layout::Table));
             }
             ending
         }
         Task::Demo => demo::play(host),
+    }
+}
+
+fn work_on_file<'a, R: Files<File = File> + Print + Eprint + AllocGlobal>(
+    host: &Host<'_, R>,
+    engine: Engine,
+    name: &'a str,
+) -> Ending<'a> {
+    match fs::open(host.rt, name) {
+        Ok(file) => work_on(host, engine, file, name),
+        Err(error) => host.why.file(name, error),
     }
 }
 
