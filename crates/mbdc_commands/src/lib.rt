@@ -24,7 +24,7 @@ pub use connecting::links_of;
 pub use ending::{look_ending, poll_ending, run_result};
 pub use fit::fit_over;
 pub use poll::{Printing, poll_over};
-pub use rescue::{put_rescued, rescue_to};
+pub use rescue::{put_rescued, rescue_over, rescue_to};
 pub use run::run_over;
 pub use timer::HostTimer;
 pub use waiting::{SparingWatch, Waits, add_awaited};

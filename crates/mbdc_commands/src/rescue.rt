@@ -54,9 +54,12 @@ pub fn rescue_to<'a, S: Shelf>(
     }
 }
 
-// Rescues what is left of an image, and writes it to a new disk of as many sectors. The sectors that are left out are
-// cleared in `copy`, so it has to be a copy of the image, in memory.
-fn rescue_over<C: Disk, D: Disk + Drop>(
+/// Rescues what is left of an image, and writes it to a new disk of as many sectors. The sectors that are left out are
+/// cleared in `copy`, so it has to be a copy of the image, in memory.
+///
+/// # Errors
+/// The ending of the command: nothing can be rescued, or the new disk has another size or failed.
+pub fn rescue_over<C: Disk, D: Disk + Drop>(
     alloc: Global,
     copy: &mut C,
     new: D,
