@@ -8,6 +8,7 @@ use crate::tracing::{Trace, shows_progress, trace_of, tracers_of};
 use dc_address::Identity;
 use dc_meters::House;
 use dc_sectors::FileDisk;
+use mbdc_bus::HalfBus;
 use mbdc_bus::trace::{Observed, Observer};
 use mbdc_change::Moment;
 use mbdc_commands::words::PollTask;
@@ -17,7 +18,7 @@ use mbdc_files::{Host, Output, open_disk};
 use mbdc_io::NoMemory;
 use mbdc_poll::events::{Form, Notes};
 use mbdc_poll::{Doubt, Plan, Sparing};
-use mbdc_raw::links::{LinkBus, Peer, SystemBus};
+use mbdc_raw::links::{LinkBus, Peer, SystemBus, Watched};
 use std::alloc::Global;
 use std::fs::{File, OpenFile};
 use std::io;
@@ -131,12 +132,41 @@ where
             named.clear();
         }
     }
-    let buses = match buses_of(host, peers, observers, doubts, task.patience) {
-        Ok(buses) => buses,
-        Err(ending) => return ending,
-    };
+    match buses_of(host, peers, observers, task.patience) {
+        Ok(buses) => poll_sparing(host, disk, buses, doubts, only, printing, notes, task),
+        Err(ending) => ending,
+    }
+}
+
+// Reads the meters over these buses, each of which asks who was silent on it one question. They are any, as the
+// observers are.
+fn poll_sparing<'a, D, B, J, R>(
+    host: &Host<'_, R>,
+    disk: FileDisk<D>,
+    buses: Vec<B>,
+    doubts: &mut [Vec<Doubt>],
+    only: &[Identity],
+    printing: Printing,
+    notes: J,
+    task: &PollTask<'a>,
+) -> Ending<'a>
+where
+    D: FileExt + OpenFile + Drop,
+    B: HalfBus + Watched + Drop,
+    J: Notes + Drop,
+    R: Files<File = File> + Clock + Print + Eprint + AllocGlobal,
+{
+    let mut sparing = Vec::new(host.rt.alloc());
+    for (bus, silent) in buses.into_iter().zip(doubts.iter_mut()) {
+        if sparing
+            .push(Sparing::new(bus, silent.as_mut_slice()))
+            .is_err()
+        {
+            return Ending::Memory;
+        }
+    }
     let plan = Plan {
-        buses,
+        buses: sparing,
         only,
         tries: task.tries.max(1),
     };
@@ -156,20 +186,19 @@ where
     ending
 }
 
-// The bus of each line, with its observer, and who was silent on it; one without a link is absent.
-fn buses_of<'p, 'd, 'e, R, O>(
+// The bus of each line, with its observer; one without a link is absent.
+fn buses_of<'p, 'e, R, O>(
     host: &Host<'_, R>,
     peers: &'p [Option<Peer<R>>],
     observers: Vec<O>,
-    doubts: &'d mut [Vec<Doubt>],
     patience: Option<u16>,
-) -> Result<Vec<Sparing<'d, Observed<SystemBus<'p, R>, O>>, Global>, Ending<'e>>
+) -> Result<Vec<Observed<SystemBus<'p, R>, O>, Global>, Ending<'e>>
 where
     R: Net<Stream = TcpStream> + Clock + Copy + Eprint + AllocGlobal,
     O: Observer + Drop,
 {
     let mut buses = Vec::new(host.rt.alloc());
-    for ((peer, observer), silent) in peers.iter().zip(observers).zip(doubts.iter_mut()) {
+    for (peer, observer) in peers.iter().zip(observers) {
         let bus = match peer {
             Some(peer) => match peer.bus(*host.rt, patience.unwrap_or(peer.patience())) {
                 Ok(bus) => bus,
@@ -177,8 +206,7 @@ where
             },
             None => LinkBus::Absent,
         };
-        let bus = Sparing::new(Observed { bus, observer }, silent.as_mut_slice());
-        if buses.push(bus).is_err() {
+        if buses.push(Observed { bus, observer }).is_err() {
             return Err(Ending::Memory);
         }
     }

@@ -71,7 +71,8 @@ fn key_of(row: &[u8]) -> FixedSink<KEY> {
         if byte.is_ascii_digit() && !is_in_run {
             let rest = flat.get(at..).unwrap_or_default();
             let run = rest.iter().take_while(|it| it.is_ascii_digit()).count();
-            let _ = key.put(&[b'0'.saturating_add(run as u8)]);
+            let length = u8::try_from(run).unwrap_or(u8::MAX);
+            let _ = key.put(&[b'0'.saturating_add(length)]);
         }
         let _ = key.put(&[*byte]);
         is_in_run = byte.is_ascii_digit();
