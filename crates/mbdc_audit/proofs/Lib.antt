@@ -2,19 +2,17 @@
 
 -- powers of ten
 pub mod Powers
--- the sums of holders
-pub mod Held
 -- the fields of a text
 pub mod Commas
--- the lines of a text, and what they lead to
-pub mod Feeds
--- what is left to read, and when all is right
-pub mod Reaching
--- what lines do, step by step
-pub mod Stepping
--- what the means need, use by use
-pub mod Bases
--- what a place consumed in a period
-pub mod Amounts
--- the sums of a user, of a flat and of the house
-pub mod Holders
+-- a number that is measured
+mod Told
+-- parts add up
+mod Parts
+-- two windows tile
+mod Tiles
+-- what parts sum to
+mod Sums
+-- records give one amount
+mod Records
+-- the values of a sound window are in order
+mod InOrder

@@ -1,22 +1,17 @@
-//! The fields of a line.
+//! The fields of a line, and what they spell.
 
-ghost use Rattle.std.specs.Prelude.{◌≡◌, ◌∷◌, [], Some, IfOk, MatchOption, OnOk, option_map};
+ghost use Rattle.std.specs.Prelude.{◌≡◌, ◌∷◌, option_map};
 ghost use Rattle.std.specs.Str.{bytes_eq};
-ghost use Rattle.mbdc_audit.specs.Field.{fields_of, how_in, left_fields, or_none, read_as};
-ghost use Rattle.mbdc_audit.specs.Field.{read_day_end};
-ghost use Rattle.mbdc_audit.specs.Grade.{grade_named};
-ghost use Rattle.mbdc_audit.specs.Printed.{or_asked};
-ghost use Rattle.mbdc_audit.specs.Smallest.{ratio_in, whole_in};
-ghost use Rattle.mbdc_audit.specs.Uses.{unit_named};
+ghost use Rattle.mbdc_audit.specs.Field.{fields_of, left_fields};
+ghost use Rattle.mbdc_audit.specs.Line.{are_bodies, is_month, is_of, is_number_text, may_have, reads};
 
-use crate::fault::AuditFault;
-use crate::grade::Grade;
-use crate::moment::{day_in, end_of, offset_in};
-use crate::smallest::{ratio_in, whole_in};
-use crate::uses::Unit;
-use crate::window::How;
+use crate::moment::{day_number, offset_in};
+use crate::smallest::{MOST_VALUE_DECIMALS, Spelled, decimal_in, ratio_in, whole_in};
+use crate::uses::Counted;
+use dc_address::Identity;
+use dc_units::Date;
+use mbdc_io::decode_hex;
 use memchr::memchr;
-use std::marker::Model;
 
 /// Whether a field is this word.
 pub(crate) fn is_word(field: &[u8], word: &str) -> bool
@@ -25,18 +20,8 @@ pub(crate) fn is_word(field: &[u8], word: &str) -> bool
     field == word.as_bytes()
 }
 
-// What is in the place of a mark or a count that is asked for.
-const ASKED: &str = "?";
-
-/// The end of a day: its number, and the moment.
-#[derive(Clone, Copy)]
-pub(crate) struct DayEnd {
-    pub day: u64,
-    pub moment: u64,
-}
-
-// Splits off the first field of a text, and returns it with the rest, where there is one.
-fn first_field(text: &[u8]) -> (&[u8], Option<&[u8]>)
+/// Splits off the first field of a text, and returns it with the rest, where there is one.
+pub(crate) fn first_field(text: &[u8]) -> (&[u8], Option<&[u8]>)
     ensures { fields_of text.now
         ≡ result.0.now ∷ left_fields (option_map (λ s. s.now) result.1) }
 {
@@ -50,162 +35,166 @@ fn first_field(text: &[u8]) -> (&[u8], Option<&[u8]>)
     }
 }
 
-/// The fields of a line that are left.
-#[derive(Drop)]
-pub(crate) struct Fields<'a> {
-    left: Option<&'a [u8]>,
+/// The form of a field.
+#[derive(Clone, Copy)]
+pub enum Kind {
+    /// What is looked up.
+    Any,
+    /// `2`: the version.
+    Two,
+    /// `-`.
+    Dash,
+    /// `2026-10`.
+    Month,
+    /// The word of a use, the name of a flat, a reason.
+    Use,
+    Flat,
+    Why,
+    /// A whole number; or `-`.
+    Whole,
+    WholeOrNone,
+    /// A ratio; one above 0; such a one or `-`.
+    Ratio,
+    Positive,
+    PositiveOrNone,
+    /// A decimal.
+    Decimal,
+    /// A day and, in the next field, its offset.
+    Day,
+    Offset,
+    /// A meter, the block of the record that counts or `-`, a device type.
+    Identity,
+    Vib,
+    Type,
+    /// `energy`, `volume` or `units`.
+    Quantity,
+    /// `hand` or `estimated`.
+    How,
+    /// The bodies of telegrams: all fields that are left.
+    Bodies,
+    /// The text of a number; of the value of a run; what is beside it.
+    Text,
+    Exact,
+    Beside,
 }
 
-impl<'a> Model for Fields<'a> {
-    ghost use Rattle.std.specs.Prelude.{ℕ, List, option_map};
-    ghost use Rattle.mbdc_audit.specs.Field.{left_fields};
-
-    ghost Value = { List (List ℕ) };
-
-    ghost view = { λ f. left_fields (option_map (λ s. s.now) f.left) };
+// A number that a field spells.
+fn number(number: Option<u64>) -> Option<Option<Spelled>>
+    ensures { result ≡ option_map (λ n. Some (record { digits = n; decimals = 0 })) number }
+{
+    Some(Some(Spelled {
+        digits: number?,
+        decimals: 0,
+    }))
 }
 
-impl<'a> Fields<'a> {
-    /// The fields of a line.
-    pub fn of(line: &'a [u8]) -> Fields<'a>
-        ensures { result ≡ fields_of line.now }
+impl Kind {
+    // Whether a field of letters may have this byte.
+    fn may_have(self, byte: u8) -> bool
+        ensures { result ≡ may_have self byte }
     {
-        Fields { left: Some(line) }
-    }
-
-    /// The text of the fields that are left.
-    pub fn rest(&self) -> &'a [u8] {
-        self.left.unwrap_or(&[])
-    }
-
-    /// The next field, if one is left.
-    pub fn next_if_any(&mut self) -> Option<&'a [u8]>
-        ensures { MatchOption result (self.old ≡ []) (λ f. self.old ≡ f.now ∷ self.new) }
-    {
-        let text = self.left?;
-        let (field, left) = first_field(text);
-        self.left = left;
-        Some(field)
-    }
-
-    /// The next field.
-    pub fn field(&mut self) -> Result<&'a [u8], AuditFault>
-        ensures { IfOk result (λ f. self.old ≡ f.now ∷ self.new) }
-    {
-        self.next_if_any().ok_or(AuditFault::Row)
-    }
-
-    /// No field is left.
-    pub fn end(&self) -> Result<(), AuditFault>
-        ensures { OnOk result (self.now ≡ []) }
-    {
-        match self.left {
-            None => Ok(()),
-            Some(_) => Err(AuditFault::Row),
+        match self {
+            Kind::Use => byte.is_ascii_digit()
+                || byte.is_ascii_lowercase()
+                || byte == b' '
+                || byte == b'-',
+            Kind::Flat => {
+                byte.is_ascii_alphanumeric()
+                    || byte == b'.'
+                    || byte == b'/'
+                    || byte == b'_'
+                    || byte == b'-'
+            }
+            Kind::Why => b' ' <= byte && byte <= b'~',
+            _ => byte.is_ascii_digit() || (b'A' <= byte && byte <= b'F'),
         }
     }
 
-    /// A whole number.
-    pub fn number(&mut self) -> Result<u64, AuditFault>
-        ensures { IfOk result (λ n. read_as whole_in self.old ≡ Some (n, self.new)) }
+    // Whether a field has these letters: at least one, and at most so many.
+    fn is_of(self, field: &[u8], most: usize) -> bool
+        ensures { result ≡ is_of self most field.now }
     {
-        whole_in(self.field()?).ok_or(AuditFault::Row)
+        !field.is_empty() && field.len() <= most && field.iter().all(|byte| self.may_have(*byte))
     }
 
-    /// A whole number, or `-`.
-    pub fn number_or_none(&mut self) -> Result<Option<u64>, AuditFault>
-        ensures { IfOk result (λ n. read_as (or_none whole_in) self.old ≡ Some (n, self.new)) }
+    /// What a field spells: nothing, or a number with its decimals; `None` where it isn't of this form.
+    pub fn read(self, field: &[u8]) -> Option<Option<Spelled>>
+        ensures { result ≡ reads self field.now }
     {
-        let field = self.field()?;
-        if is_word(field, "-") {
-            return Ok(None);
+        if is_word(field, "-") && matches!(self, Kind::WholeOrNone | Kind::PositiveOrNone | Kind::Vib) {
+            return Some(None);
         }
-        match whole_in(field) {
-            Some(number) => Ok(Some(number)),
-            None => Err(AuditFault::Row),
+        match self {
+            Kind::Any | Kind::Beside => Some(None),
+            Kind::Two => number(whole_in(field).filter(|number| *number == 2)),
+            Kind::Dash if is_word(field, "-") => Some(None),
+            Kind::Month if is_month(field) => Some(None),
+            Kind::Use if self.is_of(field, 32) => Some(None),
+            Kind::Flat if self.is_of(field, 12) => Some(None),
+            Kind::Why if self.is_of(field, 60) => Some(None),
+            Kind::Vib if field.len() % 2 == 0 && self.is_of(field, 22) => Some(None),
+            Kind::Bodies if are_bodies(field) => Some(None),
+            Kind::Whole | Kind::WholeOrNone => number(whole_in(field)),
+            Kind::Ratio => number(ratio_in(field)),
+            Kind::Positive | Kind::PositiveOrNone => {
+                number(ratio_in(field).filter(|ratio| *ratio > 0))
+            }
+            Kind::Decimal => Some(Some(decimal_in(field, MOST_VALUE_DECIMALS)?)),
+            Kind::Day => number(Some(u64::from(day_number(&Date::parse_text(field)?)?))),
+            Kind::Offset => number(Some(u64::from(offset_in(field)?))),
+            Kind::Identity if Identity::parse_text(field).is_ok() => Some(None),
+            Kind::Type if field.len() == 2 && self.is_of(field, 2) => {
+                let mut byte = [0u8];
+                decode_hex(field, &mut byte)?;
+                number(Some(u64::from(byte[0])))
+            }
+            Kind::Quantity if Counted::named(field).is_some() => Some(None),
+            Kind::How if is_word(field, "hand") => number(Some(0)),
+            Kind::How if is_word(field, "estimated") => number(Some(1)),
+            Kind::Text if is_text(field) => Some(None),
+            Kind::Exact if is_word(field, "?") => Some(None),
+            Kind::Exact => Some(Some(decimal_in(field, MOST_VALUE_DECIMALS)?)),
+            _ => None,
         }
     }
+}
 
-    /// A ratio, times 10^6.
-    pub fn ratio(&mut self) -> Result<u64, AuditFault>
-        ensures { IfOk result (λ n. read_as ratio_in self.old ≡ Some (n, self.new)) }
-    {
-        ratio_in(self.field()?).ok_or(AuditFault::Row)
+// Whether a label is a month, as `2026-10`.
+fn is_month(label: &[u8]) -> bool
+    ensures { result ≡ is_month label.now }
+{
+    let mut day = *b"0000-00-01";
+    if label.len() != 7 {
+        return false;
     }
+    day[..7].copy_from_slice(label);
+    Date::parse_text(&day).is_some()
+}
 
-    /// A ratio, times 10^6, or `-`.
-    pub fn ratio_or_none(&mut self) -> Result<Option<u64>, AuditFault>
-        ensures { IfOk result (λ n. read_as (or_none ratio_in) self.old ≡ Some (n, self.new)) }
-    {
-        let field = self.field()?;
-        if is_word(field, "-") {
-            return Ok(None);
-        }
-        match ratio_in(field) {
-            Some(ratio) => Ok(Some(ratio)),
-            None => Err(AuditFault::Row),
-        }
+// Whether fields are bodies: each some bytes, in two capital hex digits a byte.
+fn are_bodies(fields: &[u8]) -> bool
+    ensures { result ≡ are_bodies fields.now }
+{
+    let (mut body, mut rest) = first_field(fields);
+    'bodies: while body.len() % 2 == 0 && Kind::Bodies.is_of(body, fields.len()) {
+        let Some(left) = rest else {
+            return true;
+        };
+        (body, rest) = first_field(left);
     }
+    false
+}
 
-    /// The unit of a number.
-    pub fn unit(&mut self) -> Result<Unit, AuditFault>
-        ensures { IfOk result (λ u. read_as unit_named self.old ≡ Some (u, self.new)) }
-    {
-        Unit::named(self.field()?).ok_or(AuditFault::Row)
-    }
-
-    /// Who put a value.
-    pub fn how(&mut self) -> Result<How, AuditFault>
-        ensures { IfOk result (λ h. read_as how_in self.old ≡ Some (h, self.new)) }
-    {
-        let field = self.field()?;
-        if is_word(field, "hand") {
-            Ok(How::Hand)
-        } else if is_word(field, "estimated") {
-            Ok(How::Estimated)
-        } else {
-            Err(AuditFault::Row)
+// Whether a text is `-`, `?` with zeros for the decimals, or a decimal of at most three decimals, with or without a sign.
+fn is_text(text: &[u8]) -> bool
+    ensures { result ≡ is_number_text text.now }
+{
+    match text {
+        [b'-'] | [b'?'] => true,
+        [b'?', b'.', zeros @ ..] => {
+            !zeros.is_empty() && zeros.len() <= 3 && zeros.iter().all(|byte| *byte == b'0')
         }
-    }
-
-    /// A day and an offset: the end of the day.
-    #[tactic(auto, unfolding(crate::specs::Field::read_day_end))]
-    pub fn day_end(&mut self) -> Result<DayEnd, AuditFault>
-        ensures { IfOk result (λ e. read_day_end self.old ≡ Some (e, self.new)) }
-    {
-        let day = day_in(self.field()?).ok_or(AuditFault::Row)?;
-        let offset = offset_in(self.field()?).ok_or(AuditFault::Row)?;
-        let moment = end_of(day, offset).ok_or(AuditFault::Row)?;
-        Ok(DayEnd { day, moment })
-    }
-
-    /// A mark; none where it is asked for.
-    pub fn mark(&mut self, may_ask: bool) -> Result<Option<Grade>, AuditFault>
-        ensures { IfOk result (λ g. read_as (or_asked may_ask grade_named) self.old
-            ≡ Some (g, self.new)) }
-    {
-        let field = self.field()?;
-        if may_ask && is_word(field, ASKED) {
-            return Ok(None);
-        }
-        match Grade::named(field) {
-            Some(grade) => Ok(Some(grade)),
-            None => Err(AuditFault::Row),
-        }
-    }
-
-    /// A count; none where it is asked for.
-    pub fn count(&mut self, may_ask: bool) -> Result<Option<u64>, AuditFault>
-        ensures { IfOk result (λ n. read_as (or_asked may_ask whole_in) self.old
-            ≡ Some (n, self.new)) }
-    {
-        let field = self.field()?;
-        if may_ask && is_word(field, ASKED) {
-            return Ok(None);
-        }
-        match whole_in(field) {
-            Some(number) => Ok(Some(number)),
-            None => Err(AuditFault::Row),
-        }
+        [b'-', digits @ ..] => decimal_in(digits, 3).is_some(),
+        _ => decimal_in(text, 3).is_some(),
     }
 }

@@ -30,7 +30,7 @@ const MOST_POWER: u32 = 38;
 pub const OF_RATIO: u64 = 1_000_000;
 
 /// A decimal: its digits as a number, and how many of them are after the point.
-#[derive(Clone, Copy)]
+#[derive(Clone, Copy, PartialEq, Eq)]
 pub struct Spelled {
     pub digits: u64,
     pub decimals: u32,
@@ -67,18 +67,12 @@ pub fn whole_in(text: &[u8]) -> Option<u64>
     }
 }
 
-fn first_point(text: &[u8]) -> Option<usize>
-    ensures { result ≡ position is_point text.now }
-{
-    text.iter().position(|byte| *byte == b'.')
-}
-
 // The digits before the point and those after it.
 fn parts_of(text: &[u8]) -> (&[u8], Option<&[u8]>)
     ensures whole { result.0.now ≡ (parts_of text.now).0 }
     ensures after { option_map (λ s. s.now) result.1 ≡ (parts_of text.now).1 }
 {
-    match first_point(text) {
+    match text.iter().position(|byte| *byte == b'.') {
         None => (text, None),
         Some(point) => {
             let (whole, rest) = text.split_at(point);
@@ -138,11 +132,12 @@ pub fn decimal_in(text: &[u8], most: usize) -> Option<Spelled>
     spelled_after(most, digits_on(0, whole), after)
 }
 
-// A decimal of at most six decimals, times 10^6.
-fn ratio_of(spelled: Spelled) -> Option<u64>
-    requires { spelled.decimals ≤ 6 }
-    ensures { result ≡ ratio_of spelled }
+/// The ratio that a text spells, times 10^6: at most nine digits before the point, and six after it.
+#[tactic(auto, unfolding(crate::specs::Smallest::ratio_in))]
+pub fn ratio_in(text: &[u8]) -> Option<u64>
+    ensures { result ≡ ratio_in text.now }
 {
+    let spelled = decimal_in(text, MOST_RATIO_DECIMALS)?;
     let scale = power_of_ten(6 - spelled.decimals);
     let ratio = u128::from(spelled.digits).checked_mul(scale)?;
     if ratio < END_OF_RATIOS {
@@ -150,14 +145,6 @@ fn ratio_of(spelled: Spelled) -> Option<u64>
     } else {
         None
     }
-}
-
-/// The ratio that a text spells, times 10^6: at most nine digits before the point, and six after it.
-#[tactic(auto, unfolding(crate::specs::Smallest::ratio_in))]
-pub fn ratio_in(text: &[u8]) -> Option<u64>
-    ensures { result ≡ ratio_in text.now }
-{
-    ratio_of(decimal_in(text, MOST_RATIO_DECIMALS)?)
 }
 
 // A number of smallest units below 10^18.
@@ -171,9 +158,9 @@ fn fitting(units: u128) -> Option<u64>
     }
 }
 
-// A power of ten.
+/// A power of ten.
 #[tactic(auto, using(crate::proofs::Powers::power_some, crate::proofs::Powers::power_fits))]
-fn power_of_ten(power: u32) -> u128
+pub fn power_of_ten(power: u32) -> u128
     requires { power ≤ 38 }
     ensures value { result ≡ 10 ^ power }
     ensures some { 0 < result }

@@ -28,7 +28,7 @@ pub const TOO_LONG: u64 = 3;
 /// holds, or why nothing is known.
 #[unsafe(no_mangle)]
 pub extern "C" fn mbdc_audit(alloc: Global, file: &[u8], out: &mut [u8], size: &mut usize) -> u64
-    ensures right { result ≡ RIGHT → IsRight false (lines_of file.now) }
+    ensures right { result ≡ RIGHT → IsRight (lines_of file.now) }
     ensures known { result < 4 }
     ensures fits { size.new ≤ length out.old }
 {

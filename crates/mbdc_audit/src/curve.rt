@@ -1,0 +1,247 @@
+//! What a place consumed in a period of a window, and the mark of that number.
+
+ghost use Rattle.std.specs.Prelude.{◌≡◌, IfOk, map};
+ghost use Rattle.mbdc_audit.specs.Amount.{counting, deciding, due_whole, entries, grade, is_final, is_near, known_of, mark, told};
+ghost use Rattle.mbdc_audit.specs.Amount.{is_first, is_guess, is_last, is_put, share_of, like};
+
+use crate::fault::Stop;
+use crate::grade::Grade;
+use crate::house::Value;
+use crate::line::Word;
+use dc_address::Identity;
+use mbdc_consumption::{Entry, backwards, consumption, exchanges, is_in_order};
+use std::alloc::Allocator;
+
+/// A meter at a place from its beginning to its end; a counter that began anew is another run.
+#[derive(Clone, Copy)]
+pub struct Run<'a> {
+    pub line: u64,
+    pub identity: Identity,
+    pub begin: u64,
+    /// The last run may have no end.
+    pub end: Option<u64>,
+    /// What it can count in an hour; 0 where it isn't declared.
+    pub most: u64,
+    /// The value from which it goes on at 0; 0 where it has no turn.
+    pub size: u64,
+    /// The block of the record that counts, in hex digits, or nothing.
+    pub vib: &'a [u8],
+}
+
+/// An amount, where there is a number, and its mark.
+#[derive(Clone, Copy, PartialEq, Eq)]
+pub struct Amount {
+    pub amount: Option<u64>,
+    pub grade: Grade,
+}
+
+impl Amount {
+    /// No amount.
+    pub const NONE: Amount = Amount {
+        amount: None,
+        grade: Grade::Missing,
+    };
+}
+
+// Between the values around an end of what counts as measured: 48 hours.
+const LONGEST_GAP: u64 = 172_800;
+
+// Amounts have at most 18 digits.
+const END_OF_AMOUNTS: u64 = 1_000_000_000_000_000_000;
+
+impl Run<'_> {
+    /// Whether it ends at a moment or before it.
+    pub fn is_over(&self, moment: u64) -> bool {
+        self.end.is_some_and(|end| end <= moment)
+    }
+}
+
+impl Value<'_> {
+    /// Whether a person or an estimate put it; a repeated telegram is an estimate.
+    pub fn is_put(&self) -> bool {
+        self.is_again || self.typed.is_some()
+    }
+
+    /// Whether it is an estimate.
+    pub fn is_guess(&self) -> bool {
+        self.is_again || self.typed.is_some_and(|typed| typed.is_guess)
+    }
+}
+
+/// The values of a window that count, and the same as entries.
+#[derive(Drop)]
+pub(crate) struct Curve<'w, 'a, A: Allocator + Copy> {
+    values: Vec<Value<'a>, A>,
+    entries: Vec<Entry, A>,
+    runs: &'w [Run<'a>],
+}
+
+impl<'w, 'a, A: Allocator + Copy> Curve<'w, 'a, A> {
+    /// The values that have evidence; of several of one run and moment that follow one another, the last; where it is
+    /// asked for, without those that a person or an estimate put.
+    pub fn of(
+        alloc: A,
+        runs: &'w [Run<'a>],
+        values: &[Value<'a>],
+        is_told: bool,
+    ) -> Result<Self, Stop> {
+        let mut kept: Vec<Value<'a>, A> = Vec::new(alloc);
+        let mut entries: Vec<Entry, A> = Vec::new(alloc);
+        'values: for value in values {
+            let (Ok(amount), Some(run)) = (value.found, runs.get(value.run as usize)) else {
+                continue;
+            };
+            if is_told && value.is_put() {
+                continue;
+            }
+            let entry = Entry {
+                moment: value.moment,
+                meter: value.run,
+                value: amount,
+                most: run.most,
+                size: run.size,
+            };
+            if entries.last().is_some_and(|last| last.is_repeated_by(&entry)) {
+                let _ = entries.pop();
+                let _ = kept.pop();
+            }
+            entries.push(entry)?;
+            kept.push(*value)?;
+        }
+        Ok(Curve {
+            values: kept,
+            entries,
+            runs,
+        })
+    }
+
+    // The values that decide a moment: the last one at it or before it and, where that is before it, the next.
+    fn deciding(&self, moment: u64) -> (Option<Value<'a>>, Option<Value<'a>>) {
+        let last = self.values.iter().rev().find(|value| value.moment <= moment).copied();
+        let next = self.values.iter().find(|value| value.moment > moment).copied();
+        if last.is_some_and(|last| last.moment == moment) {
+            return (last, None);
+        }
+        (last, next)
+    }
+
+    /// Whether the values that decide a moment are the same in two windows: of one run, moment, amount and word.
+    pub fn is_one_with(&self, other: &Curve<'_, '_, A>, moment: u64) -> bool {
+        let is_same = |one: Option<Value<'a>>, other: Option<Value<'_>>| match (one, other) {
+            (Some(one), Some(other)) => one.run == other.run
+                && one.moment == other.moment
+                && one.found == other.found
+                && one.word == other.word,
+            (one, other) => one.is_none() && other.is_none(),
+        };
+        let (last, next) = self.deciding(moment);
+        let (others, after) = other.deciding(moment);
+        is_same(last, others) && is_same(next, after)
+    }
+
+    // Whether a period rests on a value that was put, or on an estimate: at its ends, or at an exchange in it.
+    fn rests_on(&self, from: u64, to: u64, is_guess: bool) -> bool {
+        let is_so = |value: &Value<'_>| if is_guess { value.is_guess() } else { value.is_put() };
+        let (first, second) = self.deciding(from);
+        let (third, fourth) = self.deciding(to);
+        let decides = [first, second, third, fourth].iter().flatten().any(is_so);
+        decides
+            || self.values.iter().any(|value| {
+                matches!(value.word, Word::First | Word::Zero | Word::Last | Word::Ended)
+                    && from < value.moment
+                    && value.moment <= to
+                    && is_so(value)
+            })
+    }
+
+    // Whether a value lies at a moment, or those around it are at most 48 hours apart.
+    fn is_near(&self, moment: u64) -> bool {
+        match self.deciding(moment) {
+            (Some(last), Some(next)) => next.moment - last.moment <= LONGEST_GAP,
+            _ => true,
+        }
+    }
+
+    // Whether nothing is to come that may yet say that a period's end is false.
+    fn is_final(&self, to: u64) -> bool {
+        let is_over = self.runs.last().is_some_and(|run| run.is_over(to));
+        let first = self.values.iter().find(|value| value.moment >= to).copied();
+        is_over
+            || first.is_some_and(|first| self.values.iter().any(|value| first.moment < value.moment))
+    }
+
+    // Number of exchanges of a period by the runs; none where one of them lacks the last value of the run before it or the
+    // first of the next, or time lies between these.
+    fn due(&self, from: u64, to: u64) -> Option<usize> {
+        let has = |run: usize, words: [Word; 2]| {
+            let mut values = self.values.iter();
+            values.any(|value| value.run == run as u64 && words.contains(&value.word))
+        };
+        let mut count = 0;
+        'runs: for (i, (old, new)) in self.runs.iter().zip(self.runs.iter().skip(1)).enumerate() {
+            let ends_before = old.end.is_some_and(|end| end < to);
+            if from < new.begin && (ends_before || new.begin <= to) {
+                let has_last = has(i, [Word::Last, Word::Ended]);
+                let has_first = has(i + 1, [Word::First, Word::Zero]);
+                if old.end != Some(new.begin) || !has_last || !has_first {
+                    return None;
+                }
+                count += 1;
+            }
+        }
+        Some(count)
+    }
+
+    /// What a place consumed in a period, and the first mark that applies.
+    pub fn graded(&self, from: u64, to: u64) -> Amount {
+        let entries = self.entries.as_slice();
+        let amount = if to < from || !is_in_order(entries) {
+            None
+        } else {
+            consumption(entries, from, to).unwrap_or(Some(END_OF_AMOUNTS))
+        };
+        let is_small = amount.unwrap_or(0) < END_OF_AMOUNTS;
+        let grade = if backwards(entries, from, to) > 0 {
+            Grade::Disturbed
+        } else if self.due(from, to) != Some(exchanges(entries, from, to)) || !is_small {
+            Grade::Unclear
+        } else if amount.is_none() {
+            Grade::Missing
+        } else if self.rests_on(from, to, true) || !self.is_near(from) || !self.is_near(to) {
+            Grade::Estimated
+        } else if !self.is_final(to) {
+            Grade::Provisional
+        } else if self.rests_on(from, to, false) {
+            Grade::Hand
+        } else {
+            Grade::Measured
+        };
+        let amount = if grade.has_number() { amount } else { None };
+        Amount { amount, grade }
+    }
+}
+
+/// What a place consumed in a period, and the mark: measured only where it is the same without every put value.
+pub(crate) fn amount_of<'a, A: Allocator + Copy>(
+    alloc: A,
+    runs: &[Run<'a>],
+    values: &[Value<'a>],
+    from: u64,
+    to: u64,
+) -> Result<Amount, Stop> {
+    let all = Curve::of(alloc, runs, values, false)?.graded(from, to);
+    let is_put = |value: &Value<'_>| value.found.is_ok() && value.is_put();
+    if all.grade != Grade::Measured || !values.iter().any(is_put) {
+        return Ok(all);
+    }
+    if Curve::of(alloc, runs, values, true)?.graded(from, to) == all {
+        return Ok(all);
+    }
+    let has_guess = values.iter().any(|value| value.found.is_ok() && value.is_guess());
+    let grade = if has_guess {
+        Grade::Estimated
+    } else {
+        Grade::Hand
+    };
+    Ok(Amount { grade, ..all })
+}
