@@ -5,11 +5,12 @@ use Rattle.std.specs.Prelude.{AllPairs, ◌==◌}
 use Rattle.std.specs.List.{list_any}
 use Rattle.mbdc_consumption.specs.declared.entry.Entry.{Entry}
 use Rattle.mbdc_consumption.specs.Order.{IsInOrder}
-use Rattle.mbdc_audit.specs.House.{House, Part, Place, Quantity, Run, Span, Value, Window, put}
+use Rattle.mbdc_audit.specs.House.{House, Part, Place, Run, Span, Value, Window, put}
 use Rattle.mbdc_audit.specs.Amount.{amount, counting, entries, entry_of, is_again, known, no_text}
 use Rattle.mbdc_audit.specs.Sound.{IsWindow, Tile, from, to}
 use Rattle.mbdc_audit.specs.Published.{house, is_whole, plain, shares_of}
 use Rattle.mbdc_audit.proofs.Sums.{of_place}
+use Rattle.mbdc_audit.specs.declared.uses.Counted.{Counted}
 
 -- each value is no earlier than the one before it, and the first than a moment
 abbrev Rise : ℕ → List Value → Type 0
@@ -101,7 +102,7 @@ pub sound_order : (runs : List Run) (values : List Value) → AllPairs After val
 sound_order runs values pairs = in_order runs 0 (counting (known values))
     (counting_rises 0 (known values) (known_rises 0 values (from_zero values pairs)))
 
-pub sound_sum : (h : House) (p : Place) (q : Quantity) (w : Window) (s : Span) (first : Part) (rest : List Part)
+pub sound_sum : (h : House) (p : Place) (q : Counted) (w : Window) (s : Span) (first : Part) (rest : List Part)
     → IsWindow h p q w s → w.parts ≡ first ∷ rest
     → is_whole (shares_of house (record { place = p; window = w })) ≡ true
     → amount p.runs (known w.values) (from p s) (to p s) ≡ Some (plain (shares_of house (record { place = p; window = w })))

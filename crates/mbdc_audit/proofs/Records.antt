@@ -9,8 +9,8 @@ use Rattle.dc_units.specs.declared.point.Seen.{Seen}
 use Rattle.dc_units.specs.declared.point.Seen.TheVariants.{Point as Known, Other}
 use Rattle.dc_units.specs.declared.value.Value as value_type
 use Rattle.dc_units.specs.declared.value.Value.TheVariants as value
-use Rattle.mbdc_audit.specs.House.{Quantity}
 use Rattle.mbdc_audit.specs.Evidence.{Counts, Gives, IsScaled, is_meant, size_of}
+use Rattle.mbdc_audit.specs.declared.uses.Counted.{Counted}
 
 -- ---- one record
 
@@ -26,7 +26,7 @@ abbrev exponent : value_type.Value → ℤ
 exponent (value.Number d) = d.exponent
 exponent _ = pos 0
 
-abbrev size_or : Option (Quantity × ℕ) → ℕ
+abbrev size_or : Option (Counted × ℕ) → ℕ
 size_or None = 0
 size_or (Some x) = x.1
 
@@ -42,7 +42,7 @@ one_scaled digits size (pos power) n m e e' = e ∙ sym e'
 one_scaled digits size (negsuc k) n m e e' =
     sym (undone n k) ∙ (ap (λ (x : ℕ). x / 10 ^ (k + 1)) (e ∙ sym e') ∙ undone m k)
 
-pub one_count : (vib : List ℕ) (q : Quantity) (e : Entry) (n m : ℕ) → Counts vib q e n → Counts vib q e m → n ≡ m
+pub one_count : (vib : List ℕ) (q : Counted) (e : Entry) (n m : ℕ) → Counts vib q e n → Counts vib q e m → n ≡ m
 one_count vib q e n m c d =
     let point : c.point ≡ d.point = ap (point_or c.point) (sym c.seen ∙ d.seen) in
     let size : c.size ≡ d.size =
@@ -79,10 +79,10 @@ first_one P (b ∷ bs) (c ∷ cs) it it' after after' e p p' none none' =
     first_one P bs cs it it' after after' (tail b c (bs ++ (it ∷ after)) (cs ++ (it' ∷ after')) e) p p'
     (rest_of P b bs none) (rest_of P c cs none')
 
-abbrev Is : List ℕ → Quantity → Option ℕ → List Entry → Entry → Type 0
+abbrev Is : List ℕ → Counted → Option ℕ → List Entry → Entry → Type 0
 Is vib q day records e = (is_meant day records e ≡ true) × ((n : ℕ) × Counts vib q e n)
 
-pub one_amount : (vib : List ℕ) (q : Quantity) (day : Option ℕ) (records : List Entry) (n m : ℕ)
+pub one_amount : (vib : List ℕ) (q : Counted) (day : Option ℕ) (records : List Entry) (n m : ℕ)
     → Gives vib q day records n → Gives vib q day records m → n ≡ m
 one_amount vib q day records n m g h =
     let one : g.it ≡ h.it = first_one (Is vib q day records) g.before h.before g.it h.it g.after h.after

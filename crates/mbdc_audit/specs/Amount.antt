@@ -8,6 +8,8 @@ use Rattle.mbdc_consumption.specs.declared.entry.Entry.{Entry}
 use Rattle.mbdc_consumption.specs.Mark.{exchanges_in, marked_in}
 use Rattle.mbdc_consumption.specs.Period.{consumption}
 use Rattle.mbdc_audit.specs.House.{Run, Value, Spelled, Source, current, ended, anew, put, first, last}
+use Rattle.mbdc_audit.specs.declared.grade.Grade.{Grade}
+use Rattle.mbdc_audit.specs.declared.grade.Grade.TheVariants.{Measured, Hand, Provisional, Estimated, Unclear, Disturbed, Missing}
 
 -- ---- the values
 
@@ -115,16 +117,6 @@ is_near moment values = list_all is_near_pair (zip (deciding moment values) (dro
 
 -- ---- marks
 
--- the worst last; the last three have no number
-pub data Mark : Type 0 where
-  measured : Mark
-  hand : Mark
-  provisional : Mark
-  estimated : Mark
-  unclear : Mark
-  disturbed : Mark
-  missing : Mark
-
 abbrev pub is_by : ℕ → Option ℕ → Bool
 is_by moment None = false
 is_by moment (Some over) = nat_le over moment
@@ -172,16 +164,16 @@ is_final runs values to = list_any (λ r. is_by to r.over) (last_of runs)
     (zip (filter (λ v. nat_le to v.moment) values) (drop 1 (filter (λ v. nat_le to v.moment) values)))
 
 -- the first of these that applies
-abbrev pub grade : List Run → List Value → ℕ → ℕ → Mark
+abbrev pub grade : List Run → List Value → ℕ → ℕ → Grade
 grade runs values from to =
-    if nat_lt 0 (length (marked_in (entries runs values) from to)) then disturbed
-    else if not (is_clear runs values from to) then unclear
-    else if not (is_some (amount runs values from to)) then missing
+    if nat_lt 0 (length (marked_in (entries runs values) from to)) then Disturbed
+    else if not (is_clear runs values from to) then Unclear
+    else if not (is_some (amount runs values from to)) then Missing
     else if list_any (λ v. is_guess v.source) (basis from to values)
-    || (not (is_near from values) || not (is_near to values)) then estimated
-    else if not (is_final runs values to) then provisional
-    else if list_any (λ v. is_put v.source) (basis from to values) then hand
-    else measured
+    || (not (is_near from values) || not (is_near to values)) then Estimated
+    else if not (is_final runs values to) then Provisional
+    else if list_any (λ v. is_put v.source) (basis from to values) then Hand
+    else Measured
 
 -- ---- the values that aren't put
 
@@ -189,8 +181,8 @@ grade runs values from to =
 abbrev pub told : List Value → List Value
 told values = filter (λ v. not (is_put v.source)) values
 
-abbrev pub is_measured : Mark → Bool
-is_measured measured = true
+abbrev pub is_measured : Grade → Bool
+is_measured Measured = true
 is_measured _ = false
 
 abbrev pub is_same : Option ℕ → Option ℕ → Bool
@@ -203,14 +195,14 @@ abbrev pub is_told : List Run → List Value → ℕ → ℕ → Bool
 is_told runs values from to = is_same (amount runs (told values) from to) (amount runs values from to)
     && is_measured (grade runs (told values) from to)
 
-abbrev pub put_mark : List Value → Mark
-put_mark values = if list_any (λ v. is_guess v.source) values then estimated else hand
+abbrev pub put_mark : List Value → Grade
+put_mark values = if list_any (λ v. is_guess v.source) values then Estimated else Hand
 
-abbrev pub unless_told : Bool → Mark → Mark → Mark
+abbrev pub unless_told : Bool → Grade → Grade → Grade
 unless_told true m other = m
-unless_told false measured other = other
+unless_told false Measured other = other
 unless_told false m other = m
 
 -- THE MARK of a number: measured only where telegrams alone give it
-abbrev pub mark : List Run → List Value → ℕ → ℕ → Mark
+abbrev pub mark : List Run → List Value → ℕ → ℕ → Grade
 mark runs values from to = unless_told (is_told runs values from to) (grade runs values from to) (put_mark values)

@@ -13,29 +13,15 @@ use Rattle.dc_units.specs.Point.{seen_of}
 use Rattle.dc_units.specs.declared.point.Point.{Point}
 use Rattle.dc_units.specs.declared.point.Seen.{Seen}
 use Rattle.dc_units.specs.declared.point.Seen.TheVariants.{Point as Known, Other}
-use Rattle.dc_units.specs.declared.quantity.Quantity as listed_type
-use Rattle.dc_units.specs.declared.quantity.Quantity.TheVariants as listed
 use Rattle.dc_units.specs.declared.value.Value as value_type
 use Rattle.dc_units.specs.declared.value.Value.TheVariants as value
-use Rattle.mbdc_audit.specs.House.{at, Quantity, energy, volume, units, Run, Spelled, Value}
+use Rattle.mbdc_audit.specs.Moment.{number_of}
+use Rattle.mbdc_audit.specs.Uses.{size_named, size_of}
+use Rattle.mbdc_audit.specs.House.{at, Run, Spelled, Value}
 use Rattle.mbdc_audit.specs.House.{Source, current, stored, ended, anew, put, first, last}
+use Rattle.mbdc_audit.specs.declared.uses.Counted.{Counted}
 
 -- ---- days
-
-abbrev pub leap_days : ℕ → ℕ
-leap_days years = years / 4 + years / 400 - years / 100
-
--- days before the first of a month that counts from March
-abbrev pub before_month : ℕ → ℕ
-before_month month = (153 * month + 2) / 5
-
--- the number of a day since 1970: years begin in March, so that a leap day is a year's last
-abbrev pub from_march : ℕ → ℕ → ℕ → ℕ
-from_march year month day = 365 * year + leap_days year + before_month month + day - 719469
-
-abbrev pub number_of : Day → ℕ
-number_of d = if nat_lt d.month 3 then from_march (d.year - 1) (d.month + 9) d.day
-    else from_march d.year (d.month - 3) d.day
 
 -- a day, the second of a date and time, and whether it has one
 pub record Dated : Type 0 where
@@ -89,16 +75,6 @@ code_of (vif ∷ next ∷ rest) = if vif == 0xFB
     then (if list_all is_flow rest then 0xFB ∷ (next % 128) ∷ [] else vif ∷ next ∷ rest)
     else (if list_all is_flow (next ∷ rest) then (vif % 128) ∷ [] else vif ∷ next ∷ rest)
 
--- what a unit of the table counts, and the smallest units of one
-abbrev pub size_of : listed_type.Quantity → Option (Quantity × ℕ)
-size_of listed.EnergyWattHour = Some (energy, 3600000)
-size_of listed.EnergyJoule = Some (energy, 1000)
-size_of listed.EnergyMegawattHour = Some (energy, 3600000000000)
-size_of listed.EnergyGigajoule = Some (energy, 1000000000000)
-size_of listed.Volume = Some (volume, 1000000)
-size_of listed.HeatCostAllocator = Some (units, 1000)
-size_of _ = None
-
 -- a number times a power of ten is so many whole units
 abbrev pub IsScaled : ℕ → ℕ → ℤ → ℕ → Type 0
 IsScaled n size (pos power) amount = amount ≡ n * size * 10 ^ power
@@ -114,7 +90,7 @@ IsNamed [] vib = ⊤
 IsNamed (byte ∷ rest) vib = bare vib ≡ byte ∷ rest
 
 -- A RECORD COUNTS so many smallest units of a quantity
-pub record Counts (vib : List ℕ) (q : Quantity) (e : Entry) (amount : ℕ) : Type 0 where
+pub record Counts (vib : List ℕ) (q : Counted) (e : Entry) (amount : ℕ) : Type 0 where
   pub is_named : IsNamed vib e.vib
   pub point : Point
   pub seen : seen_of (record e { vib = named vib e.vib }) ≡ Known point
@@ -135,7 +111,7 @@ is_meant (Some day) records e =
     nat_lt 0 e.storage && list_any (λ d. d.day == day) (dates e.storage records)
 
 -- the first record that is meant and counts
-pub record Gives (vib : List ℕ) (q : Quantity) (day : Option ℕ) (records : List Entry) (amount : ℕ) : Type 0 where
+pub record Gives (vib : List ℕ) (q : Counted) (day : Option ℕ) (records : List Entry) (amount : ℕ) : Type 0 where
   pub before : List Entry
   pub it : Entry
   pub after : List Entry
@@ -172,7 +148,7 @@ abbrev pub MayHaveEnded : ℕ → List Entry → Type 0
 MayHaveEnded day records = All (λ d. d.has_time ≡ true → day * 86400 ≤ d.second) (dates 0 records)
 
 -- telegrams are evidence of an amount
-pub record Tell (run : Run) (q : Quantity) (bodies : List (List ℕ)) (day : Option ℕ) (may : List Entry → Type 0)
+pub record Tell (run : Run) (q : Counted) (bodies : List (List ℕ)) (day : Option ℕ) (may : List Entry → Type 0)
     (amount : ℕ) : Type 0 where
   pub telegrams : List Parsed
   pub readout : IsReadout run.identity bodies telegrams
@@ -181,18 +157,13 @@ pub record Tell (run : Run) (q : Quantity) (bodies : List (List ℕ)) (day : Opt
 
 -- ---- values that are put
 
-abbrev pub words : List (List ℕ × Quantity × ℕ)
-words = (codes "Wh", energy, 3600000) ∷ (codes "kWh", energy, 3600000000) ∷ (codes "MWh", energy, 3600000000000)
-    ∷ (codes "J", energy, 1000) ∷ (codes "GJ", energy, 1000000000000) ∷ (codes "m3", volume, 1000000)
-    ∷ (codes "HCA", units, 1000) ∷ []
-
-pub record IsSpelled (q : Quantity) (t : Spelled) (amount : ℕ) : Type 0 where
-  pub unit : Contains words (t.unit, q, t.size)
+pub record IsSpelled (q : Counted) (t : Spelled) (amount : ℕ) : Type 0 where
+  pub unit : size_named t.unit ≡ Some (q, t.size)
   pub whole : amount * 10 ^ t.decimals ≡ t.digits * t.size
   pub small : amount < 10 ^ 18
 
 -- A VALUE HAS EVIDENCE; that a run began anew is seen in its window
-abbrev pub Rests : Run → Quantity → Value → Source → Type 0
+abbrev pub Rests : Run → Counted → Value → Source → Type 0
 Rests run q v (current bodies) = Tell run q bodies None (MayBeAt v.moment) v.amount
 Rests run q v (stored e bodies) = (v.moment ≡ at e) × Tell run q bodies (Some e.day) (MayHaveEnded e.day) v.amount
 Rests run q v (ended e bodies) = (v.moment ≡ at e) × (run.over ≡ Some v.moment)

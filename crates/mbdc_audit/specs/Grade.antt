@@ -28,9 +28,3 @@ worst a b = if nat_lt (rank a) (rank b) then b else a
 -- the last three have no number
 abbrev pub has_number : Grade → Bool
 has_number g = nat_lt (rank g) (rank Unclear)
-
--- what may be compared with others
-abbrev pub is_reliable : Grade → Bool
-is_reliable Measured = true
-is_reliable Hand = true
-is_reliable _ = false

@@ -2,26 +2,16 @@
 -- quantity, millionths for ratios.
 use Rattle.std.specs.Prelude.{ℕ, ◌+◌, ◌-◌, ◌*◌, Bool, List, Option}
 use Rattle.dc_address.specs.declared.identity.Identity.{Identity}
+use Rattle.mbdc_audit.specs.declared.uses.Counted.{Counted}
+use Rattle.mbdc_audit.specs.declared.uses.Unit.{Unit}
 
--- the end of a day: its number since 1970, and its minutes ahead of 14 hours behind UTC
+-- the end of a day: its number since 1970, and its minutes ahead of a week behind UTC
 pub record End : Type 0 where
   pub day : ℕ
   pub offset : ℕ
 
 abbrev pub at : End → ℕ
-at e = (e.day + 1) * 86400 + 50400 - 60 * e.offset
-
-pub data Quantity : Type 0 where
-  energy : Quantity
-  volume : Quantity
-  units : Quantity
-
-pub data Unit : Type 0 where
-  kwh : Unit
-  cubic_metre : Unit
-  allocated : Unit
-  count : Unit
-  smallest : Unit
+at e = (e.day + 1) * 86400 + 604800 - 60 * e.offset
 
 -- a decimal as it is spelled, and its unit: smallest units of a whole one, and its name
 pub record Spelled : Type 0 where
@@ -106,7 +96,7 @@ pub record Span : Type 0 where
 
 pub record Use : Type 0 where
   pub name : List ℕ
-  pub counts : Quantity
+  pub counts : Counted
 
 -- a device type that counts a use, and why
 pub record Allowed : Type 0 where

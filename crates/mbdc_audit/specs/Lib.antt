@@ -24,11 +24,13 @@ pub mod Smallest
 pub mod Uses
 -- exact numbers, and their rounding
 pub mod Exact
--- the exact values of numbers
+-- units of numbers, and what is computed of fractions
 pub mod Number
 -- how reliable a number is
 pub mod Grade
--- how reliable a period of a window is
-pub mod Window
--- sums of shares
-pub mod Total
+-- days, and the moments at their ends
+pub mod Moment
+-- what a line says
+pub mod Line
+-- what is printed
+pub mod Told

@@ -3,42 +3,37 @@ use Rattle.std.specs.Prelude.{◌≡◌, ◌≤◌, ◌<◌, ℕ, ◌+◌, ◌-�
 use Rattle.std.specs.Prelude.{Bool, true, false, not, nat_lt, nat_le, if◌then◌else◌, codes}
 use Rattle.std.specs.Prelude.{List, [], ◌∷◌, ◌++◌, length, filter, map, flat_map, sum_by, Option, None, Some, is_some, option_map, IsSome, Any}
 use Rattle.std.specs.Prelude.{All, Contains, slice_get, find, decimal}
-use Rattle.std.specs.List.{list_all}
+use Rattle.std.specs.List.{list_all, list_any}
 use Rattle.std.specs.Str.{bytes_eq}
 use Rattle.dc_units.specs.declared.decimal.Decimal.{Decimal}
 use Rattle.dc_units.specs.Text.{decimal_text}
-use Rattle.mbdc_audit.specs.House.{at, Quantity, energy, volume, units, Unit, kwh, cubic_metre, allocated, count, smallest}
+use Rattle.mbdc_audit.specs.House.{at}
 use Rattle.mbdc_audit.specs.House.{Spelled, Part, Window, Place, Span, User, House, Number, Key, Fact}
 use Rattle.mbdc_audit.specs.House.{factor, emissions, price, average, degrees, shown, value, of_user, of_flat, of_house, mean}
 use Rattle.mbdc_audit.specs.House.{change, weather, carbon, cost}
-use Rattle.mbdc_audit.specs.Amount.{amount, mark, known, counting, Mark, measured, hand, provisional, estimated, unclear, disturbed, missing}
+use Rattle.mbdc_audit.specs.Amount.{amount, mark, known, counting}
+use Rattle.mbdc_audit.specs.Grade.{grade_name, has_number, rank, worst as worse}
+use Rattle.mbdc_audit.specs.Exact.{half_up}
+use Rattle.mbdc_audit.specs.Number.{in_unit, of_ratio, percent, scale_of, times}
 use Rattle.mbdc_audit.specs.Sound.{from, to}
+use Rattle.mbdc_audit.specs.declared.exact.Exact.{Exact}
+use Rattle.mbdc_audit.specs.declared.uses.Counted.{Counted}
+use Rattle.mbdc_audit.specs.declared.uses.Counted.TheVariants.{Energy, Volume, Allocation}
+use Rattle.mbdc_audit.specs.declared.uses.Unit.{Unit}
+use Rattle.mbdc_audit.specs.declared.uses.Unit.TheVariants.{Kwh, CubicMetre, Allocated, Count, Smallest}
+use Rattle.mbdc_audit.specs.declared.grade.Grade.{Grade}
+use Rattle.mbdc_audit.specs.declared.grade.Grade.TheVariants.{Missing}
 
 -- ---- fractions
 
-pub record Fraction : Type 0 where
-  pub is_negative : Bool
-  pub num : ℕ
-  pub den : ℕ
-
-abbrev pub over : ℕ → ℕ → Fraction
-over num den = record { is_negative = false; num = num; den = den }
-
-abbrev pub times : ℕ → ℕ → Fraction → Fraction
-times ratio divisor x = record x { num = x.num * ratio; den = x.den * divisor }
-
--- rounded half away from zero
-abbrev pub half_up : Fraction → ℕ → ℕ
-half_up x decimals = (2 * (x.num * 10 ^ decimals) + x.den) / (2 * x.den)
-
-abbrev pub rounded : Fraction → ℕ → Decimal
+abbrev pub rounded : Exact → ℕ → Decimal
 rounded x decimals = record {
-  mantissa = if x.is_negative then neg_ℤ (pos (half_up x decimals)) else pos (half_up x decimals);
+  mantissa = if x.is_negative then neg_ℤ (pos (half_up x.num x.den decimals)) else pos (half_up x.num x.den decimals);
   exponent = neg_ℤ (pos decimals);
 }
 
 -- THE TEXT of a number with so many decimals
-abbrev pub printed : ℕ → Option Fraction → List ℕ
+abbrev pub printed : ℕ → Option Exact → List ℕ
 printed decimals None = codes "-"
 printed decimals (Some x) = decimal_text (rounded x decimals)
 
@@ -52,13 +47,7 @@ list_of (Some x) = x ∷ []
 pub record Share : Type 0 where
   pub amount : Option ℕ
   pub weight : ℕ
-  pub mark : Mark
-
-abbrev pub has_number : Mark → Bool
-has_number unclear = false
-has_number disturbed = false
-has_number missing = false
-has_number m = true
+  pub mark : Grade
 
 abbrev pub share : Place → Window → ℕ → ℕ → Share
 share p w a b = record {
@@ -112,31 +101,19 @@ abbrev pub is_whole : List Share → Bool
 is_whole xs = list_all (λ s. is_some s.amount) xs
 
 -- the worst of marks
-abbrev pub rank : Mark → ℕ
-rank measured = 0
-rank hand = 1
-rank provisional = 2
-rank estimated = 3
-rank unclear = 4
-rank disturbed = 5
-rank missing = 6
-
-abbrev pub worse : Mark → Mark → Mark
-worse a b = if nat_le (rank a) (rank b) then b else a
-
-abbrev pub worst : List Share → Mark
-worst [] = missing
+abbrev pub worst : List Share → Grade
+worst [] = Missing
 worst (s ∷ []) = s.mark
 worst (s ∷ next ∷ rest) = worse s.mark (worst (next ∷ rest))
 
 -- ---- units
 
 abbrev pub is_unit : Unit → Unit → Bool
-is_unit kwh kwh = true
-is_unit cubic_metre cubic_metre = true
-is_unit allocated allocated = true
-is_unit count count = true
-is_unit smallest smallest = true
+is_unit Kwh Kwh = true
+is_unit CubicMetre CubicMetre = true
+is_unit Allocated Allocated = true
+is_unit Count Count = true
+is_unit Smallest Smallest = true
 is_unit a b = false
 
 abbrev pub is_fact : Fact → Fact → Bool
@@ -150,29 +127,18 @@ is_fact a b = false
 abbrev pub declared : House → Fact → ℕ → Option ℕ
 declared h f span = option_map (λ d. d.ratio) (find (λ d. (d.span == span) && is_fact f d.fact) h.facts)
 
--- a sum in a unit of its quantity, by the use's factor where it needs one; ratios are millionths
-abbrev pub in_unit : Quantity → Unit → Option ℕ → List Share → Option Fraction
-in_unit q smallest f xs = Some (over (plain xs) 1)
-in_unit energy kwh f xs = Some (over (plain xs) 3600000000)
-in_unit volume cubic_metre f xs = Some (over (plain xs) 1000000)
-in_unit volume kwh (Some f) xs = Some (over (plain xs * f) (1000000 * 1000000))
-in_unit units count f xs = Some (over (plain xs) 1000)
-in_unit units allocated f xs = Some (over (weighted xs) (1000 * 1000000))
-in_unit units kwh (Some f) xs = Some (over (weighted xs * f) (1000 * 1000000 * 1000000))
-in_unit q unit f xs = None
-
-abbrev pub is_energy : Option Quantity → Bool
-is_energy (Some energy) = true
+abbrev pub is_energy : Option Counted → Bool
+is_energy (Some Energy) = true
 is_energy q = false
 
-abbrev pub quantity : House → ℕ → Option Quantity
+abbrev pub quantity : House → ℕ → Option Counted
 quantity h used = option_map (λ u. u.counts) (slice_get h.uses used)
 
-abbrev pub exact_of : Option Quantity → Unit → Option ℕ → List Share → Option Fraction
+abbrev pub exact_of : Option Counted → Unit → Option ℕ → List Share → Option Exact
 exact_of None unit f xs = None
-exact_of (Some q) unit f xs = in_unit q unit f xs
+exact_of (Some q) unit f xs = in_unit (plain xs, weighted xs) (scale_of q unit) f
 
-abbrev pub exact : House → ℕ → ℕ → Unit → List Share → Option Fraction
+abbrev pub exact : House → ℕ → ℕ → Unit → List Share → Option Exact
 exact h span used unit xs = exact_of (quantity h used) unit (declared h (factor used) span) xs
 
 -- ---- sums
@@ -182,14 +148,14 @@ if_any [] x = None
 if_any (s ∷ xs) x = if is_whole (s ∷ xs) then x else None
 
 -- A SUM is there where each of its parts has a number
-abbrev pub sum : House → Holder → ℕ → ℕ → Unit → Option Fraction
+abbrev pub sum : House → Holder → ℕ → ℕ → Unit → Option Exact
 sum h who span used unit = if_any (shares h who span used) (exact h span used unit (shares h who span used))
 
 -- the windows of the house that have a number
 abbrev pub numbered : House → ℕ → ℕ → List Open
 numbered h span used = filter (λ o. is_whole (shares_of house o)) (opened h span used)
 
-abbrev pub sum_of_house : House → ℕ → ℕ → Unit → Option Fraction
+abbrev pub sum_of_house : House → ℕ → ℕ → Unit → Option Exact
 sum_of_house h span used unit = if_any (flat_map (shares_of house) (numbered h span used))
     (exact h span used unit (flat_map (shares_of house) (numbered h span used)))
 
@@ -198,24 +164,25 @@ sum_of_house h span used unit = if_any (flat_map (shares_of house) (numbered h s
 abbrev pub user_at : House → ℕ → Option User
 user_at h n = find (λ u. u.number == n) h.users
 
--- one user of each flat
+-- of the users of each flat who have an area the last
 abbrev pub flats : List User → List User
 flats [] = []
-flats (u ∷ users) = u ∷ filter (λ v. not (bytes_eq v.flat u.flat)) (flats users)
+flats (u ∷ users) = if list_any (λ v. bytes_eq v.flat u.flat && is_some v.area) users then flats users
+    else if is_some u.area then u ∷ flats users else flats users
 
 abbrev pub is_reliable : List Share → Bool
 is_reliable xs = nat_le (rank (worst xs)) 1
 
 abbrev pub based : House → ℕ → ℕ → List User
-based h span used = filter (λ u. is_some u.area && is_reliable (shares h (flat u.flat) span used)) (flats h.users)
+based h span used = filter (λ u. is_reliable (shares h (flat u.flat) span used)) (flats h.users)
 
 abbrev pub areas : List User → ℕ
 areas users = sum_by (λ u. amount_or_0 u.area) users
 
 -- three flats at least, so that a mean identifies nobody
-abbrev pub mean_of : House → ℕ → ℕ → Unit → Option ℕ → Option ℕ → Option Fraction
+abbrev pub mean_of : House → ℕ → ℕ → Unit → Option ℕ → Option ℕ → Option Exact
 mean_of h span used unit None given = None
-mean_of h span used unit (Some area) (Some given) = Some (over (given * area) (1000000 * 1000000))
+mean_of h span used unit (Some area) (Some given) = Some (record { is_negative = false; num = given * area; den = of_ratio * of_ratio })
 mean_of h span used unit (Some area) None = if nat_le 3 (length (based h span used))
     then option_map (times area (areas (based h span used)))
     (exact h span used unit (flat_map (λ u. shares h (flat u.flat) span used) (based h span used)))
@@ -243,20 +210,16 @@ abbrev pub has_whole : House → ℕ → ℕ → ℕ → Bool
 has_whole h span who used = nat_lt 0 (length (own h span who used))
     && list_all (fills (slice_get h.spans span) who) (own h span who used)
 
-abbrev pub percent : Option Fraction → Option Fraction → Option Fraction
-percent None there = None
-percent (Some a) None = None
-percent (Some a) (Some b) = if b.num == 0 then None else Some (record {
-  is_negative = nat_lt (a.num * b.den) (b.num * a.den);
-  num = 100 * ((a.num * b.den - b.num * a.den) + (b.num * a.den - a.num * b.den));
-  den = b.num * a.den;
-})
+abbrev pub percent_of : Option Exact → Option Exact → Option Exact
+percent_of None there = None
+percent_of (Some a) None = None
+percent_of (Some a) (Some b) = percent a b
 
-abbrev pub if_whole : House → ℕ → ℕ → ℕ → ℕ → Option Fraction → Option Fraction
+abbrev pub if_whole : House → ℕ → ℕ → ℕ → ℕ → Option Exact → Option Exact
 if_whole h span other who used x =
     if has_whole h span who used && has_whole h other who used then x else None
 
-abbrev pub by_ratio : Option ℕ → Option ℕ → ℕ → Option Fraction → Option Fraction
+abbrev pub by_ratio : Option ℕ → Option ℕ → ℕ → Option Exact → Option Exact
 by_ratio None divisor more x = None
 by_ratio (Some ratio) None more x = None
 by_ratio (Some ratio) (Some divisor) more x =
@@ -268,13 +231,13 @@ abbrev pub window_of : House → ℕ → ℕ → List Open
 window_of h place span = flat_map (λ p. map (λ w. record { place = p; window = w })
     (filter (λ w. w.span == span) p.windows)) (list_of (slice_get h.places place))
 
-abbrev pub shown_of : House → ℕ → ℕ → ℕ → Unit → List Open → Option Fraction
+abbrev pub shown_of : House → ℕ → ℕ → ℕ → Unit → List Open → Option Exact
 shown_of h span a b unit [] = None
 shown_of h span a b unit (o ∷ rest) = if_any (share o.place o.window a b ∷ [])
     (exact h span o.place.used unit (share o.place o.window a b ∷ []))
 
 -- WHAT A NUMBER IS
-abbrev pub number : House → Key → Option Fraction
+abbrev pub number : House → Key → Option Exact
 number h (shown place span a b unit) = shown_of h span a b unit (window_of h place span)
 number h (value place span run moment text) = None
 number h (of_user span who used unit) = sum h (user who) span used unit
@@ -283,28 +246,19 @@ number h (of_house span used unit) = sum_of_house h span used unit
 number h (mean span who used unit) =
     mean_of h span used unit (area_of (user_at h who)) (declared h (average used unit) span)
 number h (change span other who used unit) = if_whole h span other who used
-    (percent (sum h (user who) span used unit) (sum h (user who) other used unit))
+    (percent_of (sum h (user who) span used unit) (sum h (user who) other used unit))
 number h (weather span other who used) = if_whole h span other who used
-    (by_ratio (declared h degrees span) (declared h degrees other) 1 (sum h (user who) other used kwh))
-number h (carbon span who used) = by_ratio (declared h (emissions used) span) (Some 1000) 1000000 (sum h (user who) span used kwh)
+    (by_ratio (declared h degrees span) (declared h degrees other) 1 (sum h (user who) other used Kwh))
+number h (carbon span who used) = by_ratio (declared h (emissions used) span) (Some 1000) 1000000 (sum h (user who) span used Kwh)
 number h (cost span who used unit) =
     by_ratio (declared h (price used unit) span) (Some 100) 1000000 (sum h (user who) span used unit)
-
-abbrev pub mark_text : Mark → List ℕ
-mark_text measured = codes "measured"
-mark_text hand = codes "hand"
-mark_text provisional = codes "provisional"
-mark_text estimated = codes "estimated"
-mark_text unclear = codes "unclear"
-mark_text disturbed = codes "disturbed"
-mark_text missing = codes "missing"
 
 -- what is beside it: the worst mark; of the house how many places have no number, and how many there are
 abbrev pub beside : House → Key → List (List ℕ)
 beside h (shown place span a b unit) =
-    mark_text (worst (map (λ o. share o.place o.window a b) (window_of h place span))) ∷ []
-beside h (of_user span who used unit) = mark_text (worst (shares h (user who) span used)) ∷ []
-beside h (of_flat span name used unit) = mark_text (worst (shares h (flat name) span used)) ∷ []
+    grade_name (worst (map (λ o. share o.place o.window a b) (window_of h place span))) ∷ []
+beside h (of_user span who used unit) = grade_name (worst (shares h (user who) span used)) ∷ []
+beside h (of_flat span name used unit) = grade_name (worst (shares h (flat name) span used)) ∷ []
 beside h (of_house span used unit) =
     decimal (length (opened h span used) - length (numbered h span used)) ∷ decimal (length (opened h span used)) ∷ []
 beside h key = []
@@ -312,7 +266,7 @@ beside h key = []
 -- ---- what may be asked
 
 abbrev pub of_factor : House → ℕ → ℕ → Unit → List (Fact × ℕ)
-of_factor h span used kwh = if is_energy (quantity h used) then [] else (factor used, span) ∷ []
+of_factor h span used Kwh = if is_energy (quantity h used) then [] else (factor used, span) ∷ []
 of_factor h span used unit = []
 
 -- the facts that it needs
@@ -322,23 +276,23 @@ needs h (of_flat span name used unit) = of_factor h span used unit
 needs h (of_house span used unit) = of_factor h span used unit
 needs h (mean span who used unit) = of_factor h span used unit
 needs h (change span other who used unit) = of_factor h span used unit ++ of_factor h other used unit
-needs h (weather span other who used) = (degrees, span) ∷ (degrees, other) ∷ of_factor h other used kwh
-needs h (carbon span who used) = (emissions used, span) ∷ of_factor h span used kwh
+needs h (weather span other who used) = (degrees, span) ∷ (degrees, other) ∷ of_factor h other used Kwh
+needs h (carbon span who used) = (emissions used, span) ∷ of_factor h span used Kwh
 needs h (cost span who used unit) = (price used unit, span) ∷ of_factor h span used unit
 needs h key = []
 
 -- the decimals that suffice; from 100 on none do, but of a cost, which has two
 abbrev pub least : Unit → ℕ
-least kwh = 1
-least cubic_metre = 2
-least allocated = 1
+least Kwh = 1
+least CubicMetre = 2
+least Allocated = 1
 least unit = 0
 
-abbrev pub is_hundred : Option Fraction → Bool
+abbrev pub is_hundred : Option Exact → Bool
 is_hundred None = true
 is_hundred (Some x) = nat_le (100 * x.den) x.num
 
-abbrev pub Suffice : ℕ → Unit → Option Fraction → Type 0
+abbrev pub Suffice : ℕ → Unit → Option Exact → Type 0
 Suffice d unit x = (least unit ≤ d) ⊎ ((d ≡ 0) × IsTrue (is_hundred x))
 
 abbrev pub IsFine : House → Key → ℕ → Type 0
@@ -347,7 +301,7 @@ IsFine h (of_user span who used unit) d = Suffice d unit (number h (of_user span
 IsFine h (of_flat span name used unit) d = Suffice d unit (number h (of_flat span name used unit))
 IsFine h (of_house span used unit) d = Suffice d unit (number h (of_house span used unit))
 IsFine h (mean span who used unit) d = Suffice d unit (number h (mean span who used unit))
-IsFine h (weather span other who used) d = Suffice d kwh (number h (weather span other who used))
+IsFine h (weather span other who used) d = Suffice d Kwh (number h (weather span other who used))
 IsFine h (carbon span who used) d = 1 ≤ d
 IsFine h (cost span who used unit) d = d ≡ 2
 IsFine h key d = ⊤

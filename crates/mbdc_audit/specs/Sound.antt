@@ -1,14 +1,17 @@
 -- The rules of a house that don't depend on its published numbers (this product).
 use Rattle.std.specs.Prelude.{◌≡◌, ◌≢◌, ◌≤◌, ◌<◌, ℕ, ◌+◌, ◌%◌, ◌==◌, ◌&&◌, ◌⊎◌, ⊤}
-use Rattle.std.specs.Prelude.{Bool, true, false, nat_lt, if◌then◌else◌, max, min, codes}
+use Rattle.std.specs.Prelude.{Bool, true, false, not, nat_lt, if◌then◌else◌, max, min, codes}
 use Rattle.std.specs.Prelude.{List, [], ◌∷◌, ◌++◌, length, filter, map, take, flat_map, Option, None, Some}
 use Rattle.std.specs.Prelude.{All, AllPairs, Any, Contains, slice_get}
 use Rattle.dc_units.specs.Date.{Day}
 use Rattle.dc_units.specs.Text.{day_text}
-use Rattle.mbdc_audit.specs.House.{End, at, Source, current, stored, ended, anew, Value, Run, Part, Window}
-use Rattle.mbdc_audit.specs.House.{Place, Span, Use, Declared, House, Quantity, units}
-use Rattle.mbdc_audit.specs.Amount.{deciding, known, last_of}
-use Rattle.mbdc_audit.specs.Evidence.{number_of, Rests}
+use Rattle.mbdc_audit.specs.Moment.{number_of}
+use Rattle.mbdc_audit.specs.House.{End, at, Source, current, stored, ended, anew, put, first, last, Value, Run, Part, Window}
+use Rattle.mbdc_audit.specs.House.{Place, Span, Use, Declared, House}
+use Rattle.mbdc_audit.specs.Amount.{deciding, last_of}
+use Rattle.mbdc_audit.specs.Evidence.{Rests}
+use Rattle.mbdc_audit.specs.declared.uses.Counted.{Counted}
+use Rattle.mbdc_audit.specs.declared.uses.Counted.TheVariants.{Allocation}
 
 -- ---- the time of a place in a span
 
@@ -75,7 +78,7 @@ IfAnew anew P = P
 IfAnew _ P = ⊤
 
 -- a value has evidence, and lies in its run's time, below its size
-abbrev pub IsValue : List Run → Quantity → List Value → Value → Type 0
+abbrev pub IsValue : List Run → Counted → List Value → Value → Type 0
 IsValue runs q values v = (run : Run) × (slice_get runs v.run ≡ Some run) × Rests run q v v.source
     × (run.begin ≤ v.moment) × IsUntil v.moment run.over × ((run.size ≡ 0) ⊎ (v.amount < run.size))
     × IfAnew v.source (BeganAnew runs values v)
@@ -89,7 +92,7 @@ abbrev pub IsUserOf : House → List ℕ → Option ℕ → Type 0
 IsUserOf h flat None = ⊤
 IsUserOf h flat (Some user) = Any (λ u. (u.number ≡ user) × (u.flat ≡ flat)) h.users
 
-pub record IsWindow (h : House) (p : Place) (q : Quantity) (w : Window) (s : Span) : Type 0 where
+pub record IsWindow (h : House) (p : Place) (q : Counted) (w : Window) (s : Span) : Type 0 where
   pub values : All (IsValue p.runs q w.values) w.values
   pub in_order : AllPairs (λ a b. (a.moment < b.moment) ⊎ ((a.moment ≡ b.moment) × (a.run ≤ b.run))) w.values
   pub one_value : AllPairs (λ a b. is_telegram a.source ≡ true → is_telegram b.source ≡ true → AreAt a b
@@ -101,6 +104,24 @@ pub record IsWindow (h : House) (p : Place) (q : Quantity) (w : Window) (s : Spa
 
 -- ---- a place
 
+-- two values are of one word
+abbrev pub is_word : Source → Source → Bool
+is_word (current a) (current b) = true
+is_word (stored e a) (stored f b) = true
+is_word (ended e a) (ended f b) = true
+is_word anew anew = true
+is_word (put guess t) (put guessed u) = if guess then guessed else not guessed
+is_word (first guess t) (first guessed u) = true
+is_word (last guess t) (last guessed u) = true
+is_word s t = false
+
+-- lists of values are the same, by run, moment, amount and word
+abbrev pub AreAlike : List Value → List Value → Type 0
+AreAlike [] [] = ⊤
+AreAlike (a ∷ as) (b ∷ bs) = (a.run ≡ b.run) × (a.moment ≡ b.moment) × (a.amount ≡ b.amount)
+    × (is_word a.source b.source ≡ true) × AreAlike as bs
+AreAlike as bs = ⊥
+
 -- the moments at which one of two spans begins or ends, and that both have
 abbrev pub IsCommon : Span → Span → ℕ → Type 0
 IsCommon a b t = Contains (at a.from ∷ at a.to ∷ at b.from ∷ at b.to ∷ []) t
@@ -109,7 +130,7 @@ IsCommon a b t = Contains (at a.from ∷ at a.to ∷ at b.from ∷ at b.to ∷ [
 pub record IsPlace (h : House) (p : Place) : Type 0 where
   pub used : Use
   pub used_is : slice_get h.uses p.used ≡ Some used
-  pub weight : (used.counts ≡ units) ⊎ (p.weight ≡ 1000000)
+  pub weight : (used.counts ≡ Allocation) ⊎ (p.weight ≡ 1000000)
   pub there : p.runs ≢ []
   pub run_times : All (λ r. (over : ℕ) → r.over ≡ Some over → r.begin < over) p.runs
   pub runs_follow : AllPairs (λ a b. IsOver a.over b.begin) p.runs
@@ -120,7 +141,7 @@ pub record IsPlace (h : House) (p : Place) : Type 0 where
       → length (filter (λ w. w.span == n) p.windows) ≡ (if nat_lt (from p s) (to p s) then 1 else 0)
   -- ONE CURVE: what decides a moment is the same in each window
   pub one_curve : AllPairs (λ w x. (s r : Span) → slice_get h.spans w.span ≡ Some s → slice_get h.spans x.span ≡ Some r
-      → (t : ℕ) → IsCommon s r t → deciding t (known w.values) ≡ deciding t (known x.values)) p.windows
+      → (t : ℕ) → IsCommon s r t → AreAlike (deciding t w.values) (deciding t x.values)) p.windows
 
 -- ---- the house
 
@@ -182,26 +203,16 @@ IsLabelled h = Any (λ s. All (λ x. at x.to ≤ at s.to) h.spans
 abbrev pub AreOne : Declared → Declared → Type 0
 AreOne a b = (a.fact ≡ b.fact) × (a.span ≡ b.span)
 
--- a text of one field
-abbrev pub LacksComma : List ℕ → Type 0
-LacksComma text = All (λ byte. byte ≢ 44) text
-
--- names and reasons, as lines have them
-abbrev pub names : House → List (List ℕ)
-names h = (h.label ∷ map (λ u. u.name) h.uses) ++ (map (λ a. a.why) h.allowed ++ (map (λ u. u.flat) h.users
-    ++ flat_map (λ p. p.flat ∷ flat_map (λ w. map (λ x. x.why) w.struck) p.windows) h.places))
-
 -- A HOUSE IS SOUND
 pub record IsHouse (h : House) : Type 0 where
   pub spans : All (λ s. at s.from < at s.to) h.spans
   pub two_spans : AllPairs (λ a b. (at a.from ≡ at b.from) × (at a.to ≡ at b.to) → ⊥) h.spans
   pub labelled : IsLabelled h
   -- one day, one offset: of quarters of an hour, at most 14 hours; of values close to that of their span
-  pub offsets : All (λ e. (e.offset ≤ 1680) × (e.offset % 15 ≡ 0)) (all_ends h)
+  pub offsets : All (λ e. (9240 ≤ e.offset) × (e.offset ≤ 10920) × (e.offset % 15 ≡ 0)) (all_ends h)
   pub one_offset : AllPairs (λ a b. a.day ≡ b.day → a.offset ≡ b.offset) (all_ends h)
   pub near_offsets : All (λ p. All (λ w. (s : Span) → slice_get h.spans w.span ≡ Some s
       → All (λ e. AreNear e s.from ⊎ AreNear e s.to) (ends_of w)) p.windows) h.places
-  pub names : All LacksComma (names h)
   pub uses : AllPairs (λ a b. a.name ≢ b.name) h.uses
   pub facts : AllPairs (λ a b. AreOne a b → ⊥) h.facts
   pub users : AllPairs (λ a b. a.number < b.number) h.users

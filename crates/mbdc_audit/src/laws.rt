@@ -4,8 +4,8 @@ ghost use Rattle.std.specs.Prelude.{◌≡◌, ◌<◌, ◌≤◌, ◌∷◌, �
 ghost use Rattle.mbdc_consumption.specs.declared.entry.Entry.{Entry};
 ghost use Rattle.mbdc_consumption.specs.Order.{IsInOrder};
 ghost use Rattle.mbdc_consumption.specs.Period.{added, consumption, sum_of};
-ghost use Rattle.mbdc_audit.specs.House.{House, Part, Place, Quantity, Run, Span, Value, Window};
-ghost use Rattle.mbdc_audit.specs.Amount.{amount, disturbed, entries, estimated, hand, known, mark, measured, told};
+ghost use Rattle.mbdc_audit.specs.House.{House, Part, Place, Run, Span, Value, Window};
+ghost use Rattle.mbdc_audit.specs.Amount.{amount, entries, known, mark, told};
 ghost use Rattle.dc_records.specs.Record.{Entry as Record};
 ghost use Rattle.mbdc_audit.specs.Evidence.{Gives};
 ghost use Rattle.mbdc_audit.specs.File.{IsRight, all_numbers};
@@ -13,6 +13,8 @@ ghost use Rattle.mbdc_audit.specs.Published.{Open, beside, house, is_whole, plai
 ghost use Rattle.mbdc_audit.specs.Worked.{by_hand, meter, november, october, telegram, with_middle};
 ghost use Rattle.dc_address.specs.declared.identity.Identity.{Identity};
 ghost use Rattle.mbdc_audit.specs.Sound.{AreApart, Fitted, IsHouse, IsWindow, Tile, fitted, from, to};
+ghost use Rattle.mbdc_audit.specs.declared.uses.Counted.{Counted};
+ghost use Rattle.mbdc_audit.specs.declared.grade.Grade.TheVariants.{Measured, Hand, Estimated, Disturbed};
 
 /// What amounts rest on. A number with the mark `measured` follows from telegrams: two files with the same telegrams that
 /// both mark it so have the same amount, whatever values people and estimates put. The records of telegrams determine one
@@ -20,12 +22,12 @@ ghost use Rattle.mbdc_audit.specs.Sound.{AreApart, Fitted, IsHouse, IsWindow, Ti
 /// windows with the same deciding values at their common end to the amount of the joined list of entries.
 pub fn amounts_are_of_telegrams()
     ensures alone { (runs : List Run) (values : List Value) (from to : ℕ) →
-        mark runs values from to ≡ measured →
+        mark runs values from to ≡ Measured →
         amount runs values from to ≡ amount runs (told values) from to }
     ensures free { (runs : List Run) (values others : List Value) (from to : ℕ) →
-        mark runs values from to ≡ measured → mark runs others from to ≡ measured →
+        mark runs values from to ≡ Measured → mark runs others from to ≡ Measured →
         told values ≡ told others → amount runs values from to ≡ amount runs others from to }
-    ensures records { (vib : List ℕ) (q : Quantity) (day : Option ℕ) (records : List Record) (n m : ℕ) →
+    ensures records { (vib : List ℕ) (q : Counted) (day : Option ℕ) (records : List Record) (n m : ℕ) →
         Gives vib q day records n → Gives vib q day records m → n ≡ m }
     ensures parts { (runs : List Run) (values : List Value) → IsInOrder (entries runs values) →
         (from to : ℕ) (first : Part) (later : List Part) → Tile from to (first ∷ later) →
@@ -55,7 +57,7 @@ pub fn a_sound_house_adds_up()
         IsInOrder (entries o.place.runs (known o.window.values)) →
         is_whole (shares_of house o) ≡ true →
         amount o.place.runs (known o.window.values) from to ≡ Some (plain (shares_of house o)) }
-    ensures window { (h : House) (p : Place) (q : Quantity) (w : Window) (s : Span) (first : Part)
+    ensures window { (h : House) (p : Place) (q : Counted) (w : Window) (s : Span) (first : Part)
         (later : List Part) → IsWindow h p q w s → w.parts ≡ first ∷ later →
         is_whole (shares_of house (record { place = p; window = w })) ≡ true →
         amount p.runs (known w.values) (from p s) (to p s)
@@ -74,15 +76,15 @@ pub fn worked_examples()
     ensures amount { (i : Identity) →
         amount (meter i 0) (with_middle 416500000 (telegram 2)) october november ≡ Some 9310000 }
     ensures measured { (i : Identity) →
-        mark (meter i 0) (known (with_middle 416500000 (telegram 2))) october november ≡ measured }
+        mark (meter i 0) (known (with_middle 416500000 (telegram 2))) october november ≡ Measured }
     ensures between { (i : Identity) →
-        mark (meter i 0) (known (with_middle 416500000 by_hand)) october november ≡ measured }
+        mark (meter i 0) (known (with_middle 416500000 by_hand)) october november ≡ Measured }
     ensures turned { (i : Identity) →
         amount (meter i 1000000000) (with_middle 0 by_hand) october november ≡ Some 1009310000 }
     ensures turned_by_hand { (i : Identity) →
-        mark (meter i 1000000000) (known (with_middle 0 by_hand)) october november ≡ hand }
+        mark (meter i 1000000000) (known (with_middle 0 by_hand)) october november ≡ Hand }
     ensures backwards { (i : Identity) →
-        mark (meter i 0) (known (with_middle 0 by_hand)) october november ≡ disturbed }
+        mark (meter i 0) (known (with_middle 0 by_hand)) october november ≡ Disturbed }
     ensures again { (i : Identity) →
-        mark (meter i 0) (known (with_middle 421380000 (telegram 3))) october november ≡ estimated }
+        mark (meter i 0) (known (with_middle 421380000 (telegram 3))) october november ≡ Estimated }
 {}

@@ -1,8 +1,7 @@
 //! What a line says: one row a word.
 
-ghost use Rattle.std.specs.Prelude.{◌≡◌, find};
-ghost use Rattle.std.specs.Str.{bytes_eq};
-ghost use Rattle.mbdc_audit.specs.Line.{end_at, line_of, may_follow, maybe_at, number_at, row_of};
+ghost use Rattle.std.specs.Prelude.{◌≡◌, ◌<◌, ◌+◌, IfOk};
+ghost use Rattle.mbdc_audit.specs.Line.{IsLine, may_follow, maybe_at, number_at};
 
 use crate::fault::AuditFault;
 use crate::field::Kind::{
@@ -142,7 +141,7 @@ impl<'a> Line<'a> {
     /// # Errors
     /// [`AuditFault::Row`] where the word has no row, or a field isn't of its form.
     pub fn read(line: &'a [u8]) -> Result<Line<'a>, AuditFault>
-        ensures { result ≡ line_of line.now }
+        ensures { IfOk result (IsLine line.now) }
     {
         let (word, mut rest) = first_field(line);
         let (_, word, stage, kinds) = *ROWS.iter().find(|row| is_word(word, row.0)).ok_or(AuditFault::Row)?;
@@ -196,7 +195,8 @@ impl<'a> Line<'a> {
     /// The end of the day at a place, whose offset is in the next one.
     pub fn day_end(&self, place: usize) -> DayEnd<'a>
         requires { place < 6 }
-        ensures { result.end ≡ end_at place self.now }
+        ensures day { result.day ≡ number_at place self.now }
+        ensures offset { result.offset ≡ number_at (place + 1) self.now }
     {
         DayEnd {
             day: self.number(place) as u32,

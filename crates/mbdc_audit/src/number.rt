@@ -1,8 +1,7 @@
 //! Units of numbers, and what is computed of them.
 
-ghost use Rattle.std.specs.Prelude.{◌≡◌, ◌<◌, IfOk, IfSome, Some, false};
-ghost use Rattle.mbdc_audit.specs.Published.{in_unit, percent, times};
-ghost use Rattle.mbdc_audit.specs.Number.{scale_of};
+ghost use Rattle.std.specs.Prelude.{◌≡◌, ◌<◌, IfOk, IfSome, Some};
+ghost use Rattle.mbdc_audit.specs.Number.{in_unit, percent, scale_of, times};
 
 use crate::exact::Exact;
 use crate::fault::AuditFault;
@@ -59,7 +58,7 @@ pub fn in_unit(
     unit: Unit,
     factor: Option<u64>,
 ) -> Result<Exact, AuditFault>
-    ensures { IfOk result (λ x. in_unit counted unit factor sums ≡ Some x) }
+    ensures { IfOk result (λ x. in_unit sums (scale_of counted unit) factor ≡ Some x) }
 {
     let scale = scale(counted, unit).ok_or(AuditFault::Unit)?;
     let exact = Exact {
@@ -77,7 +76,7 @@ pub fn in_unit(
 /// The change from the second number to the first in per cent, for numbers of one denominator; `None` where the second
 /// is 0.
 pub fn percent(here: Exact, there: Exact) -> Result<Option<Exact>, AuditFault>
-    ensures { IfOk result (λ x. x ≡ percent (Some here) (Some there)) }
+    ensures { IfOk result (λ x. x ≡ percent here there) }
 {
     if there.num == 0 {
         return Ok(None);
