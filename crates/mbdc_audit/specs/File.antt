@@ -1,8 +1,8 @@
 -- When a file of published numbers is right: its lines spell a sound house, whose numbers are the defined ones (this product).
-use Rattle.std.specs.Prelude.{◌≡◌, ◌≤◌, ◌<◌, ◌⊎◌, ⊤, ℕ, ◌+◌, Bool, if◌then◌else◌, codes}
+use Rattle.std.specs.Prelude.{◌≡◌, ◌≤◌, ◌<◌, ◌⊎◌, ⊤, ℕ, ◌+◌, ◌^◌, Bool, if◌then◌else◌, codes}
 use Rattle.std.specs.Prelude.{List, [], ◌∷◌, ◌++◌, length, map, flat_map, take, drop, Option, None, Some, All, zip, slice_get}
 use Rattle.mbdc_io.specs.Hex.{upper_hex}
-use Rattle.mbdc_io.specs.Lines.{longest_input_line}
+use Rattle.mbdc_io.specs.Lines.{lines_of, longest_input_line}
 use Rattle.dc_address.specs.Text as identity
 use Rattle.mbdc_audit.specs.declared.line.Line.{Line}
 use Rattle.mbdc_audit.specs.declared.line.Word.TheVariants as word
@@ -13,7 +13,9 @@ use Rattle.mbdc_audit.specs.House.{End, Spelled, Source, current, stored, ended,
 use Rattle.mbdc_audit.specs.House.{Key, shown, value, of_user, of_flat, of_house, mean, change, weather, carbon, cost, Number}
 use Rattle.mbdc_audit.specs.House.{Window, Place, Span, Use, Allowed, User, Fact, factor, emissions, price, average, degrees}
 use Rattle.mbdc_audit.specs.House.{Declared, House}
-use Rattle.mbdc_audit.specs.Published.{IsNumber}
+use Rattle.mbdc_audit.specs.declared.exact.Exact.{Exact}
+use Rattle.mbdc_audit.specs.Exact.{FitsRounded}
+use Rattle.mbdc_audit.specs.Published.{Holder, IsNumber, number, plain, shares, weighted}
 use Rattle.mbdc_audit.specs.Sound.{IsHouse}
 
 -- ---- what a line says of the house: spans, places and runs count from 0 there, and from 1 in the file
@@ -228,3 +230,16 @@ pub record IsRight (lines : List (List ℕ)) : Type 0 where
   pub sound : IsHouse house
   pub numbers : All (IsNumber house) (all_numbers house)
   pub asked : 0 < length (all_numbers house)
+
+-- what is computed fits 128 bits
+pub record Fits (h : House) : Type 0 where
+  pub sums : (who : Holder) (span used : ℕ) → (plain (shares h who span used) < 2 ^ 128)
+    × (weighted (shares h who span used) < 2 ^ 128)
+  pub numbers : All (λ n. (x : Exact) → number h n.key ≡ Some x → FitsRounded x.num x.den 3) (all_numbers h)
+
+-- A RIGHT FILE WITHIN THE LIMITS: each line ends with a feed
+pub record IsLimited (input : List ℕ) : Type 0 where
+  pub right : IsRight (lines_of input)
+  pub fed : (front : List ℕ) × (input ≡ front ++ 10 ∷ [])
+  pub short : length input ≤ 67108864
+  pub fits : Fits right.house

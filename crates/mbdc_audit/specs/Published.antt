@@ -318,12 +318,34 @@ abbrev pub IsValueOf : ℕ → ℕ → Spelled → Open → Type 0
 IsValueOf run moment t o = Any (λ v. (v.run ≡ run) × (v.moment ≡ moment)
     × (v.amount * 10 ^ t.decimals ≡ t.digits * t.size)) (counting o.window.values)
 
+-- a user, a flat that is declared; a unit of the use
+abbrev pub IsUser : House → ℕ → Type 0
+IsUser h n = Any (λ u. u.number ≡ n) h.users
+
+abbrev pub IsFlat : House → List ℕ → Type 0
+IsFlat h name = Any (λ u. u.flat ≡ name) h.users ⊎ Any (λ p. p.flat ≡ name) h.places
+
+abbrev pub IsUnit : House → ℕ → Unit → Type 0
+IsUnit h used unit = (q : Counted) × (quantity h used ≡ Some q) × IsSome (scale_of q unit)
+
+-- what a number is of is declared
+abbrev pub IsThere : House → Key → Type 0
+IsThere h (of_user span who used unit) = (span < length h.spans) × IsUser h who × IsUnit h used unit
+IsThere h (of_flat span name used unit) = (span < length h.spans) × IsFlat h name × IsUnit h used unit
+IsThere h (of_house span used unit) = (span < length h.spans) × IsUnit h used unit
+IsThere h (mean span who used unit) = (span < length h.spans) × IsUser h who × IsUnit h used unit
+IsThere h (change span other who used unit) = (span < length h.spans) × (other < length h.spans) × IsUser h who × IsUnit h used unit
+IsThere h (weather span other who used) = (span < length h.spans) × (other < length h.spans) × IsUser h who × IsUnit h used Kwh
+IsThere h (carbon span who used) = (span < length h.spans) × IsUser h who × IsUnit h used Kwh
+IsThere h (cost span who used unit) = (span < length h.spans) × IsUser h who × IsUnit h used unit
+IsThere h key = ⊤
+
 abbrev pub IsAsked : House → Key → Type 0
 IsAsked h (shown place span a b unit) = (s : Span) × (slice_get h.spans span ≡ Some s)
     × Any (λ o. IsPeriod s a b o × All (λ f. IsSome (declared h f.0 f.1)) (of_factor h span o.place.used unit))
     (window_of h place span)
 IsAsked h (value place span run moment t) = Any (IsValueOf run moment t) (window_of h place span)
-IsAsked h key = All (λ f. IsSome (declared h f.0 f.1)) (needs h key)
+IsAsked h key = IsThere h key × All (λ f. IsSome (declared h f.0 f.1)) (needs h key)
 
 -- the text of a value is spelled with its key
 abbrev pub text_of : House → Key → ℕ → List ℕ

@@ -1,5 +1,10 @@
 //! The engine of `audit`: reads a file into a house, and walks over it three times.
 
+ghost use Rattle.std.specs.Prelude.{◌≡◌, IfOk, IfSome, IsErrOf, OnOk, true};
+ghost use Rattle.mbdc_io.specs.Failures.{HasRisen};
+ghost use Rattle.mbdc_io.specs.Lines.{lines_of};
+ghost use Rattle.mbdc_audit.specs.File.{IsLimited, IsRight};
+
 use crate::fault::{AuditFault, Stop};
 use crate::house::House;
 use crate::numbers::Filler;
@@ -122,7 +127,18 @@ pub fn audit<A: Allocator + Copy, R: Source, W: Sink>(
     alloc: A,
     reader: &mut R,
     writer: &mut W,
-) -> Result<bool, TextFault> {
+) -> Result<bool, TextFault>
+    // A read fault is returned only if the reader counted a failure.
+    ensures read { IsErrOf result TextFault.Read
+        → HasRisen (R.take_failures reader.old) (R.take_failures reader.new) }
+    ensures ok { OnOk result (R.take_failures reader.new ≡ R.take_failures reader.old) }
+
+    // True only of a right file, and of each one that is within the limits.
+    ensures right { IfOk result (λ holds. holds ≡ true
+        → IfSome (R.left reader.old) (λ input. IsRight (lines_of input))) }
+    ensures only { IfOk result (λ holds. IfSome (R.left reader.old) (λ input.
+        IsLimited input → holds ≡ true)) }
+{
     let mut nowhere = FixedSink::<0>::new();
     check_file(alloc, false, reader, writer, &mut nowhere)
 }

@@ -107,7 +107,7 @@ impl<'a, A: Allocator + Copy> House<'a, A> {
         let mut total = Total::NONE;
         'places: for place in self.places.iter().filter(|place| place.used == used) {
             'windows: for window in place.windows.iter().filter(|window| window.span == span) {
-                let Some((sum, grade)) = share(holder, place.flat, &window.parts) else {
+                let Some((sum, grade)) = share(holder, place.flat, window.parts.as_slice()) else {
                     continue;
                 };
                 total.count += 1;
@@ -395,7 +395,7 @@ fn texts_of<A: Allocator + Copy>(
 ) -> Result<Vec<Vec<u8, A>, A>, Stop> {
     let mut room = [0u8; TEXT_ROOM];
     let mut texts: Vec<Vec<u8, A>, A> = Vec::new(alloc);
-    let first = match text {
+    let first: &[u8] = match text {
         Some(decimal) => Written::Number(decimal).write_into(&mut room),
         None => b"-",
     };
