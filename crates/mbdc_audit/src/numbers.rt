@@ -518,9 +518,10 @@ impl<'s, W: Sink> Teller<'s, W> {
             }
         }
         let held = texts_of(alloc, text, beside)?;
-        let mut fields = number.said.iter().zip(held.iter());
-        let is_right = fields.all(|(said, text)| {
-            matches!(*said, [b'?', ..]) || *said == text.as_slice()
+        let is_asked = matches!(number.said[0], [b'?', ..]);
+        let mut fields = number.said.iter().zip(held.iter()).enumerate();
+        let is_right = fields.all(|(i, (said, text))| {
+            (i == 0 && is_asked) || is_word(said, "?") || *said == text.as_slice()
         });
         self.end_number(number, held.as_slice(), is_right, filler)
     }

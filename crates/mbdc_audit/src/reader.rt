@@ -107,7 +107,7 @@ impl<'a, A: Allocator + Copy> Reader<'a, A> {
             return self.add_number(&line, text, at);
         }
         match line.word {
-            Word::Audit => self.house.label = line.fields[0],
+            Word::Audit => self.house.label = line.fields[1],
             Word::Use => return self.add_use(&line),
             Word::As => return self.add_allowed(&line),
             Word::Span => return self.add_span(&line),
