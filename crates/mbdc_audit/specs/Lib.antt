@@ -34,3 +34,5 @@ pub mod Moment
 pub mod Line
 -- what is printed
 pub mod Told
+-- the parts of a house as definitions have them
+pub mod View
