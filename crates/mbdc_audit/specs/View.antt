@@ -1,8 +1,8 @@
 -- The parts of a house as definitions have them, of those that the code has (this product).
-use Rattle.std.specs.Prelude.{ℕ, ◌+◌, List, [], ◌∷◌, map, filter, Bool, true, false, Option, None, Some, Result, Ok, Err}
+use Rattle.std.specs.Prelude.{ℕ, List, [], ◌∷◌, map, flat_map, Bool, true, if◌then◌else◌, Option, None, Some, Result, Ok, Err}
 use Rattle.mbdc_io.specs.Hex.{bytes_of}
 use Rattle.mbdc_audit.specs.Field.{fields_of}
-use Rattle.mbdc_audit.specs.Line.{or_0}
+use Rattle.mbdc_audit.specs.Amount.{no_text}
 use Rattle.mbdc_audit.specs.declared.line.Word.{Word}
 use Rattle.mbdc_audit.specs.declared.line.Word.TheVariants as word
 use Rattle.mbdc_audit.specs.declared.moment.DayEnd.{DayEnd}
@@ -60,6 +60,20 @@ value_by v (Err why) = []
 
 abbrev pub found_of : value_type.Value → List Value
 found_of v = value_by v v.found
+
+-- the same, where a telegram that came at an earlier moment too is an estimate
+abbrev pub as_known : Bool → Value → Value
+as_known again v = if again then record v { source = put true no_text } else v
+
+abbrev pub known_of : value_type.Value → List Value
+known_of v = map (as_known v.is_again) (found_of v)
+
+abbrev pub known_in : List value_type.Value → List Value
+known_in values = flat_map known_of values
+
+abbrev pub maybe_known : Option value_type.Value → List Value
+maybe_known None = []
+maybe_known (Some v) = known_of v
 
 abbrev pub run_of : run_type.Run → Run
 run_of r = record { identity = r.identity; begin = r.begin; over = r.end; most = r.most; size = r.size; vib = bytes r.vib.now }

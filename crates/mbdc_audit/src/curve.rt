@@ -1,5 +1,13 @@
 //! What a place consumed in a period of a window, and the mark of that number.
 
+ghost use Rattle.std.specs.Prelude.{◌≡◌, ◌≤◌, ◌||◌, ◌++◌, IfOk, map, None, Some, if◌then◌else◌};
+ghost use Rattle.std.specs.List.{list_any};
+ghost use Rattle.mbdc_audit.specs.Amount.{are_whole, basis, counting, deciding, due, entry_of, grade, is_by, is_final, is_near};
+ghost use Rattle.mbdc_audit.specs.Amount.{amount, is_guess as is_guess_source, is_put as is_put_source, mark, told};
+ghost use Rattle.mbdc_audit.specs.Grade.{has_number};
+ghost use Rattle.mbdc_audit.specs.View.{known_in, maybe_known, run_of, source_of};
+ghost use Rattle.mbdc_consumption.specs.Order.{IsInOrder};
+
 use crate::fault::Stop;
 use crate::grade::Grade;
 use crate::house::Value;
@@ -47,19 +55,25 @@ const END_OF_AMOUNTS: u64 = 1_000_000_000_000_000_000;
 
 impl Run<'_> {
     /// Whether it ends at a moment or before it.
-    pub fn is_over(&self, moment: u64) -> bool {
+    pub fn is_over(&self, moment: u64) -> bool
+        ensures { result ≡ is_by moment self.now.end }
+    {
         self.end.is_some_and(|end| end <= moment)
     }
 }
 
 impl Value<'_> {
     /// Whether a person or an estimate put it; a repeated telegram is an estimate.
-    pub fn is_put(&self) -> bool {
+    pub fn is_put(&self) -> bool
+        ensures { result ≡ (self.now.is_again || is_put_source (source_of self.now)) }
+    {
         self.is_again || self.typed.is_some()
     }
 
     /// Whether it is an estimate.
-    pub fn is_guess(&self) -> bool {
+    pub fn is_guess(&self) -> bool
+        ensures { result ≡ (self.now.is_again || is_guess_source (source_of self.now)) }
+    {
         self.is_again || self.typed.is_some_and(|typed| typed.is_guess)
     }
 }
@@ -80,7 +94,12 @@ impl<'w, 'a, A: Allocator + Copy> Curve<'w, 'a, A> {
         runs: &'w [Run<'a>],
         values: &[Value<'a>],
         is_told: bool,
-    ) -> Result<Self, Stop> {
+    ) -> Result<Self, Stop>
+        ensures values { IfOk result (λ c. known_in c.values.items
+            ≡ counting (if is_told then told (known_in values.now) else known_in values.now)) }
+        ensures entries { IfOk result (λ c. c.entries.items
+            ≡ map (entry_of (map run_of runs.now)) (known_in c.values.items)) }
+    {
         let mut kept: Vec<Value<'a>, A> = Vec::new(alloc);
         let mut entries: Vec<Entry, A> = Vec::new(alloc);
         'values: for value in values {
@@ -112,7 +131,10 @@ impl<'w, 'a, A: Allocator + Copy> Curve<'w, 'a, A> {
     }
 
     // The values that decide a moment: the last one at it or before it and, where that is before it, the next.
-    fn deciding(&self, moment: u64) -> (Option<Value<'a>>, Option<Value<'a>>) {
+    fn deciding(&self, moment: u64) -> (Option<Value<'a>>, Option<Value<'a>>)
+        ensures { maybe_known result.0 ++ maybe_known result.1
+            ≡ deciding moment (known_in self.now.values.items) }
+    {
         let last = self.values.iter().rev().find(|value| value.moment <= moment).copied();
         let next = self.values.iter().find(|value| value.moment > moment).copied();
         if last.is_some_and(|last| last.moment == moment) {
@@ -136,7 +158,10 @@ impl<'w, 'a, A: Allocator + Copy> Curve<'w, 'a, A> {
     }
 
     // Whether a period rests on a value that was put, or on an estimate: at its ends, or at an exchange in it.
-    fn rests_on(&self, from: u64, to: u64, is_guess: bool) -> bool {
+    fn rests_on(&self, from: u64, to: u64, is_guess: bool) -> bool
+        ensures { result ≡ list_any (λ v. if is_guess then is_guess_source v.source else is_put_source v.source)
+            (basis from to (known_in self.now.values.items)) }
+    {
         let is_so = |value: &Value<'_>| if is_guess { value.is_guess() } else { value.is_put() };
         let (first, second) = self.deciding(from);
         let (third, fourth) = self.deciding(to);
@@ -151,7 +176,9 @@ impl<'w, 'a, A: Allocator + Copy> Curve<'w, 'a, A> {
     }
 
     // Whether a value lies at a moment, or those around it are at most 48 hours apart.
-    fn is_near(&self, moment: u64) -> bool {
+    fn is_near(&self, moment: u64) -> bool
+        ensures { result ≡ is_near moment (known_in self.now.values.items) }
+    {
         match self.deciding(moment) {
             (Some(last), Some(next)) => next.moment - last.moment <= LONGEST_GAP,
             _ => true,
@@ -159,7 +186,9 @@ impl<'w, 'a, A: Allocator + Copy> Curve<'w, 'a, A> {
     }
 
     // Whether nothing is to come that may yet say that a period's end is false.
-    fn is_final(&self, to: u64) -> bool {
+    fn is_final(&self, to: u64) -> bool
+        ensures { result ≡ is_final (map run_of self.now.runs.now) (known_in self.now.values.items) to }
+    {
         let is_over = self.runs.last().is_some_and(|run| run.is_over(to));
         let first = self.values.iter().find(|value| value.moment >= to).copied();
         is_over
@@ -168,7 +197,10 @@ impl<'w, 'a, A: Allocator + Copy> Curve<'w, 'a, A> {
 
     // Number of exchanges of a period by the runs; none where one of them lacks the last value of the run before it or the
     // first of the next, or time lies between these.
-    fn due(&self, from: u64, to: u64) -> Option<usize> {
+    fn due(&self, from: u64, to: u64) -> Option<usize>
+        ensures { result ≡ (if are_whole from to (known_in self.now.values.items) 0 (map run_of self.now.runs.now)
+            then Some (due from to (map run_of self.now.runs.now)) else None) }
+    {
         let has = |run: usize, words: [Word; 2]| {
             let mut values = self.values.iter();
             values.any(|value| value.run == run as u64 && words.contains(&value.word))
@@ -189,7 +221,10 @@ impl<'w, 'a, A: Allocator + Copy> Curve<'w, 'a, A> {
     }
 
     /// What a place consumed in a period, and the first mark that applies.
-    pub fn graded(&self, from: u64, to: u64) -> Amount {
+    pub fn graded(&self, from: u64, to: u64) -> Amount
+        ensures { IsInOrder self.now.entries.items → from ≤ to → result.grade
+            ≡ grade (map run_of self.now.runs.now) (known_in self.now.values.items) from to }
+    {
         let entries = self.entries.as_slice();
         let amount = if to < from || !is_in_order(entries) {
             None
@@ -224,7 +259,10 @@ pub(crate) fn amount_of<'a, A: Allocator + Copy>(
     values: &[Value<'a>],
     from: u64,
     to: u64,
-) -> Result<Amount, Stop> {
+) -> Result<Amount, Stop>
+    ensures { IfOk result (λ a. IsInOrder (map (entry_of (map run_of runs.now)) (counting (known_in values.now)))
+        → from ≤ to → a.grade ≡ mark (map run_of runs.now) (known_in values.now) from to) }
+{
     let all = Curve::of(alloc, runs, values, false)?.graded(from, to);
     let is_put = |value: &Value<'_>| value.found.is_ok() && value.is_put();
     if all.grade != Grade::Measured || !values.iter().any(is_put) {
