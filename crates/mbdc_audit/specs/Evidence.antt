@@ -8,40 +8,17 @@ use Rattle.dc_address.specs.declared.identity.Identity.{Identity}
 use Rattle.dc_records.specs.Body.{continues}
 use Rattle.dc_records.specs.Record.{Entry}
 use Rattle.dc_records.specs.Telegram.{IsTelegram, Parsed}
-use Rattle.dc_units.specs.Date.{Day}
 use Rattle.dc_units.specs.Point.{seen_of}
 use Rattle.dc_units.specs.declared.point.Point.{Point}
 use Rattle.dc_units.specs.declared.point.Seen.{Seen}
 use Rattle.dc_units.specs.declared.point.Seen.TheVariants.{Point as Known, Other}
-use Rattle.dc_units.specs.declared.value.Value as value_type
 use Rattle.dc_units.specs.declared.value.Value.TheVariants as value
-use Rattle.mbdc_audit.specs.Moment.{number_of}
+use Rattle.mbdc_audit.specs.declared.moment.Dated.{Dated}
+use Rattle.mbdc_audit.specs.Moment.{date_in}
 use Rattle.mbdc_audit.specs.Uses.{size_named, size_of}
 use Rattle.mbdc_audit.specs.House.{at, Run, Spelled, Value}
 use Rattle.mbdc_audit.specs.House.{Source, current, stored, ended, anew, put, first, last}
 use Rattle.mbdc_audit.specs.declared.uses.Counted.{Counted}
-
--- ---- days
-
--- a day, the second of a date and time, and whether it has one
-pub record Dated : Type 0 where
-  pub day : ℕ
-  pub second : ℕ
-  pub has_time : Bool
-
--- 00:00 ends the day before
-abbrev pub date_in : value_type.Value → List Dated
-date_in (value.Day d) = record { day = number_of d; second = 0; has_time = false } ∷ []
-date_in (value.Minute d hour minute) = record {
-  day = number_of d - (if (hour == 0) && (minute == 0) then 1 else 0);
-  second = number_of d * 86400 + hour * 3600 + minute * 60;
-  has_time = true;
-} ∷ []
-date_in _ = []
-
-abbrev pub date_seen : Seen → List Dated
-date_seen (Known p) = date_in p.value
-date_seen Other = []
 
 -- ---- records
 
@@ -52,10 +29,6 @@ is_main e = (e.function == 0) && ((e.tariff == 0) && (e.subunit == 0))
 abbrev pub main : List Parsed → List Entry
 main telegrams = filter is_main (flat_map (λ t. t.records) telegrams)
 
--- the days with which records date a storage
-abbrev pub dates : ℕ → List Entry → List Dated
-dates storage records = flat_map (λ e. date_seen (seen_of e)) (filter (λ e. e.storage == storage) records)
-
 -- VIFE 00 means no error, and counts as absent
 abbrev pub bare : List ℕ → List ℕ
 bare [] = []
@@ -63,6 +36,19 @@ bare (code ∷ []) = code ∷ []
 bare (code ∷ vife ∷ []) = if code == 0xFB then code ∷ vife ∷ []
     else if (vife == 0) && nat_le 128 code then (code - 128) ∷ [] else code ∷ vife ∷ []
 bare (byte ∷ next ∷ more ∷ rest) = byte ∷ bare (next ∷ more ∷ rest)
+
+abbrev pub list_of : {X : Type 0} → Option X → List X
+list_of None = []
+list_of (Some x) = x ∷ []
+
+abbrev pub date_seen : Seen → List Dated
+date_seen (Known p) = list_of (date_in p.value)
+date_seen Other = []
+
+-- the days with which records date a storage
+abbrev pub dates : ℕ → List Entry → List Dated
+dates storage records = flat_map (λ e. date_seen (seen_of (record e { vib = bare e.vib })))
+    (filter (λ e. e.storage == storage) records)
 
 abbrev pub is_flow : ℕ → Bool
 is_flow vife = (vife % 128 == 0x3B) || (vife % 128 == 0x3C)
@@ -141,11 +127,11 @@ near = 136800
 -- own dates don't contradict a moment, or the end of a stored day
 abbrev pub MayBeAt : ℕ → List Entry → Type 0
 MayBeAt moment records =
-    All (λ d. d.has_time ≡ true → (d.second ≤ moment + near) × (moment ≤ d.second + near)) (dates 0 records)
+    All (λ d. (s : ℕ) → d.second ≡ Some s → (s ≤ moment + near) × (moment ≤ s + near)) (dates 0 records)
     × ((storage : ℕ) → 0 < storage → All (λ d. (d.day + 1) * 86400 ≤ moment + near) (dates storage records))
 
 abbrev pub MayHaveEnded : ℕ → List Entry → Type 0
-MayHaveEnded day records = All (λ d. d.has_time ≡ true → day * 86400 ≤ d.second) (dates 0 records)
+MayHaveEnded day records = All (λ d. (s : ℕ) → d.second ≡ Some s → day * 86400 ≤ s) (dates 0 records)
 
 -- telegrams are evidence of an amount
 pub record Tell (run : Run) (q : Counted) (bodies : List (List ℕ)) (day : Option ℕ) (may : List Entry → Type 0)

@@ -13,6 +13,7 @@ use Rattle.mbdc_audit.specs.House.{factor, emissions, price, average, degrees, s
 use Rattle.mbdc_audit.specs.House.{change, weather, carbon, cost}
 use Rattle.mbdc_audit.specs.Amount.{amount, mark, known, counting}
 use Rattle.mbdc_audit.specs.Grade.{grade_name, has_number, rank, worst as worse}
+use Rattle.mbdc_audit.specs.Evidence.{list_of}
 use Rattle.mbdc_audit.specs.Exact.{half_up}
 use Rattle.mbdc_audit.specs.Number.{in_unit, of_ratio, percent, scale_of, times}
 use Rattle.mbdc_audit.specs.Sound.{from, to}
@@ -36,10 +37,6 @@ rounded x decimals = record {
 abbrev pub printed : ℕ → Option Exact → List ℕ
 printed decimals None = codes "-"
 printed decimals (Some x) = decimal_text (rounded x decimals)
-
-abbrev pub list_of : {X : Type 0} → Option X → List X
-list_of None = []
-list_of (Some x) = x ∷ []
 
 -- ---- parts
 
