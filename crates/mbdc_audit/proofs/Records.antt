@@ -9,7 +9,8 @@ use Rattle.dc_units.specs.declared.point.Seen.{Seen}
 use Rattle.dc_units.specs.declared.point.Seen.TheVariants.{Point as Known, Other}
 use Rattle.dc_units.specs.declared.value.Value as value_type
 use Rattle.dc_units.specs.declared.value.Value.TheVariants as value
-use Rattle.mbdc_audit.specs.Evidence.{Counts, Gives, IsScaled, is_meant, size_of}
+use Rattle.mbdc_audit.specs.Evidence.{Counts, Gives, IsScaled, is_meant}
+use Rattle.mbdc_audit.specs.Uses.{size_of}
 use Rattle.mbdc_audit.specs.declared.uses.Counted.{Counted}
 
 -- ---- one record

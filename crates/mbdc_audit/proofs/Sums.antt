@@ -7,7 +7,8 @@ use Rattle.mbdc_consumption.specs.Period.{added, sum_of}
 use Rattle.mbdc_audit.specs.House.{Part, Place, Window}
 use Rattle.mbdc_audit.specs.Amount.{amount, entries, known, mark}
 use Rattle.mbdc_audit.specs.Sound.{Tile}
-use Rattle.mbdc_audit.specs.Published.{Open, Share, amount_or_0, has_number, house, is_held, is_whole, plain, share, shares_of}
+use Rattle.mbdc_audit.specs.Published.{Open, Share, amount_or_0, house, is_held, is_whole, plain, share, shares_of}
+use Rattle.mbdc_audit.specs.Grade.{has_number}
 use Rattle.mbdc_audit.proofs.Parts.{add_up}
 
 all_held : (p : Place) (parts : List Part) → filter (is_held house p) parts ≡ parts

@@ -234,7 +234,7 @@ pub record IsRight (lines : List (List ℕ)) : Type 0 where
 -- what is computed fits 128 bits
 pub record Fits (h : House) : Type 0 where
   pub sums : (who : Holder) (span used : ℕ) → (plain (shares h who span used) < 2 ^ 128)
-    × (weighted (shares h who span used) < 2 ^ 128)
+      × (weighted (shares h who span used) < 2 ^ 128)
   pub numbers : All (λ n. (x : Exact) → number h n.key ≡ Some x → FitsRounded x.num x.den 3) (all_numbers h)
 
 -- A RIGHT FILE WITHIN THE LIMITS: each line ends with a feed

@@ -115,6 +115,10 @@ joined (field ∷ next ∷ rest) = field ++ (44 ∷ joined (next ∷ rest))
 abbrev pub Fields : Type 0
 Fields = List (List ℕ)
 
+abbrev pub Either : Bool → Type 0 → Type 0 → Type 0
+Either true One Other = One
+Either false One Other = Other
+
 -- fields are of these forms, one by one, and spell these numbers
 abbrev pub AreRead : List Kind → Fields → Fields → List (Option Spelled) → Type 0
 AreRead [] [] fields numbers = ⊤
@@ -122,9 +126,9 @@ AreRead [] (left ∷ lefts) fields numbers = ⊥
 AreRead (k ∷ ks) [] fields numbers = ⊥
 AreRead (k ∷ ks) (left ∷ lefts) [] numbers = ⊥
 AreRead (k ∷ ks) (left ∷ lefts) (field ∷ fields) [] = ⊥
-AreRead (k ∷ ks) (left ∷ lefts) (field ∷ fields) (n ∷ numbers) = if is_bodies k
-    then (field ≡ joined (left ∷ lefts)) × Reads k field n
-    else (field ≡ left) × Reads k field n × AreRead ks lefts fields numbers
+AreRead (k ∷ ks) (left ∷ lefts) (field ∷ fields) (n ∷ numbers) = Either (is_bodies k)
+    ((field ≡ joined (left ∷ lefts)) × Reads k field n)
+    ((field ≡ left) × Reads k field n × AreRead ks lefts fields numbers)
 
 -- A LINE SAYS a word, and what its fields spell
 pub record IsLine (text : List ℕ) (l : Line) : Type 0 where
@@ -132,7 +136,7 @@ pub record IsLine (text : List ℕ) (l : Line) : Type 0 where
   pub lefts : Fields
   pub fields_are : fields_of text ≡ word ∷ lefts
   pub row : Any (λ r. (r.0.now ≡ word) × (r.1 ≡ l.word) × (r.2 ≡ l.stage)
-    × AreRead r.3.now lefts (map (λ f. f.now) l.fields) l.numbers) ROWS
+      × AreRead r.3.now lefts (map (λ f. f.now) l.fields) l.numbers) ROWS
 
 abbrev pub digits_of : Option (Option Spelled) → Option ℕ
 digits_of None = None

@@ -1,5 +1,5 @@
 -- How units of numbers are made of the smallest ones, and what is computed of fractions (this product).
-use Rattle.std.specs.Prelude.{◌≡◌, ◌<◌, ℕ, ◌+◌, ◌-◌, ◌*◌, ◌^◌, ◌==◌, ◌×◌, Bool, true, false, nat_lt, if◌then◌else◌}
+use Rattle.std.specs.Prelude.{◌≡◌, ◌<◌, ℕ, ◌+◌, ◌-◌, ◌*◌, ◌^◌, ◌==◌, Bool, true, false, nat_lt, if◌then◌else◌}
 use Rattle.std.specs.Prelude.{Option, Some, None}
 use Rattle.mbdc_audit.specs.declared.exact.Exact.{Exact}
 use Rattle.mbdc_audit.specs.declared.number.Scale.{Scale}

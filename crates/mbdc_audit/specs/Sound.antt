@@ -118,9 +118,9 @@ is_word s t = false
 -- lists of values are the same, by run, moment, amount and word
 abbrev pub AreAlike : List Value → List Value → Type 0
 AreAlike [] [] = ⊤
-AreAlike (a ∷ as) (b ∷ bs) = (a.run ≡ b.run) × (a.moment ≡ b.moment) × (a.amount ≡ b.amount)
-    × (is_word a.source b.source ≡ true) × AreAlike as bs
-AreAlike as bs = ⊥
+AreAlike (a ∷ later) (b ∷ others) = (a.run ≡ b.run) × (a.moment ≡ b.moment) × (a.amount ≡ b.amount)
+    × (is_word a.source b.source ≡ true) × AreAlike later others
+AreAlike one other = ⊥
 
 -- the moments at which one of two spans begins or ends, and that both have
 abbrev pub IsCommon : Span → Span → ℕ → Type 0

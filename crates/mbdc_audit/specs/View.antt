@@ -34,8 +34,8 @@ abbrev pub spelled_of : Typed → Spelled
 spelled_of t = record { digits = t.spelled.digits; decimals = t.spelled.decimals; size = t.size; unit = t.unit.now }
 
 abbrev pub put_as : (Bool → Spelled → Source) → Option Typed → Source
-put_as as None = anew
-put_as as (Some t) = as t.is_guess (spelled_of t)
+put_as put_by None = anew
+put_as put_by (Some t) = put_by t.is_guess (spelled_of t)
 
 abbrev pub of_word : Word → List (List ℕ) → Option DayEnd → Option Typed → Source
 of_word word.Read bodies e t = current bodies

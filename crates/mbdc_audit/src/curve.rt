@@ -116,7 +116,10 @@ impl<'w, 'a, A: Allocator + Copy> Curve<'w, 'a, A> {
                 most: run.most,
                 size: run.size,
             };
-            if entries.last().is_some_and(|last| last.is_repeated_by(&entry)) {
+            if entries
+                .last()
+                .is_some_and(|last| last.is_repeated_by(&entry))
+            {
                 let _ = entries.pop();
                 let _ = kept.pop();
             }
@@ -135,8 +138,17 @@ impl<'w, 'a, A: Allocator + Copy> Curve<'w, 'a, A> {
         ensures { maybe_known result.0 ++ maybe_known result.1
             ≡ deciding moment (known_in self.now.values.items) }
     {
-        let last = self.values.iter().rev().find(|value| value.moment <= moment).copied();
-        let next = self.values.iter().find(|value| value.moment > moment).copied();
+        let last = self
+            .values
+            .iter()
+            .rev()
+            .find(|value| value.moment <= moment)
+            .copied();
+        let next = self
+            .values
+            .iter()
+            .find(|value| value.moment > moment)
+            .copied();
         if last.is_some_and(|last| last.moment == moment) {
             return (last, None);
         }
@@ -145,7 +157,7 @@ impl<'w, 'a, A: Allocator + Copy> Curve<'w, 'a, A> {
 
     /// Whether the values that decide a moment are the same in two windows: of one run, moment, amount and word.
     pub fn is_one_with(&self, other: &Curve<'_, '_, A>, moment: u64) -> bool {
-        let is_same = |one: Option<Value<'a>>, other: Option<Value<'_>>| match (one, other) {
+        let is_same = |one: Option<Value>, other: Option<Value>| match (one, other) {
             (Some(one), Some(other)) => one.run == other.run
                 && one.moment == other.moment
                 && one.found == other.found
@@ -162,14 +174,20 @@ impl<'w, 'a, A: Allocator + Copy> Curve<'w, 'a, A> {
         ensures { result ≡ list_any (λ v. if is_guess then is_guess_source v.source else is_put_source v.source)
             (basis from to (known_in self.now.values.items)) }
     {
-        let is_so = |value: &Value<'_>| if is_guess { value.is_guess() } else { value.is_put() };
+        let is_so = |value: &Value| if is_guess {
+            value.is_guess()
+        } else {
+            value.is_put()
+        };
         let (first, second) = self.deciding(from);
         let (third, fourth) = self.deciding(to);
         let decides = [first, second, third, fourth].iter().flatten().any(is_so);
         decides
             || self.values.iter().any(|value| {
-                matches!(value.word, Word::First | Word::Zero | Word::Last | Word::Ended)
-                    && from < value.moment
+                matches!(
+                    value.word,
+                    Word::First | Word::Zero | Word::Last | Word::Ended
+                ) && from < value.moment
                     && value.moment <= to
                     && is_so(value)
             })
@@ -192,7 +210,10 @@ impl<'w, 'a, A: Allocator + Copy> Curve<'w, 'a, A> {
         let is_over = self.runs.last().is_some_and(|run| run.is_over(to));
         let first = self.values.iter().find(|value| value.moment >= to).copied();
         is_over
-            || first.is_some_and(|first| self.values.iter().any(|value| first.moment < value.moment))
+            || first.is_some_and(|first| self
+                .values
+                .iter()
+                .any(|value| first.moment < value.moment))
     }
 
     // Number of exchanges of a period by the runs; none where one of them lacks the last value of the run before it or the
@@ -264,14 +285,16 @@ pub(crate) fn amount_of<'a, A: Allocator + Copy>(
         → from ≤ to → a.grade ≡ mark (map run_of runs.now) (known_in values.now) from to) }
 {
     let all = Curve::of(alloc, runs, values, false)?.graded(from, to);
-    let is_put = |value: &Value<'_>| value.found.is_ok() && value.is_put();
+    let is_put = |value: &Value| value.found.is_ok() && value.is_put();
     if all.grade != Grade::Measured || !values.iter().any(is_put) {
         return Ok(all);
     }
     if Curve::of(alloc, runs, values, true)?.graded(from, to) == all {
         return Ok(all);
     }
-    let has_guess = values.iter().any(|value| value.found.is_ok() && value.is_guess());
+    let has_guess = values
+        .iter()
+        .any(|value| value.found.is_ok() && value.is_guess());
     let grade = if has_guess {
         Grade::Estimated
     } else {

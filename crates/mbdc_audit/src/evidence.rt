@@ -126,14 +126,16 @@ fn bare<'r>(vib: &[u8], room: &'r mut Block) -> &'r [u8]
 }
 
 // The code of a VIB, without VIFEs 3B and 3C, which count forward and backward flow; nothing with others.
-fn code_of<'r>(vib: &[u8], room: &'r mut Block) -> &'r [u8]
-{
+fn code_of<'r>(vib: &[u8], room: &'r mut Block) -> &'r [u8] {
     let len = if vib.starts_with(&[0xFB]) { 2 } else { 1 };
     if vib.len() < len {
         return &[];
     }
     let (code, vifes) = vib.split_at(len);
-    if vifes.iter().any(|vife| vife % 128 != 0x3B && vife % 128 != 0x3C) {
+    if vifes
+        .iter()
+        .any(|vife| vife % 128 != 0x3B && vife % 128 != 0x3C)
+    {
         return &[];
     }
     room[..len].copy_from_slice(code);
@@ -203,9 +205,7 @@ fn check_dates(records: &[Record<'_>], meant: Meant) -> Result<(), Refusal> {
 fn is_meant(records: &[Record<'_>], record: &Record<'_>, meant: Meant) -> bool {
     match meant {
         Meant::Current(_) => record.storage == 0,
-        Meant::Stored(day) => {
-            record.storage > 0 && day_of(records, record.storage) == Some(day)
-        }
+        Meant::Stored(day) => { record.storage > 0 && day_of(records, record.storage) == Some(day) }
     }
 }
 

@@ -123,7 +123,9 @@ impl Kind {
         ensures found { IfSome result (Reads self field.now) }
         ensures only { (said : Option Spelled) → Reads self field.now said → result ≡ Some said }
     {
-        if is_word(field, "-") && matches!(self, Kind::WholeOrNone | Kind::PositiveOrNone | Kind::Vib) {
+        if is_word(field, "-")
+            && matches!(self, Kind::WholeOrNone | Kind::PositiveOrNone | Kind::Vib)
+        {
             return Some(None);
         }
         match self {
@@ -162,8 +164,7 @@ impl Kind {
 }
 
 // Whether a label is a month, as `2026-10`.
-fn is_month(label: &[u8]) -> bool
-{
+fn is_month(label: &[u8]) -> bool {
     let mut day = *b"0000-00-01";
     if label.len() != 7 {
         return false;
@@ -173,8 +174,7 @@ fn is_month(label: &[u8]) -> bool
 }
 
 // Whether fields are bodies: each some bytes, in two capital hex digits a byte.
-fn are_bodies(fields: &[u8]) -> bool
-{
+fn are_bodies(fields: &[u8]) -> bool {
     let (mut body, mut rest) = first_field(fields);
     'bodies: while body.len() % 2 == 0 && Kind::Bodies.is_of(body, fields.len()) {
         let Some(left) = rest else {
@@ -186,8 +186,7 @@ fn are_bodies(fields: &[u8]) -> bool
 }
 
 // Whether a text is `-`, `?` with zeros for the decimals, or a decimal of at most three decimals, with or without a sign.
-fn is_text(text: &[u8]) -> bool
-{
+fn is_text(text: &[u8]) -> bool {
     match text {
         [b'-'] | [b'?'] => true,
         [b'?', b'.', zeros @ ..] => {

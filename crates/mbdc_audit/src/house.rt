@@ -188,7 +188,10 @@ impl<'a, A: Allocator + Copy> House<'a, A> {
 
     /// The user with this number.
     pub fn user(&self, number: u64) -> Option<User<'a>> {
-        self.users.iter().copied().find(|user| user.number == number)
+        self.users
+            .iter()
+            .copied()
+            .find(|user| user.number == number)
     }
 }
 

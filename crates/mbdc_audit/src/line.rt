@@ -5,8 +5,8 @@ ghost use Rattle.mbdc_audit.specs.Line.{IsLine, may_follow, maybe_at, number_at}
 
 use crate::fault::AuditFault;
 use crate::field::Kind::{
-    Any, Beside, Bodies, Dash, Day, Decimal, Exact, Flat, How, Identity, Month, Offset, Positive, PositiveOrNone, Quantity,
-    Ratio, Text, Two, Type, Use, Vib, Whole, WholeOrNone, Why,
+    Any, Beside, Bodies, Dash, Day, Decimal, Exact, Flat, How, Identity, Month, Offset, Positive,
+    PositiveOrNone, Quantity, Ratio, Text, Two, Type, Use, Vib, Whole, WholeOrNone, Why,
 };
 use crate::field::{Kind, first_field, is_word};
 use crate::moment::DayEnd;
@@ -87,35 +87,103 @@ const ROWS: [Row; 35] = [
     ("audit", Word::Audit, HEADED, &[Two, Month]),
     ("use", Word::Use, DECLARED, &[Use, Quantity]),
     ("as", Word::As, DECLARED, &[Any, Type, Why]),
-    ("span", Word::Span, DECLARED, &[Whole, Day, Offset, Day, Offset]),
+    (
+        "span",
+        Word::Span,
+        DECLARED,
+        &[Whole, Day, Offset, Day, Offset],
+    ),
     ("factor", Word::Factor, DECLARED, &[Any, Whole, Ratio]),
     ("co2", Word::Emissions, DECLARED, &[Any, Whole, Ratio]),
     ("degrees", Word::Degrees, DECLARED, &[Dash, Whole, Ratio]),
     ("price", Word::Price, DECLARED, &[Any, Any, Whole, Ratio]),
-    ("average", Word::Average, DECLARED, &[Any, Any, Whole, Ratio]),
+    (
+        "average",
+        Word::Average,
+        DECLARED,
+        &[Any, Any, Whole, Ratio],
+    ),
     ("user", Word::User, DECLARED, &[Whole, Flat, PositiveOrNone]),
     ("place", Word::Place, PLACED, &[Whole, Flat, Any, Positive]),
-    ("meter", Word::Meter, METERED, &[Whole, Identity, Whole, WholeOrNone, WholeOrNone, WholeOrNone, Vib]),
+    (
+        "meter",
+        Word::Meter,
+        METERED,
+        &[
+            Whole,
+            Identity,
+            Whole,
+            WholeOrNone,
+            WholeOrNone,
+            WholeOrNone,
+            Vib,
+        ],
+    ),
     ("window", Word::Window, OPENED, &[Whole]),
     ("read", Word::Read, VALUED, &[Whole, Whole, Bodies]),
-    ("stored", Word::Stored, VALUED, &[Whole, Day, Offset, Bodies]),
+    (
+        "stored",
+        Word::Stored,
+        VALUED,
+        &[Whole, Day, Offset, Bodies],
+    ),
     ("ended", Word::Ended, VALUED, &[Whole, Day, Offset, Bodies]),
     ("zero", Word::Zero, VALUED, &[Whole]),
     ("hand", Word::Hand, VALUED, &[Whole, Whole, Decimal, Any]),
-    ("estimated", Word::Estimated, VALUED, &[Whole, Whole, Decimal, Any]),
+    (
+        "estimated",
+        Word::Estimated,
+        VALUED,
+        &[Whole, Whole, Decimal, Any],
+    ),
     ("first", Word::First, VALUED, &[Whole, Decimal, Any, How]),
     ("last", Word::Last, VALUED, &[Whole, Decimal, Any, How]),
     ("struck", Word::Struck, VALUED, &[Whole, Whole, Why]),
-    ("part", Word::Part, PARTED, &[Whole, Whole, Whole, WholeOrNone]),
-    ("shown", Word::Shown, SHOWN, &[Whole, Whole, Whole, Any, Text, Beside]),
+    (
+        "part",
+        Word::Part,
+        PARTED,
+        &[Whole, Whole, Whole, WholeOrNone],
+    ),
+    (
+        "shown",
+        Word::Shown,
+        SHOWN,
+        &[Whole, Whole, Whole, Any, Text, Beside],
+    ),
     ("value", Word::Value, SHOWN, &[Whole, Whole, Exact, Any]),
     ("totals", Word::Totals, TOTALS, &[]),
-    ("of_user", Word::OfUser, SUMMED, &[Whole, Whole, Any, Any, Text, Beside]),
-    ("of_flat", Word::OfFlat, SUMMED, &[Whole, Any, Any, Any, Text, Beside]),
-    ("of_house", Word::OfHouse, SUMMED, &[Whole, Any, Any, Text, Beside, Beside]),
+    (
+        "of_user",
+        Word::OfUser,
+        SUMMED,
+        &[Whole, Whole, Any, Any, Text, Beside],
+    ),
+    (
+        "of_flat",
+        Word::OfFlat,
+        SUMMED,
+        &[Whole, Any, Any, Any, Text, Beside],
+    ),
+    (
+        "of_house",
+        Word::OfHouse,
+        SUMMED,
+        &[Whole, Any, Any, Text, Beside, Beside],
+    ),
     ("mean", Word::Mean, SUMMED, &[Whole, Whole, Any, Any, Text]),
-    ("change", Word::Change, SUMMED, &[Whole, Whole, Whole, Any, Any, Text]),
-    ("weather", Word::Weather, SUMMED, &[Whole, Whole, Whole, Any, Text]),
+    (
+        "change",
+        Word::Change,
+        SUMMED,
+        &[Whole, Whole, Whole, Any, Any, Text],
+    ),
+    (
+        "weather",
+        Word::Weather,
+        SUMMED,
+        &[Whole, Whole, Whole, Any, Text],
+    ),
     ("carbon", Word::Carbon, SUMMED, &[Whole, Whole, Any, Text]),
     ("cost", Word::Cost, SUMMED, &[Whole, Whole, Any, Any, Text]),
     ("end", Word::End, ENDED, &[]),
@@ -144,7 +212,10 @@ impl<'a> Line<'a> {
         ensures { IfOk result (IsLine line.now) }
     {
         let (word, mut rest) = first_field(line);
-        let (_, word, stage, kinds) = *ROWS.iter().find(|row| is_word(word, row.0)).ok_or(AuditFault::Row)?;
+        let (_, word, stage, kinds) = *ROWS
+            .iter()
+            .find(|row| is_word(word, row.0))
+            .ok_or(AuditFault::Row)?;
         let mut it = Line {
             word,
             stage,

@@ -21,7 +21,7 @@ pub struct Scale {
 }
 
 /// How a unit is made of the smallest one of a quantity; `None` of a unit that isn't one of its.
-pub fn scale(counted: Counted, unit: Unit) -> Option<Scale>
+pub fn scale_in(counted: Counted, unit: Unit) -> Option<Scale>
     ensures value { result ≡ scale_of counted unit }
     ensures some { IfSome result (λ s. 0 < s.den) }
 {
@@ -46,7 +46,10 @@ pub fn scale(counted: Counted, unit: Unit) -> Option<Scale>
 pub fn times(exact: Exact, ratio: u64, divisor: u128) -> Result<Exact, AuditFault>
     ensures { IfOk result (λ x. x ≡ times ratio divisor exact) }
 {
-    let num = exact.num.checked_mul(u128::from(ratio)).ok_or(AuditFault::TooLarge)?;
+    let num = exact
+        .num
+        .checked_mul(u128::from(ratio))
+        .ok_or(AuditFault::TooLarge)?;
     let den = exact.den.checked_mul(divisor).ok_or(AuditFault::TooLarge)?;
     Ok(Exact { num, den, ..exact })
 }
@@ -60,7 +63,7 @@ pub fn in_unit(
 ) -> Result<Exact, AuditFault>
     ensures { IfOk result (λ x. in_unit sums (scale_of counted unit) factor ≡ Some x) }
 {
-    let scale = scale(counted, unit).ok_or(AuditFault::Unit)?;
+    let scale = scale_in(counted, unit).ok_or(AuditFault::Unit)?;
     let exact = Exact {
         is_negative: false,
         num: if scale.is_weighted { sums.1 } else { sums.0 },
@@ -81,7 +84,11 @@ pub fn percent(here: Exact, there: Exact) -> Result<Option<Exact>, AuditFault>
     if there.num == 0 {
         return Ok(None);
     }
-    let num = here.num.abs_diff(there.num).checked_mul(100).ok_or(AuditFault::TooLarge)?;
+    let num = here
+        .num
+        .abs_diff(there.num)
+        .checked_mul(100)
+        .ok_or(AuditFault::TooLarge)?;
     Ok(Some(Exact {
         is_negative: here.num < there.num,
         num,

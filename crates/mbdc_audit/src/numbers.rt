@@ -55,7 +55,10 @@ impl Total {
     fn and(&self, plain: u128, weighted: u128, grade: Grade) -> Result<Total, AuditFault> {
         Ok(Total {
             plain: self.plain.checked_add(plain).ok_or(AuditFault::TooLarge)?,
-            weighted: self.weighted.checked_add(weighted).ok_or(AuditFault::TooLarge)?,
+            weighted: self
+                .weighted
+                .checked_add(weighted)
+                .ok_or(AuditFault::TooLarge)?,
             grade: self.grade.worst(grade),
             ..*self
         })
@@ -153,13 +156,17 @@ impl<'a, A: Allocator + Copy> House<'a, A> {
             return Ok((None, total));
         }
         let sums = (total.plain, total.weighted);
-        Ok((Some(self.exact(sums, span, number.used, number.unit)?), total))
+        Ok((
+            Some(self.exact(sums, span, number.used, number.unit)?),
+            total,
+        ))
     }
 
     // Whether a user has the whole of a span: each place of a use of the flat has a time that covers it, and all parts
     // are the user's.
     fn has_whole(&self, span: u64, number: &Number<'_>) -> bool {
-        let (Some(user), Some(within)) = (self.user(number.user), self.spans.get(span as usize)) else {
+        let (Some(user), Some(within)) = (self.user(number.user), self.spans.get(span as usize))
+        else {
             return false;
         };
         let time = (within.from.moment(), within.to.moment());
@@ -171,7 +178,10 @@ impl<'a, A: Allocator + Copy> House<'a, A> {
                 && let Some(window) = window
             {
                 has_one = true;
-                let are_own = window.parts.iter().all(|part| part.user == Some(user.number));
+                let are_own = window
+                    .parts
+                    .iter()
+                    .all(|part| part.user == Some(user.number));
                 if place.reach(within) != time || !are_own {
                     return false;
                 }
@@ -211,11 +221,7 @@ impl<'a, A: Allocator + Copy> House<'a, A> {
     }
 
     // A user's share by area: of a declared average, or of what comparable flats consumed.
-    fn mean(
-        &self,
-        number: &Number<'_>,
-        bases: &mut Vec<Basis, A>,
-    ) -> Result<Option<Exact>, Stop> {
+    fn mean(&self, number: &Number<'_>, bases: &mut Vec<Basis, A>) -> Result<Option<Exact>, Stop> {
         let (span, used) = (number.span, number.used);
         let Some(area) = self.user(number.user).and_then(|user| user.area) else {
             return Ok(None);
@@ -227,7 +233,10 @@ impl<'a, A: Allocator + Copy> House<'a, A> {
                 den: RATIO * RATIO,
             }));
         }
-        let known = bases.iter().copied().find(|basis| basis.span == span && basis.used == used);
+        let known = bases
+            .iter()
+            .copied()
+            .find(|basis| basis.span == span && basis.used == used);
         let basis = match known {
             Some(basis) => basis,
             None => {
@@ -316,7 +325,10 @@ impl<'a, A: Allocator + Copy> House<'a, A> {
         let Some(plain) = amount.amount else {
             return Ok((None, beside));
         };
-        let sums = (u128::from(plain), u128::from(plain) * u128::from(place.weight));
+        let sums = (
+            u128::from(plain),
+            u128::from(plain) * u128::from(place.weight),
+        );
         let exact = self.exact(sums, window.span, place.used, number.unit)?;
         Ok((Some(exact), beside))
     }
@@ -332,8 +344,14 @@ fn is_period<A: Allocator + Copy>(
         return false;
     };
     let is_cut = |moment: u64| {
-        window.parts.iter().any(|part| part.from == moment || part.to == moment)
-            || place.runs.iter().any(|run| run.begin == moment || run.end == Some(moment))
+        window
+            .parts
+            .iter()
+            .any(|part| part.from == moment || part.to == moment)
+            || place
+                .runs
+                .iter()
+                .any(|run| run.begin == moment || run.end == Some(moment))
     };
     is_cut(number.from)
         && is_cut(number.to)

@@ -8,7 +8,7 @@ use crate::house::{
     Window,
 };
 use crate::line::{BEGUN, ENDED, Line, SHOWN, SUMMED, Word, may_follow};
-use crate::number::scale;
+use crate::number::scale_in;
 use crate::smallest::Spelled;
 use crate::uses::{Counted, Unit, size_named};
 use dc_address::Identity;
@@ -143,7 +143,7 @@ impl<'a, A: Allocator + Copy> Reader<'a, A> {
     // The unit of a number of a use, which is one of the use's.
     fn unit(&self, used: u64, unit: &[u8]) -> Result<Unit, AuditFault> {
         let unit = Unit::named(unit).ok_or(AuditFault::Unit)?;
-        let is_of = scale(self.house.used(used).counts, unit).is_some();
+        let is_of = scale_in(self.house.used(used).counts, unit).is_some();
         only_if(is_of, AuditFault::Unit)?;
         Ok(unit)
     }
@@ -164,11 +164,8 @@ impl<'a, A: Allocator + Copy> Reader<'a, A> {
             kind: line.number(1) as u8,
             why: line.fields[2],
         };
-        let is_there = self
-            .house
-            .allowed
-            .iter()
-            .any(|other| other.used == allowed.used && other.kind == allowed.kind);
+        let is_there = self.house.allowed.iter().any(|other| other.used == allowed.used
+            && other.kind == allowed.kind);
         only_if(!is_there, AuditFault::Fact)?;
         self.house.allowed.push(allowed)?;
         Ok(())
@@ -341,7 +338,7 @@ impl<'a, A: Allocator + Copy> Reader<'a, A> {
     // Whether what a number needs in a span is declared: the use's factor, and one more fact.
     fn check_facts(&self, number: &Number<'_>, span: u64) -> Result<(), AuditFault> {
         let used = number.used;
-        let needs_factor = match scale(self.house.used(used).counts, number.unit) {
+        let needs_factor = match scale_in(self.house.used(used).counts, number.unit) {
             Some(scale) => scale.has_factor,
             None => false,
         };

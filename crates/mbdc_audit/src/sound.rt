@@ -43,7 +43,9 @@ const NEAR_MINUTES: u16 = 60;
 // Whether the table of types says that a device counts a use.
 fn is_type(name: &[u8], run: &Run<'_>) -> bool {
     let kind = run.identity.kind;
-    let is_listed = TYPES.iter().any(|row| is_word(name, row.0) && row.1 == kind);
+    let is_listed = TYPES
+        .iter()
+        .any(|row| is_word(name, row.0) && row.1 == kind);
     is_listed || (is_word(name, "cooling") && kind == HEAT_AND_COOLING && !run.vib.is_empty())
 }
 
@@ -69,7 +71,11 @@ impl<'s, W: Sink> Teller<'s, W> {
                 .iter()
                 .any(|other| other.flat == user.flat && other.area != user.area);
             if has_another {
-                let words = [Text(b"the users of "), Text(user.flat), Text(b" have two areas")];
+                let words = [
+                    Text(b"the users of "),
+                    Text(user.flat),
+                    Text(b" have two areas"),
+                ];
                 self.rule(user.line, "Tenancy", &words)?;
             }
         }
@@ -86,7 +92,11 @@ impl<'s, W: Sink> Teller<'s, W> {
                     self.check_tenancy(place, other, j)?;
                 }
             }
-            is_asked = is_asked || place.windows.iter().any(|window| !window.numbers.is_empty());
+            is_asked = is_asked
+                || place
+                    .windows
+                    .iter()
+                    .any(|window| !window.numbers.is_empty());
         }
         if house.places.is_empty() || !is_asked {
             self.rule(house.lines, "Empty", &[Text(b"no number is asked")])?;
@@ -129,9 +139,8 @@ impl<'s, W: Sink> Teller<'s, W> {
             self.check_offset(span.line, &span.from, offsets)?;
             self.check_offset(span.line, &span.to, offsets)?;
             let (from, to) = (span.from.moment(), span.to.moment());
-            let is_there = house.spans[..i]
-                .iter()
-                .any(|other| other.from.moment() == from && other.to.moment() == to);
+            let is_there = house.spans[..i].iter().any(|other| other.from.moment() == from
+                && other.to.moment() == to);
             if from >= to || is_there {
                 let words = Text(b"it has no time, or is one before it");
                 self.rule(span.line, "Span", &[words])?;
@@ -140,7 +149,8 @@ impl<'s, W: Sink> Teller<'s, W> {
                 last = Some(*span);
             }
         }
-        let Some(next) = last.and_then(|last| next_day(&Date::parse_text(last.from.spelled.0)?)) else {
+        let Some(next) = last.and_then(|last| next_day(&Date::parse_text(last.from.spelled.0)?))
+        else {
             return Ok(());
         };
         let mut room = [0u8; TEXT_ROOM];
@@ -174,7 +184,12 @@ impl<'s, W: Sink> Teller<'s, W> {
                     Some(window) => (window.line, &b" has a window of span "[..]),
                     None => (place.line, &b" has no window of span "[..]),
                 };
-                let words = [Text(b"place "), Number(number), Text(has), Number(i as u64 + 1)];
+                let words = [
+                    Text(b"place "),
+                    Number(number),
+                    Text(has),
+                    Number(i as u64 + 1),
+                ];
                 self.rule(line, "Window", &words)?;
             }
             if let Some(window) = window {
@@ -194,16 +209,16 @@ impl<'s, W: Sink> Teller<'s, W> {
         let name = house.used(place.used).name;
         'runs: for (i, run) in place.runs.iter().enumerate() {
             let has_time = run.end.is_none_or(|end| run.begin < end);
-            let is_after = place.runs[..i].last().is_none_or(|last| last.is_over(run.begin));
+            let is_after = place.runs[..i]
+                .last()
+                .is_none_or(|last| last.is_over(run.begin));
             if !has_time || !is_after {
                 let words = Text(b"the meters' times aren't in order");
                 self.rule(run.line, "Moment", &[words])?;
             }
             let kind = run.identity.kind;
-            let is_allowed = house
-                .allowed
-                .iter()
-                .any(|allowed| allowed.used == place.used && allowed.kind == kind);
+            let is_allowed = house.allowed.iter().any(|allowed| allowed.used == place.used
+                && allowed.kind == kind);
             if !is_allowed && !is_type(name, run) {
                 let text = run.identity.text();
                 let words = [Text(name), Text(b" by device type "), Text(&text[16..])];
@@ -238,7 +253,11 @@ impl<'s, W: Sink> Teller<'s, W> {
                 self.rule(value.line, "Moment", &[Text(b"not at the meter's end")])?;
             }
             if value.moment < run.begin || run.end.is_some_and(|end| end < value.moment) {
-                self.rule(value.line, "Moment", &[Text(b"outside of its meter's time")])?;
+                self.rule(
+                    value.line,
+                    "Moment",
+                    &[Text(b"outside of its meter's time")],
+                )?;
             }
             let is_before = window.values[..i]
                 .last()
@@ -246,7 +265,10 @@ impl<'s, W: Sink> Teller<'s, W> {
             if is_before {
                 self.rule(value.line, "Moment", &[Text(b"before the value before it")])?;
             }
-            let before = value.run.checked_sub(1).and_then(|before| runs.get(before as usize));
+            let before = value
+                .run
+                .checked_sub(1)
+                .and_then(|before| runs.get(before as usize));
             let is_restart = before.is_some_and(|old| {
                 old.identity == run.identity && old.vib == run.vib && old.end == Some(run.begin)
             });
@@ -275,13 +297,21 @@ impl<'s, W: Sink> Teller<'s, W> {
             if let Some(user) = user
                 && user.flat != place.flat
             {
-                let words = [Text(b"user "), Number(user.number), Text(b" is of another flat")];
+                let words = [
+                    Text(b"user "),
+                    Number(user.number),
+                    Text(b" is of another flat"),
+                ];
                 self.rule(part.line, "Part", &words)?;
             }
             reached = part.to;
         }
         if time.0 < end && (window.parts.is_empty() || reached != end) {
-            self.rule(window.line, "Part", &[Text(b"the parts don't reach the end")])?;
+            self.rule(
+                window.line,
+                "Part",
+                &[Text(b"the parts don't reach the end")],
+            )?;
         }
         Ok(())
     }
