@@ -4,12 +4,11 @@ ghost use Rattle.std.specs.Prelude.{◌≡◌, ◌≤◌, ◌||◌, ◌++◌, If
 ghost use Rattle.std.specs.List.{list_any};
 ghost use Rattle.mbdc_audit.specs.Amount.{are_whole, basis, counting, deciding, due, entry_of, grade, is_by, is_final, is_near};
 ghost use Rattle.mbdc_audit.specs.Amount.{amount, is_guess as is_guess_source, is_put as is_put_source, mark, told};
-ghost use Rattle.mbdc_audit.specs.Grade.{has_number};
 ghost use Rattle.mbdc_audit.specs.View.{known_in, maybe_known, run_of, source_of};
 ghost use Rattle.mbdc_consumption.specs.Order.{IsInOrder};
 
 use crate::fault::Stop;
-use crate::grade::Grade;
+use crate::grade::{Grade, UNCLEAR};
 use crate::house::Value;
 use crate::line::Word;
 use dc_address::Identity;
@@ -268,7 +267,11 @@ impl<'w, 'a, A: Allocator + Copy> Curve<'w, 'a, A> {
         } else {
             Grade::Measured
         };
-        let amount = if grade.has_number() { amount } else { None };
+        let amount = if grade.told().1 < UNCLEAR {
+            amount
+        } else {
+            None
+        };
         Amount { amount, grade }
     }
 }

@@ -1,7 +1,7 @@
 //! How reliable a number is.
 
 ghost use Rattle.std.specs.Prelude.{◌≡◌};
-ghost use Rattle.mbdc_audit.specs.Grade.{grade_name, has_number, worst};
+ghost use Rattle.mbdc_audit.specs.Grade.{grade_name, rank, worst};
 
 /// How reliable a number is, from the best to the worst.
 #[derive(Clone, Copy, PartialEq, Eq)]
@@ -21,9 +21,15 @@ pub enum Grade {
     Missing,
 }
 
+/// The first grade in the order without a number.
+pub const UNCLEAR: u8 = 4;
+
 impl Grade {
     /// The word for it, and its place in the order.
-    pub fn told(self) -> (&'static str, u8) {
+    pub fn told(self) -> (&'static str, u8)
+        ensures name { result.0.now ≡ grade_name self }
+        ensures rank { result.1 ≡ rank self }
+    {
         match self {
             Grade::Measured => ("measured", 0),
             Grade::Hand => ("hand", 1),
@@ -44,12 +50,5 @@ impl Grade {
         } else {
             self
         }
-    }
-
-    /// Whether there is a number.
-    pub fn has_number(self) -> bool
-        ensures { result ≡ has_number self }
-    {
-        self.told().1 < 4
     }
 }

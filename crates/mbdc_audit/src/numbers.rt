@@ -4,7 +4,7 @@ use crate::curve::amount_of;
 use crate::exact::Exact;
 use crate::fault::{AuditFault, Stop};
 use crate::field::{first_field, is_word};
-use crate::grade::Grade;
+use crate::grade::{Grade, UNCLEAR};
 use crate::house::{Fact, House, Number, Part, Place, Window};
 use crate::line::Word;
 use crate::number::{RATIO, in_unit, percent, times};
@@ -114,7 +114,7 @@ impl<'a, A: Allocator + Copy> House<'a, A> {
                     continue;
                 };
                 total.count += 1;
-                if grade.has_number() {
+                if grade.told().1 < UNCLEAR {
                     total = total.and(sum, sum * u128::from(place.weight), grade)?;
                 } else {
                     total.without += 1;

@@ -67,12 +67,18 @@ pub fn whole_in(text: &[u8]) -> Option<u64>
     }
 }
 
+fn first_point(text: &[u8]) -> Option<usize>
+    ensures { result ≡ position is_point text.now }
+{
+    text.iter().position(|byte| *byte == b'.')
+}
+
 // The digits before the point and those after it.
 fn parts_of(text: &[u8]) -> (&[u8], Option<&[u8]>)
     ensures whole { result.0.now ≡ (parts_of text.now).0 }
     ensures after { option_map (λ s. s.now) result.1 ≡ (parts_of text.now).1 }
 {
-    match text.iter().position(|byte| *byte == b'.') {
+    match first_point(text) {
         None => (text, None),
         Some(point) => {
             let (whole, rest) = text.split_at(point);
