@@ -10,7 +10,6 @@ use Rattle.mbdc_audit.specs.Amount.{amount, counting, entries, entry_of, is_agai
 use Rattle.mbdc_audit.specs.Sound.{IsWindow, Tile, from, to}
 use Rattle.mbdc_audit.specs.Published.{house, is_whole, plain, shares_of}
 use Rattle.mbdc_audit.proofs.Sums.{of_place}
-use Rattle.mbdc_audit.specs.declared.uses.Counted.{Counted}
 
 -- each value is no earlier than the one before it, and the first than a moment
 abbrev Rise : ℕ → List Value → Type 0
@@ -102,10 +101,10 @@ pub sound_order : (runs : List Run) (values : List Value) → AllPairs After val
 sound_order runs values pairs = in_order runs 0 (counting (known values))
     (counting_rises 0 (known values) (known_rises 0 values (from_zero values pairs)))
 
-pub sound_sum : (h : House) (p : Place) (q : Counted) (w : Window) (s : Span) (first : Part) (rest : List Part)
-    → IsWindow h p q w s → w.parts ≡ first ∷ rest
+pub sound_sum : (h : House) (p : Place) (w : Window) (s : Span) (first : Part) (rest : List Part)
+    → IsWindow h p w s → w.parts ≡ first ∷ rest
     → is_whole (shares_of house (record { place = p; window = w })) ≡ true
     → amount p.runs (known w.values) (from p s) (to p s) ≡ Some (plain (shares_of house (record { place = p; window = w })))
-sound_sum h p q w s first rest sound is whole = of_place (record { place = p; window = w }) (from p s) (to p s) first rest is
-    (subst (λ (xs : List Part). Tile (from p s) (to p s) xs) is sound.tile)
-    (sound_order p.runs w.values sound.in_order) whole
+sound_sum h p w s first rest sound is whole = of_place (record { place = p; window = w }) (from p s) (to p s) first rest is
+    (subst (λ (xs : List Part). Tile (from p s) (to p s) xs) is sound.parts.tile)
+    (sound_order p.runs w.values sound.timed.order) whole

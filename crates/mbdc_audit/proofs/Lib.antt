@@ -16,3 +16,5 @@ mod Sums
 mod Records
 -- the values of a sound window are in order
 mod InOrder
+-- the text of a row of pieces
+mod Rows

@@ -2,7 +2,7 @@
 use Rattle.std.specs.Prelude.{ℕ, ◌+◌, ◌-◌, ◌^◌, ◌==◌, ◌&&◌, ◌||◌, Bool, true, false, not, nat_lt, nat_le, if◌then◌else◌}
 use Rattle.std.specs.Prelude.{List, [], ◌∷◌, ◌++◌, length, filter, map, take, drop, Option, None, Some, is_some}
 use Rattle.std.specs.List.{list_any, list_all}
-use Rattle.std.specs.Prelude.{zip, flat_map}
+use Rattle.std.specs.Prelude.{zip}
 use Rattle.std.specs.Str.{bytes_eq}
 use Rattle.mbdc_consumption.specs.declared.entry.Entry.{Entry}
 use Rattle.mbdc_consumption.specs.Mark.{exchanges_in, marked_in}
@@ -43,9 +43,9 @@ amount runs values from to = consumption (entries runs values) from to
 
 -- ---- repeats
 
--- the bodies of a current value, each after its length, so that lists of bodies differ where any body does
+-- the bodies of a current value
 abbrev pub read_of : Source → List ℕ
-read_of (current bodies) = flat_map (λ b. length b ∷ b) bodies
+read_of (current bodies) = bodies
 read_of _ = []
 
 abbrev pub is_again : Value → Value → Bool
@@ -53,7 +53,7 @@ is_again v u = (u.run == v.run) && (nat_lt u.moment v.moment
     && (nat_lt 0 (length (read_of v.source)) && bytes_eq (read_of u.source) (read_of v.source)))
 
 abbrev pub no_text : Spelled
-no_text = record { digits = 0; decimals = 0; size = 0; unit = [] }
+no_text = record { digits = 0; decimals = 0; unit = [] }
 
 -- the values, where a telegram that came at an earlier moment too is an estimate
 abbrev pub known : List Value → List Value

@@ -2,7 +2,7 @@
 use Rattle.std.specs.Prelude.{◌≡◌, ◌≤◌, ◌<◌, ℕ, ℤ, ◌+◌, ◌-◌, ◌*◌, ◌/◌, ◌%◌, ◌^◌, ◌==◌, ◌&&◌, ◌||◌, ⊤}
 use Rattle.std.specs.Prelude.{Bool, true, false, nat_lt, nat_le, if◌then◌else◌, pos, negsuc, codes}
 use Rattle.std.specs.Prelude.{List, [], ◌∷◌, ◌++◌, length, filter, drop, Option, None, Some}
-use Rattle.std.specs.Prelude.{All, Contains, flat_map, zip}
+use Rattle.std.specs.Prelude.{All, Contains, flat_map, map, zip}
 use Rattle.std.specs.List.{list_any, list_all}
 use Rattle.dc_address.specs.declared.identity.Identity.{Identity}
 use Rattle.dc_records.specs.Body.{continues}
@@ -15,8 +15,11 @@ use Rattle.dc_units.specs.declared.point.Seen.TheVariants.{Point as Known, Other
 use Rattle.dc_units.specs.declared.value.Value.TheVariants as value
 use Rattle.mbdc_audit.specs.declared.moment.Dated.{Dated}
 use Rattle.mbdc_audit.specs.Moment.{date_in}
+use Rattle.mbdc_audit.specs.Smallest.{of_spelled}
+use Rattle.mbdc_io.specs.Hex.{bytes_of}
+use Rattle.mbdc_audit.specs.Field.{fields_of}
 use Rattle.mbdc_audit.specs.Uses.{size_named, size_of}
-use Rattle.mbdc_audit.specs.House.{at, Run, Spelled, Value}
+use Rattle.mbdc_audit.specs.House.{Run, Spelled, Value}
 use Rattle.mbdc_audit.specs.House.{Source, current, stored, ended, anew, put, first, last}
 use Rattle.mbdc_audit.specs.declared.uses.Counted.{Counted}
 
@@ -110,15 +113,18 @@ pub record Gives (vib : List ℕ) (q : Counted) (day : Option ℕ) (records : Li
 abbrev pub has_error : ℕ → Bool
 has_error status = (status / 8 % 2 == 1) || (status % 4 == 2)
 
--- BODIES ARE OF ONE READOUT of a meter
-pub record IsReadout (meter : Identity) (bodies : List (List ℕ)) (telegrams : List Parsed) : Type 0 where
+-- telegrams of a meter, one after the other
+pub record AreOf (meter : Identity) (bodies : List (List ℕ)) (telegrams : List Parsed) : Type 0 where
   pub all : length telegrams ≡ length bodies
   pub each : All (λ p. IsTelegram p.0 p.1) (zip bodies telegrams)
   pub of_meter : All (λ t. t.header.identity ≡ meter) telegrams
   pub sound : All (λ t. has_error t.header.status ≡ false) telegrams
   pub adjacent : All (λ p. continues p.0.ending ≡ true) (zip telegrams (drop 1 telegrams))
-  pub dated_once : (storage : ℕ) → 0 < storage
-      → All (λ p. p.0.day ≡ p.1.day) (zip (dates storage (main telegrams)) (drop 1 (dates storage (main telegrams))))
+
+-- no storage is dated with two days
+abbrev pub AreDatedOnce : List Entry → Type 0
+AreDatedOnce records = (storage : ℕ) → 0 < storage
+    → All (λ p. p.0.day ≡ p.1.day) (zip (dates storage records) (drop 1 (dates storage records)))
 
 -- a day and 14 hours
 abbrev pub near : ℕ
@@ -133,28 +139,33 @@ MayBeAt moment records =
 abbrev pub MayHaveEnded : ℕ → List Entry → Type 0
 MayHaveEnded day records = All (λ d. (s : ℕ) → d.second ≡ Some s → day * 86400 ≤ s) (dates 0 records)
 
+-- hex digits as bytes
+abbrev pub bytes_in : List ℕ → List ℕ
+bytes_in digits = flat_map (λ bytes. bytes) (list_of (bytes_of digits))
+
 -- telegrams are evidence of an amount
-pub record Tell (run : Run) (q : Counted) (bodies : List (List ℕ)) (day : Option ℕ) (may : List Entry → Type 0)
+pub record Tell (run : Run) (q : Counted) (bodies : List ℕ) (day : Option ℕ) (may : List Entry → Type 0)
     (amount : ℕ) : Type 0 where
   pub telegrams : List Parsed
-  pub readout : IsReadout run.identity bodies telegrams
-  pub gives : Gives run.vib q day (main telegrams) amount
+  pub readout : AreOf run.identity (map bytes_in (fields_of bodies)) telegrams
+  pub dated_once : AreDatedOnce (main telegrams)
+  pub gives : Gives (bytes_in run.vib) q day (main telegrams) amount
   pub dates : may (main telegrams)
 
 -- ---- values that are put
 
 pub record IsSpelled (q : Counted) (t : Spelled) (amount : ℕ) : Type 0 where
-  pub unit : size_named t.unit ≡ Some (q, t.size)
-  pub whole : amount * 10 ^ t.decimals ≡ t.digits * t.size
-  pub small : amount < 10 ^ 18
+  pub few : t.decimals ≤ 9
+  pub size : ℕ
+  pub unit : size_named t.unit ≡ Some (q, size)
+  pub is : of_spelled (record { digits = t.digits; decimals = t.decimals }) size ≡ Some amount
 
--- A VALUE HAS EVIDENCE; that a run began anew is seen in its window
+-- WHAT A VALUE RESTS ON
 abbrev pub Rests : Run → Counted → Value → Source → Type 0
 Rests run q v (current bodies) = Tell run q bodies None (MayBeAt v.moment) v.amount
-Rests run q v (stored e bodies) = (v.moment ≡ at e) × Tell run q bodies (Some e.day) (MayHaveEnded e.day) v.amount
-Rests run q v (ended e bodies) = (v.moment ≡ at e) × (run.over ≡ Some v.moment)
-    × Tell run q bodies (Some e.day) (MayHaveEnded e.day) v.amount
-Rests run q v anew = (v.moment ≡ run.begin) × (v.amount ≡ 0)
+Rests run q v (stored e bodies) = Tell run q bodies (Some e.day) (MayHaveEnded e.day) v.amount
+Rests run q v (ended e bodies) = Tell run q bodies (Some e.day) (MayHaveEnded e.day) v.amount
+Rests run q v anew = v.amount ≡ 0
 Rests run q v (put guess t) = IsSpelled q t v.amount
-Rests run q v (first guess t) = (v.moment ≡ run.begin) × IsSpelled q t v.amount
-Rests run q v (last guess t) = (run.over ≡ Some v.moment) × IsSpelled q t v.amount
+Rests run q v (first guess t) = IsSpelled q t v.amount
+Rests run q v (last guess t) = IsSpelled q t v.amount

@@ -2,6 +2,8 @@
 -- quantity, millionths for ratios.
 use Rattle.std.specs.Prelude.{ℕ, ◌+◌, ◌-◌, ◌*◌, Bool, List, Option}
 use Rattle.dc_address.specs.declared.identity.Identity.{Identity}
+use Rattle.mbdc_audit.specs.declared.house.Declared.{Declared}
+use Rattle.mbdc_audit.specs.declared.line.Word.{Word}
 use Rattle.mbdc_audit.specs.declared.uses.Counted.{Counted}
 use Rattle.mbdc_audit.specs.declared.uses.Unit.{Unit}
 
@@ -13,19 +15,19 @@ pub record End : Type 0 where
 abbrev pub at : End → ℕ
 at e = (e.day + 1) * 86400 + 604800 - 60 * e.offset
 
--- a decimal as it is spelled, and its unit: smallest units of a whole one, and its name
+-- a decimal as it is spelled, and the name of its unit
 pub record Spelled : Type 0 where
   pub digits : ℕ
   pub decimals : ℕ
-  pub size : ℕ
   pub unit : List ℕ
 
--- The source of a value. Telegrams give a current value, one stored at the end of a day, and one stored at a run's end.
--- A restarted counter begins at 0. A person or an estimate puts a value at any moment, at a run's begin, or at its end.
+-- The source of a value. Telegrams give a current value, one stored at the end of a day, and one stored at a run's end;
+-- their bodies are hex digits, with commas between them. A restarted counter begins at 0. A person or an estimate puts a
+-- value at any moment, at a run's begin, or at its end.
 pub data Source : Type 0 where
-  current : List (List ℕ) → Source
-  stored : End → List (List ℕ) → Source
-  ended : End → List (List ℕ) → Source
+  current : List ℕ → Source
+  stored : End → List ℕ → Source
+  ended : End → List ℕ → Source
   anew : Source
   put : Bool → Spelled → Source
   first : Bool → Spelled → Source
@@ -38,7 +40,7 @@ pub record Value : Type 0 where
   pub amount : ℕ
   pub source : Source
 
--- 0 for most and size, and no byte for the VIB, where none is declared
+-- 0 for most and size, and no digit for the VIB (in hex digits), where none is declared
 pub record Run : Type 0 where
   pub identity : Identity
   pub begin : ℕ
@@ -57,18 +59,19 @@ pub record Struck : Type 0 where
   pub moment : ℕ
   pub why : List ℕ
 
--- Which number is published. Spans, uses and places are given by their index from 0, users by number.
-pub data Key : Type 0 where
-  shown : (place span from to : ℕ) → Unit → Key
-  value : (place span run moment : ℕ) → Spelled → Key
-  of_user : (span user used : ℕ) → Unit → Key
-  of_flat : ℕ → List ℕ → ℕ → Unit → Key
-  of_house : (span used : ℕ) → Unit → Key
-  mean : (span user used : ℕ) → Unit → Key
-  change : (span other user used : ℕ) → Unit → Key
-  weather : (span other user used : ℕ) → Key
-  carbon : (span user used : ℕ) → Key
-  cost : (span user used : ℕ) → Unit → Key
+-- Which number is published: its word and, where the word has it, what it is of. Spans and uses are given by their index
+-- from 0, users by number; `from` and `to` are the ends of a period, or a run (from 1) and a moment.
+pub record Key : Type 0 where
+  pub word : Word
+  pub span : ℕ
+  pub other : ℕ
+  pub user : ℕ
+  pub flat : List ℕ
+  pub used : ℕ
+  pub unit : Unit
+  pub size : ℕ
+  pub from : ℕ
+  pub to : ℕ
 
 -- a published number: its text, and what is beside it
 pub record Number : Type 0 where
@@ -108,19 +111,6 @@ pub record User : Type 0 where
   pub number : ℕ
   pub flat : List ℕ
   pub area : Option ℕ
-
--- what is declared of a span: a use's factor and emissions, its price and its average in a unit, and degree days
-pub data Fact : Type 0 where
-  factor : ℕ → Fact
-  emissions : ℕ → Fact
-  price : ℕ → Unit → Fact
-  average : ℕ → Unit → Fact
-  degrees : Fact
-
-pub record Declared : Type 0 where
-  pub fact : Fact
-  pub span : ℕ
-  pub ratio : ℕ
 
 pub record House : Type 0 where
   pub label : List ℕ

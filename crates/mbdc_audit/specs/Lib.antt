@@ -36,3 +36,7 @@ pub mod Line
 pub mod Told
 -- the parts of a house as definitions have them
 pub mod View
+-- what the reader makes of a line
+pub mod Reader
+-- what a walk over a house finds
+pub mod Walk

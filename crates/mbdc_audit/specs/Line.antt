@@ -1,6 +1,6 @@
 -- What a line says (this product): a word and its fields, by the row of the word in the table that the reader has.
-use Rattle.std.specs.Prelude.{◌≡◌, ◌≤◌, ◌<◌, ◌⊎◌, ⊤, ℕ, ◌+◌, ◌-◌, ◌*◌, ◌==◌, ◌&&◌, ◌||◌, Bool, true, false, nat_lt, nat_le, if◌then◌else◌}
-use Rattle.std.specs.Prelude.{List, [], ◌∷◌, ◌++◌, length, map, codes, Option, None, Some, IsSome, IsTrue, All, Any, slice_get}
+use Rattle.std.specs.Prelude.{◌≡◌, ◌≤◌, ◌<◌, ◌⊎◌, ⊤, ℕ, ◌+◌, ◌-◌, ◌*◌, ◌^◌, ◌==◌, ◌&&◌, ◌||◌, Bool, true, false, nat_lt, nat_le, if◌then◌else◌}
+use Rattle.std.specs.Prelude.{List, [], ◌∷◌, ◌++◌, length, map, codes, Option, None, Some, IsSome, IsTrue, All, Any, position, slice_get}
 use Rattle.std.specs.List.{list_all}
 use Rattle.std.specs.Str.{bytes_eq}
 use Rattle.mbdc_io.specs.Hex.{upper_hex}
@@ -12,6 +12,8 @@ use Rattle.mbdc_audit.specs.declared.field.Kind.{Kind}
 use Rattle.mbdc_audit.specs.declared.field.Kind.TheVariants as kind
 use Rattle.mbdc_audit.specs.declared.line.TheConstants.{ROWS}
 use Rattle.mbdc_audit.specs.declared.line.Line.{Line}
+use Rattle.mbdc_audit.specs.declared.line.Word.{Word}
+use Rattle.mbdc_audit.specs.declared.line.Word.TheVariants as word
 use Rattle.mbdc_audit.specs.declared.smallest.Spelled.{Spelled}
 use Rattle.mbdc_audit.specs.Field.{fields_of}
 use Rattle.mbdc_audit.specs.Moment.{minutes_in, number_of_day}
@@ -30,7 +32,7 @@ abbrev pub is_upper : ℕ → Bool
 is_upper byte = is_between 65 90 byte
 
 -- the bytes of a use's word, of a flat's name, of a reason; of others capital hex digits
-abbrev pub may_have : Kind → ℕ → Bool
+unfoldable pub may_have : Kind → ℕ → Bool
 may_have kind.Use byte = is_digit byte || (is_lower byte || ((byte == 32) || (byte == 45)))
 may_have kind.Flat byte = is_digit byte || (is_lower byte || (is_upper byte || (is_between 45 47 byte || (byte == 95))))
 may_have kind.Why byte = is_between 32 126 byte
@@ -38,7 +40,7 @@ may_have _ byte = is_digit byte || is_between 65 70 byte
 
 -- at least one of them, and at most so many
 abbrev pub is_of : Kind → ℕ → List ℕ → Bool
-is_of k most field = nat_lt 0 (length field) && (nat_le (length field) most && list_all (may_have k) field)
+is_of k most field = nat_lt 0 (length field) && (nat_le (length field) most && list_all (λ b. may_have k b) field)
 
 abbrev pub spelled : ℕ → Option Spelled
 spelled n = Some (record { digits = n; decimals = 0 })
@@ -72,14 +74,17 @@ IsNumberText field = (field ≡ codes "-") ⊎ ((field ≡ codes "?") ⊎ ((fiel
 abbrev pub IsBody : List ℕ → Type 0
 IsBody field = (bytes : List ℕ) × (0 < length bytes) × All (λ b. b < 256) bytes × (field ≡ upper_hex bytes)
 
+-- the month of a first day
+abbrev pub IsMonth : List ℕ → Type 0
+IsMonth field = (d : Day) × IsTrue (exists d.year d.month d.day) × (d.day ≡ 1) × (field ++ codes "-01" ≡ day_text d)
+
 -- A FIELD SPELLS a number, or nothing
 abbrev pub Reads : Kind → List ℕ → Option Spelled → Type 0
 Reads kind.Any field said = said ≡ None
 Reads kind.Beside field said = said ≡ None
 Reads kind.Two field said = (field ≡ codes "2") × (said ≡ spelled 2)
 Reads kind.Dash field said = (field ≡ codes "-") × (said ≡ None)
-Reads kind.Month field said = (said ≡ None)
-    × ((d : Day) × IsTrue (exists d.year d.month d.day) × (d.day ≡ 1) × (day_text d ≡ field ++ codes "-01"))
+Reads kind.Month field said = (said ≡ None) × IsMonth field
 Reads kind.Use field said = (said ≡ None) × IsTrue (is_of kind.Use 32 field)
 Reads kind.Flat field said = (said ≡ None) × IsTrue (is_of kind.Flat 12 field)
 Reads kind.Why field said = (said ≡ None) × IsTrue (is_of kind.Why 60 field)
@@ -130,13 +135,26 @@ AreRead (k ∷ ks) (left ∷ lefts) (field ∷ fields) (n ∷ numbers) = Either 
     ((field ≡ joined (left ∷ lefts)) × Reads k field n)
     ((field ≡ left) × Reads k field n × AreRead ks lefts fields numbers)
 
+abbrev pub or_0 : Option ℕ → ℕ
+or_0 None = 0
+or_0 (Some n) = n
+
+abbrev pub is_text : Kind → Bool
+is_text kind.Text = true
+is_text kind.Exact = true
+is_text _ = false
+
+-- where its text stands
+abbrev pub text_place : List Kind → ℕ
+text_place kinds = or_0 (position is_text kinds)
+
 -- A LINE SAYS a word, and what its fields spell
 pub record IsLine (text : List ℕ) (l : Line) : Type 0 where
   pub word : List ℕ
   pub lefts : Fields
   pub fields_are : fields_of text ≡ word ∷ lefts
   pub row : Any (λ r. (r.0.now ≡ word) × (r.1 ≡ l.word) × (r.2 ≡ l.stage)
-      × AreRead r.3.now lefts (map (λ f. f.now) l.fields) l.numbers) ROWS
+      × AreRead r.3.now lefts (map (λ f. f.now) l.fields) l.numbers × (l.text ≡ text_place r.3.now)) ROWS
 
 abbrev pub digits_of : Option (Option Spelled) → Option ℕ
 digits_of None = None
@@ -147,12 +165,19 @@ digits_of (Some (Some s)) = Some s.digits
 abbrev pub maybe_at : ℕ → Line → Option ℕ
 maybe_at place l = digits_of (slice_get l.numbers place)
 
-abbrev pub or_0 : Option ℕ → ℕ
-or_0 None = 0
-or_0 (Some n) = n
-
 abbrev pub number_at : ℕ → Line → ℕ
 number_at place l = or_0 (maybe_at place l)
+
+abbrev pub HasDay : ℕ → Line → Type 0
+HasDay place l = (number_at place l < 2 ^ 32) × (number_at (place + 1) l < 2 ^ 16)
+
+-- numbers that are kept in fewer bits
+abbrev pub IsBounded : Word → Line → Type 0
+IsBounded word.As l = number_at 1 l < 256
+IsBounded word.Span l = HasDay 1 l × HasDay 3 l
+IsBounded word.Stored l = HasDay 1 l
+IsBounded word.Ended l = HasDay 1 l
+IsBounded _ l = ⊤
 
 -- ---- their order: which stages a line may follow
 

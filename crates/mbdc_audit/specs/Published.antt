@@ -4,13 +4,17 @@ use Rattle.std.specs.Prelude.{Bool, true, false, not, nat_lt, nat_le, if◌then�
 use Rattle.std.specs.Prelude.{List, [], ◌∷◌, ◌++◌, length, filter, map, flat_map, sum_by, Option, None, Some, is_some, option_map, IsSome, Any}
 use Rattle.std.specs.Prelude.{All, Contains, slice_get, find, decimal}
 use Rattle.std.specs.List.{list_all, list_any}
+use Rattle.std.specs.Option.{option_and_then}
 use Rattle.std.specs.Str.{bytes_eq}
 use Rattle.dc_units.specs.declared.decimal.Decimal.{Decimal}
 use Rattle.dc_units.specs.Text.{decimal_text}
 use Rattle.mbdc_audit.specs.House.{at}
-use Rattle.mbdc_audit.specs.House.{Spelled, Part, Window, Place, Span, User, House, Number, Key, Fact}
-use Rattle.mbdc_audit.specs.House.{factor, emissions, price, average, degrees, shown, value, of_user, of_flat, of_house, mean}
-use Rattle.mbdc_audit.specs.House.{change, weather, carbon, cost}
+use Rattle.mbdc_audit.specs.House.{Part, Window, Place, Span, User, House, Number, Key}
+use Rattle.mbdc_audit.specs.declared.house.Fact.{Fact}
+use Rattle.mbdc_audit.specs.declared.house.Fact.TheVariants.{Factor, Emissions, Degrees, Price, Average}
+use Rattle.mbdc_audit.specs.declared.line.Word.{Word}
+use Rattle.mbdc_audit.specs.declared.line.Word.TheVariants as word
+use Rattle.mbdc_audit.specs.Smallest.{decimal_in, of_spelled}
 use Rattle.mbdc_audit.specs.Amount.{amount, mark, known, counting}
 use Rattle.mbdc_audit.specs.Grade.{grade_name, has_number, rank, worst as worse}
 use Rattle.mbdc_audit.specs.Evidence.{list_of}
@@ -20,6 +24,7 @@ use Rattle.mbdc_audit.specs.Sound.{from, to}
 use Rattle.mbdc_audit.specs.declared.exact.Exact.{Exact}
 use Rattle.mbdc_audit.specs.declared.uses.Counted.{Counted}
 use Rattle.mbdc_audit.specs.declared.uses.Counted.TheVariants.{Energy, Volume, Allocation}
+use Rattle.mbdc_audit.specs.Uses.{is_unit}
 use Rattle.mbdc_audit.specs.declared.uses.Unit.{Unit}
 use Rattle.mbdc_audit.specs.declared.uses.Unit.TheVariants.{Kwh, CubicMetre, Allocated, Count, Smallest}
 use Rattle.mbdc_audit.specs.declared.grade.Grade.{Grade}
@@ -105,20 +110,12 @@ worst (s ∷ next ∷ rest) = worse s.mark (worst (next ∷ rest))
 
 -- ---- units
 
-abbrev pub is_unit : Unit → Unit → Bool
-is_unit Kwh Kwh = true
-is_unit CubicMetre CubicMetre = true
-is_unit Allocated Allocated = true
-is_unit Count Count = true
-is_unit Smallest Smallest = true
-is_unit a b = false
-
 abbrev pub is_fact : Fact → Fact → Bool
-is_fact (factor u) (factor v) = u == v
-is_fact (emissions u) (emissions v) = u == v
-is_fact (price u a) (price v b) = (u == v) && is_unit a b
-is_fact (average u a) (average v b) = (u == v) && is_unit a b
-is_fact degrees degrees = true
+is_fact (Factor u) (Factor v) = u == v
+is_fact (Emissions u) (Emissions v) = u == v
+is_fact (Price u a) (Price v b) = (u == v) && is_unit a b
+is_fact (Average u a) (Average v b) = (u == v) && is_unit a b
+is_fact Degrees Degrees = true
 is_fact a b = false
 
 abbrev pub declared : House → Fact → ℕ → Option ℕ
@@ -136,7 +133,7 @@ exact_of None unit f xs = None
 exact_of (Some q) unit f xs = in_unit (plain xs, weighted xs) (scale_of q unit) f
 
 abbrev pub exact : House → ℕ → ℕ → Unit → List Share → Option Exact
-exact h span used unit xs = exact_of (quantity h used) unit (declared h (factor used) span) xs
+exact h span used unit xs = exact_of (quantity h used) unit (declared h (Factor used) span) xs
 
 -- ---- sums
 
@@ -212,9 +209,8 @@ percent_of None there = None
 percent_of (Some a) None = None
 percent_of (Some a) (Some b) = percent a b
 
-abbrev pub if_whole : House → ℕ → ℕ → ℕ → ℕ → Option Exact → Option Exact
-if_whole h span other who used x =
-    if has_whole h span who used && has_whole h other who used then x else None
+abbrev pub if_whole : House → Key → Option Exact → Option Exact
+if_whole h k x = if has_whole h k.span k.user k.used && has_whole h k.other k.user k.used then x else None
 
 abbrev pub by_ratio : Option ℕ → Option ℕ → ℕ → Option Exact → Option Exact
 by_ratio None divisor more x = None
@@ -222,61 +218,76 @@ by_ratio (Some ratio) None more x = None
 by_ratio (Some ratio) (Some divisor) more x =
     if divisor == 0 then None else option_map (times ratio (divisor * more)) x
 
--- ---- the number
+-- ---- the number of a house
 
-abbrev pub window_of : House → ℕ → ℕ → List Open
-window_of h place span = flat_map (λ p. map (λ w. record { place = p; window = w })
-    (filter (λ w. w.span == span) p.windows)) (list_of (slice_get h.places place))
+abbrev pub sum_of_user : House → Key → ℕ → Option Exact
+sum_of_user h k span = sum h (user k.user) span k.used k.unit
 
-abbrev pub shown_of : House → ℕ → ℕ → ℕ → Unit → List Open → Option Exact
-shown_of h span a b unit [] = None
-shown_of h span a b unit (o ∷ rest) = if_any (share o.place o.window a b ∷ [])
-    (exact h span o.place.used unit (share o.place o.window a b ∷ []))
+abbrev pub holds : Word → House → Key → Option Exact
+holds word.OfUser h k = sum_of_user h k k.span
+holds word.OfFlat h k = sum h (flat k.flat) k.span k.used k.unit
+holds word.OfHouse h k = sum_of_house h k.span k.used k.unit
+holds word.Mean h k =
+    mean_of h k.span k.used k.unit (area_of (user_at h k.user)) (declared h (Average k.used k.unit) k.span)
+holds word.Change h k = if_whole h k (percent_of (sum_of_user h k k.span) (sum_of_user h k k.other))
+holds word.Weather h k = if_whole h k
+    (by_ratio (declared h Degrees k.span) (declared h Degrees k.other) 1 (sum_of_user h k k.other))
+holds word.Carbon h k = by_ratio (declared h (Emissions k.used) k.span) (Some 1000) 1000000 (sum_of_user h k k.span)
+holds word.Cost h k = by_ratio (declared h (Price k.used k.unit) k.span) (Some 100) 1000000 (sum_of_user h k k.span)
+holds _ h k = None
 
 -- WHAT A NUMBER IS
 abbrev pub number : House → Key → Option Exact
-number h (shown place span a b unit) = shown_of h span a b unit (window_of h place span)
-number h (value place span run moment text) = None
-number h (of_user span who used unit) = sum h (user who) span used unit
-number h (of_flat span name used unit) = sum h (flat name) span used unit
-number h (of_house span used unit) = sum_of_house h span used unit
-number h (mean span who used unit) =
-    mean_of h span used unit (area_of (user_at h who)) (declared h (average used unit) span)
-number h (change span other who used unit) = if_whole h span other who used
-    (percent_of (sum h (user who) span used unit) (sum h (user who) other used unit))
-number h (weather span other who used) = if_whole h span other who used
-    (by_ratio (declared h degrees span) (declared h degrees other) 1 (sum h (user who) other used Kwh))
-number h (carbon span who used) = by_ratio (declared h (emissions used) span) (Some 1000) 1000000 (sum h (user who) span used Kwh)
-number h (cost span who used unit) =
-    by_ratio (declared h (price used unit) span) (Some 100) 1000000 (sum h (user who) span used unit)
+number h k = holds k.word h k
 
--- what is beside it: the worst mark; of the house how many places have no number, and how many there are
+-- the worst mark; of the house how many places have no number, and how many there are
+abbrev pub says : Word → House → Key → List (List ℕ)
+says word.OfUser h k = grade_name (worst (shares h (user k.user) k.span k.used)) ∷ []
+says word.OfFlat h k = grade_name (worst (shares h (flat k.flat) k.span k.used)) ∷ []
+says word.OfHouse h k = decimal (length (opened h k.span k.used) - length (numbered h k.span k.used))
+    ∷ decimal (length (opened h k.span k.used)) ∷ []
+says _ h k = []
+
+-- what is beside it
 abbrev pub beside : House → Key → List (List ℕ)
-beside h (shown place span a b unit) =
-    grade_name (worst (map (λ o. share o.place o.window a b) (window_of h place span))) ∷ []
-beside h (of_user span who used unit) = grade_name (worst (shares h (user who) span used)) ∷ []
-beside h (of_flat span name used unit) = grade_name (worst (shares h (flat name) span used)) ∷ []
-beside h (of_house span used unit) =
-    decimal (length (opened h span used) - length (numbered h span used)) ∷ decimal (length (opened h span used)) ∷ []
-beside h key = []
+beside h k = says k.word h k
 
 -- ---- what may be asked
 
-abbrev pub of_factor : House → ℕ → ℕ → Unit → List (Fact × ℕ)
-of_factor h span used Kwh = if is_energy (quantity h used) then [] else (factor used, span) ∷ []
-of_factor h span used unit = []
+abbrev pub of_factor : House → ℕ → Unit → List Fact
+of_factor h used Kwh = if is_energy (quantity h used) then [] else Factor used ∷ []
+of_factor h used unit = []
 
--- the facts that it needs
-abbrev pub needs : House → Key → List (Fact × ℕ)
-needs h (of_user span who used unit) = of_factor h span used unit
-needs h (of_flat span name used unit) = of_factor h span used unit
-needs h (of_house span used unit) = of_factor h span used unit
-needs h (mean span who used unit) = of_factor h span used unit
-needs h (change span other who used unit) = of_factor h span used unit ++ of_factor h other used unit
-needs h (weather span other who used) = (degrees, span) ∷ (degrees, other) ∷ of_factor h other used Kwh
-needs h (carbon span who used) = (emissions used, span) ∷ of_factor h span used Kwh
-needs h (cost span who used unit) = (price used unit, span) ∷ of_factor h span used unit
-needs h key = []
+abbrev pub of_word : Word → Key → List Fact
+of_word word.Weather k = Degrees ∷ []
+of_word word.Carbon k = Emissions k.used ∷ []
+of_word word.Cost k = Price k.used k.unit ∷ []
+of_word _ k = []
+
+-- the facts that it needs of a span
+abbrev pub needs : House → Key → List Fact
+needs h k = of_factor h k.used k.unit ++ of_word k.word k
+
+-- a span is declared, with the facts
+pub record Has (h : House) (k : Key) (span : ℕ) : Type 0 where
+  pub there : span < length h.spans
+  pub facts : All (λ f. IsSome (declared h f span)) (needs h k)
+
+-- the other span, where the word has one
+abbrev pub HasOther : Word → House → Key → Type 0
+HasOther word.Change h k = Has h k k.other
+HasOther word.Weather h k = Has h k k.other
+HasOther _ h k = ⊤
+
+-- who it is of is declared
+abbrev pub IsWho : Word → House → Key → Type 0
+IsWho word.OfFlat h k = Any (λ u. u.flat ≡ k.flat) h.users ⊎ Any (λ p. p.flat ≡ k.flat) h.places
+IsWho word.OfHouse h k = ⊤
+IsWho _ h k = IsSome (user_at h k.user)
+
+-- a unit of the use
+abbrev pub IsUnit : House → ℕ → Unit → Type 0
+IsUnit h used unit = (q : Counted) × (quantity h used ≡ Some q) × IsSome (scale_of q unit)
 
 -- the decimals that suffice; from 100 on none do, but of a cost, which has two
 abbrev pub least : Unit → ℕ
@@ -289,72 +300,82 @@ abbrev pub is_hundred : Option Exact → Bool
 is_hundred None = true
 is_hundred (Some x) = nat_le (100 * x.den) x.num
 
-abbrev pub Suffice : ℕ → Unit → Option Exact → Type 0
-Suffice d unit x = (least unit ≤ d) ⊎ ((d ≡ 0) × IsTrue (is_hundred x))
+abbrev pub Suffice : Word → Unit → Option Exact → ℕ → Type 0
+Suffice word.Change unit x d = ⊤
+Suffice word.Carbon unit x d = 1 ≤ d
+Suffice word.Cost unit x d = d ≡ 2
+Suffice _ unit x d = (least unit ≤ d) ⊎ ((d ≡ 0) × IsTrue (is_hundred x))
 
-abbrev pub IsFine : House → Key → ℕ → Type 0
-IsFine h (shown place span a b unit) d = Suffice d unit (number h (shown place span a b unit))
-IsFine h (of_user span who used unit) d = Suffice d unit (number h (of_user span who used unit))
-IsFine h (of_flat span name used unit) d = Suffice d unit (number h (of_flat span name used unit))
-IsFine h (of_house span used unit) d = Suffice d unit (number h (of_house span used unit))
-IsFine h (mean span who used unit) d = Suffice d unit (number h (mean span who used unit))
-IsFine h (weather span other who used) d = Suffice d Kwh (number h (weather span other who used))
-IsFine h (carbon span who used) d = 1 ≤ d
-IsFine h (cost span who used unit) d = d ≡ 2
-IsFine h key d = ⊤
+-- a text is what is printed of a number with so many decimals
+pub record IsText (k : Key) (x : Option Exact) (text : List ℕ) : Type 0 where
+  pub decimals : ℕ
+  pub few : decimals ≤ 3
+  pub fine : Suffice k.word k.unit x decimals
+  pub printed_as : text ≡ printed decimals x
 
--- the moments at which a number of a place may begin and end: those of parts and runs
+-- a number may be asked: what it is of is declared
+pub record MayAsk (h : House) (k : Key) : Type 0 where
+  pub who : IsWho k.word h k
+  pub unit : IsUnit h k.used k.unit
+  pub span : Has h k k.span
+  pub other : HasOther k.word h k
+
+-- A NUMBER OF THE HOUSE IS RIGHT: it may be asked, its text is what is printed of it, and what is beside it holds
+pub record IsNumber (h : House) (n : Number) : Type 0 where
+  pub may : MayAsk h n.key
+  pub text : IsText n.key (number h n.key) n.text
+  pub beside_it : n.beside ≡ beside h n.key
+
+-- ---- the number of a place
+
+-- the moments at which it may begin and end: those of parts and runs
 abbrev pub cuts : Open → List ℕ
 cuts o = flat_map (λ x. x.from ∷ x.to ∷ []) o.window.parts ++ flat_map (λ r. r.begin ∷ list_of r.over) o.place.runs
 
 abbrev pub IsPeriod : Span → ℕ → ℕ → Open → Type 0
 IsPeriod s a b o = (a < b) × (from o.place s ≤ a) × (b ≤ to o.place s) × Contains (cuts o) a × Contains (cuts o) b
 
+abbrev pub share_of : Open → Key → List Share
+share_of o k = share o.place o.window k.from k.to ∷ []
+
+abbrev pub shown_of : House → Open → Key → Option Exact
+shown_of h o k = if_any (share_of o k) (exact h o.window.span o.place.used k.unit (share_of o k))
+
+-- what a place consumed in a period is right
+pub record IsShown (h : House) (o : Open) (n : Number) : Type 0 where
+  pub span : Span
+  pub span_is : slice_get h.spans o.window.span ≡ Some span
+  pub period : IsPeriod span n.key.from n.key.to o
+  pub text : IsText n.key (shown_of h o n.key) n.text
+
+abbrev pub of_text : ℕ → List ℕ → Option ℕ
+of_text size text = option_and_then (λ s. of_spelled s size) (decimal_in 9 text)
+
 -- the value of a run at a moment, exactly
-abbrev pub IsValueOf : ℕ → ℕ → Spelled → Open → Type 0
-IsValueOf run moment t o = Any (λ v. (v.run ≡ run) × (v.moment ≡ moment)
-    × (v.amount * 10 ^ t.decimals ≡ t.digits * t.size)) (counting o.window.values)
+abbrev pub IsValueOf : Open → Number → Type 0
+IsValueOf o n = Any (λ v. (v.run + 1 ≡ n.key.from) × (v.moment ≡ n.key.to) × (of_text n.key.size n.text ≡ Some v.amount))
+    (counting o.window.values)
 
--- a user, a flat that is declared; a unit of the use
-abbrev pub IsUser : House → ℕ → Type 0
-IsUser h n = Any (λ u. u.number ≡ n) h.users
+abbrev pub ByWord : Word → House → Open → Number → Type 0
+ByWord word.Value h o n = IsValueOf o n
+ByWord _ h o n = IsShown h o n
 
-abbrev pub IsFlat : House → List ℕ → Type 0
-IsFlat h name = Any (λ u. u.flat ≡ name) h.users ⊎ Any (λ p. p.flat ≡ name) h.places
+abbrev pub says_of : Word → Open → Key → List (List ℕ)
+says_of word.Value o k = []
+says_of _ o k = grade_name (worst (share_of o k)) ∷ []
 
-abbrev pub IsUnit : House → ℕ → Unit → Type 0
-IsUnit h used unit = (q : Counted) × (quantity h used ≡ Some q) × IsSome (scale_of q unit)
+abbrev pub HasFacts : Word → House → Key → Type 0
+HasFacts word.Value h k = ⊤
+HasFacts _ h k = IsUnit h k.used k.unit × Has h k k.span
 
--- what a number is of is declared
-abbrev pub IsThere : House → Key → Type 0
-IsThere h (of_user span who used unit) = (span < length h.spans) × IsUser h who × IsUnit h used unit
-IsThere h (of_flat span name used unit) = (span < length h.spans) × IsFlat h name × IsUnit h used unit
-IsThere h (of_house span used unit) = (span < length h.spans) × IsUnit h used unit
-IsThere h (mean span who used unit) = (span < length h.spans) × IsUser h who × IsUnit h used unit
-IsThere h (change span other who used unit) = (span < length h.spans) × (other < length h.spans) × IsUser h who × IsUnit h used unit
-IsThere h (weather span other who used) = (span < length h.spans) × (other < length h.spans) × IsUser h who × IsUnit h used Kwh
-IsThere h (carbon span who used) = (span < length h.spans) × IsUser h who × IsUnit h used Kwh
-IsThere h (cost span who used unit) = (span < length h.spans) × IsUser h who × IsUnit h used unit
-IsThere h key = ⊤
+-- it is of its place and its window
+pub record MayAskOf (h : House) (p : Place) (w : Window) (k : Key) : Type 0 where
+  pub span : k.span ≡ w.span
+  pub used : k.used ≡ p.used
+  pub facts : HasFacts k.word h k
 
-abbrev pub IsAsked : House → Key → Type 0
-IsAsked h (shown place span a b unit) = (s : Span) × (slice_get h.spans span ≡ Some s)
-    × Any (λ o. IsPeriod s a b o × All (λ f. IsSome (declared h f.0 f.1)) (of_factor h span o.place.used unit))
-    (window_of h place span)
-IsAsked h (value place span run moment t) = Any (IsValueOf run moment t) (window_of h place span)
-IsAsked h key = IsThere h key × All (λ f. IsSome (declared h f.0 f.1)) (needs h key)
-
--- the text of a value is spelled with its key
-abbrev pub text_of : House → Key → ℕ → List ℕ
-text_of h (value place span run moment t) d =
-    decimal_text (record { mantissa = pos t.digits; exponent = neg_ℤ (pos t.decimals) })
-text_of h key d = printed d (number h key)
-
--- A NUMBER IS RIGHT: it may be asked, its text is what is printed of it, and what is beside it holds
-pub record IsNumber (h : House) (n : Number) : Type 0 where
-  pub asked : IsAsked h n.key
-  pub decimals : ℕ
-  pub few : decimals ≤ 3
-  pub fine : IsFine h n.key decimals
-  pub text : n.text ≡ text_of h n.key decimals
-  pub beside : n.beside ≡ beside h n.key
+-- A NUMBER OF A PLACE IS RIGHT
+pub record IsNumberOf (h : House) (o : Open) (n : Number) : Type 0 where
+  pub may : MayAskOf h o.place o.window n.key
+  pub is : ByWord n.key.word h o n
+  pub beside_it : n.beside ≡ says_of n.key.word o n.key

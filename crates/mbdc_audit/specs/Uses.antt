@@ -1,6 +1,6 @@
 -- What meters count (this product), and the units of amounts. Amounts are whole numbers of the smallest unit: millijoules, millilitres,
 -- and thousandths of a heat cost allocator's unit.
-use Rattle.std.specs.Prelude.{ℕ, List, codes, Option, Some, None, if◌then◌else◌}
+use Rattle.std.specs.Prelude.{ℕ, Bool, true, false, List, codes, Option, Some, None, if◌then◌else◌}
 use Rattle.std.specs.Str.{bytes_eq}
 use Rattle.dc_units.specs.declared.quantity.Quantity as listed_type
 use Rattle.dc_units.specs.declared.quantity.Quantity.TheVariants as listed
@@ -53,3 +53,11 @@ size_named word = if bytes_eq word (codes "Wh") then size_of listed.EnergyWattHo
     else if bytes_eq word (codes "m3") then size_of listed.Volume
     else if bytes_eq word (codes "HCA") then size_of listed.HeatCostAllocator
     else None
+
+abbrev pub is_unit : Unit → Unit → Bool
+is_unit Kwh Kwh = true
+is_unit CubicMetre CubicMetre = true
+is_unit Allocated Allocated = true
+is_unit Count Count = true
+is_unit Smallest Smallest = true
+is_unit a b = false

@@ -26,7 +26,7 @@ value_at moment amount source = record { run = 0; moment = moment; amount = amou
 
 -- a telegram, told from others by a number
 abbrev pub telegram : ℕ → Source
-telegram n = current ((n ∷ []) ∷ [])
+telegram n = current (n ∷ [])
 
 -- values at both ends of October and after it, and this one in the middle
 abbrev pub with_middle : ℕ → Source → List Value

@@ -1,10 +1,13 @@
 //! What a place consumed in a period of a window, and the mark of that number.
 
-ghost use Rattle.std.specs.Prelude.{◌≡◌, ◌≤◌, ◌||◌, ◌++◌, IfOk, map, None, Some, if◌then◌else◌};
+ghost use Rattle.std.specs.Prelude.{◌≡◌, ◌↔◌, ◌≤◌, ◌||◌, ◌++◌, IfOk, IsTrue, false, filter, map, None, Some, if◌then◌else◌};
 ghost use Rattle.std.specs.List.{list_any};
-ghost use Rattle.mbdc_audit.specs.Amount.{are_whole, basis, counting, deciding, due, entry_of, grade, is_by, is_final, is_near};
-ghost use Rattle.mbdc_audit.specs.Amount.{amount, is_guess as is_guess_source, is_put as is_put_source, mark, told};
-ghost use Rattle.mbdc_audit.specs.View.{known_in, maybe_known, run_of, source_of};
+ghost use Rattle.mbdc_audit.specs.Amount.{amount, are_whole, basis, counting, deciding, due, entry_of, grade, is_by, is_final, is_near};
+ghost use Rattle.mbdc_audit.specs.Amount.{is_guess as is_guess_source, is_put as is_put_source, told};
+ghost use Rattle.mbdc_audit.specs.Grade.{has_number};
+ghost use Rattle.mbdc_audit.specs.Sound.{AreAlike};
+ghost use Rattle.mbdc_audit.specs.Walk.{IsGraded, is_found};
+ghost use Rattle.mbdc_audit.specs.View.{is_told_word, known_in, maybe_known, run_of, seen_value, source_of};
 ghost use Rattle.mbdc_consumption.specs.Order.{IsInOrder};
 
 use crate::fault::Stop;
@@ -66,14 +69,25 @@ impl Value<'_> {
     pub fn is_put(&self) -> bool
         ensures { result ≡ (self.now.is_again || is_put_source (source_of self.now)) }
     {
-        self.is_again || self.typed.is_some()
+        self.is_again
+            || matches!(
+                self.word,
+                Word::Hand | Word::Estimated | Word::First | Word::Last
+            )
+    }
+
+    /// Whether telegrams show it.
+    pub fn is_told(&self) -> bool
+        ensures { result ≡ is_told_word self.now.word }
+    {
+        matches!(self.word, Word::Read | Word::Stored | Word::Ended)
     }
 
     /// Whether it is an estimate.
     pub fn is_guess(&self) -> bool
         ensures { result ≡ (self.now.is_again || is_guess_source (source_of self.now)) }
     {
-        self.is_again || self.typed.is_some_and(|typed| typed.is_guess)
+        self.is_put() && (self.is_again || self.typed.is_some_and(|typed| typed.is_guess))
     }
 }
 
@@ -96,6 +110,9 @@ impl<'w, 'a, A: Allocator + Copy> Curve<'w, 'a, A> {
     ) -> Result<Self, Stop>
         ensures values { IfOk result (λ c. known_in c.values.items
             ≡ counting (if is_told then told (known_in values.now) else known_in values.now)) }
+        ensures raw { is_told ≡ false → IfOk result (λ c. map seen_value c.values.items
+            ≡ counting (map seen_value (filter (λ v. is_found v.found) values.now))) }
+        ensures runs { IfOk result (λ c. c.runs.now ≡ runs.now) }
         ensures entries { IfOk result (λ c. c.entries.items
             ≡ map (entry_of (map run_of runs.now)) (known_in c.values.items)) }
     {
@@ -155,7 +172,10 @@ impl<'w, 'a, A: Allocator + Copy> Curve<'w, 'a, A> {
     }
 
     /// Whether the values that decide a moment are the same in two windows: of one run, moment, amount and word.
-    pub fn is_one_with(&self, other: &Curve<'_, '_, A>, moment: u64) -> bool {
+    pub fn is_one_with(&self, other: &Curve<'_, '_, A>, moment: u64) -> bool
+        ensures { IsTrue result ↔ AreAlike (deciding moment (map seen_value self.now.values.items))
+            (deciding moment (map seen_value other.now.values.items)) }
+    {
         let is_same = |one: Option<Value>, other: Option<Value>| match (one, other) {
             (Some(one), Some(other)) => one.run == other.run
                 && one.moment == other.moment
@@ -242,8 +262,11 @@ impl<'w, 'a, A: Allocator + Copy> Curve<'w, 'a, A> {
 
     /// What a place consumed in a period, and the first mark that applies.
     pub fn graded(&self, from: u64, to: u64) -> Amount
-        ensures { IsInOrder self.now.entries.items → from ≤ to → result.grade
+        ensures grade { IsInOrder self.now.entries.items → from ≤ to → result.grade
             ≡ grade (map run_of self.now.runs.now) (known_in self.now.values.items) from to }
+        ensures amount { IsInOrder self.now.entries.items → from ≤ to → result.amount
+            ≡ (if has_number (grade (map run_of self.now.runs.now) (known_in self.now.values.items) from to)
+            then amount (map run_of self.now.runs.now) (known_in self.now.values.items) from to else None) }
     {
         let entries = self.entries.as_slice();
         let amount = if to < from || !is_in_order(entries) {
@@ -285,7 +308,7 @@ pub(crate) fn amount_of<'a, A: Allocator + Copy>(
     to: u64,
 ) -> Result<Amount, Stop>
     ensures { IfOk result (λ a. IsInOrder (map (entry_of (map run_of runs.now)) (counting (known_in values.now)))
-        → from ≤ to → a.grade ≡ mark (map run_of runs.now) (known_in values.now) from to) }
+        → from ≤ to → IsGraded (map run_of runs.now) (known_in values.now) from to a) }
 {
     let all = Curve::of(alloc, runs, values, false)?.graded(from, to);
     let is_put = |value: &Value| value.found.is_ok() && value.is_put();

@@ -1,9 +1,12 @@
 //! The engine of `audit`: reads a file into a house, and walks over it three times.
 
-ghost use Rattle.std.specs.Prelude.{◌≡◌, IfOk, IfSome, IsErrOf, OnOk, true};
+ghost use Rattle.std.specs.Prelude.{◌≡◌, ◌<◌, ℕ, false, true, IfErr, IfNone, IfOk, IfSome, IsErrOf, List, OnOk, length};
 ghost use Rattle.mbdc_io.specs.Failures.{HasRisen};
 ghost use Rattle.mbdc_io.specs.Lines.{lines_of};
 ghost use Rattle.mbdc_audit.specs.File.{IsLimited, IsRight};
+ghost use Rattle.mbdc_audit.specs.Reader.{IsFault};
+ghost use Rattle.mbdc_audit.specs.View.{house_of};
+ghost use Rattle.mbdc_audit.specs.Walk.{IsAudited};
 
 use crate::fault::{AuditFault, Stop};
 use crate::house::House;
@@ -21,7 +24,13 @@ pub const MOST_FILE: usize = 67_108_864;
 fn read_file<A: Allocator + Copy, R: Source>(
     alloc: A,
     reader: &mut R,
-) -> Result<Option<Vec<u8, A>>, TextFault> {
+) -> Result<Option<Vec<u8, A>>, TextFault>
+    ensures read { IsErrOf result TextFault.Read
+        → HasRisen (R.take_failures reader.old) (R.take_failures reader.new) }
+    ensures ok { OnOk result (R.take_failures reader.new ≡ R.take_failures reader.old) }
+    ensures file { IfOk result (λ f. IfSome f (λ v. IfSome (R.left reader.old) (λ input. v.items ≡ input))) }
+    ensures long { IfOk result (λ f. IfNone f (IfSome (R.left reader.old) (λ input. 67108864 < length input))) }
+{
     let mut chunk = room(alloc, CHUNK)?;
     let space = chunk.as_mut_slice();
     let mut file: Vec<u8, A> = Vec::new(alloc);
@@ -47,7 +56,12 @@ impl<'s, W: Sink> Teller<'s, W> {
         alloc: A,
         house: &mut House<'a, A>,
         filler: &mut Filler<'_, '_, F>,
-    ) -> Result<bool, Stop> {
+    ) -> Result<bool, Stop>
+        ensures right { (input : List ℕ) → IsAudited self.old.counts input (house_of house.old)
+            → IfOk result (λ holds. holds ≡ true → IsRight (lines_of input)) }
+        ensures only { (input : List ℕ) → IsAudited self.old.counts input (house_of house.old) → IsLimited input
+            → IfOk result (λ holds. holds ≡ true) × IfErr result (λ s. IsFault s → ⊥) }
+    {
         'allowed: for allowed in &house.allowed {
             put_pieces(
                 self.out,
@@ -73,7 +87,11 @@ impl<'s, W: Sink> Teller<'s, W> {
     }
 
     // What is returned where the audit was stopped; of a line at fault it prints the fault.
-    fn stopped(&mut self, line: u64, stop: Stop) -> Result<bool, TextFault> {
+    fn stopped(&mut self, line: u64, stop: Stop) -> Result<bool, TextFault>
+        ensures not_right { IfOk result (λ holds. holds ≡ false) }
+        ensures read { IsErrOf result TextFault.Read → ⊥ }
+        ensures fault { IfOk result (λ holds. IsFault stop) }
+    {
         match stop {
             Stop::NoMemory => Err(TextFault::NoMemory),
             Stop::Fault(fault) => match self.put_fault(line, fault) {
@@ -92,7 +110,15 @@ fn check_file<A: Allocator + Copy, R: Source, W: Sink, F: Sink>(
     reader: &mut R,
     writer: &mut W,
     filled: &mut F,
-) -> Result<bool, TextFault> {
+) -> Result<bool, TextFault>
+    ensures read { IsErrOf result TextFault.Read
+        → HasRisen (R.take_failures reader.old) (R.take_failures reader.new) }
+    ensures ok { OnOk result (R.take_failures reader.new ≡ R.take_failures reader.old) }
+    ensures right { may_ask ≡ false → IfOk result (λ holds. holds ≡ true
+        → IfSome (R.left reader.old) (λ input. IsRight (lines_of input))) }
+    ensures only { may_ask ≡ false → IfOk result (λ holds. IfSome (R.left reader.old) (λ input.
+        IsLimited input → holds ≡ true)) }
+{
     let mut teller = Teller {
         out: writer,
         counts: Counts::NONE,

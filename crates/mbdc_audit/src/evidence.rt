@@ -2,6 +2,14 @@
 
 ghost use Rattle.std.specs.Prelude.{◌≡◌};
 ghost use Rattle.mbdc_audit.specs.Evidence.{bare};
+ghost use Rattle.std.specs.Prelude.{◌↔◌, ◌≤◌, ◌<◌, ℕ, IfErr, IfOk, IfSome, All, IsOk, List, Some, length, map, take};
+ghost use Rattle.dc_records.specs.Record.{view};
+ghost use Rattle.dc_records.specs.Telegram.{Parsed};
+ghost use Rattle.dc_units.specs.Point.{seen_of};
+ghost use Rattle.mbdc_audit.specs.Evidence.{AreDatedOnce, AreOf, Counts, Tell, bytes_in, code_of, date_seen, dates, is_meant, list_of, main};
+ghost use Rattle.mbdc_audit.specs.Field.{fields_of};
+ghost use Rattle.mbdc_audit.specs.View.{run_of};
+ghost use Rattle.mbdc_audit.specs.Walk.{IsRefused, MayBe, day_meant};
 
 use crate::curve::Run;
 use crate::fault::Stop;
@@ -62,7 +70,9 @@ const MOST_VIB: usize = 11;
 type Block = [u8; MOST_VIB];
 
 // The bodies of a line, as bytes.
-fn decoded<A: Allocator + Copy>(alloc: A, bodies: &[u8]) -> Result<Vec<Vec<u8, A>, A>, Stop> {
+fn decoded<A: Allocator + Copy>(alloc: A, bodies: &[u8]) -> Result<Vec<Vec<u8, A>, A>, Stop>
+    ensures { IfOk result (λ all. map (λ b. b.items) all.items ≡ map bytes_in (fields_of bodies.now)) }
+{
     let mut all = Vec::new(alloc);
     let mut left = Some(bodies);
     'bodies: while let Some(text) = left {
@@ -83,7 +93,12 @@ fn records_of<'b, A: Allocator + Copy>(
     alloc: A,
     bodies: &'b [Vec<u8, A>],
     run: &Run<'_>,
-) -> Result<Vec<Record<'b>, A>, Stop> {
+) -> Result<Vec<Record<'b>, A>, Stop>
+    ensures ok { IfOk result (λ all. (telegrams : List Parsed) × AreOf run.now.identity (map (λ b. b.items) bodies.now) telegrams
+        × (map view all.items ≡ main telegrams)) }
+    ensures short { IfOk result (λ all. All (λ r. length r.vib.now ≤ 11) all.items) }
+    ensures only { IfErr result (λ s. IsRefused s → (telegrams : List Parsed) → AreOf run.now.identity (map (λ b. b.items) bodies.now) telegrams → ⊥) }
+{
     let mut records = Vec::new(alloc);
     'bodies: for (i, body) in bodies.iter().enumerate() {
         let Ok(telegram) = Telegram::parse(body.as_slice()) else {
@@ -111,12 +126,10 @@ fn records_of<'b, A: Allocator + Copy>(
 
 // A VIB without VIFE 00 at its end, which means no error (EN 13757-3), in some room.
 fn bare<'r>(vib: &[u8], room: &'r mut Block) -> &'r [u8]
-    ensures { result.now ≡ bare vib.now }
+    ensures { length vib.now ≤ 11 → result.now ≡ bare vib.now }
 {
     let len = vib.len().min(MOST_VIB);
-    'bytes: for i in 0..len {
-        room[i] = vib[i];
-    }
+    room[..len].copy_from_slice(&vib[..len]);
     let code = if vib.starts_with(&[0xFB]) { 2 } else { 1 };
     if code < len && room[len - 1] == 0 {
         room[len - 2] %= 128;
@@ -126,7 +139,9 @@ fn bare<'r>(vib: &[u8], room: &'r mut Block) -> &'r [u8]
 }
 
 // The code of a VIB, without VIFEs 3B and 3C, which count forward and backward flow; nothing with others.
-fn code_of<'r>(vib: &[u8], room: &'r mut Block) -> &'r [u8] {
+fn code_of<'r>(vib: &[u8], room: &'r mut Block) -> &'r [u8]
+    ensures { result.now ≡ code_of vib.now }
+{
     let len = if vib.starts_with(&[0xFB]) { 2 } else { 1 };
     if vib.len() < len {
         return &[];
@@ -144,7 +159,10 @@ fn code_of<'r>(vib: &[u8], room: &'r mut Block) -> &'r [u8] {
 }
 
 // What a record's date says.
-fn date_of(record: &Record<'_>) -> Option<Dated> {
+fn date_of(record: &Record<'_>) -> Option<Dated>
+    ensures { length «record».now.vib.now ≤ 11
+        → list_of result ≡ date_seen (seen_of (record (view «record».now) { vib = bare «record».now.vib.now })) }
+{
     let mut room = [0u8; MOST_VIB];
     let vib = bare(record.vib, &mut room);
     let plain = Record { vib, ..*record };
@@ -155,7 +173,10 @@ fn date_of(record: &Record<'_>) -> Option<Dated> {
 }
 
 // The first day with which records date a storage number.
-fn day_of(records: &[Record<'_>], storage: u64) -> Option<u64> {
+fn day_of(records: &[Record<'_>], storage: u64) -> Option<u64>
+    requires { All (λ r. length r.vib.now ≤ 11) records.now }
+    ensures { list_of result ≡ take 1 (map (λ d. d.day) (dates storage (map view records.now))) }
+{
     'records: for record in records {
         if record.storage == storage
             && let Some(dated) = date_of(record)
@@ -167,7 +188,10 @@ fn day_of(records: &[Record<'_>], storage: u64) -> Option<u64> {
 }
 
 // The first fault of the dates of a readout: two days of a storage number, then a date that contradicts what is meant.
-fn check_dates(records: &[Record<'_>], meant: Meant) -> Result<(), Refusal> {
+fn check_dates(records: &[Record<'_>], meant: Meant) -> Result<(), Refusal>
+    requires { All (λ r. length r.vib.now ≤ 11) records.now }
+    ensures { IsOk result ↔ (AreDatedOnce (map view records.now) × MayBe meant (map view records.now)) }
+{
     let (mut is_other, mut is_later, mut is_before) = (false, false, false);
     'records: for record in records {
         let Some(dated) = date_of(record) else {
@@ -202,7 +226,10 @@ fn check_dates(records: &[Record<'_>], meant: Meant) -> Result<(), Refusal> {
 }
 
 // Whether a record is of the storage that is meant.
-fn is_meant(records: &[Record<'_>], record: &Record<'_>, meant: Meant) -> bool {
+fn is_meant(records: &[Record<'_>], record: &Record<'_>, meant: Meant) -> bool
+    requires { All (λ r. length r.vib.now ≤ 11) records.now }
+    ensures { AreDatedOnce (map view records.now) → result ≡ is_meant (day_meant meant) (map view records.now) (view «record».now) }
+{
     match meant {
         Meant::Current(_) => record.storage == 0,
         Meant::Stored(day) => { record.storage > 0 && day_of(records, record.storage) == Some(day) }
@@ -211,7 +238,10 @@ fn is_meant(records: &[Record<'_>], record: &Record<'_>, meant: Meant) -> bool {
 
 // What a record counts of a use: by its code, or by the VIB that is named; none if it has no number of the use, and
 // none within where that is no value.
-fn count_of(record: &Record<'_>, counted: Counted, named: &[u8]) -> Option<Option<u64>> {
+fn count_of(record: &Record<'_>, counted: Counted, named: &[u8]) -> Option<Option<u64>>
+    ensures some { IfSome result (λ n. IfSome n (λ amount. Counts named.now counted (view «record».now) amount)) }
+    ensures only { (amount : ℕ) → Counts named.now counted (view «record».now) amount → result ≡ Some (Some amount) }
+{
     let (mut room, mut other) = ([0u8; MOST_VIB], [0u8; MOST_VIB]);
     let plain = bare(record.vib, &mut room);
     if record.vib.len() > MOST_VIB || (!named.is_empty() && plain != named) {
@@ -247,8 +277,14 @@ pub(crate) fn value_of<A: Allocator + Copy>(
     run: &Run<'_>,
     counted: Counted,
     meant: Meant,
-) -> Result<u64, Stop> {
+) -> Result<u64, Stop>
+    ensures ok { IfOk result (λ n. Tell (run_of run.now) counted bodies.now (day_meant meant) (MayBe meant) n) }
+    ensures only { IfErr result (λ s. IsRefused s → (n : ℕ) → Tell (run_of run.now) counted bodies.now (day_meant meant) (MayBe meant) n → ⊥) }
+{
     let mut named = [0u8; MOST_VIB];
+    if run.vib.len() > 2 * MOST_VIB {
+        return Err(Stop::Refused(RECORD));
+    }
     let len = decode_hex(run.vib, &mut named).unwrap_or(0);
     let bodies = decoded(alloc, bodies)?;
     let records = records_of(alloc, bodies.as_slice(), run)?;

@@ -1,10 +1,11 @@
 //! The fields of a line, and what they spell.
 
-ghost use Rattle.std.specs.Prelude.{◌≡◌, ◌∷◌, IfSome, Option, Some, option_map};
+ghost use Rattle.std.specs.Prelude.{◌≡◌, ◌↔◌, ◌∷◌, All, IfSome, IsTrue, Option, Some, option_map};
+ghost use Rattle.std.specs.List.{list_all};
 ghost use Rattle.std.specs.Str.{bytes_eq};
 ghost use Rattle.mbdc_audit.specs.Field.{fields_of, left_fields};
 ghost use Rattle.mbdc_audit.specs.declared.smallest.Spelled.{Spelled};
-ghost use Rattle.mbdc_audit.specs.Line.{is_of, may_have, spelled, Reads};
+ghost use Rattle.mbdc_audit.specs.Line.{IsBody, IsMonth, IsNumberText, Reads, is_of, may_have, spelled};
 
 use crate::moment::{day_number, offset_in};
 use crate::smallest::{MOST_VALUE_DECIMALS, Spelled, decimal_in, ratio_in, whole_in};
@@ -91,6 +92,7 @@ fn number(number: Option<u64>) -> Option<Option<Spelled>>
 
 impl Kind {
     // Whether a field of letters may have this byte.
+    #[tactic(auto, unfolding(crate::specs::Line::may_have))]
     fn may_have(self, byte: u8) -> bool
         ensures { result ≡ may_have self byte }
     {
@@ -111,11 +113,18 @@ impl Kind {
         }
     }
 
+    // Whether each byte of a field is one of these letters.
+    fn are_all(self, field: &[u8]) -> bool
+        ensures { result ≡ list_all (λ b. may_have self b) field.now }
+    {
+        field.iter().all(|byte| self.may_have(*byte))
+    }
+
     // Whether a field has these letters: at least one, and at most so many.
     fn is_of(self, field: &[u8], most: usize) -> bool
         ensures { result ≡ is_of self most field.now }
     {
-        !field.is_empty() && field.len() <= most && field.iter().all(|byte| self.may_have(*byte))
+        !field.is_empty() && field.len() <= most && self.are_all(field)
     }
 
     /// What a field spells: nothing, or a number with its decimals; `None` where it isn't of this form.
@@ -164,7 +173,9 @@ impl Kind {
 }
 
 // Whether a label is a month, as `2026-10`.
-fn is_month(label: &[u8]) -> bool {
+fn is_month(label: &[u8]) -> bool
+    ensures { IsTrue result ↔ IsMonth label.now }
+{
     let mut day = *b"0000-00-01";
     if label.len() != 7 {
         return false;
@@ -174,7 +185,9 @@ fn is_month(label: &[u8]) -> bool {
 }
 
 // Whether fields are bodies: each some bytes, in two capital hex digits a byte.
-fn are_bodies(fields: &[u8]) -> bool {
+fn are_bodies(fields: &[u8]) -> bool
+    ensures { IsTrue result ↔ All IsBody (fields_of fields.now) }
+{
     let (mut body, mut rest) = first_field(fields);
     'bodies: while body.len() % 2 == 0 && Kind::Bodies.is_of(body, fields.len()) {
         let Some(left) = rest else {
@@ -186,7 +199,9 @@ fn are_bodies(fields: &[u8]) -> bool {
 }
 
 // Whether a text is `-`, `?` with zeros for the decimals, or a decimal of at most three decimals, with or without a sign.
-fn is_text(text: &[u8]) -> bool {
+fn is_text(text: &[u8]) -> bool
+    ensures { IsTrue result ↔ IsNumberText text.now }
+{
     match text {
         [b'-'] | [b'?'] => true,
         [b'?', b'.', zeros @ ..] => {

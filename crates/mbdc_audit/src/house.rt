@@ -1,5 +1,12 @@
 //! The house that a file spells: one tree. Its texts are slices of the file; spans, uses, runs and places count from 0.
 
+ghost use Rattle.std.specs.Prelude.{◌≡◌, ◌-◌, ◌==◌, IfSome, length, option_map, find, position, slice_get};
+ghost use Rattle.std.specs.Str.{bytes_eq};
+ghost use Rattle.mbdc_audit.specs.House.{at};
+ghost use Rattle.mbdc_audit.specs.Published.{declared, is_fact};
+ghost use Rattle.mbdc_audit.specs.Sound.{begin_at, end_at};
+ghost use Rattle.mbdc_audit.specs.View.{house_of, run_of, span_of};
+
 use crate::curve::{Amount, Run};
 use crate::evidence::Refusal;
 use crate::line::Word;
@@ -33,7 +40,7 @@ pub struct Span<'a> {
 }
 
 /// What is declared of a span.
-#[derive(Clone, Copy, PartialEq, Eq)]
+#[derive(Clone, Copy)]
 pub enum Fact {
     /// Kilowatt hours of a cubic metre or of an allocator's unit.
     Factor(u64),
@@ -45,6 +52,24 @@ pub enum Fact {
     Price(u64, Unit),
     /// Units of a square metre.
     Average(u64, Unit),
+}
+
+impl Fact {
+    // Whether two facts are of one kind, and of one use and unit.
+    fn is(self, other: Fact) -> bool
+        ensures { result ≡ is_fact self other }
+    {
+        match (self, other) {
+            (Fact::Factor(used), Fact::Factor(others))
+            | (Fact::Emissions(used), Fact::Emissions(others)) => used == others,
+            (Fact::Price(used, unit), Fact::Price(others, another))
+            | (Fact::Average(used, unit), Fact::Average(others, another)) => {
+                used == others && unit.is(another)
+            }
+            (Fact::Degrees, Fact::Degrees) => true,
+            _ => false,
+        }
+    }
 }
 
 /// A ratio that is declared of a span, times 10^6.
@@ -70,8 +95,6 @@ pub struct Typed<'a> {
     pub is_guess: bool,
     pub spelled: Spelled,
     pub unit: &'a [u8],
-    pub counted: Counted,
-    pub size: u64,
 }
 
 /// A value of a run, by its line's word: what is stored or ended at the end of a day, the bodies of telegrams as the line
@@ -166,17 +189,26 @@ pub(crate) struct House<'a, A: Allocator + Copy> {
 
 impl<'a, A: Allocator + Copy> House<'a, A> {
     /// The ratio that is declared of a span.
-    pub fn declared(&self, fact: Fact, span: u64) -> Option<u64> {
-        'facts: for declared in &self.facts {
-            if declared.span == span && declared.fact == fact {
-                return Some(declared.ratio);
-            }
-        }
-        None
+    pub fn declared(&self, fact: Fact, span: u64) -> Option<u64>
+        ensures { result ≡ declared (house_of self.now) fact span }
+    {
+        self.facts
+            .iter()
+            .find(|declared| declared.span == span && fact.is(declared.fact))
+            .map(|declared| declared.ratio)
+    }
+
+    /// The place of a use by its name.
+    pub fn use_named(&self, name: &[u8]) -> Option<usize>
+        ensures { result ≡ position (λ u. bytes_eq u.name.now name.now) self.now.uses.items }
+    {
+        self.uses.iter().position(|used| used.name == name)
     }
 
     /// A use by its place.
-    pub fn used(&self, used: u64) -> Use<'a> {
+    pub fn used(&self, used: u64) -> Use<'a>
+        ensures { IfSome (slice_get self.now.uses.items used) (λ u. result ≡ u) }
+    {
         match self.uses.get(used as usize) {
             Some(used) => *used,
             None => Use {
@@ -187,7 +219,9 @@ impl<'a, A: Allocator + Copy> House<'a, A> {
     }
 
     /// The user with this number.
-    pub fn user(&self, number: u64) -> Option<User<'a>> {
+    pub fn user(&self, number: u64) -> Option<User<'a>>
+        ensures { result ≡ find (λ u. u.number == number) self.now.users.items }
+    {
         self.users
             .iter()
             .copied()
@@ -197,14 +231,21 @@ impl<'a, A: Allocator + Copy> House<'a, A> {
 
 impl<'a, A: Allocator + Copy> Place<'a, A> {
     /// When a place has a time in a span: the later one of both beginnings, and the earlier one of both ends.
-    pub fn reach(&self, span: &Span<'_>) -> (u64, u64) {
-        let (Some(first), Some(last)) = (self.runs.first(), self.runs.last()) else {
-            return (0, 0);
-        };
+    pub fn reach(&self, span: &Span<'_>) -> (u64, u64)
+        ensures from { result.0 ≡ begin_at (option_map run_of (slice_get self.now.runs.items 0)) (at (span_of span.now).from) }
+        ensures to { result.1 ≡ end_at (option_map run_of (slice_get self.now.runs.items (length self.now.runs.items - 1)))
+            (at (span_of span.now).to) }
+    {
+        let from = span.from.moment();
         let to = span.to.moment();
-        (
-            first.begin.max(span.from.moment()),
-            to.min(last.end.unwrap_or(to)),
-        )
+        let from = match self.runs.first() {
+            Some(first) => first.begin.max(from),
+            None => 0,
+        };
+        let to = match self.runs.last() {
+            Some(last) => last.end.map_or(to, |end| end.min(to)),
+            None => 0,
+        };
+        (from, to)
     }
 }

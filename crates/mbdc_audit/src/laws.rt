@@ -8,8 +8,8 @@ ghost use Rattle.mbdc_audit.specs.House.{House, Part, Place, Run, Span, Value, W
 ghost use Rattle.mbdc_audit.specs.Amount.{amount, entries, known, mark, told};
 ghost use Rattle.dc_records.specs.Record.{Entry as Record};
 ghost use Rattle.mbdc_audit.specs.Evidence.{Gives};
-ghost use Rattle.mbdc_audit.specs.File.{IsRight, all_numbers};
-ghost use Rattle.mbdc_audit.specs.Published.{Open, beside, house, is_whole, plain, shares_of};
+ghost use Rattle.mbdc_audit.specs.File.{IsRight, all_opened};
+ghost use Rattle.mbdc_audit.specs.Published.{Open, beside, house, is_whole, plain, says_of, shares_of};
 ghost use Rattle.mbdc_audit.specs.Worked.{by_hand, meter, november, october, telegram, with_middle};
 ghost use Rattle.dc_address.specs.declared.identity.Identity.{Identity};
 ghost use Rattle.mbdc_audit.specs.Sound.{AreApart, Fitted, IsHouse, IsWindow, Tile, fitted, from, to};
@@ -57,8 +57,8 @@ pub fn a_sound_house_adds_up()
         IsInOrder (entries o.place.runs (known o.window.values)) →
         is_whole (shares_of house o) ≡ true →
         amount o.place.runs (known o.window.values) from to ≡ Some (plain (shares_of house o)) }
-    ensures window { (h : House) (p : Place) (q : Counted) (w : Window) (s : Span) (first : Part)
-        (later : List Part) → IsWindow h p q w s → w.parts ≡ first ∷ later →
+    ensures window { (h : House) (p : Place) (w : Window) (s : Span) (first : Part)
+        (later : List Part) → IsWindow h p w s → w.parts ≡ first ∷ later →
         is_whole (shares_of house (record { place = p; window = w })) ≡ true →
         amount p.runs (known w.values) (from p s) (to p s)
         ≡ Some (plain (shares_of house (record { place = p; window = w }))) }
@@ -66,8 +66,10 @@ pub fn a_sound_house_adds_up()
 
 /// In a right file the fields beside each number are those that the definition gives.
 pub fn a_right_file_says_each_mark()
-    ensures { (lines : List (List ℕ)) (right : IsRight lines) →
-        All (λ n. n.beside ≡ beside right.house n.key) (all_numbers right.house) }
+    ensures of_places { (lines : List (List ℕ)) (right : IsRight lines) →
+        All (λ o. All (λ n. n.beside ≡ says_of n.key.word o n.key) o.window.numbers) (all_opened right.house) }
+    ensures of_house { (lines : List (List ℕ)) (right : IsRight lines) →
+        All (λ n. n.beside ≡ beside right.house n.key) right.house.numbers }
 {}
 
 /// Worked examples. 9.31 m3 are `measured`, also with a value by hand in between. A value by hand that looks like a

@@ -1,7 +1,8 @@
 //! What a line says: one row a word.
 
-ghost use Rattle.std.specs.Prelude.{◌≡◌, ◌<◌, ◌+◌, IfOk};
-ghost use Rattle.mbdc_audit.specs.Line.{IsLine, may_follow, maybe_at, number_at};
+ghost use Rattle.std.specs.Prelude.{◌≡◌, ◌<◌, ◌+◌, ◌^◌, IfErr, IfOk};
+ghost use Rattle.mbdc_audit.specs.declared.line.Line.{Line};
+ghost use Rattle.mbdc_audit.specs.Line.{IsBounded, IsLine, may_follow, maybe_at, number_at};
 
 use crate::fault::AuditFault;
 use crate::field::Kind::{
@@ -209,7 +210,9 @@ impl<'a> Line<'a> {
     /// # Errors
     /// [`AuditFault::Row`] where the word has no row, or a field isn't of its form.
     pub fn read(line: &'a [u8]) -> Result<Line<'a>, AuditFault>
-        ensures { IfOk result (IsLine line.now) }
+        ensures found { IfOk result (IsLine line.now) }
+        ensures bounded { IfOk result (λ l. IsBounded l.word l) }
+        ensures only { IfErr result (λ f. (l : Line) → IsLine line.now l → ⊥) }
     {
         let (word, mut rest) = first_field(line);
         let (_, word, stage, kinds) = *ROWS
@@ -266,12 +269,12 @@ impl<'a> Line<'a> {
     /// The end of the day at a place, whose offset is in the next one.
     pub fn day_end(&self, place: usize) -> DayEnd<'a>
         requires { place < 6 }
-        ensures day { result.day ≡ number_at place self.now }
-        ensures offset { result.offset ≡ number_at (place + 1) self.now }
+        ensures day { number_at place self.now < 2 ^ 32 → result.day ≡ number_at place self.now }
+        ensures offset { number_at (place + 1) self.now < 2 ^ 16 → result.offset ≡ number_at (place + 1) self.now }
     {
         DayEnd {
-            day: self.number(place) as u32,
-            offset: self.number(place + 1) as u16,
+            day: self.number(place).min(u64::from(u32::MAX)) as u32,
+            offset: self.number(place + 1).min(u64::from(u16::MAX)) as u16,
             spelled: (self.fields[place], self.fields[place + 1]),
         }
     }

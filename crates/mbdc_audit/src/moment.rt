@@ -36,7 +36,7 @@ pub fn day_number(date: &Date) -> Option<u32>
 {
     let (year, month) = (u64::from(date.year()), u64::from(date.month()));
     let (year, month) = if month < 3 {
-        (year.checked_sub(1)?, month + 9)
+        (year.saturating_sub(1), month + 9)
     } else {
         (year, month - 3)
     };
@@ -68,7 +68,7 @@ pub fn offset_in(field: &[u8]) -> Option<u16>
 impl DayEnd<'_> {
     /// The moment at the end of the day; 0 before 1970.
     pub fn moment(self) -> u64
-        ensures { result ≡ end_of self }
+        ensures { result ≡ end_of self.entry }
     {
         let local = DAY * (u64::from(self.day) + 1) + SECONDS_OF_MINUTE * u64::from(WEEK);
         local.saturating_sub(SECONDS_OF_MINUTE * u64::from(self.offset))

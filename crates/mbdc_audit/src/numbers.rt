@@ -1,5 +1,18 @@
 //! The third walk: each published number is what is defined, with its mark; or what holds in its place.
 
+ghost use Rattle.std.specs.Prelude.{◌≡◌, ◌↔◌, ◌<◌, ◌≤◌, ◌+◌, ◌^◌, ◌∷◌, ◌⊎◌, [], true, min, All, IfErr, IfNone, IfOk, IfSome, IsTrue, OnOk, Some, length, map, slice_get};
+ghost use Rattle.mbdc_consumption.specs.Order.{IsInOrder};
+ghost use Rattle.mbdc_audit.specs.Amount.{entries, known};
+ghost use Rattle.mbdc_audit.specs.Exact.{FitsRounded};
+ghost use Rattle.mbdc_audit.specs.File.{all_opened};
+ghost use Rattle.mbdc_audit.specs.Grade.{grade_name, worst};
+ghost use Rattle.mbdc_audit.specs.House.{Span};
+ghost use Rattle.mbdc_audit.specs.Number.{in_unit};
+ghost use Rattle.mbdc_audit.specs.Published.{IsNumber, IsNumberOf, IsPeriod, IsValueOf, MayAsk, MayAskOf, Open, Suffice, beside, declared, has_whole, number as exact_of, rounded, share_of, shown_of, worst as worst_share};
+ghost use Rattle.mbdc_audit.specs.Sound.{IsHouse, IsWindow, Tile, from, to};
+ghost use Rattle.mbdc_audit.specs.View.{house_of, key_of, known_in, number_of, place_of, window_of};
+ghost use Rattle.mbdc_audit.specs.Walk.{AreGradedAll, AsksNothing, Checks, IsBasis, IsGradedPlace, IsHeld, IsShare, IsTotal, decimal_or_dash, held_parts, holder_of, is_of_house, open_of, scale_in, sum_by_holder, texts_beside};
+
 use crate::curve::amount_of;
 use crate::exact::Exact;
 use crate::fault::{AuditFault, Stop};
@@ -52,7 +65,10 @@ impl Total {
     };
 
     // The sum with an amount more, its size times a weight, and a mark.
-    fn and(&self, plain: u128, weighted: u128, grade: Grade) -> Result<Total, AuditFault> {
+    fn and(&self, plain: u128, weighted: u128, grade: Grade) -> Result<Total, AuditFault>
+        ensures ok { IfOk result (λ t. t ≡ record self.now { plain = self.now.plain + plain; weighted = self.now.weighted + weighted; grade = worst self.now.grade grade }) }
+        ensures err { IfErr result (λ f. (2 ^ 128 ≤ self.now.plain + plain) ⊎ (2 ^ 128 ≤ self.now.weighted + weighted)) }
+    {
         Ok(Total {
             plain: self.plain.checked_add(plain).ok_or(AuditFault::TooLarge)?,
             weighted: self
@@ -66,7 +82,11 @@ impl Total {
 }
 
 // What a holder's parts of a window consumed, and their worst mark; none if it has none.
-fn share(holder: Holder<'_>, flat: &[u8], parts: &[Part]) -> Option<(u128, Grade)> {
+fn share(holder: Holder<'_>, flat: &[u8], parts: &[Part]) -> Option<(u128, Grade)>
+    requires { length parts.now ≤ 64 }
+    ensures some { IfSome result (λ s. IsShare (held_parts (holder_of holder.entry) flat.now parts.now) s.0 s.1) }
+    ensures none { IfNone result (held_parts (holder_of holder.entry) flat.now parts.now ≡ []) }
+{
     let mut share = None;
     'parts: for part in parts {
         let is_held = match holder {
@@ -106,7 +126,9 @@ type Holds = (Option<Exact>, Beside);
 
 impl<'a, A: Allocator + Copy> House<'a, A> {
     // The sum of a holder's parts of a use in a span.
-    fn total(&self, holder: Holder<'_>, span: u64, used: u64) -> Result<Total, AuditFault> {
+    fn total(&self, holder: Holder<'_>, span: u64, used: u64) -> Result<Total, AuditFault>
+        ensures { AreGradedAll self.now.places.items → IfOk result (IsTotal (house_of self.now) (holder_of holder.entry) span used) }
+    {
         let mut total = Total::NONE;
         'places: for place in self.places.iter().filter(|place| place.used == used) {
             'windows: for window in place.windows.iter().filter(|window| window.span == span) {
@@ -135,7 +157,9 @@ impl<'a, A: Allocator + Copy> House<'a, A> {
         span: u64,
         used: u64,
         unit: Unit,
-    ) -> Result<Exact, AuditFault> {
+    ) -> Result<Exact, AuditFault>
+        ensures { IfOk result (λ x. Some x ≡ in_unit sums (scale_in (house_of self.now) used unit) (declared (house_of self.now) (Fact.Factor used) span)) }
+    {
         let factor = self.declared(Fact::Factor(used), span);
         in_unit(sums, self.used(used).counts, unit, factor)
     }
@@ -146,7 +170,9 @@ impl<'a, A: Allocator + Copy> House<'a, A> {
         holder: Holder<'_>,
         span: u64,
         number: &Number<'_>,
-    ) -> Result<(Option<Exact>, Total), AuditFault> {
+    ) -> Result<(Option<Exact>, Total), AuditFault>
+        ensures { AreGradedAll self.now.places.items → IfOk result (λ s. s.0 ≡ sum_by_holder (house_of self.now) (holder_of holder.entry) span number.now.used number.now.unit) }
+    {
         let total = self.total(holder, span, number.used)?;
         let is_known = match holder {
             Holder::House => total.without < total.count,
@@ -164,7 +190,9 @@ impl<'a, A: Allocator + Copy> House<'a, A> {
 
     // Whether a user has the whole of a span: each place of a use of the flat has a time that covers it, and all parts
     // are the user's.
-    fn has_whole(&self, span: u64, number: &Number<'_>) -> bool {
+    fn has_whole(&self, span: u64, number: &Number<'_>) -> bool
+        ensures { result ≡ has_whole (house_of self.now) span number.now.user number.now.used }
+    {
         let (Some(user), Some(within)) = (self.user(number.user), self.spans.get(span as usize))
         else {
             return false;
@@ -191,7 +219,9 @@ impl<'a, A: Allocator + Copy> House<'a, A> {
     }
 
     // What the flats that may be compared consumed: those with an area whose sum is measured, or by hand.
-    fn basis(&self, span: u64, used: u64) -> Result<Basis, AuditFault> {
+    fn basis(&self, span: u64, used: u64) -> Result<Basis, AuditFault>
+        ensures { AreGradedAll self.now.places.items → IfOk result (IsBasis (house_of self.now) span used) }
+    {
         let mut basis = Basis {
             span,
             used,
@@ -221,7 +251,11 @@ impl<'a, A: Allocator + Copy> House<'a, A> {
     }
 
     // A user's share by area: of a declared average, or of what comparable flats consumed.
-    fn mean(&self, number: &Number<'_>, bases: &mut Vec<Basis, A>) -> Result<Option<Exact>, Stop> {
+    fn mean(&self, number: &Number<'_>, bases: &mut Vec<Basis, A>) -> Result<Option<Exact>, Stop>
+        requires { All (λ b. AreGradedAll self.now.places.items → IsBasis (house_of self.now) b.span b.used b) bases.old.items }
+        ensures bases { OnOk result (All (λ b. AreGradedAll self.now.places.items → IsBasis (house_of self.now) b.span b.used b) bases.new.items) }
+        ensures found { AreGradedAll self.now.places.items → IfOk result (λ x. number.now.word ≡ Word.Mean → x ≡ exact_of (house_of self.now) (key_of number.now)) }
+    {
         let (span, used) = (number.span, number.used);
         let Some(area) = self.user(number.user).and_then(|user| user.area) else {
             return Ok(None);
@@ -254,7 +288,9 @@ impl<'a, A: Allocator + Copy> House<'a, A> {
     }
 
     // The change from another span to this one, or what the weather makes of the other one's number.
-    fn compared(&self, number: &Number<'_>) -> Result<Option<Exact>, AuditFault> {
+    fn compared(&self, number: &Number<'_>) -> Result<Option<Exact>, AuditFault>
+        ensures { AreGradedAll self.now.places.items → IfOk result (λ x. (number.now.word ≡ Word.Change) ⊎ (number.now.word ≡ Word.Weather) → x ≡ exact_of (house_of self.now) (key_of number.now)) }
+    {
         let (span, other) = (number.span, number.other);
         if !self.has_whole(span, number) || !self.has_whole(other, number) {
             return Ok(None);
@@ -278,7 +314,9 @@ impl<'a, A: Allocator + Copy> House<'a, A> {
     }
 
     // A user's sum times a ratio of the span: grams of a kilowatt hour, cents of a unit.
-    fn priced(&self, number: &Number<'_>) -> Result<Option<Exact>, AuditFault> {
+    fn priced(&self, number: &Number<'_>) -> Result<Option<Exact>, AuditFault>
+        ensures { AreGradedAll self.now.places.items → IfOk result (λ x. (number.now.word ≡ Word.Carbon) ⊎ (number.now.word ≡ Word.Cost) → x ≡ exact_of (house_of self.now) (key_of number.now)) }
+    {
         let (fact, parts) = if number.word == Word::Carbon {
             (Fact::Emissions(number.used), 1_000)
         } else {
@@ -292,7 +330,12 @@ impl<'a, A: Allocator + Copy> House<'a, A> {
     }
 
     // What holds of a number of the house.
-    fn holds(&self, number: &Number<'_>, bases: &mut Vec<Basis, A>) -> Result<Holds, Stop> {
+    fn holds(&self, number: &Number<'_>, bases: &mut Vec<Basis, A>) -> Result<Holds, Stop>
+        requires { All (λ b. AreGradedAll self.now.places.items → IsBasis (house_of self.now) b.span b.used b) bases.old.items }
+        ensures bases { OnOk result (All (λ b. AreGradedAll self.now.places.items → IsBasis (house_of self.now) b.span b.used b) bases.new.items) }
+        ensures found { AreGradedAll self.now.places.items → IfOk result (λ x. is_of_house number.now.word ≡ true → (x.0 ≡ exact_of (house_of self.now) (key_of number.now))
+            × (texts_beside x.1 ≡ beside (house_of self.now) (key_of number.now))) }
+    {
         let holder = match number.word {
             Word::OfUser => Holder::User(number.user),
             Word::OfFlat => Holder::Flat(number.flat),
@@ -318,7 +361,11 @@ impl<'a, A: Allocator + Copy> House<'a, A> {
         place: &Place<'a, A>,
         window: &Window<'a, A>,
         number: &Number<'_>,
-    ) -> Result<Holds, Stop> {
+    ) -> Result<Holds, Stop>
+        ensures { let o = open_of (place_of place.now) (window_of window.now) in
+            known_in window.now.values.items ≡ known o.window.values → IsInOrder (entries o.place.runs (known o.window.values)) → number.now.from ≤ number.now.to
+            → IfOk result (λ x. (x.0 ≡ shown_of (house_of self.now) o (key_of number.now)) × (texts_beside x.1 ≡ grade_name (worst_share (share_of o (key_of number.now))) ∷ [])) }
+    {
         let (runs, values) = (place.runs.as_slice(), window.values.as_slice());
         let amount = amount_of(alloc, runs, values, number.from, number.to)?;
         let beside = Beside::Mark(amount.grade);
@@ -339,7 +386,10 @@ fn is_period<A: Allocator + Copy>(
     place: &Place<'_, A>,
     window: &Window<'_, A>,
     number: &Number<'_>,
-) -> bool {
+) -> bool
+    ensures { (s : Span) → Tile (from (place_of place.now) s) (to (place_of place.now) s) (window_of window.now).parts → (IsTrue result
+        ↔ (IsPeriod s number.now.from number.now.to (open_of (place_of place.now) (window_of window.now)) × (0 < length window.now.parts.items))) }
+{
     let (Some(first), Some(last)) = (window.parts.first(), window.parts.last()) else {
         return false;
     };
@@ -361,7 +411,9 @@ fn is_period<A: Allocator + Copy>(
 }
 
 // Whether so many decimals suffice for a number.
-fn suffice(number: &Number<'_>, decimals: usize, exact: &Exact) -> bool {
+fn suffice(number: &Number<'_>, decimals: usize, exact: &Exact) -> bool
+    ensures { decimals ≤ 3 → (IsTrue result ↔ Suffice number.now.word number.now.unit (Some exact.now) decimals) }
+{
     let least = match (number.word, number.unit) {
         (Word::Change, _) => 0,
         (Word::Cost, _) => return decimals == 2,
@@ -375,7 +427,10 @@ fn suffice(number: &Number<'_>, decimals: usize, exact: &Exact) -> bool {
 }
 
 // A number rounded half away from zero to this many decimals.
-fn printed(exact: &Exact, decimals: usize) -> Result<Decimal, AuditFault> {
+fn printed(exact: &Exact, decimals: usize) -> Result<Decimal, AuditFault>
+    ensures ok { IfOk result (λ d. d ≡ rounded exact.now (min decimals 9)) }
+    ensures err { IfErr result (λ f. FitsRounded exact.now.num exact.now.den (min decimals 9) → exact.now.den ≡ 0) }
+{
     let decimals = decimals.min(MOST_VALUE_DECIMALS) as u32;
     if exact.den == 0 {
         return Err(AuditFault::TooLarge);
@@ -410,7 +465,9 @@ fn texts_of<A: Allocator + Copy>(
     alloc: A,
     text: Option<Decimal>,
     beside: Beside,
-) -> Result<Vec<Vec<u8, A>, A>, Stop> {
+) -> Result<Vec<Vec<u8, A>, A>, Stop>
+    ensures { IfOk result (λ t. map (λ f. f.items) t.items ≡ decimal_or_dash text ∷ texts_beside beside) }
+{
     let mut room = [0u8; TEXT_ROOM];
     let mut texts: Vec<Vec<u8, A>, A> = Vec::new(alloc);
     let first: &[u8] = match text {
@@ -467,7 +524,7 @@ impl<'f, 'a, F: Sink> Filler<'f, 'a, F> {
             if self.may_ask && matches!(*said, [b'?', ..]) {
                 self.up_to(at)?;
                 self.out.put(text.as_slice())?;
-                self.done = at + said.len();
+                self.done = at.saturating_add(said.len());
             }
             at = at.saturating_add(said.len() + 1);
         }
@@ -483,7 +540,9 @@ impl<'s, W: Sink> Teller<'s, W> {
         held: &[Vec<u8, A>],
         is_right: bool,
         filler: &mut Filler<'_, '_, F>,
-    ) -> Result<(), Stop> {
+    ) -> Result<(), Stop>
+        ensures { Checks result self.old.counts self.new.counts (is_right ≡ true) }
+    {
         self.counts.numbers = self.counts.numbers.saturating_add(1);
         filler.fill(number, held)?;
         if is_right {
@@ -519,7 +578,9 @@ impl<'s, W: Sink> Teller<'s, W> {
         number: &Number<'_>,
         holds: Holds,
         filler: &mut Filler<'_, '_, F>,
-    ) -> Result<(), Stop> {
+    ) -> Result<(), Stop>
+        ensures { AsksNothing (number_of number.now) → Checks result self.old.counts self.new.counts (IsHeld (number_of number.now) holds.0 (texts_beside holds.1)) }
+    {
         let (exact, beside) = holds;
         let decimals = match number.said[0] {
             [.., b'.', _] => 1,
@@ -551,7 +612,9 @@ impl<'s, W: Sink> Teller<'s, W> {
         window: &Window<'_, A>,
         number: &Number<'_>,
         filler: &mut Filler<'_, '_, F>,
-    ) -> Result<(), Stop> {
+    ) -> Result<(), Stop>
+        ensures { AsksNothing (number_of number.now) → (o : Open) → o.window.values ≡ (window_of window.now).values → Checks result self.old.counts self.new.counts (IsValueOf o (number_of number.now)) }
+    {
         let run = number.from.checked_sub(1);
         let value = window.values.iter().rev().find(|value| {
             value.found.is_ok() && Some(value.run) == run && value.moment == number.to
@@ -578,7 +641,13 @@ impl<'s, W: Sink> Teller<'s, W> {
         place: &Place<'a, A>,
         window: &Window<'a, A>,
         filler: &mut Filler<'_, '_, F>,
-    ) -> Result<(), Stop> {
+    ) -> Result<(), Stop>
+        ensures { let o = open_of (place_of place.now) (window_of window.now) in
+            (s : Span) → slice_get (house_of house.now).spans window.now.span ≡ Some s → IsWindow (house_of house.now) o.place o.window s
+            → AreGradedAll house.now.places.items → IsGradedPlace place.now
+            → All (λ n. AsksNothing n × MayAskOf (house_of house.now) o.place o.window n.key) o.window.numbers
+            → Checks result self.old.counts self.new.counts (All (IsNumberOf (house_of house.now) o) o.window.numbers) }
+    {
         'numbers: for number in &window.numbers {
             if number.word == Word::Value {
                 self.judge_value(alloc, window, number, filler)?;
@@ -602,7 +671,12 @@ impl<'s, W: Sink> Teller<'s, W> {
         alloc: A,
         house: &House<'a, A>,
         filler: &mut Filler<'_, '_, F>,
-    ) -> Result<(), Stop> {
+    ) -> Result<(), Stop>
+        ensures { let h = house_of house.now in IsHouse h → AreGradedAll house.now.places.items
+            → All (λ o. All (λ n. AsksNothing n × MayAskOf h o.place o.window n.key) o.window.numbers) (all_opened h)
+            → All (λ n. AsksNothing n × MayAsk h n.key) h.numbers
+            → Checks result self.old.counts self.new.counts (All (λ o. All (IsNumberOf h o) o.window.numbers) (all_opened h) × All (IsNumber h) h.numbers) }
+    {
         let mut bases: Vec<Basis, A> = Vec::new(alloc);
         'places: for place in &house.places {
             'windows: for window in &place.windows {

@@ -1,5 +1,16 @@
 //! Reads lines into a house.
 
+ghost use Rattle.std.specs.Prelude.{◌≡◌, ◌≤◌, ◌<◌, ◌+◌, ◌⊎◌, true, false, IfErr, IfOk, None, Some, length, position};
+ghost use Rattle.std.specs.Str.{bytes_eq};
+ghost use Rattle.mbdc_audit.specs.declared.uses.Unit.{Unit};
+ghost use Rattle.mbdc_audit.specs.File.{IsLimited, IsSpelled};
+ghost use Rattle.mbdc_audit.specs.House.{Number as SaidNumber, Spelled as SaidText, Value as SaidValue};
+ghost use Rattle.mbdc_audit.specs.Line.{IsBounded, number_at};
+ghost use Rattle.mbdc_audit.specs.Published.{Has, IsUnit};
+ghost use Rattle.mbdc_audit.specs.Reader.{Adds, AddsNothing, CantFollow, Follows, IsFault, IsMade, IsRead, IsTextOf, IsValueOf, is_fact, is_value};
+ghost use Rattle.mbdc_audit.specs.Uses.{size_named, unit_named};
+ghost use Rattle.mbdc_audit.specs.View.{house_of, key_of, number_of, run_of, seen_value, spelled_of};
+
 use crate::curve::{Amount, Run};
 use crate::evidence::RECORD;
 use crate::fault::{AuditFault, Stop};
@@ -31,7 +42,10 @@ const MOST_VALUES: usize = 2_048;
 const MOST_PARTS: usize = 64;
 
 // Whether a line may follow, or why not.
-fn only_if(may: bool, fault: AuditFault) -> Result<(), AuditFault> {
+fn only_if(may: bool, fault: AuditFault) -> Result<(), AuditFault>
+    ensures ok { IfOk result (λ u. may ≡ true) }
+    ensures err { IfErr result (λ f. (may ≡ false) × (f ≡ fault)) }
+{
     if may { Ok(()) } else { Err(fault) }
 }
 
@@ -52,7 +66,10 @@ pub(crate) fn read_house<'a, A: Allocator + Copy>(
     alloc: A,
     file: &'a [u8],
     may_ask: bool,
-) -> Result<House<'a, A>, (u64, Stop)> {
+) -> Result<House<'a, A>, (u64, Stop)>
+    ensures ok { IfOk result (λ h. IsRead file.now (house_of h)) }
+    ensures err { may_ask ≡ false → IfErr result (λ e. IsFault e.1 → IsLimited file.now → ⊥) }
+{
     let mut reader = Reader {
         alloc,
         may_ask,
@@ -89,7 +106,13 @@ pub(crate) fn read_house<'a, A: Allocator + Copy>(
 
 impl<'a, A: Allocator + Copy> Reader<'a, A> {
     // Reads a line, which begins at a place of the file.
-    fn step(&mut self, text: &'a [u8], at: usize) -> Result<(), Stop> {
+    fn step(&mut self, text: &'a [u8], at: usize) -> Result<(), Stop>
+        ensures ok { IfOk result (λ u. Follows self.old.stage text.now (house_of self.old.house)
+            self.new.stage (house_of self.new.house)) }
+        ensures err { self.old.may_ask ≡ false → IfErr result (λ s. IsFault s →
+            CantFollow self.old.stage text.now (house_of self.old.house)) }
+        ensures kept { self.new.may_ask ≡ self.old.may_ask }
+    {
         only_if(
             text.len() <= LONGEST && self.stage != ENDED,
             AuditFault::End,
@@ -126,29 +149,45 @@ impl<'a, A: Allocator + Copy> Reader<'a, A> {
     }
 
     // The place of a use's word.
-    fn used(&self, name: &[u8]) -> Result<u64, AuditFault> {
-        match self.house.uses.iter().position(|used| used.name == name) {
+    fn used(&self, name: &[u8]) -> Result<u64, AuditFault>
+        ensures ok { IfOk result (λ n. position (λ u. bytes_eq u.name.now name.now) self.now.house.uses.items ≡ Some n) }
+        ensures err { IfErr result (λ f. position (λ u. bytes_eq u.name.now name.now) self.now.house.uses.items ≡ None) }
+    {
+        match self.house.use_named(name) {
             Some(place) => Ok(place as u64),
             None => Err(AuditFault::Fact),
         }
     }
 
     // The place of a span by its number.
-    fn span(&self, number: u64) -> Result<u64, AuditFault> {
+    fn span(&self, number: u64) -> Result<u64, AuditFault>
+        ensures ok { IfOk result (λ n. (number ≡ n + 1) × (n < length self.now.house.spans.items)) }
+        ensures err { IfErr result (λ f. (number ≡ 0) ⊎ (length self.now.house.spans.items < number)) }
+    {
         let is_there = 0 < number && number <= self.house.spans.len() as u64;
         only_if(is_there, AuditFault::Fact)?;
         Ok(number - 1)
     }
 
     // The unit of a number of a use, which is one of the use's.
-    fn unit(&self, used: u64, unit: &[u8]) -> Result<Unit, AuditFault> {
+    fn unit(&self, used: u64, unit: &[u8]) -> Result<Unit, AuditFault>
+        ensures ok { IfOk result (λ u. (unit_named unit.now ≡ Some u) × (used < length self.now.house.uses.items →
+            IsUnit (house_of self.now.house) used u)) }
+        ensures err { IfErr result (λ f. (u : Unit) → unit_named unit.now ≡ Some u →
+            IsUnit (house_of self.now.house) used u → ⊥) }
+    {
         let unit = Unit::named(unit).ok_or(AuditFault::Unit)?;
         let is_of = scale_in(self.house.used(used).counts, unit).is_some();
         only_if(is_of, AuditFault::Unit)?;
         Ok(unit)
     }
 
-    fn add_use(&mut self, line: &Line<'a>) -> Result<(), Stop> {
+    fn add_use(&mut self, line: &Line<'a>) -> Result<(), Stop>
+        requires { line.now.word ≡ Word.Use }
+        ensures ok { IfOk result (λ u. Adds (house_of self.old.house) line.now (house_of self.new.house)) }
+        ensures err { IfErr result (λ s. IsFault s → AddsNothing (house_of self.old.house) line.now) }
+        ensures kept { (self.new.stage ≡ self.old.stage) × (self.new.may_ask ≡ self.old.may_ask) }
+    {
         let name = line.fields[0];
         only_if(self.used(name).is_err(), AuditFault::Fact)?;
         only_if(self.house.uses.len() < MOST_USES, AuditFault::TooMany)?;
@@ -157,7 +196,13 @@ impl<'a, A: Allocator + Copy> Reader<'a, A> {
         Ok(())
     }
 
-    fn add_allowed(&mut self, line: &Line<'a>) -> Result<(), Stop> {
+    fn add_allowed(&mut self, line: &Line<'a>) -> Result<(), Stop>
+        requires word { line.now.word ≡ Word.As }
+        requires bounded { IsBounded line.now.word line.now }
+        ensures ok { IfOk result (λ u. Adds (house_of self.old.house) line.now (house_of self.new.house)) }
+        ensures err { IfErr result (λ s. IsFault s → AddsNothing (house_of self.old.house) line.now) }
+        ensures kept { (self.new.stage ≡ self.old.stage) × (self.new.may_ask ≡ self.old.may_ask) }
+    {
         let allowed = Allowed {
             line: self.house.lines,
             used: self.used(line.fields[0])?,
@@ -171,7 +216,13 @@ impl<'a, A: Allocator + Copy> Reader<'a, A> {
         Ok(())
     }
 
-    fn add_span(&mut self, line: &Line<'a>) -> Result<(), Stop> {
+    fn add_span(&mut self, line: &Line<'a>) -> Result<(), Stop>
+        requires word { line.now.word ≡ Word.Span }
+        requires bounded { IsBounded line.now.word line.now }
+        ensures ok { IfOk result (λ u. Adds (house_of self.old.house) line.now (house_of self.new.house)) }
+        ensures err { IfErr result (λ s. IsFault s → AddsNothing (house_of self.old.house) line.now) }
+        ensures kept { (self.new.stage ≡ self.old.stage) × (self.new.may_ask ≡ self.old.may_ask) }
+    {
         let count = self.house.spans.len();
         only_if(line.number(0) == count as u64 + 1, AuditFault::Order)?;
         only_if(count < MOST_SPANS, AuditFault::TooMany)?;
@@ -183,7 +234,12 @@ impl<'a, A: Allocator + Copy> Reader<'a, A> {
         Ok(())
     }
 
-    fn add_fact(&mut self, line: &Line<'a>) -> Result<(), Stop> {
+    fn add_fact(&mut self, line: &Line<'a>) -> Result<(), Stop>
+        requires { is_fact line.now.word ≡ true }
+        ensures ok { IfOk result (λ u. Adds (house_of self.old.house) line.now (house_of self.new.house)) }
+        ensures err { IfErr result (λ s. IsFault s → AddsNothing (house_of self.old.house) line.now) }
+        ensures kept { (self.new.stage ≡ self.old.stage) × (self.new.may_ask ≡ self.old.may_ask) }
+    {
         let fact = match line.word {
             Word::Factor => Fact::Factor(self.used(line.fields[0])?),
             Word::Emissions => Fact::Emissions(self.used(line.fields[0])?),
@@ -208,7 +264,12 @@ impl<'a, A: Allocator + Copy> Reader<'a, A> {
         Ok(())
     }
 
-    fn add_user(&mut self, line: &Line<'a>) -> Result<(), Stop> {
+    fn add_user(&mut self, line: &Line<'a>) -> Result<(), Stop>
+        requires { line.now.word ≡ Word.User }
+        ensures ok { IfOk result (λ u. Adds (house_of self.old.house) line.now (house_of self.new.house)) }
+        ensures err { IfErr result (λ s. IsFault s → AddsNothing (house_of self.old.house) line.now) }
+        ensures kept { (self.new.stage ≡ self.old.stage) × (self.new.may_ask ≡ self.old.may_ask) }
+    {
         let number = line.number(0);
         let rises = match self.house.users.last() {
             Some(last) => last.number < number,
@@ -225,7 +286,12 @@ impl<'a, A: Allocator + Copy> Reader<'a, A> {
         Ok(())
     }
 
-    fn add_place(&mut self, line: &Line<'a>) -> Result<(), Stop> {
+    fn add_place(&mut self, line: &Line<'a>) -> Result<(), Stop>
+        requires { line.now.word ≡ Word.Place }
+        ensures ok { IfOk result (λ u. Adds (house_of self.old.house) line.now (house_of self.new.house)) }
+        ensures err { IfErr result (λ s. IsFault s → AddsNothing (house_of self.old.house) line.now) }
+        ensures kept { (self.new.stage ≡ self.old.stage) × (self.new.may_ask ≡ self.old.may_ask) }
+    {
         let count = self.house.places.len();
         only_if(line.number(0) == count as u64 + 1, AuditFault::Order)?;
         only_if(count < MOST_PLACES, AuditFault::TooMany)?;
@@ -241,19 +307,12 @@ impl<'a, A: Allocator + Copy> Reader<'a, A> {
         Ok(())
     }
 
-    // The open window, and the run with this number.
-    fn window(&mut self, number: u64) -> Result<(&mut Window<'a, A>, Run<'a>), AuditFault> {
-        let place = self.house.places.last_mut().ok_or(AuditFault::Order)?;
-        only_if(
-            0 < number && number <= place.runs.len() as u64,
-            AuditFault::Order,
-        )?;
-        let run = place.runs[number as usize - 1];
-        let window = place.windows.last_mut().ok_or(AuditFault::Order)?;
-        Ok((window, run))
-    }
-
-    fn add_meter(&mut self, line: &Line<'a>) -> Result<(), Stop> {
+    fn add_meter(&mut self, line: &Line<'a>) -> Result<(), Stop>
+        requires { line.now.word ≡ Word.Meter }
+        ensures ok { IfOk result (λ u. Adds (house_of self.old.house) line.now (house_of self.new.house)) }
+        ensures err { IfErr result (λ s. IsFault s → AddsNothing (house_of self.old.house) line.now) }
+        ensures kept { (self.new.stage ≡ self.old.stage) × (self.new.may_ask ≡ self.old.may_ask) }
+    {
         let run = Run {
             line: self.house.lines,
             identity: Identity::parse_text(line.fields[1]).map_err(|_| AuditFault::Row)?,
@@ -277,7 +336,12 @@ impl<'a, A: Allocator + Copy> Reader<'a, A> {
     }
 
     // Opens the window of a span; their numbers rise.
-    fn open(&mut self, line: &Line<'a>) -> Result<(), Stop> {
+    fn open(&mut self, line: &Line<'a>) -> Result<(), Stop>
+        requires { line.now.word ≡ Word.Window }
+        ensures ok { IfOk result (λ u. Adds (house_of self.old.house) line.now (house_of self.new.house)) }
+        ensures err { IfErr result (λ s. IsFault s → AddsNothing (house_of self.old.house) line.now) }
+        ensures kept { (self.new.stage ≡ self.old.stage) × (self.new.may_ask ≡ self.old.may_ask) }
+    {
         let window = Window {
             line: self.house.lines,
             span: self.span(line.number(0))?,
@@ -296,13 +360,25 @@ impl<'a, A: Allocator + Copy> Reader<'a, A> {
         Ok(())
     }
 
-    fn add_value(&mut self, line: &Line<'a>) -> Result<(), Stop> {
+    fn add_value(&mut self, line: &Line<'a>) -> Result<(), Stop>
+        requires bounded { IsBounded line.now.word line.now }
+        requires word { (line.now.word ≡ Word.Struck) ⊎ (is_value line.now.word ≡ true) }
+        ensures ok { IfOk result (λ u. Adds (house_of self.old.house) line.now (house_of self.new.house)) }
+        ensures err { IfErr result (λ s. IsFault s → AddsNothing (house_of self.old.house) line.now) }
+        ensures kept { (self.new.stage ≡ self.old.stage) × (self.new.may_ask ≡ self.old.may_ask) }
+    {
         let at = self.house.lines;
-        let run = line.number(0);
-        let (window, meter) = self.window(run)?;
+        let number = line.number(0);
+        let place = self.house.places.last_mut().ok_or(AuditFault::Order)?;
+        only_if(
+            0 < number && number <= place.runs.len() as u64,
+            AuditFault::Order,
+        )?;
+        let meter = place.runs[number as usize - 1];
+        let window = place.windows.last_mut().ok_or(AuditFault::Order)?;
         if line.word == Word::Struck {
             window.struck.push(Struck {
-                run: run.saturating_sub(1),
+                run: number - 1,
                 moment: line.number(1),
                 why: line.fields[2],
             })?;
@@ -314,7 +390,12 @@ impl<'a, A: Allocator + Copy> Reader<'a, A> {
         Ok(())
     }
 
-    fn add_part(&mut self, line: &Line<'a>) -> Result<(), Stop> {
+    fn add_part(&mut self, line: &Line<'a>) -> Result<(), Stop>
+        requires { line.now.word ≡ Word.Part }
+        ensures ok { IfOk result (λ u. Adds (house_of self.old.house) line.now (house_of self.new.house)) }
+        ensures err { IfErr result (λ s. IsFault s → AddsNothing (house_of self.old.house) line.now) }
+        ensures kept { (self.new.stage ≡ self.old.stage) × (self.new.may_ask ≡ self.old.may_ask) }
+    {
         let part = Part {
             line: self.house.lines,
             from: line.number(1),
@@ -336,7 +417,11 @@ impl<'a, A: Allocator + Copy> Reader<'a, A> {
     }
 
     // Whether what a number needs in a span is declared: the use's factor, and one more fact.
-    fn check_facts(&self, number: &Number<'_>, span: u64) -> Result<(), AuditFault> {
+    fn check_facts(&self, number: &Number<'_>, span: u64) -> Result<(), AuditFault>
+        ensures ok { IfOk result (λ u. span < length self.now.house.spans.items
+            → Has (house_of self.now.house) (key_of number.now) span) }
+        ensures err { IfErr result (λ f. Has (house_of self.now.house) (key_of number.now) span → ⊥) }
+    {
         let used = number.used;
         let needs_factor = match scale_in(self.house.used(used).counts, number.unit) {
             Some(scale) => scale.has_factor,
@@ -354,7 +439,9 @@ impl<'a, A: Allocator + Copy> Reader<'a, A> {
     }
 
     // A number without what it is of: its text, and what is beside it.
-    fn said(&self, line: &Line<'a>, text: &'a [u8], at: usize) -> Number<'a> {
+    fn said(&self, line: &Line<'a>, text: &'a [u8], at: usize) -> Number<'a>
+        ensures { IsTextOf line.now (number_of result) }
+    {
         let (asked, _) = text.split_at(line.asked.min(text.len()));
         let mut said: [&'a [u8]; 3] = [&[], &[], &[]];
         'fields: for i in 0..3 {
@@ -381,7 +468,10 @@ impl<'a, A: Allocator + Copy> Reader<'a, A> {
     }
 
     // A number of the open place.
-    fn number_of_place(&self, line: &Line<'a>, number: &mut Number<'a>) -> Result<(), AuditFault> {
+    fn number_of_place(&self, line: &Line<'a>, number: &mut Number<'a>) -> Result<(), AuditFault>
+        ensures ok { IfOk result (λ u. IsMade (house_of self.now.house) line.now (number_of number.old) (number_of number.new)) }
+        ensures err { IfErr result (λ f. (n : SaidNumber) → IsMade (house_of self.now.house) line.now (number_of number.old) n → ⊥) }
+    {
         let place = self.house.places.last().ok_or(AuditFault::Order)?;
         let window = place.windows.last().ok_or(AuditFault::Order)?;
         number.used = place.used;
@@ -402,7 +492,10 @@ impl<'a, A: Allocator + Copy> Reader<'a, A> {
     }
 
     // A number of the house: its use stands before the unit, and the user or the flat before the use.
-    fn number_of_house(&self, line: &Line<'a>, number: &mut Number<'a>) -> Result<(), AuditFault> {
+    fn number_of_house(&self, line: &Line<'a>, number: &mut Number<'a>) -> Result<(), AuditFault>
+        ensures ok { IfOk result (λ u. IsMade (house_of self.now.house) line.now (number_of number.old) (number_of number.new)) }
+        ensures err { IfErr result (λ f. (n : SaidNumber) → IsMade (house_of self.now.house) line.now (number_of number.old) n → ⊥) }
+    {
         let has_unit = !matches!(line.word, Word::Weather | Word::Carbon);
         let at = line.text - if has_unit { 2 } else { 1 };
         number.used = self.used(line.fields[at])?;
@@ -431,7 +524,11 @@ impl<'a, A: Allocator + Copy> Reader<'a, A> {
         only_if(self.house.user(number.user).is_some(), AuditFault::Fact)
     }
 
-    fn add_number(&mut self, line: &Line<'a>, text: &'a [u8], at: usize) -> Result<(), Stop> {
+    fn add_number(&mut self, line: &Line<'a>, text: &'a [u8], at: usize) -> Result<(), Stop>
+        ensures ok { IfOk result (λ u. Adds (house_of self.old.house) line.now (house_of self.new.house)) }
+        ensures err { IfErr result (λ s. IsFault s → AddsNothing (house_of self.old.house) line.now) }
+        ensures kept { (self.new.stage ≡ self.old.stage) × (self.new.may_ask ≡ self.old.may_ask) }
+    {
         let mut number = self.said(line, text, at);
         if line.stage == SUMMED {
             self.number_of_house(line, &mut number)?;
@@ -447,7 +544,12 @@ impl<'a, A: Allocator + Copy> Reader<'a, A> {
 }
 
 // A value that a line spells.
-fn value_of<'a>(line: &Line<'a>, run: &Run<'_>) -> Result<Value<'a>, AuditFault> {
+fn value_of<'a>(line: &Line<'a>, run: &Run<'_>) -> Result<Value<'a>, AuditFault>
+    requires bounded { IsBounded line.now.word line.now }
+    requires word { is_value line.now.word ≡ true }
+    ensures ok { IfOk result (λ v. IsValueOf line.now (run_of run.now) (seen_value v)) }
+    ensures err { IfErr result (λ f. (v : SaidValue) → IsValueOf line.now (run_of run.now) v → ⊥) }
+{
     let mut value = Value {
         line: 0,
         word: line.word,
@@ -484,9 +586,11 @@ fn value_of<'a>(line: &Line<'a>, run: &Run<'_>) -> Result<Value<'a>, AuditFault>
 // A value in a unit of readings, at a place of a line.
 fn typed<'a>(line: &Line<'a>, at: usize, is_guess: bool) -> Result<Typed<'a>, AuditFault>
     requires { at < 3 }
+    ensures ok { IfOk result (λ t. (t.is_guess ≡ is_guess) × IsSpelled (spelled_of t) at line.now) }
+    ensures err { IfErr result (λ f. (t : SaidText) → IsSpelled t at line.now → size_named t.unit ≡ None) }
 {
     let unit = line.fields[at + 1];
-    let (counted, size) = size_named(unit).ok_or(AuditFault::Unit)?;
+    only_if(size_named(unit).is_some(), AuditFault::Unit)?;
     let spelled = line.numbers[at].unwrap_or(Spelled {
         digits: 0,
         decimals: 0,
@@ -495,7 +599,5 @@ fn typed<'a>(line: &Line<'a>, at: usize, is_guess: bool) -> Result<Typed<'a>, Au
         is_guess,
         spelled,
         unit,
-        counted,
-        size,
     })
 }

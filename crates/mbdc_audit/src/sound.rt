@@ -1,5 +1,15 @@
 //! The first walk: whether the file spells a sound house. Each check prints what breaks its rule.
 
+ghost use Rattle.std.specs.Prelude.{◌≡◌, ◌↔◌, ◌<◌, ◌^◌, ◌==◌, ◌∷◌, ◌++◌, [], false, All, IsTrue, List, OnOk, Some, length, slice_get};
+ghost use Rattle.std.specs.BTreeMap.{get};
+ghost use Rattle.std.specs.Ordering.{nat_cmp};
+ghost use Rattle.mbdc_audit.specs.File.{all_numbers};
+ghost use Rattle.mbdc_audit.specs.House.{End, Span as SaidSpan, Use};
+ghost use Rattle.mbdc_audit.specs.Sound.{Agree, AreParts, AreRuns, AreSpans, AreTimed, IsBuilt, IsHouse, IsOnce, IsOneCurve, IsPlace, IsReadPlace, IsType};
+ghost use Rattle.mbdc_audit.specs.Sound.{ends_of, ends_of_place, ends_of_spans, fitted_of, from, to};
+ghost use Rattle.mbdc_audit.specs.View.{end_of, house_of, place_of, run_of, span_of, window_of};
+ghost use Rattle.mbdc_audit.specs.Walk.{AreFound, AreOnce, AreOneTenancy, Checks, IsSeen, is_clean};
+
 use crate::curve::{Curve, Run};
 use crate::fault::Stop;
 use crate::field::is_word;
@@ -41,7 +51,9 @@ const MOST_MINUTES: u16 = 840;
 const NEAR_MINUTES: u16 = 60;
 
 // Whether the table of types says that a device counts a use.
-fn is_type(name: &[u8], run: &Run<'_>) -> bool {
+fn is_type(name: &[u8], run: &Run<'_>) -> bool
+    ensures { IsTrue result ↔ IsType name.now (run_of run.now) }
+{
     let kind = run.identity.kind;
     let is_listed = TYPES
         .iter()
@@ -50,7 +62,9 @@ fn is_type(name: &[u8], run: &Run<'_>) -> bool {
 }
 
 // Whether two runs are of one meter at one time, and aren't two values of it: of two uses, by two VIBs that are named.
-fn is_twice(one: &Run<'_>, used: u64, other: &Run<'_>, others: u64) -> bool {
+fn is_twice(one: &Run<'_>, used: u64, other: &Run<'_>, others: u64) -> bool
+    ensures { (result ≡ false) ↔ IsOnce (record { used = used; run = run_of one.now }) (record { used = others; run = run_of other.now }) }
+{
     let overlap = !one.is_over(other.begin) && !other.is_over(one.begin);
     let are_named = !one.vib.is_empty() && !other.vib.is_empty();
     let are_two = used != others && are_named && one.vib != other.vib;
@@ -63,7 +77,9 @@ impl<'s, W: Sink> Teller<'s, W> {
         &mut self,
         alloc: A,
         house: &House<'a, A>,
-    ) -> Result<(), Stop> {
+    ) -> Result<(), Stop>
+        ensures { let h = house_of house.now in IsBuilt h → All (IsReadPlace h) h.places → Checks result self.old.counts self.new.counts (IsHouse h × (0 < length (all_numbers h))) }
+    {
         let mut offsets: BTreeMap<u64, u16, A> = BTreeMap::new(alloc);
         self.check_spans(house, &mut offsets)?;
         'users: for (i, user) in house.users.iter().enumerate() {
@@ -110,7 +126,11 @@ impl<'s, W: Sink> Teller<'s, W> {
         line: u64,
         end: &DayEnd<'a>,
         offsets: &mut BTreeMap<u64, u16, A>,
-    ) -> Result<(), Stop> {
+    ) -> Result<(), Stop>
+        ensures found { (seen : List End) → IsSeen (get nat_cmp offsets.old) seen → Checks result self.old.counts self.new.counts (Agree seen (end_of end.now ∷ [])) }
+        ensures seen { (seen : List End) → IsSeen (get nat_cmp offsets.old) seen → OnOk result (IsTrue (is_clean self.new.counts)
+            → IsSeen (get nat_cmp offsets.new) (seen ++ end_of end.now ∷ [])) }
+    {
         let day = u64::from(end.day);
         let is_same = match offsets.get(&day) {
             Some(offset) => *offset == end.offset,
@@ -133,7 +153,11 @@ impl<'s, W: Sink> Teller<'s, W> {
         &mut self,
         house: &House<'a, A>,
         offsets: &mut BTreeMap<u64, u16, A>,
-    ) -> Result<(), Stop> {
+    ) -> Result<(), Stop>
+        ensures found { (seen : List End) → IsSeen (get nat_cmp offsets.old) seen → Checks result self.old.counts self.new.counts (AreSpans (house_of house.now) × Agree seen (ends_of_spans (house_of house.now))) }
+        ensures seen { (seen : List End) → IsSeen (get nat_cmp offsets.old) seen → OnOk result (IsTrue (is_clean self.new.counts)
+            → IsSeen (get nat_cmp offsets.new) (seen ++ ends_of_spans (house_of house.now))) }
+    {
         let mut last: Option<Span<'a>> = None;
         'spans: for (i, span) in house.spans.iter().enumerate() {
             self.check_offset(span.line, &span.from, offsets)?;
@@ -169,7 +193,12 @@ impl<'s, W: Sink> Teller<'s, W> {
         place: &Place<'a, A>,
         number: u64,
         offsets: &mut BTreeMap<u64, u16, A>,
-    ) -> Result<(), Stop> {
+    ) -> Result<(), Stop>
+        requires { number < 2 ^ 64 }
+        ensures found { (seen : List End) → IsSeen (get nat_cmp offsets.old) seen → Checks result self.old.counts self.new.counts (IsPlace (house_of house.now) (place_of place.now) × Agree seen (ends_of_place (place_of place.now))) }
+        ensures seen { (seen : List End) → IsSeen (get nat_cmp offsets.old) seen → OnOk result (IsTrue (is_clean self.new.counts)
+            → IsSeen (get nat_cmp offsets.new) (seen ++ ends_of_place (place_of place.now))) }
+    {
         let used = house.used(place.used);
         if used.counts != Counted::Allocation && place.weight != OF_RATIO {
             let words = Text(b"a weight of what isn't an allocator");
@@ -205,7 +234,9 @@ impl<'s, W: Sink> Teller<'s, W> {
         &mut self,
         house: &House<'a, A>,
         place: &Place<'a, A>,
-    ) -> Result<(), Stop> {
+    ) -> Result<(), Stop>
+        ensures { (u : Use) → slice_get (house_of house.now).uses place.now.used ≡ Some u → Checks result self.old.counts self.new.counts (AreRuns (house_of house.now) u.name (place_of place.now)) }
+    {
         let name = house.used(place.used).name;
         'runs: for (i, run) in place.runs.iter().enumerate() {
             let has_time = run.end.is_none_or(|end| run.begin < end);
@@ -235,7 +266,11 @@ impl<'s, W: Sink> Teller<'s, W> {
         window: &Window<'a, A>,
         span: &Span<'a>,
         offsets: &mut BTreeMap<u64, u16, A>,
-    ) -> Result<(), Stop> {
+    ) -> Result<(), Stop>
+        ensures found { (seen : List End) → IsSeen (get nat_cmp offsets.old) seen → Checks result self.old.counts self.new.counts (AreTimed (place_of place.now).runs (span_of span.now) (window_of window.now) × Agree seen (ends_of (window_of window.now))) }
+        ensures seen { (seen : List End) → IsSeen (get nat_cmp offsets.old) seen → OnOk result (IsTrue (is_clean self.new.counts)
+            → IsSeen (get nat_cmp offsets.new) (seen ++ ends_of (window_of window.now))) }
+    {
         let runs = place.runs.as_slice();
         'values: for (i, value) in window.values.iter().enumerate() {
             let Some(run) = runs.get(value.run as usize) else {
@@ -286,7 +321,9 @@ impl<'s, W: Sink> Teller<'s, W> {
         place: &Place<'a, A>,
         window: &Window<'a, A>,
         time: (u64, u64),
-    ) -> Result<(), Stop> {
+    ) -> Result<(), Stop>
+        ensures { (s : SaidSpan) → time.0 ≡ from (place_of place.now) s → time.1 ≡ to (place_of place.now) s → time.0 < time.1 → Checks result self.old.counts self.new.counts (AreParts (house_of house.now) (place_of place.now) s (window_of window.now)) }
+    {
         let (mut reached, end) = time;
         'parts: for part in &window.parts {
             if part.from != reached || part.from >= part.to || part.to > end {
@@ -322,7 +359,9 @@ impl<'s, W: Sink> Teller<'s, W> {
         alloc: A,
         house: &House<'a, A>,
         place: &Place<'a, A>,
-    ) -> Result<(), Stop> {
+    ) -> Result<(), Stop>
+        ensures { All (λ w. AreFound w.values.items) place.now.windows.items → Checks result self.old.counts self.new.counts (IsOneCurve (house_of house.now) (place_of place.now)) }
+    {
         let runs = place.runs.as_slice();
         'later: for (i, one) in place.windows.iter().enumerate() {
             'earlier: for other in &place.windows[..i] {
@@ -366,7 +405,9 @@ impl<'s, W: Sink> Teller<'s, W> {
         place: &Place<'a, A>,
         other: &Place<'a, A>,
         numbers: (usize, usize),
-    ) -> Result<(), Stop> {
+    ) -> Result<(), Stop>
+        ensures { Checks result self.old.counts self.new.counts (AreOnce (numbers.0 == numbers.1) (fitted_of (place_of place.now)) (fitted_of (place_of other.now))) }
+    {
         'runs: for (k, run) in place.runs.iter().enumerate() {
             let earlier = if numbers.0 == numbers.1 {
                 &place.runs[..k]
@@ -397,7 +438,9 @@ impl<'s, W: Sink> Teller<'s, W> {
         place: &Place<'a, A>,
         other: &Place<'a, A>,
         before: usize,
-    ) -> Result<(), Stop> {
+    ) -> Result<(), Stop>
+        ensures { place.now.flat.now ≡ other.now.flat.now → Checks result self.old.counts self.new.counts (AreOneTenancy place.now.windows.items other.now.windows.items) }
+    {
         'windows: for window in &place.windows {
             'parts: for part in &window.parts {
                 'others: for that in &other.windows {

@@ -1,7 +1,9 @@
 //! What is printed: each finding on a line, and the closing line.
 
 ghost use Rattle.mbdc_io.specs.Written.{Wrote};
-ghost use Rattle.mbdc_audit.specs.Told.{pieces_text};
+ghost use Rattle.mbdc_audit.specs.Told.{piece_text, pieces_text};
+ghost use Rattle.std.specs.Prelude.{◌≡◌, false, OnOk};
+ghost use Rattle.mbdc_audit.specs.Walk.{is_clean};
 
 use crate::evidence::Refusal;
 use crate::fault::AuditFault;
@@ -50,22 +52,34 @@ pub(crate) struct Teller<'s, W: Sink> {
     pub counts: Counts,
 }
 
+// Writes a piece.
+fn put_piece<W: Sink>(out: &mut W, piece: &Piece<'_>) -> Result<(), IoFault>
+    ensures { Wrote W.Sink result out.old out.new (piece_text piece.now) }
+{
+    match piece {
+        Text(text) => out.put(text),
+        Number(number) => put_number(out, *number),
+    }
+}
+
 /// Writes pieces, one after the other.
 pub(crate) fn put_pieces<W: Sink>(out: &mut W, pieces: &[Piece<'_>]) -> Result<(), IoFault>
     ensures { Wrote W.Sink result out.old out.new (pieces_text pieces.now) }
 {
-    'pieces: for piece in pieces {
-        match piece {
-            Text(text) => out.put(text)?,
-            Number(number) => put_number(out, *number)?,
+    match pieces {
+        [] => Ok(()),
+        [piece, rest @ ..] => {
+            put_piece(out, piece)?;
+            put_pieces(out, rest)
         }
     }
-    Ok(())
 }
 
 impl<'s, W: Sink> Teller<'s, W> {
     /// Prints that a line breaks a rule, and how.
-    pub fn rule(&mut self, line: u64, name: &str, words: &[Piece<'_>]) -> Result<(), IoFault> {
+    pub fn rule(&mut self, line: u64, name: &str, words: &[Piece<'_>]) -> Result<(), IoFault>
+        ensures { OnOk result (is_clean self.new.counts ≡ false) }
+    {
         self.counts.rules = self.counts.rules.saturating_add(1);
         put_pieces(
             self.out,
@@ -82,7 +96,9 @@ impl<'s, W: Sink> Teller<'s, W> {
     }
 
     /// Prints that a value has no evidence, and why.
-    pub fn refuse(&mut self, line: u64, why: Refusal) -> Result<(), IoFault> {
+    pub fn refuse(&mut self, line: u64, why: Refusal) -> Result<(), IoFault>
+        ensures { OnOk result (is_clean self.new.counts ≡ false) }
+    {
         self.counts.refused = self.counts.refused.saturating_add(1);
         put_pieces(
             self.out,
@@ -97,7 +113,9 @@ impl<'s, W: Sink> Teller<'s, W> {
     }
 
     /// Prints the closing line.
-    pub fn close(&mut self, places: u64) -> Result<(), IoFault> {
+    pub fn close(&mut self, places: u64) -> Result<(), IoFault>
+        ensures { self.new.counts ≡ self.old.counts }
+    {
         let counts = self.counts;
         put_pieces(
             self.out,
@@ -126,7 +144,9 @@ impl<'s, W: Sink> Teller<'s, W> {
     }
 
     /// Prints the number and the fault of a line.
-    pub fn put_fault(&mut self, line: u64, fault: AuditFault) -> Result<(), IoFault> {
+    pub fn put_fault(&mut self, line: u64, fault: AuditFault) -> Result<(), IoFault>
+        ensures { self.new.counts ≡ self.old.counts }
+    {
         let (number, name) = fault.told();
         put_pieces(
             self.out,

@@ -2,7 +2,7 @@
 
 ghost use Rattle.std.specs.Prelude.{◌≡◌, ◌<◌, ◌≤◌, IfSome};
 ghost use Rattle.mbdc_audit.specs.Uses.{counted_named, size_named, size_of};
-ghost use Rattle.mbdc_audit.specs.Uses.{unit_named};
+ghost use Rattle.mbdc_audit.specs.Uses.{is_unit, unit_named};
 
 use crate::field::is_word;
 use dc_units::Quantity;
@@ -17,7 +17,7 @@ pub enum Counted {
 }
 
 /// The unit of a published number.
-#[derive(Clone, Copy, PartialEq, Eq)]
+#[derive(Clone, Copy)]
 pub enum Unit {
     Kwh,
     CubicMetre,
@@ -56,6 +56,20 @@ impl Counted {
 }
 
 impl Unit {
+    /// Whether it is another one.
+    pub fn is(self, other: Unit) -> bool
+        ensures { result ≡ is_unit self other }
+    {
+        matches!(
+            (self, other),
+            (Unit::Kwh, Unit::Kwh)
+                | (Unit::CubicMetre, Unit::CubicMetre)
+                | (Unit::Allocated, Unit::Allocated)
+                | (Unit::Count, Unit::Count)
+                | (Unit::Smallest, Unit::Smallest)
+        )
+    }
+
     /// The unit that a word names.
     pub fn named(word: &[u8]) -> Option<Unit>
         ensures { result ≡ unit_named word.now }
