@@ -23,15 +23,9 @@ unit_named word = if bytes_eq word (codes "kWh") then Some Kwh
     else if bytes_eq word (codes "count") then Some Count
     else if bytes_eq word (codes "smallest") then Some Smallest else None
 
--- the smallest units of a kilowatt hour, of a cubic metre, of an allocator's unit
+-- the smallest units of a kilowatt hour
 abbrev pub of_kwh : ℕ
 of_kwh = 3600000000
-
-abbrev pub of_cubic_metre : ℕ
-of_cubic_metre = 1000000
-
-abbrev pub of_allocated : ℕ
-of_allocated = 1000
 
 -- what a quantity of the table of units counts, and the smallest units of one of its units
 abbrev pub size_of : listed_type.Quantity → Option (Counted × ℕ)
@@ -54,6 +48,7 @@ size_named word = if bytes_eq word (codes "Wh") then size_of listed.EnergyWattHo
     else if bytes_eq word (codes "HCA") then size_of listed.HeatCostAllocator
     else None
 
+-- units are the same
 abbrev pub is_unit : Unit → Unit → Bool
 is_unit Kwh Kwh = true
 is_unit CubicMetre CubicMetre = true
