@@ -16,14 +16,14 @@ from collections.abc import Callable, Sequence
 from typing import Optional
 
 from world.bus import Bus, Port
-from world.frames import ACK
+from world.frames import ACK, SND_NKE, short_frame
 from world.meters import Meter
 
 CLOSE = None
 STALL = 0.8  # seconds: longer than the gap that ends an answer
 SHARE, AGAIN = 0.3, 0.1  # of the answers; seconds to an answer's copy, at most
 APART = (0.005, 0.2)  # seconds between two acknowledgements of one selection
-NOISE, START, BABBLING = b"\x00", b"\x10", 0.1  # a byte that begins no frame, one that does; seconds between two
+NOISE, OTHERS, BABBLING = b"\x00", short_frame(SND_NKE, 251), 0.1  # no frame; another master's; seconds between two
 SILENT_BYTE = 0xFF  # what an idle line adds to others' bits
 
 Piece = tuple[float, Optional[bytes]]
@@ -53,8 +53,8 @@ def stalls(rng: random.Random, request: bytes, answer: bytes) -> list[Piece]:
 
 
 def babbles(seconds: float) -> Fault:
-    """After its first answer the line isn't quiet for so long: each tenth of a second a byte comes that begins a frame."""
-    noise: list[Piece] = [(place * BABBLING, START) for place in range(1, round(seconds / BABBLING))]
+    """After its first answer the line isn't quiet for so long: each tenth of a second a short frame comes."""
+    noise: list[Piece] = [(place * BABBLING, OTHERS) for place in range(1, round(seconds / BABBLING))]
     return lambda rng, request, answer: [(0, answer), *noise]
 
 
@@ -111,13 +111,13 @@ class FaultyBus(Bus):
         super().connect(port)
         self.port = port
 
-    def disturb(self, seconds: float) -> None:
-        """From now on a byte that begins no frame comes so often."""
+    def disturb(self, seconds: float, noise: bytes = NOISE) -> None:
+        """From now on bytes that begin no frame come so often."""
         def write() -> None:
             while True:
                 time.sleep(seconds)
                 with contextlib.suppress(OSError):
-                    self.deliver(NOISE)
+                    self.deliver(noise)
         threading.Thread(target=write, daemon=True).start()
 
     def together(self, answers: list[bytes]) -> bytes:

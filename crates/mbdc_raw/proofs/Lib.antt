@@ -10,6 +10,10 @@ pub mod Drops
 pub mod Calls
 -- what a line receives in several steps
 pub mod Steps
+-- what begins a frame
+pub mod Begins
+-- one look at a wire over a reader and a writer
+pub mod Waits
 -- a life of a wire over a reader and a writer
 pub mod Life
 -- of the module `links`

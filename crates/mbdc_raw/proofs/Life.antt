@@ -3,7 +3,7 @@ use Rattle.std.proofs.Common.{◌≡◌, ℕ, ◌+◌, ◌-◌, ◌^◌, ◌≤�
 use Rattle.std.specs.declared.time.Instant.{Instant}
 use Rattle.std.proofs.lemmas.Bool.{false≢true}
 use Rattle.mbdc_raw.specs.Life.{Lives, heard, opened, rests, sent, wait_of}
-use Rattle.mbdc_raw.specs.PollWire.{IsDeserted, WireHears, WireReopens, at_gap, at_silence, bytes_came, is_as_before, is_open, most_waited, none_came, not_yet}
+use Rattle.mbdc_raw.specs.PollWire.{Holds, IsDeserted, WireHears, WireReopens, at_gap, at_silence, begins, bytes_came, ends, goes_on, is_as_before, is_open, most_waited, none_came, not_yet}
 use Rattle.mbdc_raw.specs.Wire.{Sound, bytes_in, bytes_of, silence}
 use Rattle.mbdc_raw.specs.declared.poll_wire.PollWire.{PollWire}
 
@@ -16,16 +16,27 @@ waits_by : (asks : Bool) (waited limit : ℕ) → (if asks then min (waited + li
 waits_by true waited limit = omega arith
 waits_by false waited limit = omega arith
 
+-- what is held back, and since when, changes nothing but that
+held_as : {R W C : Type 0} (old new : PollWire R W C) (is_new : Bool) → Holds is_new old new → new ≡ record old { ahead = new.ahead; held = new.held }
+held_as old new is_new (begins fresh same) = same ∙ ap (λ (w : PollWire _ _ _). record old { ahead = w.ahead; held = w.held }) (sym same)
+held_as old new is_new (goes_on held same) = same ∙ ap (λ (w : PollWire _ _ _). record old { ahead = w.ahead; held = w.held }) (sym same)
+held_as old new is_new (ends held passed same) = same ∙ ap (λ (w : PollWire _ _ _). record old { ahead = w.ahead; held = w.held }) (sym same)
+
 module _ {R W C : Type 0} (contents : W → Option (List ℕ)) (remaining : R → Option (List ℕ)) where
   came_by : (old : PollWire R W C) (sound : Sound) (new : PollWire R W C) → WireHears remaining old sound new → Came old sound new
   came_by old sound new (bytes_came between past is kept) = a_byte kept.came
-  came_by old sound new (none_came between past is (not_yet same)) =
-      no_byte refl (ap (λ (w : PollWire R W C). w.came) same ∙ ap (λ (w : PollWire R W C). w.came) is) (omega (arith, ap (λ (w : PollWire R W C). w.waited) same, ap (λ (w : PollWire R W C). w.waited) is))
-  came_by old sound new (none_came between past is (at_gap same)) =
-      no_byte refl (ap (λ (w : PollWire R W C). w.came) same ∙ ap (λ (w : PollWire R W C). w.came) is) (omega (arith, ap (λ (w : PollWire R W C). w.waited) same, ap (λ (w : PollWire R W C). w.waited) is))
-  came_by old sound new (none_came between past is (at_silence over same)) =
-      no_byte refl (ap (λ (w : PollWire R W C). w.came) same ∙ ap (λ (w : PollWire R W C). w.came) is)
-      (omega (arith, ap (λ (w : PollWire R W C). w.waited) same, waits_by between.asks between.waited between.limit, ap (λ (w : PollWire R W C). w.waited) is, ap (λ (w : PollWire R W C). wait_of w silence) is))
+  came_by old sound new (none_came between held past is holds (not_yet same)) =
+      let so = held_as between held _ holds in
+      no_byte refl (ap (λ (w : PollWire R W C). w.came) same ∙ ap (λ (w : PollWire R W C). w.came) so ∙ ap (λ (w : PollWire R W C). w.came) is)
+      (omega (arith, ap (λ (w : PollWire R W C). w.waited) same, ap (λ (w : PollWire R W C). w.waited) so, ap (λ (w : PollWire R W C). w.waited) is))
+  came_by old sound new (none_came between held past is holds (at_gap same)) =
+      let so = held_as between held _ holds in
+      no_byte refl (ap (λ (w : PollWire R W C). w.came) same ∙ ap (λ (w : PollWire R W C). w.came) so ∙ ap (λ (w : PollWire R W C). w.came) is)
+      (omega (arith, ap (λ (w : PollWire R W C). w.waited) same, ap (λ (w : PollWire R W C). w.waited) so, ap (λ (w : PollWire R W C). w.waited) is))
+  came_by old sound new (none_came between held past is holds (at_silence over same)) =
+      let so = held_as between held _ holds in
+      no_byte refl (ap (λ (w : PollWire R W C). w.came) same ∙ ap (λ (w : PollWire R W C). w.came) so ∙ ap (λ (w : PollWire R W C). w.came) is)
+      (omega (arith, ap (λ (w : PollWire R W C). w.waited) same, waits_by held.asks held.waited held.limit, ap (λ (w : PollWire R W C). w.waited) so, ap (λ (w : PollWire R W C). wait_of w silence) so, ap (λ (w : PollWire R W C). w.waited) is, ap (λ (w : PollWire R W C). wait_of w silence) is))
 
   came_again : (old new : PollWire R W C) (again : Bool) → WireReopens old again new → new.came ≡ old.came
   came_again old new again (is_open same) = ap (λ (w : PollWire R W C). w.came) same

@@ -2,6 +2,7 @@
 use Rattle.std.specs.Prelude.{ℕ, ◌+◌, ◌-◌, ◌*◌, ◌/◌, ◌^◌, min, max, nat_le, Bool}
 use Rattle.std.specs.Prelude.{not, ◌==◌, ◌&&◌, List, [], ◌∷◌, length, Option, Some, None, if◌then◌else◌}
 use Rattle.std.specs.Prelude.{true, false}
+use Rattle.dc_linkframe.specs.Frame.{FrameSeen}
 use Rattle.dc_linkframe.specs.Reading.{frame_of}
 use Rattle.mbdc_raw.specs.Turn.{is_reset, wants_ack}
 use Rattle.mbdc_raw.specs.declared.pace.Pace.{Pace}
@@ -140,12 +141,16 @@ least_by pace (Some delay) = Some (min
 abbrev pub least_shown : Pace → Option ℕ
 least_shown pace = if nat_le showing pace.came then least_by pace pace.delay else pace.least_byte
 
+-- an acknowledgement is awaited but of the reset of all selected meters
+abbrev pub awaits_ack : Option FrameSeen → Bool
+awaits_ack request = wants_ack request && not (is_reset request)
+
 -- A REQUEST BEGINS
 abbrev pub pace_begun : List ℕ → Pace → Pace
 pace_begun request pace = record pace {
   byte = byte_shown pace;
   least_byte = least_shown pace;
-  acks = wants_ack (frame_of request) && not (is_reset (frame_of request));
+  acks = awaits_ack (frame_of request);
   measured = length request == short_frame;
   came = 0;
   spent = 0;

@@ -1,12 +1,12 @@
 -- What a wire over a reader and a writer does to both, and how long it waits (this product).
-use Rattle.std.specs.Prelude.{◌≡◌, ℕ, ◌+◌, ◌-◌, ◌*◌, ◌^◌, ◌≤◌, min, Bool, true, false, List, Option}
-use Rattle.std.specs.Prelude.{if◌then◌else◌}
+use Rattle.std.specs.Prelude.{◌≡◌, ℕ, ◌+◌, ◌-◌, ◌*◌, ◌^◌, ◌≤◌, min, Bool, true, false, List, [], Option}
+use Rattle.std.specs.Prelude.{◌==◌, length, if◌then◌else◌}
 use Rattle.std.specs.Io.KnownBytes.{Appends}
 use Rattle.std.specs.Time.{instant_nanos}
 use Rattle.std.specs.declared.time.Instant.{Instant}
 use Rattle.dc_linkframe.specs.Reading.{frame_of}
 use Rattle.mbdc_raw.specs.Noise.{IsPast}
-use Rattle.mbdc_raw.specs.Pace.{patience_after, reset_wait, window_of}
+use Rattle.mbdc_raw.specs.Pace.{awaits_ack, patience_after, reset_wait, window_of}
 use Rattle.mbdc_raw.specs.Turn.{is_reset, wants_ack}
 use Rattle.mbdc_raw.specs.Wire.{Sound, nothing, gap, silence, bytes_of}
 use Rattle.mbdc_raw.specs.declared.pace.Pace.{Pace}
@@ -55,6 +55,8 @@ pub record WireSends {R W C : Type 0} (contents : W → Option (List ℕ)) (old 
   pub patience : new.patience ≡ patience_after asking.late old.stated
   pub since : new.since ≡ new.asked
   pub begun : new.begun ≡ false
+  pub ahead : new.ahead ≡ old.ahead
+  pub awaits : new.pace.acks ≡ awaits_ack (frame_of bytes)
   pub came : new.came ≡ old.came
   pub asks : new.asks ≡ true
   pub waited : new.waited ≡ old.waited
@@ -78,6 +80,8 @@ pub record IsHeard {R W C : Type 0} (old new : PollWire R W C) : Type 0 where
   pub patience : new.patience ≡ old.patience
   pub asked : new.asked ≡ old.asked
   pub since : new.since ≡ old.at
+  pub ahead : new.ahead ≡ old.ahead
+  pub awaits : new.pace.acks ≡ false
   pub came : new.came ≡ true
   pub until : new.until ≡ old.until
   pub limit : new.limit ≡ limit_then old.until old.limit old.patience
@@ -122,17 +126,28 @@ takes_all_until Paused begun = true
 abbrev pub takes_all : {R W C : Type 0} → PollWire R W C → Bool
 takes_all wire = takes_all_until wire.until wire.begun
 
--- These bytes were read behind noise, and nothing was written. The time of noise isn't taken.
+-- Bytes that may begin an answer are held back from now on. Those that were before are dropped once it didn't for a gap,
+-- 500 ms.
+pub data Holds {R W C : Type 0} (is_new : Bool) (old : PollWire R W C) : PollWire R W C → Type 0 where
+  begins : {new : PollWire R W C} → is_new ≡ true → new ≡ record old { held = old.at } → Holds is_new old new
+  goes_on : {new : PollWire R W C} → is_new ≡ false → new ≡ old → Holds is_new old new
+  ends : {new : PollWire R W C} → is_new ≡ false → HasPassed 500_000 old.held old.at
+      → new ≡ record old { ahead = [] } → Holds is_new old new
+
+-- These bytes were read after noise, and nothing was written. The time of noise isn't taken.
 pub data WireHears {R W C : Type 0} (remaining : R → Option (List ℕ)) (old : PollWire R W C)
     (sound : Sound) (new : PollWire R W C) : Type 0 where
   bytes_came : (between : PollWire R W C)
-      → IsPast (remaining old.reader) (remaining between.reader) (takes_all old) (bytes_of sound)
-      → between ≡ record old { reader = between.reader; at = between.at }
+      → IsPast old.pace.acks (takes_all old) old.ahead between.ahead (remaining old.reader)
+      (remaining between.reader) (bytes_of sound)
+      → between ≡ record old { reader = between.reader; ahead = between.ahead; at = between.at }
       → IsHeard between new → WireHears remaining old sound new
-  none_came : (between : PollWire R W C)
-      → IsPast (remaining old.reader) (remaining between.reader) (takes_all old) (bytes_of sound)
-      → between ≡ record old { reader = between.reader; at = between.at }
-      → IsStill between sound new → WireHears remaining old sound new
+  none_came : (between held : PollWire R W C)
+      → IsPast old.pace.acks (takes_all old) old.ahead between.ahead (remaining old.reader)
+      (remaining between.reader) (bytes_of sound)
+      → between ≡ record old { reader = between.reader; ahead = between.ahead; at = between.at }
+      → Holds (length old.ahead == 0) between held
+      → IsStill held sound new → WireHears remaining old sound new
 
 -- The link is open again, and nothing came on it; or it hadn't closed, or can't be opened.
 pub data WireReopens {R W C : Type 0} (old : PollWire R W C) : Bool → PollWire R W C → Type 0 where
@@ -140,6 +155,7 @@ pub data WireReopens {R W C : Type 0} (old : PollWire R W C) : Bool → PollWire
     writer = new.writer;
     since = new.since;
     begun = false;
+    ahead = [];
     asks = false;
     noise = 0;
     until = Still;

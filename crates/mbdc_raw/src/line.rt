@@ -281,7 +281,7 @@ impl<W: Wire + Drop> Line<W> {
             self.late = self.late.saturating_add(1);
         }
         if is_answered {
-            self.last = Some(copy_of(answer));
+            self.last = Some(copy_of(answer.as_slice()));
         }
         self.state = if answer.as_slice().is_empty() {
             State::Quiet

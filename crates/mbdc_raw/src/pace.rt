@@ -1,8 +1,9 @@
 //! How long a bus line takes to answer, as its own answers have shown.
 
-ghost use Rattle.std.specs.Prelude.{◌≡◌, None};
+ghost use Rattle.std.specs.Prelude.{◌≡◌, None, false};
 ghost use Rattle.mbdc_raw.specs.Pace.{pace_begun, pace_with, pause_of, reset_wait, window_of, answering};
-ghost use Rattle.mbdc_raw.specs.Pace.{sooner};
+ghost use Rattle.mbdc_raw.specs.Pace.{awaits_ack, sooner};
+ghost use Rattle.dc_linkframe.specs.Reading.{frame_of};
 
 use crate::state::{is_reset, wants_ack};
 
@@ -46,8 +47,8 @@ pub struct Pace {
     /// How long a byte takes at least, where a telegram begins no later than the slowest
     /// acknowledgement; `None` before the first telegram after one.
     pub least_byte: Option<u64>,
-    // Whether an acknowledgement is due, of which the delay is taken.
-    acks: bool,
+    /// Whether an acknowledgement is due: it is awaited, and its delay is taken.
+    pub acks: bool,
     // Of the answer under way: whether it is measured, the number of its bytes, the time to the last
     // of them, and how long a byte takes at most by its pieces so far.
     measured: bool,
@@ -79,7 +80,8 @@ impl Pace {
     /// Begins with this request, so that the answer to the one before it is over. It learns a byte's
     /// time from that one.
     pub fn begin(&mut self, request: &[u8])
-        ensures { self.new ≡ pace_begun request.now self.old }
+        ensures begun { self.new ≡ pace_begun request.now self.old }
+        ensures acks { self.new.acks ≡ awaits_ack (frame_of request.now) }
     {
         if self.came >= SHOWING {
             let byte = self.byte.unwrap_or(u64::MAX).min(self.least);
@@ -100,7 +102,8 @@ impl Pace {
     /// Takes that these bytes came, this long after the request: it learns the delay of an
     /// acknowledgement, and the time of a byte from an answer that is measured.
     pub fn take(&mut self, spent: u64, bytes: &[u8])
-        ensures { self.new ≡ pace_with spent bytes.now self.old }
+        ensures with { self.new ≡ pace_with spent bytes.now self.old }
+        ensures acks { self.new.acks ≡ false }
     {
         if self.acks && bytes.first() == Some(&ACKNOWLEDGED) {
             self.delay = Some(self.delay.unwrap_or(0).max(spent));

@@ -5,16 +5,17 @@ ghost use Rattle.mbdc_io.specs.Failures.{HasRisen};
 ghost use Rattle.mbdc_raw.specs.Looks.{waits_of};
 ghost use Rattle.mbdc_raw.specs.Pace.{patience_after};
 ghost use Rattle.mbdc_raw.specs.PollWire.{Ends, IsHeard, IsStill, WireHears, WireSends, limit_by, takes_all};
-ghost use Rattle.mbdc_raw.specs.PollWire.{IsDeserted, WireReopens, until_by, waited_then};
+ghost use Rattle.mbdc_raw.specs.PollWire.{Holds, IsDeserted, WireReopens, until_by, waited_then};
 ghost use Rattle.mbdc_raw.specs.Turn.{is_reset, wants_ack};
 ghost use Rattle.dc_linkframe.specs.Reading.{frame_of};
 ghost use Rattle.mbdc_raw.specs.declared.poll_wire.Until.TheVariants.{Still};
 ghost use Rattle.mbdc_raw.specs.Wire.{FitsRoom, Wanes, sound_of};
 
 use crate::pace::Pace;
-use crate::polling::{between, now, read_past_noise, wait_millis};
+use crate::polling::{between, now, read_past_noise};
 use crate::state::{is_reset, wants_ack};
 use crate::wire::{Asking, Came, Wire};
+use mbdc_bus::AnswerBuf;
 use mbdc_io::{IoFault, one_failure_more};
 use std::io;
 use std::io::{Read, Write};
@@ -74,9 +75,11 @@ pub enum Until {
 /// After a request the time-out is the patience. After the reset of all selected meters it is as long
 /// as an acknowledgement takes, by the [`Pace`] of the line; after a request that several meters may
 /// answer, as long as one of them may take to begin. Bytes that begin no frame are dropped where no
-/// answer has begun and one meter alone may answer, and time goes on as if they hadn't come. A line on which bytes keep
-/// coming for ten patiences, or 15 s where that is longer, without a request or silence between them, fails. So
-/// does one on which requests met silence for 120 s, and no byte came since it was connected.
+/// answer has begun and only one meter may answer, and time goes on as if they hadn't come. A frame begins with 68 L L 68
+/// and a fifth byte, as a whole short frame, or with an acknowledgement that is awaited: first bytes are held back for a
+/// gap, to see whether that follows. A line on which bytes keep coming for ten patiences, or 15 s where that is longer,
+/// without a request or silence between them, fails. So does one on which requests met silence for 120 s, and no byte
+/// came since it was connected.
 #[derive(Drop)]
 pub struct PollWire<R: Read + AsRawFd + Drop, W: Write + Link + Drop, C: Clock + Drop> {
     reader: R,
@@ -95,6 +98,9 @@ pub struct PollWire<R: Read + AsRawFd + Drop, W: Write + Link + Drop, C: Clock +
     at: Instant,
     // Whether a byte came since, and no gap after it was returned.
     begun: bool,
+    // Bytes that were read, and the time at which the first of them was, where they may begin a frame.
+    ahead: AnswerBuf,
+    held: Instant,
     pace: Pace,
     // For how long bytes have kept coming since the last request or silence, in microseconds.
     noise: u64,
@@ -139,6 +145,8 @@ impl<R: Read + AsRawFd + Drop, W: Write + Link + Drop, C: Clock + Drop> PollWire
             since,
             at: since,
             begun: false,
+            ahead: AnswerBuf::new(),
+            held: since,
             pace: Pace::new(),
             noise: 0,
             came: false,
@@ -155,19 +163,15 @@ impl<R: Read + AsRawFd + Drop, W: Write + Link + Drop, C: Clock + Drop> PollWire
         self.reader.as_raw_fd()
     }
 
-    /// Whether the line was given up, since nobody answers.
-    pub fn is_deserted(&self) -> bool
-        ensures { result ≡ self.now.deserted }
-    {
-        self.deserted
-    }
-
     /// The time until the next gap or silence, if no byte comes; zero if the clock fails.
     pub fn left(&self) -> Duration {
         let Ok(at) = now(&self.clock) else {
             return Duration::ZERO;
         };
         let rest = self.rest(at);
+        if !self.ahead.as_slice().is_empty() {
+            return Duration::from_micros(rest.max(GAP_MICROS));
+        }
         if self.begun && self.until == Until::Still {
             let gap = GAP_MICROS.saturating_sub(between(self.since, at));
             return Duration::from_micros(rest.min(gap));
@@ -222,14 +226,24 @@ impl<R: Read + AsRawFd + Drop, W: Write + Link + Drop, C: Clock + Drop> PollWire
         } else {
             0
         };
+        let is_new = self.ahead.as_slice().is_empty();
         let takes_all = self.takes_all();
-        let count = read_past_noise(&mut self.reader, wait_millis(wait), takes_all, room)?;
+        let awaits_ack = self.pace.acks;
+        let count = read_past_noise(
+            &mut self.reader,
+            &mut self.ahead,
+            wait,
+            awaits_ack,
+            takes_all,
+            room,
+        )?;
         self.at = now(&self.clock)?;
         if count > 0 {
             let (given, _) = room.split_at(count);
             self.heard(given)?;
             return Ok(Came::Bytes(count));
         }
+        self.hold(is_new);
         let still = self.nothing()?;
         match still {
             Came::Bytes(_) => Err(IoFault),
@@ -269,6 +283,25 @@ impl<R: Read + AsRawFd + Drop, W: Write + Link + Drop, C: Clock + Drop> PollWire
         Ok(())
     }
 
+    // No answer begins yet. Bytes that may begin one are held back from now on; those that were before are dropped once
+    // it didn't for a gap.
+    fn hold(&mut self, is_new: bool)
+        ensures step { Holds is_new self.old self.new }
+        ensures kept { self.new ≡ record self.old { ahead = self.new.ahead; held = self.new.held } }
+        ensures well { self.new.failures ≡ self.old.failures }
+        ensures waits { self.new.waits ≡ self.old.waits }
+        ensures deserted { self.new.deserted ≡ self.old.deserted }
+        ensures at { self.new.at ≡ self.old.at }
+    {
+        if is_new {
+            self.held = self.at;
+            return;
+        }
+        if between(self.held, self.at) >= GAP_MICROS {
+            self.ahead = AnswerBuf::new();
+        }
+    }
+
     // The result where nothing has come.
     fn nothing(&mut self) -> Result<Came, IoFault>
         ensures fits { IfOk result (λ came. FitsRoom came 0) }
@@ -280,7 +313,8 @@ impl<R: Read + AsRawFd + Drop, W: Write + Link + Drop, C: Clock + Drop> PollWire
             → IsDeserted self.old self.old.at }
         ensures at { self.new.at ≡ self.old.at }
     {
-        if self.rest(self.at) == 0 {
+        let is_free = self.waits == 0 || self.ahead.as_slice().is_empty();
+        if is_free && self.rest(self.at) == 0 {
             self.waited = self.waited_then();
             self.asks = false;
             if !self.came && self.waited >= MOST_WAITED {
@@ -347,6 +381,7 @@ impl<R: Read + AsRawFd + Drop, W: Write + Link + Drop, C: Clock + Drop> PollWire
         }
         self.since = now(&self.clock).unwrap_or(self.since);
         self.begun = false;
+        self.ahead = AnswerBuf::new();
         self.asks = false;
         self.noise = 0;
         self.until = Until::Still;

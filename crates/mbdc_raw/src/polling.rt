@@ -1,29 +1,31 @@
 //! Reads that wait at most so long, and the clock.
 
 ghost use Rattle.std.specs.Prelude.{◌≡◌, ◌+◌, ◌-◌, ◌*◌, ◌/◌, ◌^◌, ◌≤◌, ◌<◌, min, ℕ, List, ◌++◌, [], true};
-ghost use Rattle.std.specs.Prelude.{length, take, IfOk};
-ghost use Rattle.std.specs.List.{All};
+ghost use Rattle.std.specs.Prelude.{length, take, drop, false, IfOk, OnOk};
 ghost use Rattle.std.specs.Io.KnownBytes.{Consumes};
 ghost use Rattle.std.specs.Time.{instant_nanos};
-ghost use Rattle.mbdc_raw.specs.Noise.{IsNoise, IsPast, begins_frame};
+ghost use Rattle.mbdc_bus.specs.Limits.{most_answer};
+ghost use Rattle.mbdc_raw.specs.Noise.{IsCut, IsNoise, IsPast, begins_frame};
+ghost use Rattle.mbdc_raw.specs.declared.polling.Begun.TheVariants.{Frame, Noise};
 
+use crate::state::copy_of;
+use dc_linkframe::{Need, need, parse};
 use libc::net::{POLLIN, poll};
 use libc::types::pollfd;
+use mbdc_bus::{AnswerBuf, MOST_ANSWER};
 use mbdc_io::IoFault;
 use std::io::{ErrorKind, Read};
 use std::os::fd::AsRawFd;
 use std::rt::Clock;
 use std::time::Instant;
 
-// The bytes that begin a frame: a long one, a short one, an acknowledgement.
-const LONG_START: u8 = 0x68;
-
+// The first byte of a short frame, and an acknowledgement.
 const SHORT_START: u8 = 0x10;
 
 const ACKNOWLEDGED: u8 = 0xE5;
 
-// Maximum number of bytes read at once: what an answer has room for.
-const MOST_READ: usize = 300;
+// Number of bytes that decide whether a frame begins: a short one has no more.
+const BEGINNING: usize = 5;
 
 // Maximum number of polls repeated because a signal interrupted a poll or a read.
 const MOST_POLLS: usize = 1_000;
@@ -40,24 +42,17 @@ pub(crate) fn between(since: Instant, at: Instant) -> u64
     u64::try_from(spent).unwrap_or(u64::MAX)
 }
 
-// A number of microseconds in milliseconds, rounded up: the time is over when the wait ends.
-pub(crate) fn wait_millis(micros: u64) -> i32 {
-    if micros == 0 {
-        return 0;
-    }
-    i32::try_from(micros / 1_000).map_or(i32::MAX, |millis| millis.saturating_add(1))
-}
-
-// Reads what comes within this many milliseconds; no byte if nothing comes.
+// Reads what comes within this many microseconds, rounded up; no byte if nothing comes.
 pub(crate) fn read_within<R: Read + AsRawFd>(
     reader: &mut R,
-    millis: i32,
+    micros: u64,
     room: &mut [u8],
 ) -> Result<usize, IoFault>
     ensures count { IfOk result (λ n. n ≤ length room.old) }
     ensures bytes { IfOk result (λ n. Consumes (R.remaining reader.old)
         (R.remaining reader.new) (take n room.new)) }
 {
+    let millis = i32::try_from(micros.saturating_add(999) / 1_000).unwrap_or(i32::MAX);
     for _ in 0..MOST_POLLS {
         let mut asked = [pollfd {
             fd: reader.as_raw_fd(),
@@ -85,48 +80,133 @@ pub(crate) fn read_within<R: Read + AsRawFd>(
     Err(IoFault)
 }
 
-// Number of bytes at the front that begin no frame; none where all bytes are taken.
-fn noise_len(bytes: &[u8], takes_all: bool) -> usize
-    ensures fits { result ≤ length bytes.now }
-    ensures none { All IsNoise (take result bytes.now) }
+// What begins with some bytes.
+#[derive(Clone, Copy)]
+enum Begun {
+    // A frame, or what is taken in any case.
+    Frame,
+    // No frame, whatever follows.
+    Noise,
+    // It depends on what follows.
+    Unknown,
+}
+
+fn begins(text: &[u8], awaits_ack: bool, takes_all: bool) -> Begun
+    ensures frame { result ≡ Frame → takes_all ≡ false → begins_frame awaits_ack text.now ≡ true }
+    ensures noise { result ≡ Noise → IsNoise awaits_ack text.now }
+    ensures all { takes_all ≡ true → result ≡ Frame }
+{
+    if takes_all {
+        return Begun::Frame;
+    }
+    match text {
+        [ACKNOWLEDGED, ..] => {
+            if awaits_ack {
+                Begun::Frame
+            } else {
+                Begun::Noise
+            }
+        }
+        [SHORT_START, _, _, _, _, ..] => {
+            let (front, _) = text.split_at(BEGINNING);
+            match parse(front) {
+                Ok(_) => Begun::Frame,
+                Err(_) => Begun::Noise,
+            }
+        }
+        _ => match need(text) {
+            Need::Bad => Begun::Noise,
+            _ if text.len() < BEGINNING => Begun::Unknown,
+            _ => Begun::Frame,
+        },
+    }
+}
+
+// Number of bytes at the front that begin no frame.
+fn noise_len(text: &[u8], awaits_ack: bool, takes_all: bool) -> usize
+    ensures fits { result ≤ length text.now }
+    ensures none { (count : ℕ) → count < result → IsNoise awaits_ack (drop count text.now) }
     ensures first { takes_all ≡ true → result ≡ 0 }
 {
     let mut count = 0;
-    if takes_all {
-        return count;
-    }
-    'noise: while count < bytes.len() && !begins_frame(bytes[count]) {
-        count += 1;
+    'noise: while count < text.len() {
+        let (_, rest) = text.split_at(count);
+        match begins(rest, awaits_ack, takes_all) {
+            Begun::Noise => count += 1,
+            Begun::Frame | Begun::Unknown => return count,
+        }
     }
     count
 }
 
-// Whether a frame begins with this byte.
-fn begins_frame(byte: u8) -> bool
-    ensures { result ≡ begins_frame byte }
+// Gives those of the bytes ahead that begin an answer, or all, and drops the noise before them. The rest is held back.
+fn give(ahead: &mut AnswerBuf, awaits_ack: bool, takes_all: bool, room: &mut [u8]) -> usize
+    ensures count { result ≤ length room.old }
+    ensures cut { IsCut awaits_ack takes_all ahead.old (take result room.new) ahead.new }
 {
-    byte == LONG_START || byte == SHORT_START || byte == ACKNOWLEDGED
+    let text = ahead.as_slice();
+    let noise = noise_len(text, awaits_ack, takes_all);
+    let (_, rest) = text.split_at(noise);
+    match begins(rest, awaits_ack, takes_all) {
+        Begun::Frame => {}
+        Begun::Noise | Begun::Unknown => {
+            let held = copy_of(rest);
+            *ahead = held;
+            return 0;
+        }
+    }
+    let count = rest.len().min(room.len());
+    let (given, left) = rest.split_at(count);
+    room[..count].copy_from_slice(given);
+    let held = copy_of(left);
+    *ahead = held;
+    count
 }
 
-// Reads what comes within this many milliseconds. Unless all bytes are taken, those that begin no
-// frame are dropped before it.
+// Reads at most so many bytes, within this many microseconds, after those that are ahead.
+fn read_ahead<R: Read + AsRawFd>(
+    reader: &mut R,
+    ahead: &mut AnswerBuf,
+    micros: u64,
+    most: usize,
+) -> Result<(), IoFault>
+    requires { length ahead.old + most ≤ most_answer }
+    ensures { OnOk result ((more : List ℕ) × Consumes (R.remaining reader.old) (R.remaining reader.new) more
+        × (ahead.new ≡ ahead.old ++ more)) }
+{
+    if most == 0 {
+        return Ok(());
+    }
+    let mut own = [0; MOST_ANSWER];
+    let (part, _) = own.split_at_mut(most);
+    let count = read_within(reader, micros, part)?;
+    let (given, _) = own.split_at(count);
+    ahead.append(given);
+    Ok(())
+}
+
+// Reads what comes within this many microseconds, and gives the bytes of an answer. Unless all bytes are taken, those that
+// begin no frame are dropped before it, and those that may begin one are held back.
 pub(crate) fn read_past_noise<R: Read + AsRawFd>(
     reader: &mut R,
-    millis: i32,
+    ahead: &mut AnswerBuf,
+    micros: u64,
+    awaits_ack: bool,
     takes_all: bool,
     room: &mut [u8],
 ) -> Result<usize, IoFault>
     ensures count { IfOk result (λ n. n ≤ length room.old) }
-    ensures bytes { IfOk result (λ n. IsPast (R.remaining reader.old)
-        (R.remaining reader.new) takes_all (take n room.new)) }
+    ensures bytes { IfOk result (λ n. IsPast awaits_ack takes_all ahead.old ahead.new
+        (R.remaining reader.old) (R.remaining reader.new) (take n room.new)) }
 {
-    let mut own = [0; MOST_READ];
-    let most = room.len().min(MOST_READ);
-    let (part, _) = own.split_at_mut(most);
-    let count = read_within(reader, millis, part)?;
-    let (given, _) = own.split_at(count);
-    let noise = noise_len(given, takes_all);
-    let (_, rest) = given.split_at(noise);
-    room[..rest.len()].copy_from_slice(rest);
-    Ok(rest.len())
+    let held = ahead.as_slice().len();
+    let wanted = if !takes_all {
+        BEGINNING.saturating_sub(held)
+    } else if held == 0 {
+        room.len()
+    } else {
+        0
+    };
+    read_ahead(reader, ahead, micros, wanted.min(MOST_ANSWER - held))?;
+    Ok(give(ahead, awaits_ack, takes_all, room))
 }

@@ -1,9 +1,10 @@
 //! What may be under way on a line, and which frame answers a request.
 
-ghost use Rattle.std.specs.Prelude.{◌≡◌, bytes_eq};
+ghost use Rattle.std.specs.Prelude.{◌≡◌, ◌≤◌, bytes_eq, length};
 ghost use Rattle.dc_linkframe.specs.Reading.{frame_of};
+ghost use Rattle.mbdc_bus.specs.Limits.{most_answer};
 ghost use Rattle.mbdc_raw.specs.Turn.{is_answer, is_copy, is_reset, is_wrong, kind_of};
-ghost use Rattle.mbdc_raw.specs.Turn.{last_behind, last_waited, may_go, quiet_by, telegram_in};
+ghost use Rattle.mbdc_raw.specs.Turn.{last_behind, last_waited, may_go, quiet_by};
 ghost use Rattle.mbdc_raw.specs.Turn.{wants_ack};
 
 use dc_linkframe::control::{SELECTED, SND_NKE, SND_UD};
@@ -112,12 +113,12 @@ pub fn is_copy(last: &Option<AnswerBuf>, answer: &AnswerBuf) -> bool
     }
 }
 
-/// A copy of an answer.
-pub fn copy_of(answer: &AnswerBuf) -> AnswerBuf
-    ensures { result ≡ answer.now }
+/// A copy of an answer's bytes.
+pub fn copy_of(answer: &[u8]) -> AnswerBuf
+    ensures { length answer.now ≤ most_answer → result ≡ answer.now }
 {
     let mut copy = AnswerBuf::new();
-    copy.append(answer.as_slice());
+    copy.append(answer);
     copy
 }
 
@@ -127,21 +128,16 @@ pub fn last_behind(state: State, last: Option<AnswerBuf>) -> Option<AnswerBuf>
     ensures { result ≡ last_behind state last }
 {
     match state {
-        State::Quiet => telegram_in(last),
+        State::Quiet => {
+            let answer = last?;
+            match parse(answer.as_slice()) {
+                Ok(Frame::Ack) => None,
+                _ => Some(answer),
+            }
+        }
         State::Listened => None,
         State::Answered => last,
         State::Busy => last,
-    }
-}
-
-// The last answer, if it isn't an acknowledgement.
-fn telegram_in(last: Option<AnswerBuf>) -> Option<AnswerBuf>
-    ensures { result ≡ telegram_in last }
-{
-    let answer = last?;
-    match parse(answer.as_slice()) {
-        Ok(Frame::Ack) => None,
-        _ => Some(answer),
     }
 }
 

@@ -4,7 +4,6 @@ use Rattle.mbdc_bus.specs.Limits.{most_answer}
 use Rattle.mbdc_raw.proofs.state.copy_of.Goals as goal
 
 pub returns : goal.returns
-returns c =
-    c.append.ensures ∙ ap (λ (xs : List ℕ). take most_answer (xs ++ c.as_slice.result.now)) c.new-copy.ensures
-    ∙ ap (take most_answer) c.as_slice.ensures.bytes
-    ∙ take_all most_answer c.args.answer.now c.as_slice.ensures.fits
+returns c fits =
+    c.append.ensures ∙ ap (λ (xs : List ℕ). take most_answer (xs ++ c.args.answer.now)) c.new-copy.ensures
+    ∙ take_all most_answer c.args.answer.now fits

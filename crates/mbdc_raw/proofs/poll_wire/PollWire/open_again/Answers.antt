@@ -1,9 +1,19 @@
-use Rattle.std.proofs.Common.{refl}
+use Rattle.std.proofs.Common.{ℕ, List, false, ap, refl}
 use Rattle.mbdc_raw.specs.PollWire.{is_as_before, is_open}
+use Rattle.mbdc_raw.specs.declared.poll_wire.Until.TheVariants.{Still}
 use Rattle.mbdc_raw.proofs.poll_wire.PollWire.open_again.Goals as goal
 
 pub returns-then-not-reopen : goal.returns-then-not-reopen
 returns-then-not-reopen g c = is_as_before refl
 
 pub returns : goal.returns
-returns g c = is_open refl
+returns g c = is_open (ap (λ (ahead : List ℕ). record c.args.self.now {
+  writer = c.reopen.new.self;
+  since = c.unwrap_or-self.result;
+  begun = false;
+  ahead = ahead;
+  asks = false;
+  noise = 0;
+  until = Still;
+  limit = c.args.self.now.patience;
+}) c.new-self.ensures)
