@@ -141,7 +141,7 @@ pub data IsDrained (bursts : List (List ℕ)) : Bool → List Sound → Type 0 w
   at_silence : IsDrained bursts false (silence ∷ [])
   never_quiet : length bursts ≡ most_pieces → IsDrained bursts true []
 
--- WHAT CAME WAS DROPPED; each sound moves the line, and bytes where nothing could be under way count.
+-- WHAT CAME WAS DROPPED; each sound moves the line, and late bytes count.
 pub record Drains {W : Type 0} (hears : W → Sound → W → Type 0) (old : W) (state : State) (late : ℕ)
     (loud : Bool) (new : W) (after : State) (lates : ℕ) : Type 0 where
   pub bursts : List (List ℕ)

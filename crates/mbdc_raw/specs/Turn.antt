@@ -31,11 +31,11 @@ state_by silence state = Quiet
 abbrev pub one_more : ℕ → ℕ
 one_more count = min (count + 1) (2 ^ 64 - 1)
 
--- bytes are late where nothing could be under way
+-- bytes are late after the silence that met a request, and after a window; a request that was answered has nothing late
 abbrev pub late_at : State → ℕ → ℕ
 late_at Quiet late = one_more late
 late_at Listened late = one_more late
-late_at Answered late = one_more late
+late_at Answered late = late
 late_at Busy late = late
 
 abbrev pub late_by : Sound → State → ℕ → ℕ

@@ -64,7 +64,7 @@ pub struct Line<W: Wire + Drop> {
     pub last: Option<AnswerBuf>,
     /// Whether a copy came since the last request.
     pub copied: bool,
-    /// Number of times that bytes came which nothing on the line could have sent.
+    /// Number of times that bytes came late, or a frame of the wrong kind.
     pub late: u64,
 }
 

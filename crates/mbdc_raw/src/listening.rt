@@ -16,8 +16,8 @@ use mbdc_io::IoFault;
 // Maximum number of pieces taken in one call.
 const MOST_PIECES: usize = 512;
 
-/// Drops what has arrived, while a request waits. Bytes where nothing could be under way are late,
-/// and make the line busy; silence makes it quiet. Returns whether bytes still come.
+/// Drops what has arrived, while a request waits. Bytes make the line busy, and are late where a request met silence or
+/// had its window; silence makes it quiet. Returns whether bytes still come.
 pub fn drain<W: Wire>(wire: &mut W, state: &mut State, late: &mut u64) -> Result<bool, IoFault>
     ensures drained { IfOk result (λ loud.
         Drains W.hears wire.old state.old late.old loud wire.new state.new late.new) }
@@ -46,14 +46,14 @@ pub fn drain<W: Wire>(wire: &mut W, state: &mut State, late: &mut u64) -> Result
     Ok(true)
 }
 
-// Bytes came: they are late where nothing could be under way, and make the line busy.
+// Bytes came: they are late where a request met silence or had its window, and make the line busy.
 fn hear_late(state: &mut State, late: &mut u64)
     ensures state { state.new ≡ Busy }
     ensures late { late.new ≡ late_at state.old late.old }
 {
     match state {
-        State::Busy => {}
-        State::Quiet | State::Listened | State::Answered => *late = late.saturating_add(1),
+        State::Quiet | State::Listened => *late = late.saturating_add(1),
+        State::Answered | State::Busy => {}
     }
     *state = State::Busy;
 }
