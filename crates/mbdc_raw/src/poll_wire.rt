@@ -73,7 +73,7 @@ pub enum Until {
 /// that returns no byte when the descriptor is readable means the end of the stream.
 ///
 /// After a request the time-out is the patience. After the reset of all selected meters it is as long
-/// as an acknowledgement takes, by the [`Pace`] of the line; after a request that several meters may
+/// as an acknowledgement takes, by the [`Pace`] of the line, once there was one; after a request that several meters may
 /// answer, as long as one of them may take to begin. Bytes that begin no frame are dropped where no
 /// answer has begun and only one meter may answer, and time goes on as if they hadn't come. A frame begins with 68 L L 68
 /// and a fifth byte, as a whole short frame, or with an acknowledgement that is awaited: first bytes are held back for a
@@ -367,7 +367,7 @@ impl<R: Read + AsRawFd + Drop, W: Write + Link + Drop, C: Clock + Drop> PollWire
         self.waits = MOST_WAITS;
         self.pace.begin(bytes);
         self.patience = patience_after(self.stated, asking.late);
-        self.until = until_by(is_reset(bytes), asking.many);
+        self.until = until_by(is_reset(bytes) && self.pace.delay.is_some(), asking.many);
         self.limit = self.limit_by(bytes, asking.many);
         Ok(())
     }
@@ -404,8 +404,8 @@ impl<R: Read + AsRawFd + Drop, W: Write + Link + Drop, C: Clock + Drop> PollWire
     }
 }
 
-// When silence comes after a request: the reset of all selected meters, or one that several meters
-// may answer, or another one.
+// When silence comes after a request: the reset of all selected meters, once an acknowledgement has shown how long one
+// takes; one that several meters may answer; or another one.
 fn until_by(resets: bool, many: bool) -> Until
     ensures { result ≡ until_by resets many }
 {
