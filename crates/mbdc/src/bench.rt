@@ -39,15 +39,15 @@ where
         Ok(file) => file,
         Err(error) => return host.why.file(trace.unwrap_or_default(), error),
     };
-    let peers = match connected(host, &[Some(link)]) {
-        Ok(peers) => peers,
+    let peer = match connected(host, Some(link)) {
+        Ok(peer) => peer,
         Err(ending) => return ending,
     };
-    let ending = match peers.as_slice().first() {
-        Some(Some(peer)) => over_peer(host, peer, &work, listing, patience, file.as_ref()),
-        _ => Ending::Gateway,
+    let ending = match &peer {
+        Some(peer) => over_peer(host, peer, &work, listing, patience, file.as_ref()),
+        None => Ending::Gateway,
     };
-    released(host, peers.as_slice());
+    released(host, &[peer]);
     ending
 }
 

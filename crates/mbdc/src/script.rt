@@ -34,21 +34,21 @@ where
         Ok(lines) => Noted::new(lines, host.why),
         Err(error) => return host.why.file(task.script, error),
     };
-    let peers = match connected(host, &[task.gateway]) {
-        Ok(peers) => peers,
+    let peer = match connected(host, task.gateway) {
+        Ok(peer) => peer,
         Err(ending) => return ending,
     };
-    let ending = run_over_peers(host, disk, lines, peers.as_slice(), task);
-    released(host, peers.as_slice());
+    let ending = run_over_peer(host, disk, lines, peer.as_ref(), task);
+    released(host, &[peer]);
     ending
 }
 
 // Runs the lines of a file over a disk, with a connected gateway. They are read before the image is looked at.
-fn run_over_peers<'a, F, D, R>(
+fn run_over_peer<'a, F, D, R>(
     host: &Host<'_, R>,
     disk: FileDisk<D>,
     lines: F,
-    peers: &[Option<Peer<R>>],
+    peer: Option<&Peer<R>>,
     task: &RunTask<'a>,
 ) -> Ending<'a>
 where
@@ -56,7 +56,7 @@ where
     D: FileExt + OpenFile + Drop,
     R: Files<File = File> + Net<Stream = TcpStream> + Clock + Copy + Print + Eprint + AllocGlobal,
 {
-    let mut gateway = match bus_of(host, peers, task) {
+    let mut gateway = match bus_of(host, peer, task) {
         Ok(gateway) => gateway,
         Err(ending) => return ending,
     };
@@ -84,13 +84,13 @@ where
 // The bus of the one link, if there is one.
 fn bus_of<'p, 'e, R>(
     host: &Host<'_, R>,
-    peers: &'p [Option<Peer<R>>],
+    peer: Option<&'p Peer<R>>,
     task: &RunTask<'_>,
 ) -> Result<Option<GatewayBus<'p, R>>, Ending<'e>>
 where
     R: Net<Stream = TcpStream> + Clock + Copy + AllocGlobal,
 {
-    let [Some(peer)] = peers else {
+    let Some(peer) = peer else {
         return Ok(None);
     };
     match peer.bus(*host.rt, task.patience.unwrap_or(peer.patience())) {
