@@ -34,7 +34,7 @@ pub use laws::{
 pub use line::{Gone, Held, Line};
 pub use listening::{drain, gather, hear, without_echo};
 pub use pace::Pace;
-pub use poll_wire::{GAP, Link, PollWire, Until};
+pub use poll_wire::{GAP, GivenUp, Link, PollWire, Until};
 pub use state::{Kind, State};
 pub use tape::{Event, Tape};
 pub use wire::{Asking, Came, Wire};

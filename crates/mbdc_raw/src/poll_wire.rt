@@ -12,7 +12,7 @@ ghost use Rattle.mbdc_raw.specs.declared.poll_wire.Until.TheVariants.{Still};
 ghost use Rattle.mbdc_raw.specs.Wire.{FitsRoom, Wanes, sound_of};
 
 use crate::pace::Pace;
-use crate::polling::{between, now, read_past_noise};
+use crate::polling::{between, now, read_past_noise, read_within};
 use crate::state::{is_reset, wants_ack};
 use crate::wire::{Asking, Came, Wire};
 use mbdc_bus::AnswerBuf;
@@ -49,13 +49,27 @@ const MOST_WAITS: u16 = 32_767;
 // microseconds.
 const MOST_WAITED: u64 = 120_000_000;
 
+// How long a line that is given up is listened to for noise, in microseconds.
+const LISTENING: u64 = 100_000;
+
 /// A link that may close.
 pub trait Link {
     /// Opens the link again, once, where it has closed. Returns whether it did.
     fn reopen(&mut self) -> bool;
 
-    /// Takes that the line is given up, since nobody answers.
-    fn desert(&mut self);
+    /// Takes that the line is given up, and why.
+    fn desert(&mut self, why: GivenUp);
+}
+
+/// Why a line is given up.
+#[derive(Clone, Copy)]
+pub enum GivenUp {
+    /// Nobody answers.
+    Silent,
+    /// Nobody answers, and this byte comes.
+    Noisy(u8),
+    /// Bytes keep coming.
+    Loud,
 }
 
 /// When silence comes after a request.
@@ -269,6 +283,7 @@ impl<R: Read + AsRawFd + Drop, W: Write + Link + Drop, C: Clock + Drop> PollWire
                 .saturating_mul(MOST_PATIENCES)
                 .max(LONGEST_ANSWER)
         {
+            self.writer.desert(GivenUp::Loud);
             return Err(IoFault);
         }
         self.pace.take(between(self.asked, self.at), bytes);
@@ -319,7 +334,8 @@ impl<R: Read + AsRawFd + Drop, W: Write + Link + Drop, C: Clock + Drop> PollWire
             self.asks = false;
             if !self.came && self.waited >= MOST_WAITED {
                 self.deserted = true;
-                self.writer.desert();
+                let why = self.what_comes();
+                self.writer.desert(why);
                 return Err(IoFault);
             }
             self.since = self.at;
@@ -338,6 +354,15 @@ impl<R: Read + AsRawFd + Drop, W: Write + Link + Drop, C: Clock + Drop> PollWire
             return Ok(Came::Gap);
         }
         Ok(Came::Nothing)
+    }
+
+    // What a line is on which nobody answers: it is silent, or bytes come that begin no frame.
+    fn what_comes(&mut self) -> GivenUp {
+        let mut room = [0; 1];
+        match read_within(&mut self.reader, LISTENING, &mut room) {
+            Ok(count) if count > 0 => GivenUp::Noisy(room[0]),
+            _ => GivenUp::Silent,
+        }
     }
 
     // How long requests have waited that met silence, where the last one does now.
