@@ -24,26 +24,26 @@ held_as old new is_new (ends held passed same) = same ∙ ap (λ (w : PollWire _
 
 module _ {R W C : Type 0} (contents : W → Option (List ℕ)) (remaining : R → Option (List ℕ)) where
   came_by : (old : PollWire R W C) (sound : Sound) (new : PollWire R W C) → WireHears remaining old sound new → Came old sound new
-  came_by old sound new (bytes_came between past is kept) = a_byte kept.came
-  came_by old sound new (none_came between held past is holds (not_yet same)) =
+  came_by old sound new (bytes_came between past at is kept) = a_byte kept.came
+  came_by old sound new (none_came between held past at is holds (not_yet same)) =
       let so = held_as between held _ holds in
       no_byte refl (ap (λ (w : PollWire R W C). w.came) same ∙ ap (λ (w : PollWire R W C). w.came) so ∙ ap (λ (w : PollWire R W C). w.came) is)
       (omega (arith, ap (λ (w : PollWire R W C). w.waited) same, ap (λ (w : PollWire R W C). w.waited) so, ap (λ (w : PollWire R W C). w.waited) is))
-  came_by old sound new (none_came between held past is holds (at_gap same)) =
+  came_by old sound new (none_came between held past at is holds (at_gap begun passed same)) =
       let so = held_as between held _ holds in
       no_byte refl (ap (λ (w : PollWire R W C). w.came) same ∙ ap (λ (w : PollWire R W C). w.came) so ∙ ap (λ (w : PollWire R W C). w.came) is)
       (omega (arith, ap (λ (w : PollWire R W C). w.waited) same, ap (λ (w : PollWire R W C). w.waited) so, ap (λ (w : PollWire R W C). w.waited) is))
-  came_by old sound new (none_came between held past is holds (at_silence over same)) =
+  came_by old sound new (none_came between held past at is holds (at_silence over same)) =
       let so = held_as between held _ holds in
       no_byte refl (ap (λ (w : PollWire R W C). w.came) same ∙ ap (λ (w : PollWire R W C). w.came) so ∙ ap (λ (w : PollWire R W C). w.came) is)
       (omega (arith, ap (λ (w : PollWire R W C). w.waited) same, waits_by held.asks held.waited held.limit, ap (λ (w : PollWire R W C). w.waited) so, ap (λ (w : PollWire R W C). wait_of w silence) so, ap (λ (w : PollWire R W C). w.waited) is, ap (λ (w : PollWire R W C). wait_of w silence) is))
 
   came_again : (old new : PollWire R W C) (again : Bool) → WireReopens old again new → new.came ≡ old.came
-  came_again old new again (is_open same) = ap (λ (w : PollWire R W C). w.came) same
+  came_again old new again (is_open since same) = ap (λ (w : PollWire R W C). w.came) same
   came_again old new again (is_as_before same) = ap (λ (w : PollWire R W C). w.came) same
 
   waited_again : (old new : PollWire R W C) (again : Bool) → WireReopens old again new → new.waited ≡ old.waited
-  waited_again old new again (is_open same) = ap (λ (w : PollWire R W C). w.waited) same
+  waited_again old new again (is_open since same) = ap (λ (w : PollWire R W C). w.waited) same
   waited_again old new again (is_as_before same) = ap (λ (w : PollWire R W C). w.waited) same
 
   -- a byte that came is known for ever

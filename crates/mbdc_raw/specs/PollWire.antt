@@ -1,6 +1,6 @@
 -- What a wire over a reader and a writer does to both, and how long it waits (this product).
 use Rattle.std.specs.Prelude.{◌≡◌, ℕ, ◌+◌, ◌-◌, ◌*◌, ◌^◌, ◌≤◌, min, Bool, true, false, List, [], Option}
-use Rattle.std.specs.Prelude.{◌&&◌, ◌==◌, is_some, length, if◌then◌else◌}
+use Rattle.std.specs.Prelude.{◌⊎◌, ◌∷◌, ◌++◌, ◌&&◌, ◌==◌, is_some, length, if◌then◌else◌}
 use Rattle.std.specs.Io.KnownBytes.{Appends}
 use Rattle.std.specs.Time.{instant_nanos}
 use Rattle.std.specs.declared.time.Instant.{Instant}
@@ -16,6 +16,14 @@ use Rattle.mbdc_raw.specs.declared.poll_wire.Until.TheVariants.{Still, Over, Pau
 use Rattle.mbdc_raw.specs.declared.wire.Asking.{Asking}
 
 -- ---- the clock
+
+-- the moments that the clock told, the newest first
+abbrev pub told : {R W C : Type 0} → PollWire R W C → List Instant
+told wire = wire.clock.moments.told
+
+-- this moment was told since then, and none after it
+abbrev pub IsTold : {R W C : Type 0} → PollWire R W C → Instant → PollWire R W C → Type 0
+IsTold old at new = (between : List Instant) × (told new ≡ at ∷ between ++ told old)
 
 -- so many microseconds lie between two moments
 abbrev pub HasPassed : ℕ → Instant → Instant → Type 0
@@ -53,6 +61,7 @@ pub record WireSends {R W C : Type 0} (contents : W → Option (List ℕ)) (old 
   pub reader : new.reader ≡ old.reader
   pub stated : new.stated ≡ old.stated
   pub patience : new.patience ≡ patience_after asking.late old.stated
+  pub asked : told new ≡ new.asked ∷ told old
   pub since : new.since ≡ new.asked
   pub begun : new.begun ≡ false
   pub ahead : new.ahead ≡ old.ahead
@@ -76,6 +85,7 @@ limit_then Paused limit patience window = window
 pub record IsHeard {R W C : Type 0} (old new : PollWire R W C) : Type 0 where
   pub reader : new.reader ≡ old.reader
   pub writer : new.writer ≡ old.writer
+  pub clock : new.clock ≡ old.clock
   pub stated : new.stated ≡ old.stated
   pub patience : new.patience ≡ old.patience
   pub asked : new.asked ≡ old.asked
@@ -103,7 +113,7 @@ pub record IsDeserted {R W C : Type 0} (old : PollWire R W C) (at : Instant) : T
 -- Nothing came: silence is returned once the time-out is over, and then the patience begins anew.
 pub data IsStill {R W C : Type 0} (old : PollWire R W C) : Sound → PollWire R W C → Type 0 where
   not_yet : {new : PollWire R W C} → new ≡ record old { waits = new.waits } → IsStill old nothing new
-  at_gap : {new : PollWire R W C} → new ≡ record old { waits = new.waits; begun = false }
+  at_gap : {new : PollWire R W C} → old.begun ≡ true → HasPassed 500_000 old.since old.at → new ≡ record old { waits = new.waits; begun = false }
       → IsStill old gap new
   at_silence : {new : PollWire R W C} → Ends old old.at
       → new ≡ record old {
@@ -134,25 +144,39 @@ pub data Holds {R W C : Type 0} (is_new : Bool) (old : PollWire R W C) : PollWir
   ends : {new : PollWire R W C} → is_new ≡ false → HasPassed 500_000 old.held old.at
       → new ≡ record old { ahead = [] } → Holds is_new old new
 
--- These bytes were read after noise, and nothing was written. The time of noise isn't taken.
+-- These bytes were read after noise, and nothing was written. The time of noise isn't taken. The look is at the newest
+-- moment that the clock told.
 pub data WireHears {R W C : Type 0} (remaining : R → Option (List ℕ)) (old : PollWire R W C)
     (sound : Sound) (new : PollWire R W C) : Type 0 where
   bytes_came : (between : PollWire R W C)
       → IsPast old.pace.acks (takes_all old) old.ahead between.ahead (remaining old.reader)
-      (remaining between.reader) (bytes_of sound)
-      → between ≡ record old { reader = between.reader; ahead = between.ahead; at = between.at }
+          (remaining between.reader) (bytes_of sound)
+      → IsTold old between.at between
+      → between ≡ record old {
+        reader = between.reader;
+        ahead = between.ahead;
+        clock = between.clock;
+        at = between.at;
+      }
       → IsHeard between new → WireHears remaining old sound new
   none_came : (between held : PollWire R W C)
       → IsPast old.pace.acks (takes_all old) old.ahead between.ahead (remaining old.reader)
-      (remaining between.reader) (bytes_of sound)
-      → between ≡ record old { reader = between.reader; ahead = between.ahead; at = between.at }
+          (remaining between.reader) (bytes_of sound)
+      → IsTold old between.at between
+      → between ≡ record old {
+        reader = between.reader;
+        ahead = between.ahead;
+        clock = between.clock;
+        at = between.at;
+      }
       → Holds (length old.ahead == 0) between held
       → IsStill held sound new → WireHears remaining old sound new
 
 -- The link is open again, and nothing came on it; or it hadn't closed, or can't be opened.
 pub data WireReopens {R W C : Type 0} (old : PollWire R W C) : Bool → PollWire R W C → Type 0 where
-  is_open : {new : PollWire R W C} → new ≡ record old {
+  is_open : {new : PollWire R W C} → IsTold old new.since new ⊎ (new.since ≡ old.since) → new ≡ record old {
     writer = new.writer;
+    clock = new.clock;
     since = new.since;
     begun = false;
     ahead = [];

@@ -24,6 +24,7 @@ mod poll_wire;
 mod polling;
 mod state;
 mod tape;
+mod told;
 mod wire;
 
 pub use hearing::Hearing;
@@ -37,4 +38,5 @@ pub use pace::Pace;
 pub use poll_wire::{GAP, GivenUp, Link, PollWire, Until};
 pub use state::{Kind, State};
 pub use tape::{Event, Tape};
+pub use told::{Moments, Told};
 pub use wire::{Asking, Came, Wire};

@@ -1,24 +1,26 @@
 //! A wire over a descriptor that can be polled: a TCP stream or a terminal.
 
-ghost use Rattle.std.specs.Prelude.{◌≡◌, ◌*◌, ◌≤◌, ◌<◌, [], length, true, false, IfOk, OnOk, OnErr};
+ghost use Rattle.std.specs.Prelude.{◌≡◌, ◌*◌, ◌≤◌, ◌<◌, List, [], ◌∷◌, ◌++◌, length, true, false, IfOk, OnOk, OnErr};
+ghost use Rattle.std.specs.declared.time.Instant.{Instant as Moment};
 ghost use Rattle.mbdc_io.specs.Failures.{HasRisen};
 ghost use Rattle.mbdc_raw.specs.Looks.{waits_of};
 ghost use Rattle.mbdc_raw.specs.Pace.{patience_after};
 ghost use Rattle.mbdc_raw.specs.PollWire.{Ends, IsHeard, IsStill, WireHears, WireSends, limit_by, takes_all};
-ghost use Rattle.mbdc_raw.specs.PollWire.{Holds, IsDeserted, WireReopens, until_by, waited_then};
+ghost use Rattle.mbdc_raw.specs.PollWire.{Holds, IsDeserted, WireReopens, told, until_by, waited_then};
 ghost use Rattle.mbdc_raw.specs.Turn.{is_reset, wants_ack};
 ghost use Rattle.dc_linkframe.specs.Reading.{frame_of};
 ghost use Rattle.mbdc_raw.specs.declared.poll_wire.Until.TheVariants.{Still};
 ghost use Rattle.mbdc_raw.specs.Wire.{FitsRoom, Wanes, sound_of};
 
 use crate::pace::Pace;
-use crate::polling::{between, now, read_past_noise, read_within};
+use crate::polling::{between, read_past_noise, read_within};
 use crate::state::{is_reset, wants_ack};
+use crate::told::Told;
 use crate::wire::{Asking, Came, Wire};
 use mbdc_bus::AnswerBuf;
 use mbdc_io::{IoFault, one_failure_more};
 use std::io;
-use std::io::{Read, Write};
+use std::io::{ErrorKind, Read, Write};
 use std::os::fd::AsRawFd;
 use std::rt::Clock;
 use std::time::{Duration, Instant};
@@ -98,7 +100,7 @@ pub enum Until {
 pub struct PollWire<R: Read + AsRawFd + Drop, W: Write + Link + Drop, C: Clock + Drop> {
     reader: R,
     writer: W,
-    clock: C,
+    clock: Told<C>,
     // The time-out that was stated, that of the line and that of the request, in microseconds.
     stated: u64,
     patience: u64,
@@ -144,8 +146,12 @@ impl<R: Read + AsRawFd + Drop, W: Write + Link + Drop, C: Clock + Drop> PollWire
         ensures came { IfOk result (λ wire. wire.came ≡ false) }
         ensures waited { IfOk result (λ wire. wire.waited ≡ 0) }
         ensures deserted { IfOk result (λ wire. wire.deserted ≡ false) }
+        ensures told { IfOk result (λ wire. told wire ≡ wire.since ∷ []) }
     {
-        let since = Instant::now(&clock)?;
+        let mut clock = Told::new(clock);
+        let Ok(since) = clock.now() else {
+            return Err(io::Error::from(ErrorKind::Other));
+        };
         let micros = u64::from(patience) * 1_000;
         Ok(PollWire {
             reader,
@@ -179,7 +185,7 @@ impl<R: Read + AsRawFd + Drop, W: Write + Link + Drop, C: Clock + Drop> PollWire
 
     /// The time until the next gap or silence, if no byte comes; zero if the clock fails.
     pub fn left(&self) -> Duration {
-        let Ok(at) = now(&self.clock) else {
+        let Some(at) = self.clock.glance() else {
             return Duration::ZERO;
         };
         let rest = self.rest(at);
@@ -235,11 +241,7 @@ impl<R: Read + AsRawFd + Drop, W: Write + Link + Drop, C: Clock + Drop> PollWire
         ensures deserted { self.old.deserted ≡ false → self.new.deserted ≡ true
             → IsDeserted self.old self.new.at }
     {
-        let wait = if self.waits == 0 {
-            self.rest(now(&self.clock)?)
-        } else {
-            0
-        };
+        let wait = self.most_wait()?;
         let is_new = self.ahead.as_slice().is_empty();
         let takes_all = self.takes_all();
         let awaits_ack = self.pace.acks;
@@ -251,7 +253,7 @@ impl<R: Read + AsRawFd + Drop, W: Write + Link + Drop, C: Clock + Drop> PollWire
             takes_all,
             room,
         )?;
-        self.at = now(&self.clock)?;
+        self.at = self.clock.now()?;
         if count > 0 {
             let (given, _) = room.split_at(count);
             self.heard(given)?;
@@ -265,6 +267,19 @@ impl<R: Read + AsRawFd + Drop, W: Write + Link + Drop, C: Clock + Drop> PollWire
             Came::Gap => Ok(Came::Gap),
             Came::Silence => Ok(Came::Silence),
         }
+    }
+
+    // How long one look waits: for the rest of the time-out, once nothing came so often.
+    fn most_wait(&mut self) -> Result<u64, IoFault>
+        ensures { OnOk result ((between : List Moment) × (told self.new ≡ between ++ told self.old)
+            × (self.new ≡ record self.old { clock = self.new.clock })) }
+        ensures well { self.new.failures ≡ self.old.failures }
+    {
+        if self.waits > 0 {
+            return Ok(0);
+        }
+        let at = self.clock.now()?;
+        Ok(self.rest(at))
     }
 
     // Some bytes came. A longer time than the patience since the last ones counts as one: the line
@@ -384,7 +399,7 @@ impl<R: Read + AsRawFd + Drop, W: Write + Link + Drop, C: Clock + Drop> PollWire
         if self.writer.write_all(bytes).is_err() {
             return Err(IoFault);
         }
-        self.asked = now(&self.clock)?;
+        self.asked = self.clock.now()?;
         self.since = self.asked;
         self.begun = false;
         self.asks = true;
@@ -404,7 +419,8 @@ impl<R: Read + AsRawFd + Drop, W: Write + Link + Drop, C: Clock + Drop> PollWire
         if !self.writer.reopen() {
             return false;
         }
-        self.since = now(&self.clock).unwrap_or(self.since);
+        let at = self.clock.now();
+        self.since = at.unwrap_or(self.since);
         self.begun = false;
         self.ahead = AnswerBuf::new();
         self.asks = false;
