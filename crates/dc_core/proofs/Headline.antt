@@ -141,32 +141,22 @@ promised_by budget state before event answer behind whole here promise = absurd 
 
 -- ---- what was answered to the office
 
-told_all : (budget : ℕ) (state : State) (before : List Turn) (text : List ℕ) (reply : Reply)
+told_all : (budget : ℕ) (state : State) (before : List Turn) (text : List ℕ) (reply : Reply) (number : ℕ)
     → ((seen : Seen) → (and_seen (offices text) (replied reply) seen).promised ≡ (and_seen (offices text) (replied reply) seen).accepted)
-    → IsChain budget (opened state) (before ++ (offices text, replied reply) ∷ [])
-    → Tells text reply (after state (accepted state (before ++ (offices text, replied reply) ∷ [])))
-told_all budget state before text reply all chain =
+    → IsChain budget (opened state) (before ++ (offices text, replied reply) ∷ []) → ((s : State) → Tells text reply s → s.last_number ≡ number)
+    → (after state (accepted state (before ++ (offices text, replied reply) ∷ []))).last_number ≡ number
+told_all budget state before text reply number all chain of_it =
     let t : Turn = (offices text, replied reply) in
     let now = before ++ t ∷ [] in
     let core = leads (opened state) before in
     let tells = tells_now budget core text reply (chain_parts budget (opened state) before (t ∷ []) chain).1.0 in
     let told = all_committed budget state now chain (promises_all budget state before (offices text) (replied reply) all chain) in
-    subst (Tells text reply) (ap (λ (c : Core). c.committed) (sym (leads_push (opened state) before t)) ∙ told) tells
-
-told_by : (budget : ℕ) (state : State) (before : List Turn) (text : List ℕ) (reply : Reply) → IsChain budget (opened state) (before ++ (offices text, replied reply) ∷ [])
-    → Tells text reply (after state (accepted state (before ++ (offices text, replied reply) ∷ [])))
-told_by budget state before text (repeated number) chain = told_all budget state before text (repeated number) (λ seen. refl) chain
-told_by budget state before text (obeyed number change) chain = told_all budget state before text (obeyed number change) (λ seen. refl) chain
-told_by budget state before text (shown bytes) chain = told_all budget state before text (shown bytes) (λ seen. refl) chain
-told_by budget state before text unread chain = tt
-told_by budget state before text (unstored fault) chain = tt
-told_by budget state before text (refused code) chain = tt
-told_by budget state before text out_of_memory chain = tt
-told_by budget state before text (uncommitted change fault) chain = tt
+    of_it (after state (accepted state now)) (subst (Tells text reply) (ap (λ (c : Core). c.committed) (sym (leads_push (opened state) before t)) ∙ told) tells)
 
 told_turn : (budget : ℕ) (state : State) (before : List Turn) (event : Event) (answer : Answer) → IsChain budget (opened state) (before ++ (event, answer) ∷ [])
     → HasTold event answer (after state (accepted state (before ++ (event, answer) ∷ [])))
-told_turn budget state before (offices text) (replied reply) chain = told_by budget state before text reply chain
+told_turn budget state before (offices text) (replied (repeated number)) chain = told_all budget state before text (repeated number) number (λ seen. refl) chain (λ s is. is)
+told_turn budget state before (offices text) (replied (obeyed number change)) chain = told_all budget state before text (obeyed number change) number (λ seen. refl) chain (λ s is. is)
 told_turn budget state before event answer chain = tt
 
 -- ---- a prefix with all that is promised by number is kept

@@ -19,7 +19,6 @@ use Rattle.dc_core.specs.Event.{committed, replied, repeated, refused, shown, ou
 use Rattle.dc_core.specs.Transcript.{Turn, leads, accepted_in}
 use Rattle.dc_core.specs.Images.{Machine, IsAt}
 use Rattle.dc_core.specs.Run.{DidAll}
-use Rattle.dc_core.specs.Told.{Tells}
 
 -- ---- how it crashed
 
@@ -83,15 +82,16 @@ IsPromised (offices text) (replied out_of_memory) behind = Unit {0}
 IsPromised commits (committed (Ok count)) behind = Unit {0}
 IsPromised event answer behind = ⊥
 
--- what a turn reported to the office holds of this state: the last command's number, readings,
--- meters
+-- the number that a turn reported to the office is that of this state's last command
 abbrev pub HasTold : Event → Answer → State → Type 0
-HasTold (offices text) (replied reply) state = Tells text reply state
+HasTold (offices text) (replied (repeated number)) state = state.last_number ≡ number
+HasTold (offices text) (replied (obeyed number change)) state = state.last_number ≡ number
 HasTold event answer state = Unit {0}
 
 -- HELD is exactly the register and readings of a prefix of the accepted telegrams and commands, and
--- that prefix includes all that the completed turns have promised. What these reported to the
--- office holds of the state after all that was accepted until then.
+-- that prefix includes all that the completed turns have promised. A number that these reported to the
+-- office is that of the state after all that was accepted until then; what they showed to it is
+-- of that state, too (`ToldIsKept`).
 pub record IsKept (state : State) (done more : List Turn) (held : State) : Type 0 where
   pub prefix : List Change
   pub held_is : held ≡ after state prefix
