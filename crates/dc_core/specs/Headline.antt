@@ -90,8 +90,8 @@ HasTold event answer state = Unit {0}
 
 -- HELD is exactly the register and readings of a prefix of the accepted telegrams and commands, and
 -- that prefix includes all that the completed turns have promised. A number that these reported to the
--- office is that of the state after all that was accepted until then. What they showed to it, the
--- clauses of `office` say, and `ToldIsKept`.
+-- office is that of the state after all that was accepted until then. The clauses of `office` and
+-- `ToldIsKept` say what they showed to it.
 pub record IsKept (state : State) (done more : List Turn) (held : State) : Type 0 where
   pub prefix : List Change
   pub held_is : held ≡ after state prefix
