@@ -1,10 +1,10 @@
-"""The help that the program prints, made of its sources: crates/mbdc_words/src/rows.rt has the words, help.rt the texts."""
+"""The help that the program prints, made of its sources: crates/mbdc_commands/src/words/rows.rt has the words, help.rt the texts."""
 
 import functools
 import pathlib
 import re
 
-WORDS = pathlib.Path(__file__).resolve().parents[1] / "crates" / "mbdc_words" / "src"
+WORDS = pathlib.Path(__file__).resolve().parents[1] / "crates" / "mbdc_commands" / "src" / "words"
 Row = dict[str, str]
 
 

@@ -340,7 +340,7 @@ def main() -> int:
         return USAGE
     found = list(differences(words[1]))
     for it in found:
-        print(f"{it} --help isn't that of crates/mbdc_words", file=sys.stderr)
+        print(f"{it} --help isn't that of crates/mbdc_commands", file=sys.stderr)
     return 1 if found else 0
 
 

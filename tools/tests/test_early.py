@@ -11,7 +11,7 @@ from typing import Optional
 import pytest
 
 ROOT = pathlib.Path(__file__).resolve().parents[2]
-WORDS = ROOT / "crates" / "mbdc_words" / "src"
+WORDS = ROOT / "crates" / "mbdc_commands" / "src" / "words"
 Said = Callable[..., "tuple[int, str]"]
 MISTAKES = [line.split(" => ") for line in pathlib.Path(__file__).with_name("mistakes.txt").read_text().splitlines()]
 COMMANDS = re.findall(r'name: "(\w+)"', (WORDS / "rows.rt").read_text())

@@ -4,11 +4,11 @@ use crate::connecting::{connected, released};
 use crate::tracing::{shows_progress, trace_file_of, tracer_of};
 use mbdc_bus::Both;
 use mbdc_bus::trace::{Observed, Observer, Pair, TraceFile};
+use mbdc_commands::words::BusTask;
 use mbdc_ending::Ending;
 use mbdc_files::{Host, Noted};
-use mbdc_installer::bench::{Progress, Show, Target, Work, run_over};
+use mbdc_installer::bench::{Listing, Progress, Show, Work, run_over};
 use mbdc_raw::links::{Peer, Waiter};
-use mbdc_words::{BusTask, Errand, Listing, Reached};
 use std::fs::File;
 use std::io;
 use std::net::{Net, TcpStream};
@@ -24,17 +24,11 @@ where
 {
     let BusTask {
         link,
-        errand,
+        work,
         listing,
         patience,
         trace,
     } = *task;
-    let work = match errand {
-        Errand::Search(scan) => Work::Search(scan),
-        Errand::Read(meter) => Work::Read(meter),
-        Errand::Address(Reached::Selected(meter), to) => Work::Address(Target::Meter(meter), to),
-        Errand::Address(Reached::At(address), to) => Work::Address(Target::Address(address), to),
-    };
     let file = match trace_file_of(host, trace) {
         Ok(file) => file,
         Err(error) => return host.why.file(trace.unwrap_or_default(), error),

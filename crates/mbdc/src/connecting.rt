@@ -1,17 +1,17 @@
 //! The links of the bus lines on this system.
 
-ghost use Rattle.std.specs.Prelude.{◌≤◌, length};
+ghost use Rattle.std.specs.Prelude.{⊤, ◌≤◌, length};
 
 use mbdc_commands::links_of;
+use mbdc_commands::words::{LinkName, Links};
 use mbdc_ending::Ending;
-use mbdc_files::Host;
-use mbdc_raw::links::reach::{Unconnected, connect_all, reach_all, release_all};
-use mbdc_raw::links::{Linker, Peer};
-use mbdc_words::{LinkName, Links};
+use mbdc_files::{Host, without_number};
+use mbdc_raw::links::reach::{Connector, Unconnected, connect_all, reach_all, release_all};
+use mbdc_raw::links::{Connection, Held, Peer, Socket};
 use std::fs::File;
-use std::io;
 use std::net::{Net, TcpStream};
 use std::rt::{Clock, Files};
+use std::{fs, io};
 
 // The links of a command, or the ending of the command without them.
 type Connected<'a, R> = Result<Vec<Option<Peer<R>>>, Ending<'a>>;
@@ -64,4 +64,55 @@ where
     }
     let mut linker = Linker { rt: host.rt };
     release_all::<LinkName<'_>, Peer<R>, io::Error, Linker<'_, R>>(peers, &mut linker);
+}
+
+// Connects links by TCP and over terminals, and says on standard error which can't be connected.
+#[derive(Clone, Copy, Drop)]
+struct Linker<'r, R> {
+    // The system.
+    rt: &'r R,
+}
+
+impl<'n, R> Connector<LinkName<'n>, Peer<R>, io::Error> for Linker<'_, R>
+where
+    R: Files<File = File> + Net<Stream = TcpStream> + Clock + Copy + Eprint + AllocGlobal,
+{
+    ghost use Rattle.std.specs.Prelude.{⊤};
+
+    // What the system does is in no contract.
+    ghost tries = { λ _ _ _ _. ⊤ };
+
+    ghost says = { λ _ _ _. ⊤ };
+
+    ghost releases = { λ _ _ _. ⊤ };
+
+    // The host isn't found or doesn't accept the connection within 10 s; the terminal can't be opened, or another
+    // program uses it; or out of memory.
+    fn connect(&mut self, name: &LinkName<'n>) -> io::Result<Peer<R>> {
+        match *name {
+            LinkName::Tcp(place) => Ok(Peer::Tcp(Socket::new(self.rt, place)?)),
+            LinkName::Serial(path) => Ok(Peer::Serial(Held::open(self.rt, path)?)),
+            LinkName::Blocks(place) => Ok(Peer::Blocks(Connection::new(self.rt, place)?)),
+        }
+    }
+
+    fn say(&mut self, line: u8, error: &io::Error)
+        ensures { ⊤ }
+    {
+        if let Ok(said) = format!(in self.rt.alloc(); "{error}") {
+            let words = without_number(said.as_str());
+            let _ = eprint!(self.rt; "mbdc: gateway: line {line}: {words}\n");
+        }
+    }
+
+    fn release(&mut self, peer: &Peer<R>)
+        ensures { ⊤ }
+    {
+        // A lock file that is left behind, by a kill, names a process that has ended.
+        if let Peer::Serial(held) = peer
+            && let Some(name) = &held.lock_file
+        {
+            let _ = fs::remove_file(self.rt, name.as_str());
+        }
+    }
 }

@@ -2,13 +2,13 @@
 
 use crate::clock;
 use mbdc_commands::look_ending;
+use mbdc_commands::words::Layout;
 use mbdc_ending::{Ending, ProgramFault, STREAM, ending_of};
 use mbdc_files::{Host, LookedAt, Output, ROUNDS, journal_lines, own_lines};
 use mbdc_io::NoMemory;
 use mbdc_json::journal::{Journal, read_journal};
 use mbdc_log::Greatest;
 use mbdc_looks::{Asked, Form, Outlook, Report, Shown, answer, register_of, scan};
-use mbdc_words::Layout;
 use std::alloc::Global;
 use std::fs::File;
 use std::io;

@@ -20,9 +20,9 @@ mod tasks;
 mod tracing;
 
 use ending::{is_cut_off, told, told_disk, told_why, told_words};
+use mbdc_commands::words::{Call, call_of};
 use mbdc_ending::Ending;
 use mbdc_files::{ERRORS, Host, NOWHERE, Why, hold, is_full};
-use mbdc_words::{Call, call_of};
 use std::io::{ErrorKind, IsTerminal, Write};
 use std::process::ExitCode;
 use std::rt::Env;

@@ -12,3 +12,9 @@ mod FitLeaving
 mod Printed
 -- a script whose text was written in another way
 mod RunLeaving
+-- of the module `words`
+
+-- the one colon before a port
+mod Places
+-- the words of lines that are refused
+mod Refused

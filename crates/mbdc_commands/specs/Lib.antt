@@ -20,3 +20,13 @@ pub mod Rescue
 pub mod RunOver
 -- which buses are waited for
 pub mod Waiting
+-- of the module `words`
+
+-- what is wrong with the words
+pub mod Words
+-- how a link is spelled
+pub mod Link
+-- which line has which link
+pub mod Links
+-- how long a meter may be silent
+pub mod Silence

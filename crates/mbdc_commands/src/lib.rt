@@ -1,5 +1,6 @@
 //! The commands `poll` and `run`, once their files and links are open: the poll or the script goes over what the
-//! caller has opened, is printed, and ends.
+//! caller has opened, is printed, and ends. And the words of the command line, which ask for them and for all other
+//! commands ([`words`]).
 //!
 //! [`poll_over`] reads the meters of an image over the buses of their lines, and [`run_over`] runs a script over one.
 //! [`poll_ending`] says which exit status results. A [`Waits`] waits for the buses that are awaited.
@@ -17,6 +18,7 @@ mod rescue;
 mod run;
 mod timer;
 mod waiting;
+pub mod words;
 
 pub use connecting::links_of;
 pub use ending::{look_ending, poll_ending, run_result};

@@ -2,8 +2,8 @@
 
 use crate::half_made::is_same_file;
 use crate::image::{NO_FILE, file_limit, refused};
+use crate::why::without_number;
 use mbdc_io::first_line;
-use mbdc_raw::links::without_number;
 use std::alloc::AllocError;
 use std::fs::{File, OpenOptions};
 use std::io::{ErrorKind, Read, Seek, SeekFrom, Write};

@@ -43,4 +43,4 @@ pub use looking::{LookDisk, LookedAt, ROUNDS};
 pub use output::{ERRORS, Output, is_full};
 pub use patient::Patient;
 pub use streams::{NOWHERE, hold};
-pub use why::{DiskReason, Noted, Reason, Why};
+pub use why::{DiskReason, Noted, Reason, Why, without_number};

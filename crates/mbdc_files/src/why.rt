@@ -15,6 +15,17 @@ use std::os::unix::fs::FileExt;
 // Number of bytes of a sector.
 const SECTOR: u64 = 512;
 
+// The text between the system's message and its error number.
+const NUMBERED: &str = " (os error ";
+
+/// The system's message without its error number.
+pub fn without_number(said: &str) -> &str {
+    match said.rsplit_once(NUMBERED) {
+        Some((words, _)) => words,
+        None => said,
+    }
+}
+
 /// The system's message for a call that failed, and the bus line of its link.
 #[derive(Clone, Copy)]
 pub struct Reason {

@@ -12,7 +12,7 @@ use Rattle.mbdc_io.specs.Written.{PutsInto}
 use Rattle.mbdc_io.specs.declared.stream.Sink.{Ghosts}
 use Rattle.dc_readout.specs.Summary.{Summary}
 use Rattle.dc_search.specs.State.{SearchState}
-use Rattle.mbdc_words.specs.declared.task.MeterName.{MeterName}
+use Rattle.mbdc_installer.specs.declared.bench.command.MeterName.{MeterName}
 
 -- two texts, one after the other
 pub then_puts : {S : Type 0} (g : Ghosts S) (old between new : S) (late text : List ℕ) → PutsInto g between new late → PutsInto g old between text

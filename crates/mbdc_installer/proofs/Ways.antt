@@ -13,7 +13,7 @@ use Rattle.mbdc_installer.specs.declared.reading.Readout.{Readout}
 use Rattle.mbdc_io.specs.declared.stream.IoFault.{IoFault}
 use Rattle.dc_readout.specs.declared.misses.misses.Misses.{Misses}
 use Rattle.dc_readout.specs.Summary.{begun}
-use Rattle.mbdc_words.specs.declared.task.MeterName.TheVariants.{Identity as ByIdentity, Address as ByAddress, Number as ByNumber}
+use Rattle.mbdc_installer.specs.declared.bench.command.MeterName.TheVariants.{Identity as ByIdentity, Address as ByAddress, Number as ByNumber}
 
 module _ {B : Type 0} (bus : BusGhosts B) (wrote : List ℕ → Type 0) where
   pub selected : (meter : Identity) (old new : B) (r : Result Readout IoFault)

@@ -29,9 +29,9 @@ use Rattle.mbdc_io.specs.declared.stream.IoFault.{IoFault}
 use Rattle.mbdc_io.specs.declared.stream.Sink.{Ghosts}
 use Rattle.dc_readout.specs.declared.misses.misses.Misses.{Misses}
 use Rattle.dc_readout.specs.Summary.{begun}
-use Rattle.mbdc_words.specs.declared.task.MeterName.{MeterName}
-use Rattle.mbdc_words.specs.declared.task.MeterName.TheVariants.{Identity as ByIdentity, Address as ByAddress, Number as ByNumber}
-use Rattle.mbdc_words.specs.declared.task.Scan.TheVariants.{Wildcards, Primary}
+use Rattle.mbdc_installer.specs.declared.bench.command.MeterName.{MeterName}
+use Rattle.mbdc_installer.specs.declared.bench.command.MeterName.TheVariants.{Identity as ByIdentity, Address as ByAddress, Number as ByNumber}
+use Rattle.mbdc_installer.specs.declared.bench.command.Scan.TheVariants.{Wildcards, Primary}
 
 -- ---- what goes over the bus
 

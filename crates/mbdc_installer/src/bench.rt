@@ -15,7 +15,7 @@ mod reading;
 mod remark;
 
 pub use crate::Target;
-pub use command::{Done, Work, run_over, work_over};
+pub use command::{Done, Listing, MeterName, Scan, Work, run_over, work_over};
 pub use printer::Printer;
 pub use progress::{Progress, Show};
 pub use remark::put_remark;

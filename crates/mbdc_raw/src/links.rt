@@ -1,12 +1,11 @@
 //! The links of the bus lines on this system: transparent gateways over TCP, serial level
 //! converters, and gateways of the block protocol.
 //!
-//! A [`Linker`] connects the links of all bus lines, as [`reach`] asks it to, and [`Peer::bus`] returns a link's bus
-//! ([`LinkBus`]). A [`Watch`] waits until one of several buses may have received something.
+//! [`reach`] has the order in which links are connected, and [`Peer::bus`] returns a link's bus ([`LinkBus`]). A
+//! [`Watch`] waits until one of several buses may have received something.
 
 mod bus;
 mod connection;
-mod linking;
 mod lock_file;
 mod peer;
 pub mod reach;
@@ -16,7 +15,6 @@ mod waiting;
 
 pub use bus::LinkBus;
 pub use connection::Connection;
-pub use linking::{Linker, without_number};
 pub use peer::{BlockBus, ByteBus, Peer, RawBus, SystemBus};
 pub use socket::{Socket, Tcp, Terminal};
 pub use terminal::Held;

@@ -15,10 +15,10 @@ use crate::confirming::Wildcard;
 use crate::{
     Addressing, Count, Readout, ScanFault, Target, put_addressing, scan, scan_primary, set_address,
 };
+use dc_address::Identity;
 use mbdc_bus::Bus;
 use mbdc_ending::Ending;
 use mbdc_io::{IoFault, Sink, WriteSink};
-use mbdc_words::{Listing, MeterName, Scan};
 use std::alloc::Global;
 use std::io::{LineWriter, Write};
 use std::rt::Clock;
@@ -26,6 +26,37 @@ use std::rt::Clock;
 // What 16 answers without a frame mean.
 const NOISE: &str =
     "mbdc: 16 answers, none of them a frame: given up. Are speed and parity right? Is another master on the bus?\n";
+
+/// How meters are searched for on a bus without an image.
+#[derive(Clone, Copy)]
+pub enum Scan {
+    /// By wildcards, with at most this many selections.
+    Wildcards(u32),
+    /// At each primary address.
+    Primary,
+}
+
+/// How what a search finds is printed.
+#[derive(Clone, Copy)]
+pub enum Listing {
+    /// Lines of words.
+    Text,
+    /// A list of the meters of that bus line, as `fit` takes it, with the flats left out.
+    Csv(u8),
+    /// JSON Lines: an object a meter, and one for all else.
+    Json,
+}
+
+/// How a meter is named on a bus.
+#[derive(Clone, Copy)]
+pub enum MeterName {
+    /// By its identity: it is selected.
+    Identity(Identity),
+    /// By its primary address; 0 is that of a meter that got none.
+    Address(u8),
+    /// By the eight digits of its number alone: all with that number are selected.
+    Number([u8; 8]),
+}
 
 /// What is done on a bus.
 #[derive(Clone, Copy)]

@@ -1,6 +1,6 @@
 //! What a search finds as a list for `fit`, and as JSON Lines. Its text is in no contract.
 
-use crate::bench::command::{Done, Work};
+use crate::bench::command::{Done, Listing, Scan, Work};
 use crate::bench::ending::ended;
 use crate::bench::printer::Printer;
 use crate::bench::progress::Progress;
@@ -14,7 +14,6 @@ use mbdc_decode::put_point;
 use mbdc_decode::tokens::{Piece, put_pieces};
 use mbdc_ending::Ending;
 use mbdc_io::{FixedSink, IoFault, Sink, put_number};
-use mbdc_words::{Listing, Scan};
 use std::alloc::Global;
 use std::rt::Clock;
 

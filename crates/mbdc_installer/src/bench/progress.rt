@@ -1,6 +1,6 @@
 //! The progress of a search, on a terminal.
 
-use crate::bench::command::{Done, Work};
+use crate::bench::command::{Done, Scan, Work};
 use crate::bench::remark::put_remark;
 use crate::{Course, GREATEST};
 use dc_address::Identity;
@@ -13,7 +13,6 @@ use mbdc_bus::trace::Observer;
 use mbdc_decode::put_point;
 use mbdc_decode::tokens::{Piece, put_pieces};
 use mbdc_io::{FixedSink, IoFault, Sink};
-use mbdc_words::Scan;
 use std::alloc::Global;
 use std::cell::{Cell, RefCell};
 use std::io::Write;

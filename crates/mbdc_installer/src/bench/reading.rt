@@ -5,12 +5,12 @@ ghost use Rattle.mbdc_io.specs.Failures.{HasRisen};
 ghost use Rattle.mbdc_io.specs.Written.{PutsInto};
 ghost use Rattle.mbdc_installer.specs.Command.{IsRead, missed_by};
 
+use crate::bench::command::MeterName;
 use crate::{Numbered, Readout, find_number, identify, put_unfound, read};
 use dc_address::Primary;
 use dc_readout::misses::Misses;
 use mbdc_bus::Bus;
 use mbdc_io::{IoFault, Sink};
-use mbdc_words::MeterName;
 
 /// Reads a meter, which is found first where it is named by its primary address, or by its number. One at address 0 is
 /// selected, then.

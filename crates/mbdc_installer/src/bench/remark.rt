@@ -4,11 +4,10 @@ ghost use Rattle.std.specs.Prelude.{◌≡◌};
 ghost use Rattle.mbdc_io.specs.Written.{Wrote};
 ghost use Rattle.mbdc_installer.specs.Remark.{hint, owner_of, remark_text};
 
-use crate::bench::command::{Done, Work};
+use crate::bench::command::{Done, MeterName, Work};
 use crate::{Count, Course, Readout, is_all_read, put_unread};
 use dc_readout::misses::{Owner, put_reason};
 use mbdc_io::{IoFault, Sink};
-use mbdc_words::MeterName;
 
 /// Writes what is to be known of a command besides its text: after a search how many answers can't be read, and to a
 /// person what to do where nothing was found, and with numbers that several meters have; after a readout that failed

@@ -1,7 +1,7 @@
 use Rattle.std.proofs.Common.{◌≡◌}
 use Rattle.mbdc_installer.specs.Command.{addresses, asks_each, reads, scans}
 use Rattle.mbdc_installer.specs.declared.bench.command.Work.TheVariants.{Search, Read, Address}
-use Rattle.mbdc_words.specs.declared.task.Scan.TheVariants.{Wildcards, Primary}
+use Rattle.mbdc_installer.specs.declared.bench.command.Scan.TheVariants.{Wildcards, Primary}
 use Rattle.mbdc_installer.proofs.bench.command.do_work.Goals as goal
 
 pub returns-in-Ok-clause-done : goal.returns-in-Ok-clause-done

@@ -1,8 +1,8 @@
 use Rattle.std.proofs.Common.{◌<◌, length, arith, Some, None, MatchOption}
 use Rattle.std.proofs.lemmas.Bool.Decides.{nat_tests}
-use Rattle.mbdc_words.specs.Link.{IsPlace, IsPort}
-use Rattle.mbdc_words.proofs.Places.{split_at_last, place_at, only_place, none_without_colon}
-use Rattle.mbdc_words.proofs.link.port_of.Goals as goal
+use Rattle.mbdc_commands.specs.Link.{IsPlace, IsPort}
+use Rattle.mbdc_commands.proofs.Places.{split_at_last, place_at, only_place, none_without_colon}
+use Rattle.mbdc_commands.proofs.words.link.port_of.Goals as goal
 
 pub returns-in-Some : goal.returns-in-Some
 returns-in-Some c =

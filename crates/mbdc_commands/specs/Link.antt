@@ -2,10 +2,10 @@
 -- the port follows the last colon.
 use Rattle.std.specs.Prelude.{◌≡◌, ◌≢◌, ◌⊎◌, ◌<◌, ◌≤◌, ℕ, List, ◌∷◌, ◌++◌, length, codes}
 use Rattle.std.specs.Str.Parse.{IsNumeral, digits_value}
-use Rattle.mbdc_words.specs.declared.link.LinkName.{LinkName}
-use Rattle.mbdc_words.specs.declared.link.LinkName.TheVariants.{Tcp, Serial, Blocks}
-use Rattle.mbdc_words.specs.declared.fault.LinkFault.{LinkFault}
-use Rattle.mbdc_words.specs.declared.fault.LinkFault.TheVariants.{NoLine, Twice, Scheme, Port, Path}
+use Rattle.mbdc_commands.specs.declared.words.link.LinkName.{LinkName}
+use Rattle.mbdc_commands.specs.declared.words.link.LinkName.TheVariants.{Tcp, Serial, Blocks}
+use Rattle.mbdc_commands.specs.declared.words.fault.LinkFault.{LinkFault}
+use Rattle.mbdc_commands.specs.declared.words.fault.LinkFault.TheVariants.{NoLine, Twice, Scheme, Port, Path}
 
 abbrev pub word_of : LinkName → List ℕ
 word_of (Tcp place) = codes "tcp://" ++ place.now

@@ -1,7 +1,7 @@
 -- What is wrong with the words (this product).
-use Rattle.mbdc_words.specs.declared.fault.WordsFault.{WordsFault}
-use Rattle.mbdc_words.specs.declared.fault.WordsFault.TheVariants.{Clap, Link, Meter, Reached, NoLink}
-use Rattle.mbdc_words.specs.declared.fault.WordsFault.TheVariants.{Silence, Dash, Flat, Address, NoMemory}
+use Rattle.mbdc_commands.specs.declared.words.fault.WordsFault.{WordsFault}
+use Rattle.mbdc_commands.specs.declared.words.fault.WordsFault.TheVariants.{Clap, Link, Meter, Reached, NoLink}
+use Rattle.mbdc_commands.specs.declared.words.fault.WordsFault.TheVariants.{Silence, Dash, Flat, Address, NoMemory}
 
 -- what is said where they are a mistake of which `clap` knows nothing
 abbrev pub IfMistake : WordsFault → Type 0 → Type 0

@@ -211,10 +211,12 @@ Lines of the list; a comma, a semicolon, a tab or a space ends a field:
                              250, flat of 1 to 12 of A-Z a-z 0-9 . - / _
   18034063.PAD.49.06,1,S,A2  S or nothing: secondary addressing
 Other columns are left out; what report IMAGE register prints is a list, too.
-All rows are checked before the first is done. Printed of each row:
+All rows are checked before the first is done. Where every row is right, each
+prints its line:
   line i: n FIT ident line addr flat  a new meter: its command and its number
   line i: ident stands already        the register has it at this place
-  line i: reason                      the row is wrong: nothing is done
+Where a row is wrong, only the wrong rows do, and nothing is done:
+  line i: reason
 The whole list is written at once: after a power cut all of it is done, or
 nothing.
 Status: 0 every meter stands, 1 a row is wrong, 3 the image or its disk, 4 a
@@ -264,11 +266,14 @@ pub const RESCUE: &str = "Example:
 
 For an image that mbdc doesn't open, or says of that a sector is ahead. It isn't
 changed, and the new one has as many sectors. Printed, a fact a line:
-  WHOLE               the image reads as a state, and the new image has it
-  WITHOUT sector      the state before the group at this damaged sector
-  OLDER sector slot   the root in this slot is left out too: a whole state,
-                      written when a half was full, may be lost
-  LOST n              groups written after it, up to the last with a trace
+  WHOLE         nothing is lost: the new image has all that the image says
+  WITHOUT n     sector n is damaged and left out. 1 or 2 is a root sector, which
+                names the half that counts: the other root is used. Any other n
+                is in a half: the new image ends before the commit at n
+  OLDER n root  reading stops at sector n, and without it too. So the newer root
+                sector (1 or 2) is left out, and the other one is used: what was
+                written when a half was full may be lost
+  LOST n        n later commits left a trace, and aren't in the new image
 Then what inspect prints of the new image.
 Status: 0 the new image has the state, 3 nothing can be rescued or written, 4 a
   file or memory.";

@@ -1,8 +1,8 @@
 use Rattle.std.proofs.Common.{◌≡◌, ◌≤◌, ◌+◌, ◌∷◌, Err, arith}
 use Rattle.std.proofs.lemmas.Result.{err_from_is_err_and}
 use Rattle.std.proofs.lemmas.Grind.{common_steps}
-use Rattle.mbdc_words.proofs.Refused.{bad_link}
-use Rattle.mbdc_words.proofs.links.Links.add.Goals as goal
+use Rattle.mbdc_commands.proofs.Refused.{bad_link}
+use Rattle.mbdc_commands.proofs.words.links.Links.add.Goals as goal
 
 pub returns-in_err-link-clause-refused : goal.returns-in_err-link-clause-refused
 returns-in_err-link-clause-refused c =

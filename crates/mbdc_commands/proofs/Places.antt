@@ -7,7 +7,7 @@ use Rattle.std.proofs.lemmas.Bool.Decides.{nat_tests}
 use Rattle.std.proofs.lemmas.List.{get_or-append_right, take-append-drop, length-append}
 use Rattle.std.proofs.Math.Seq.{get_or-append_seam}
 use Rattle.std.proofs.lemmas.Str.Pattern.{NoCharPasses-char, drop_at_char}
-use Rattle.mbdc_words.specs.Link.{IsPort, IsPlace}
+use Rattle.mbdc_commands.specs.Link.{IsPort, IsPlace}
 
 -- no byte of a numeral is a colon
 pub digits_lack_colon : (ds : List ℕ) (k : ℕ) → AllDigits 10 ds → k < length ds → get_or ds k 0 ≢ 58

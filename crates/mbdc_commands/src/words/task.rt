@@ -1,10 +1,11 @@
 //! What the words ask for.
 
-use crate::link::LinkName;
-use crate::links::Links;
+use crate::words::link::LinkName;
+use crate::words::links::Links;
 use dc_address::{Identity, Primary};
 use dc_meters::named::Named;
 use mbdc_change::Flat;
+use mbdc_installer::bench::{Listing, Work};
 use std::alloc::Global;
 
 /// How the frames of an input are printed.
@@ -31,64 +32,13 @@ pub enum Engine {
     Fill,
 }
 
-/// How meters are searched for on a bus without an image.
-#[derive(Clone, Copy)]
-pub enum Scan {
-    /// By wildcards, with at most this many selections.
-    Wildcards(u32),
-    /// At each primary address.
-    Primary,
-}
-
-/// How what a search finds is printed.
-#[derive(Clone, Copy)]
-pub enum Listing {
-    /// Lines of words.
-    Text,
-    /// A list of the meters of that bus line, as `fit` takes it, with the flats left out.
-    Csv(u8),
-    /// JSON Lines: an object a meter, and one for all else.
-    Json,
-}
-
-/// How a meter is named on a bus.
-#[derive(Clone, Copy)]
-pub enum MeterName {
-    /// By its identity: it is selected.
-    Identity(Identity),
-    /// By its primary address; 0 is that of a meter that got none.
-    Address(u8),
-    /// By the eight digits of its number alone: all with that number are selected.
-    Number([u8; 8]),
-}
-
-/// How a meter that gets an address is reached.
-#[derive(Clone, Copy)]
-pub enum Reached {
-    /// By its identity: it is selected.
-    Selected(Identity),
-    /// At the address that it has.
-    At(u8),
-}
-
-/// What is done on one bus.
-#[derive(Clone, Copy)]
-pub enum Errand {
-    /// A search for meters.
-    Search(Scan),
-    /// The readout of one meter.
-    Read(MeterName),
-    /// A new primary address for a meter.
-    Address(Reached, u8),
-}
-
 /// What is done on one bus, without an image.
 #[derive(Clone, Copy)]
 pub struct BusTask<'a> {
     /// The bus.
     pub link: LinkName<'a>,
     /// What is done there.
-    pub errand: Errand,
+    pub work: Work,
     /// How meters that are found are printed.
     pub listing: Listing,
     /// The time-out of an answer in milliseconds.

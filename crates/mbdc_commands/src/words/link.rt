@@ -1,9 +1,9 @@
 //! The name of a link: how a bus line is reached.
 
 ghost use Rattle.std.specs.Prelude.{◌≡◌, ◌++◌, IfOk, IfErr, MatchOption, MatchResult, codes};
-ghost use Rattle.mbdc_words.specs.Link.{word_of, IsLink, IsMistake, IsPlace, IsPort};
+ghost use Rattle.mbdc_commands.specs.Link.{word_of, IsLink, IsMistake, IsPlace, IsPort};
 
-use crate::fault::LinkFault;
+use crate::words::fault::LinkFault;
 
 /// How a bus line is reached.
 #[derive(Clone, Copy)]

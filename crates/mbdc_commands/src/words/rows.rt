@@ -1,6 +1,6 @@
 //! The commands and their words, as rows, and as `clap` gets them.
 
-use crate::help;
+use crate::words::help;
 use clap::builder::ValueParser;
 use clap::{Arg, ArgAction, Command};
 use std::alloc::{AllocError, Global};

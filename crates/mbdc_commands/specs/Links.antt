@@ -1,10 +1,10 @@
 -- Which bus line has which link (this product): the links by line, the first of line 1.
 use Rattle.std.specs.Prelude.{◌≡◌, ◌≤◌, ◌+◌, ℕ, List, [], ◌∷◌, ◌++◌, codes, Option, Some, None, IsSome}
 use Rattle.std.specs.List.{slice_index_or, slice_set}
-use Rattle.mbdc_words.specs.Link.{word_of, IsLink, IsMistake}
-use Rattle.mbdc_words.specs.declared.link.LinkName.{LinkName}
-use Rattle.mbdc_words.specs.declared.fault.LinkFault.{LinkFault}
-use Rattle.mbdc_words.specs.declared.fault.LinkFault.TheVariants.{NoLine, Twice, Scheme, Port, Path}
+use Rattle.mbdc_commands.specs.Link.{word_of, IsLink, IsMistake}
+use Rattle.mbdc_commands.specs.declared.words.link.LinkName.{LinkName}
+use Rattle.mbdc_commands.specs.declared.words.fault.LinkFault.{LinkFault}
+use Rattle.mbdc_commands.specs.declared.words.fault.LinkFault.TheVariants.{NoLine, Twice, Scheme, Port, Path}
 
 -- how a line's link is spelled: its digit, from 1, and the link
 abbrev pub line_word : ℕ → LinkName → List ℕ

@@ -1,18 +1,18 @@
 //! What the words ask for, by what `clap` matched.
 
-use crate::fault::{LinkFault, WordsFault};
-use crate::link::LinkName;
-use crate::links::Links;
-use crate::rows::program;
-use crate::silence::silence_of;
-use crate::task::{
-    BusTask, Call, Engine, Errand, Form, Layout, Listing, MeterName, OrderTask, PollTask, Reached,
-    RunTask, Scan, Task, Turn,
+use crate::words::fault::{LinkFault, WordsFault};
+use crate::words::link::LinkName;
+use crate::words::links::Links;
+use crate::words::rows::program;
+use crate::words::silence::silence_of;
+use crate::words::task::{
+    BusTask, Call, Engine, Form, Layout, OrderTask, PollTask, RunTask, Task, Turn,
 };
 use clap::ArgMatches;
 use dc_address::Primary;
 use dc_meters::named::{Named, identity_of};
 use mbdc_change::Flat;
+use mbdc_installer::bench::{Listing, MeterName, Scan, Target, Work};
 use std::alloc::Global;
 
 // The greatest primary address.
@@ -93,21 +93,21 @@ fn decoder_of(inner: &ArgMatches<'_>) -> Engine {
 // The tasks over one bus. Words that the command doesn't have are absent.
 fn bus_task<'a>(name: &str, inner: &ArgMatches<'a>) -> Result<Task<'a>, WordsFault> {
     let link = LinkName::parse(inner.get_str("LINK").unwrap_or_default())?;
-    let errand = match name {
-        "scan" if inner.get_flag("PRIMARY") => Errand::Search(Scan::Primary),
-        "scan" => Errand::Search(Scan::Wildcards(inner.get_one("BUDGET").unwrap_or_default())),
-        "address" => Errand::Address(
+    let work = match name {
+        "scan" if inner.get_flag("PRIMARY") => Work::Search(Scan::Primary),
+        "scan" => Work::Search(Scan::Wildcards(inner.get_one("BUDGET").unwrap_or_default())),
+        "address" => Work::Address(
             reached_by(inner.get_str("OLD").unwrap_or_default())?,
             inner.get_one("NEW").unwrap_or_default(),
         ),
         _ => {
             let meter = inner.get_str("METER").unwrap_or_default();
-            Errand::Read(meter_of(meter).ok_or(WordsFault::Meter)?)
+            Work::Read(meter_of(meter).ok_or(WordsFault::Meter)?)
         }
     };
     Ok(Task::Bus(BusTask {
         link,
-        errand,
+        work,
         listing: match inner.get_one("CSV") {
             Some(line) => Listing::Csv(line),
             None if inner.get_flag("JSON") => Listing::Json,
@@ -119,10 +119,10 @@ fn bus_task<'a>(name: &str, inner: &ArgMatches<'a>) -> Result<Task<'a>, WordsFau
 }
 
 // The meter that gets an address.
-fn reached_by(word: &str) -> Result<Reached, WordsFault> {
+fn reached_by(word: &str) -> Result<Target, WordsFault> {
     match meter_of(word) {
-        Some(MeterName::Identity(meter)) => Ok(Reached::Selected(meter)),
-        Some(MeterName::Address(address)) => Ok(Reached::At(address)),
+        Some(MeterName::Identity(meter)) => Ok(Target::Meter(meter)),
+        Some(MeterName::Address(address)) => Ok(Target::Address(address)),
         Some(MeterName::Number(_)) | None => Err(WordsFault::Reached),
     }
 }

@@ -3,8 +3,8 @@
 //! [`call_of`] makes a [`Call`] of the words, which has a [`Task`]. A bus line's link is named by a
 //! word such as `1=tcp://10.0.0.7:10001` ([`Links`], [`LinkName`]). What is wrong with the words is a
 //! [`WordsFault`].
-#![tactic(auto)]
 
+mod call;
 mod fault;
 mod help;
 mod link;
@@ -13,15 +13,10 @@ mod near;
 mod rows;
 mod silence;
 mod task;
-mod words;
 
+pub use call::call_of;
 pub use fault::{LinkFault, WordsFault};
-pub use help::VERSION;
 pub use link::LinkName;
-pub use links::{LINES, Links};
+pub use links::Links;
 pub use near::nearest;
-pub use task::{
-    BusTask, Call, Engine, Errand, Form, Layout, Listing, MeterName, OrderTask, PollTask, Reached,
-    RunTask, Scan, Task, Turn,
-};
-pub use words::call_of;
+pub use task::{BusTask, Call, Engine, Form, Layout, OrderTask, PollTask, RunTask, Task, Turn};

@@ -3,12 +3,12 @@
 ghost use Rattle.std.specs.Prelude.{◌≡◌, ◌≢◌, ◌≤◌, ◌+◌, ◌∷◌, ◌↔◌, ℕ, [], None, IsTrue};
 ghost use Rattle.std.specs.Prelude.{IfErr, IfNone, IfSome, OnOk, OnErr};
 ghost use Rattle.std.specs.List.{All};
-ghost use Rattle.mbdc_words.specs.Link.{IsLink};
-ghost use Rattle.mbdc_words.specs.Links.{Adds, IsLineMistake, IsTaken, line_word};
-ghost use Rattle.mbdc_words.specs.declared.link.LinkName.{LinkName as Link};
+ghost use Rattle.mbdc_commands.specs.Link.{IsLink};
+ghost use Rattle.mbdc_commands.specs.Links.{Adds, IsLineMistake, IsTaken, line_word};
+ghost use Rattle.mbdc_commands.specs.declared.words.link.LinkName.{LinkName as Link};
 
-use crate::fault::LinkFault;
-use crate::link::LinkName;
+use crate::words::fault::LinkFault;
+use crate::words::link::LinkName;
 
 /// Number of bus lines.
 pub const LINES: usize = 8;

@@ -2,7 +2,7 @@
 
 ghost use Rattle.std.specs.Prelude.{◌≡◌, ℕ, ◌*◌, ◌<◌, ◌≤◌, IfSome, Some};
 ghost use Rattle.std.specs.Fmt.{decimal};
-ghost use Rattle.mbdc_words.specs.Silence.{IsCounted};
+ghost use Rattle.mbdc_commands.specs.Silence.{IsCounted};
 
 use mbdc_change::parse_number;
 
