@@ -37,16 +37,34 @@ def readings(image: str) -> dict[str, Any]:
     return {it["meter"]["id"]: it["reading"] for it in printed("values", image)}
 
 
-def journal(image: str) -> Iterator[Any]:
-    """The events of the journal, the oldest first. What isn't whole is passed over."""
+def lines_beside(image: str) -> Iterator[str]:
+    """The lines of the journal. What is no regular file that begins with an object is passed over, as `mbdc` does."""
     for path in (pathlib.Path(f"{image}.journal.1"), pathlib.Path(f"{image}.journal")):
-        for line in path.read_text(errors="replace").splitlines() if path.exists() else []:
-            try:
-                event = json.loads(line)
-            except ValueError:
-                continue
-            if isinstance(event, dict) and isinstance(event.get("at"), int):
-                yield event
+        if path.is_file() and not path.is_symlink() and (text := path.read_text(errors="replace")).startswith("{"):
+            yield from text.splitlines()
+
+
+def journal(image: str) -> list[Any]:
+    """The events of the journal, the oldest first, without those up to a reading whose number the image hasn't given: these are of another
+    image, and `values` and `status` pass over them, too. So is what isn't whole."""
+    lines = list(lines_beside(image))  # (before the image is asked: a poll may go on meanwhile)
+    facts = dict(line.partition(" ")[::2] for line in lines_of("inspect", image))
+    given = max(int(number) for number in [*facts["READINGS"].split()[2:], facts["MARK"]])
+    own, is_own = list[Any](), True
+    for line in lines:
+        try:
+            event = json.loads(line)
+        except ValueError:
+            continue
+        if not isinstance(event, dict) or not isinstance(event.get("at"), int):
+            continue
+        if isinstance(serial := event.get("serial"), int):
+            is_own = serial <= given
+        if is_own:
+            own.append(event)
+        else:
+            own.clear()
+    return own
 
 
 def is_number(value: Any) -> bool:

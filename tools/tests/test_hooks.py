@@ -5,6 +5,9 @@ import pathlib
 import subprocess
 from typing import Any
 
+import mbdc_json
+import pytest
+
 PACKAGING = pathlib.Path(__file__).resolve().parents[2] / "packaging"
 METER: dict[str, Any] = {"id": "12345678.PAD.01.07", "number": "12345678", "manufacturer": "PAD", "version": 1, "medium": "water",
                          "medium_code": 7}
@@ -32,6 +35,7 @@ def test_metrics_of_a_flat_with_any_letters_and_of_polls(tmp_path: pathlib.Path)
     reading = {"headline": [VALUE, VALUE, {**VALUE, "type": "date"}, {**VALUE, "tariff": 1, "value": None}], "values": []}
     size = {"bytes": 195, "budget": 249856, "days": None, "room": None}
     for name, text in {"status": f"{json.dumps(state)}\n{json.dumps(size)}\n", "--version": "mbdc 1.2.3, logic 0a\n",
+                       "inspect": "DISK 2051\nREADINGS 1 7 7\nMARK 6\n",
                        "values": f"{json.dumps({'flat': state['flat'], 'meter': METER, 'reading': reading})}\n"}.items():
         (tmp_path / name).write_text(text)
     lost, ends = {"event": "lost"}, [{"event": "end", "read": 0, "failed": 1}, {"event": "end", "read": 1, "failed": 0}]
@@ -49,3 +53,17 @@ def test_metrics_of_a_flat_with_any_letters_and_of_polls(tmp_path: pathlib.Path)
         "mbdc_poll_meters_failed 0", "mbdc_poll_lines_lost 1", f"mbdc_meter_heard_timestamp_seconds{{{labels}}} 1795900080", f"mbdc_meter_status{{{labels}}} 4",
         f'mbdc_meter_value{{{labels},quantity="volume",tariff="0",subunit="0",unit="m3"}} 12.565', "mbdc_image_bytes 195",
         "mbdc_image_budget_bytes 249856"]
+
+
+@pytest.mark.parametrize("facts", ["READINGS 2 4 5\nMARK 3\n", "READINGS 0\nMARK 5\n"])
+def test_the_journal_of_another_image_is_passed_over(tmp_path: pathlib.Path, monkeypatch: pytest.MonkeyPatch, facts: str) -> None:
+    """Up to a reading with a number that the image hasn't given, and what isn't whole, is no event, or is no journal."""
+    monkeypatch.setattr(mbdc_json, "lines_of", lambda *words: facts.splitlines())
+    events = [{"at": 1, "event": "failed"}, {"at": 2, "serial": 6}, {"at": 3, "event": "end"}, {"at": 4, "serial": 4}, {"at": 5, "event": "end"}]
+    file, image = tmp_path / "house.image.journal", str(tmp_path / "house.image")
+    for count, own in ((1, events[:1]), (2, []), (3, []), (4, events[3:4]), (5, events[3:])):
+        file.write_text("\n".join([*map(json.dumps, events[:count]), "[5]", '{"at":"now"}', '{"at":6']))
+        assert mbdc_json.journal(image) == own
+    file.rename(tmp_path / "other")
+    file.symlink_to("other")
+    assert mbdc_json.journal(image) == []
