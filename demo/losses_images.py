@@ -202,6 +202,36 @@ def a_poll_outlives_its_output(program: Program, folder: pathlib.Path) -> None:
     wants(readings_in(program) == 3, f"a full log: {readings_in(program)} of 3 readings")
 
 
+def a_full_log_is_named(program: Program, folder: pathlib.Path) -> None:
+    """What is printed into a log that is as long as a file may be; and a trace without room for a line, which stops nothing."""
+    link = bus_of(program, folder, 2)[2:]
+    meter = (folder / "meters.csv").read_text().splitlines()[1].split(",")[0]
+    (folder / "register").write_text("OFFICE REGISTER\n")
+    patience = ["--patience", "300"]
+    limit = SECTOR * SECTORS
+    for words in (["run", "house.image", "register"], ["fit", "house.image", "meters.csv"], ["scan", link, *patience],
+                  ["read", link, meter, *patience]):
+        (folder / "log").write_bytes(bytes(limit - 5))
+        with open(folder / "log", "ab") as log, program.start(*words, stdout=log, preexec_fn=lambda: limited(limit)) as ran:
+            _, line = ran.communicate(timeout=60)
+        wants((ran.returncode, line) == (4, b"mbdc: file: -\n"), f"{words[0]}: status {ran.returncode}, {line!r}")
+        wants((folder / "log").stat().st_size == limit, f"{words[0]}: the log isn't full")
+    for trace in ("trace.txt", "-"):
+        with open(folder / "errors", "wb") as errors:
+            ran = program.start("scan", link, "--trace", trace, *patience, stdout=subprocess.PIPE, stderr=errors,
+                                preexec_fn=lambda: limited(1500))
+            text, _ = ran.communicate(timeout=60)
+        said, lines = (folder / "errors").read_bytes(), (folder / "errors" if trace == "-" else folder / trace).read_bytes()
+        wants(ran.returncode == 0 and b"FOUND" in text, f"a full trace: status {ran.returncode}, {text!r}")
+        wants(trace == "-" or said.count(b"mbdc: trace: trace.txt: File too large\n") == 1, f"of a full trace is said: {said!r}")
+        wants(800 < len(lines) <= 1500 and lines.endswith(b"\n"), f"a full trace has {len(lines)} bytes")
+
+
+def limited(length: int) -> None:
+    """No file of this process gets longer."""
+    resource.setrlimit(resource.RLIMIT_FSIZE, (length, length))
+
+
 def a_trace_is_a_regular_file(program: Program, folder: pathlib.Path) -> None:
     """And a pipe that nobody reads stops no poll."""
     link = bus_of(program, folder, 1)
@@ -240,4 +270,4 @@ def a_copy_beside_a_poll_is_whole(program: Program, folder: pathlib.Path) -> Non
 CASES: Sequence[Any] = [
     a_rotted_root_loses_nothing, an_image_that_is_behind_is_shown_and_not_written, what_reads_is_rescued,
     a_killed_fit_is_all_or_nothing, a_poll_into_a_replaced_image_stops, a_poll_outlives_its_output,
-    a_trace_is_a_regular_file, a_look_takes_the_memory_of_the_state, a_copy_beside_a_poll_is_whole]
+    a_full_log_is_named, a_trace_is_a_regular_file, a_look_takes_the_memory_of_the_state, a_copy_beside_a_poll_is_whole]

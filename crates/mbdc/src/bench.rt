@@ -1,12 +1,12 @@
 //! The commands `scan`, `read` and `address`: one bus, without an image.
 
 use crate::connecting::{connected, released};
-use crate::tracing::{shows_progress, trace_file_of, tracer_of};
+use crate::tracing::{Trace, shows_progress, trace_of, tracer_of};
 use mbdc_bus::Both;
-use mbdc_bus::trace::{Observed, Observer, Pair, TraceFile};
+use mbdc_bus::trace::{Observed, Observer, Pair};
 use mbdc_commands::words::BusTask;
 use mbdc_ending::Ending;
-use mbdc_files::{Host, Noted};
+use mbdc_files::{Host, Output};
 use mbdc_installer::bench::{Listing, Progress, Show, Work, run_over};
 use mbdc_raw::links::{Peer, Waiter};
 use std::fs::File;
@@ -29,8 +29,8 @@ where
         patience,
         trace,
     } = *task;
-    let file = match trace_file_of(host, trace) {
-        Ok(file) => file,
+    let lines = match trace_of(host, trace) {
+        Ok(lines) => lines,
         Err(error) => return host.why.file(trace.unwrap_or_default(), error),
     };
     let peers = match connected(host, &[Some(link)]) {
@@ -38,7 +38,7 @@ where
         Err(ending) => return ending,
     };
     let ending = match peers.as_slice().first() {
-        Some(Some(peer)) => over_peer(host, peer, &work, listing, patience, file.as_ref()),
+        Some(Some(peer)) => over_peer(host, peer, &work, listing, patience, lines.as_ref()),
         _ => Ending::Gateway,
     };
     released(host, peers.as_slice());
@@ -53,10 +53,10 @@ fn over_peer<'a, R>(
     work: &Work,
     listing: Listing,
     patience: u16,
-    trace: Option<&TraceFile<'_, R>>,
+    trace: Option<&Trace<'_, R>>,
 ) -> Ending<'a>
 where
-    R: Net<Stream = TcpStream> + Clock + Copy + Print + Eprint + AllocGlobal,
+    R: Files<File = File> + Net<Stream = TcpStream> + Clock + Copy + Print + Eprint + AllocGlobal,
 {
     let is_shown = matches!(work, Work::Search(_)) && shows_progress(host, trace);
     let progress = Progress::new(host.rt, host.rt.alloc(), is_shown, *work, patience);
@@ -83,7 +83,7 @@ fn over_bus<'a, R, O>(
     progress: &Progress<'_, R>,
 ) -> Ending<'a>
 where
-    R: Net<Stream = TcpStream> + Clock + Copy + Print + Eprint + AllocGlobal,
+    R: Files<File = File> + Net<Stream = TcpStream> + Clock + Copy + Print + Eprint + AllocGlobal,
     O: Observer + Drop,
 {
     let bus = match peer.bus(*host.rt, patience) {
@@ -94,7 +94,7 @@ where
         bus: Observed { bus, observer },
         pause: Waiter,
     };
-    let out = Noted::new(io::writer(host.rt), host.why);
+    let out = Output::new(io::writer(host.rt), host);
     let ending = run_over(host.rt.alloc(), work, listing, bus, out, progress);
     if matches!(ending, Ending::Gateway) {
         host.why.say("the connection ended or failed");

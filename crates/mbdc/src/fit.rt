@@ -5,7 +5,7 @@ use dc_meters::House;
 use dc_sectors::{Disk, FileDisk};
 use mbdc_commands::fit_over;
 use mbdc_ending::{Ending, ProgramFault};
-use mbdc_files::{Host, Noted, open_disk};
+use mbdc_files::{Host, Noted, Output, open_disk};
 use mbdc_fit::list::{Wish, read_list};
 use mbdc_io::{CHUNK, MOST, NoMemory, ReadSource, Source, read_input, room};
 use mbdc_log::Greatest;
@@ -61,7 +61,7 @@ where
     D: FileExt + OpenFile + Drop,
     R: Files<File = File> + Clock + Print + Eprint + AllocGlobal,
 {
-    let out = Noted::new(io::writer(host.rt), host.why);
+    let out = Output::new(io::writer(host.rt), host);
     let mut notes = Noting::new(host, image, house);
     let (_disk, ending) = fit_over(host.rt.alloc(), disk, wish, out, &mut notes);
     ending

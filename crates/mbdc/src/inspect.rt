@@ -97,10 +97,15 @@ fn look<'a, R: Files<File = File> + AllocGlobal>(
     // Opening goes on past an unreadable sector that nothing needs. It is still named.
     let is_scanned_whole = !host.why.has_unreadable.get();
     host.why.has_unreadable.set(false);
+    host.why.last.set(None);
     for _ in 0..ROUNDS {
         if let Some(shown) = look_once(host, &file, &greatest, &asked, journal, image)? {
             let is_whole = !host.why.has_unreadable.get();
-            host.why.has_unreadable.set(!is_scanned_whole || !is_whole);
+            // One that only the scan came to is named where nothing stops the look.
+            let Outlook { refusal, ahead } = shown.outlook;
+            if is_whole && refusal.is_none() && ahead.is_none() {
+                host.why.has_unreadable.set(!is_scanned_whole);
+            }
             return Ok((shown, is_whole));
         }
     }

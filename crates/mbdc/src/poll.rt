@@ -4,7 +4,7 @@ use crate::clock::moment;
 use crate::connecting::{reached, released};
 use crate::journal::Noting;
 use crate::names::meters_of;
-use crate::tracing::{shows_progress, trace_file_of, tracers_of};
+use crate::tracing::{shows_progress, trace_of, tracers_of};
 use dc_address::Identity;
 use dc_sectors::FileDisk;
 use mbdc_bus::trace::{Observed, Observer};
@@ -40,7 +40,7 @@ where
         Ok(found) => found,
         Err(ending) => return ending,
     };
-    let trace = match trace_file_of(host, task.trace) {
+    let trace = match trace_of(host, task.trace) {
         Ok(trace) => trace,
         Err(error) => return host.why.file(task.trace.unwrap_or_default(), error),
     };

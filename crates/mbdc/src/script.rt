@@ -8,7 +8,7 @@ use mbdc_bus::Both;
 use mbdc_commands::run_over;
 use mbdc_commands::words::RunTask;
 use mbdc_ending::Ending;
-use mbdc_files::{Host, Noted, open_disk};
+use mbdc_files::{Host, Noted, Output, open_disk};
 use mbdc_io::ReadSource;
 use mbdc_raw::links::{Peer, SystemBus, Waiter};
 use std::fs::{File, OpenFile};
@@ -64,7 +64,7 @@ where
         Ok(lines) => lines,
         Err(fault) => return host.why.ended(Err(fault), task.script),
     };
-    let out = Noted::new(io::writer(host.rt), host.why);
+    let out = Output::new(io::writer(host.rt), host);
     let mut disk = disk;
     let house = house_in(host.rt.alloc(), &mut disk);
     let mut notes = Noting::new(host, task.image, house);

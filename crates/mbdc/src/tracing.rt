@@ -1,19 +1,63 @@
 //! The trace of what goes over the bus lines, where one is asked for.
 
+use libc::types::rlimit;
 use mbdc_bus::trace::{Observer, TraceFile, TraceLines, Tracer};
 use mbdc_ending::Ending;
 use mbdc_files::Host;
+use std::cell::Cell;
 use std::fs::File;
-use std::io;
 use std::rt::{Clock, Files};
+use std::{fs, io};
+
+// The longest line of a trace in bytes.
+const LINE: u64 = 700;
+
+// The limit of a file's length, of Linux.
+const RLIMIT_FSIZE: i32 = 1;
+
+// Standard error, as Linux shows it to this process.
+const ERRORS: &str = "/proc/self/fd/2";
+
+/// The trace of all bus lines. It ends where the limit of files (`ulimit -f`) leaves no room for a line: a write beyond
+/// the limit would end the program by a signal.
+#[derive(Drop)]
+pub struct Trace<'h, R> {
+    rt: &'h R,
+    file: TraceFile<'h, R>,
+    name: &'h str,
+    limit: u64,
+    is_full: Cell<bool>,
+}
+
+impl<R: Files<File = File> + Clock + Eprint> Trace<'_, R> {
+    // Whether a line has room. That the trace ends is said once.
+    fn has_room(&self) -> bool {
+        if self.limit == u64::MAX || self.is_full.get() {
+            return !self.is_full.get();
+        }
+        let is_file = !self.file.is_standard_error();
+        let name = if is_file { self.name } else { ERRORS };
+        match fs::metadata(self.rt, name) {
+            Ok(about) if about.is_file() && about.len().saturating_add(LINE) > self.limit => {
+                self.is_full.set(true);
+                if is_file {
+                    let _ = eprint!(self.rt; "mbdc: trace: {}: File too large\n", self.name);
+                }
+                false
+            }
+            _ => true,
+        }
+    }
+}
 
 /// What writes the trace of a bus line: a type of its own, since the checker meets its step limit over the parts.
 #[derive(Drop)]
 pub struct LineTracer<'t, 'h, R: Clock + Eprint> {
     tracer: Tracer<TraceLines<'t, 'h, R>>,
+    trace: Option<&'t Trace<'h, R>>,
 }
 
-impl<R: Clock + Eprint> Observer for LineTracer<'_, '_, R> {
+impl<R: Files<File = File> + Clock + Eprint> Observer for LineTracer<'_, '_, R> {
     ghost use Rattle.std.specs.Prelude.{⊤};
 
     // What a file has is in no contract.
@@ -24,13 +68,21 @@ impl<R: Clock + Eprint> Observer for LineTracer<'_, '_, R> {
     fn see_request(&mut self, request: &[u8])
         ensures { ⊤ }
     {
-        self.tracer.see_request(request);
+        if let Some(trace) = self.trace
+            && trace.has_room()
+        {
+            self.tracer.see_request(request);
+        }
     }
 
     fn see_answer(&mut self, answer: &[u8])
         ensures { ⊤ }
     {
-        self.tracer.see_answer(answer);
+        if let Some(trace) = self.trace
+            && trace.has_room()
+        {
+            self.tracer.see_answer(answer);
+        }
     }
 }
 
@@ -38,29 +90,46 @@ impl<R: Clock + Eprint> Observer for LineTracer<'_, '_, R> {
 ///
 /// # Errors
 /// Its file can't be made.
-pub fn trace_file_of<'h, R>(
+pub fn trace_of<'h, R>(
     host: &Host<'h, R>,
     name: Option<&'h str>,
-) -> io::Result<Option<TraceFile<'h, R>>>
+) -> io::Result<Option<Trace<'h, R>>>
 where
     R: Files<File = File> + Clock + Eprint,
 {
-    match name {
-        Some(name) => Ok(Some(TraceFile::open(host.rt, name)?)),
-        None => Ok(None),
-    }
+    let Some(name) = name else {
+        return Ok(None);
+    };
+    let mut limit = rlimit {
+        rlim_cur: u64::MAX,
+        rlim_max: u64::MAX,
+    };
+    // A limit that can't be asked for stays none.
+    let _ = libc::getrlimit(RLIMIT_FSIZE, &mut limit);
+    Ok(Some(Trace {
+        rt: host.rt,
+        file: TraceFile::open(host.rt, name)?,
+        name,
+        limit: limit.rlim_cur,
+        is_full: Cell::new(false),
+    }))
 }
 
-/// What writes the trace of a bus line, from 1; without a file it writes nothing.
+/// What writes the trace of a bus line, from 1; without a trace it writes nothing.
 pub fn tracer_of<'t, 'h, R: Clock + Eprint>(
-    file: Option<&'t TraceFile<'h, R>>,
+    trace: Option<&'t Trace<'h, R>>,
     line: u8,
 ) -> LineTracer<'t, 'h, R> {
+    let file = match trace {
+        Some(trace) => Some(&trace.file),
+        None => None,
+    };
     LineTracer {
         tracer: Tracer {
             out: TraceLines::new(file),
             line,
         },
+        trace,
     }
 }
 
@@ -70,14 +139,14 @@ pub fn tracer_of<'t, 'h, R: Clock + Eprint>(
 /// The ending of the command: memory ran out.
 pub fn tracers_of<'t, 'h, 'e, R: Clock + Eprint + AllocGlobal>(
     host: &Host<'_, R>,
-    file: Option<&'t TraceFile<'h, R>>,
+    trace: Option<&'t Trace<'h, R>>,
     lines: usize,
 ) -> Result<Vec<LineTracer<'t, 'h, R>>, Ending<'e>> {
     let mut tracers = Vec::new(host.rt.alloc());
     for _ in 0..lines {
         let line = u8::try_from(tracers.len()).unwrap_or(u8::MAX);
         if tracers
-            .push(tracer_of(file, line.saturating_add(1)))
+            .push(tracer_of(trace, line.saturating_add(1)))
             .is_err()
         {
             return Err(Ending::Memory);
@@ -87,12 +156,9 @@ pub fn tracers_of<'t, 'h, 'e, R: Clock + Eprint + AllocGlobal>(
 }
 
 /// Whether standard error shows a progress: it is a terminal, and no trace goes there.
-pub fn shows_progress<R: Clock + Eprint>(
-    host: &Host<'_, R>,
-    file: Option<&TraceFile<'_, R>>,
-) -> bool {
-    match file {
-        Some(file) => host.is_watched && !file.is_standard_error(),
+pub fn shows_progress<R: Clock + Eprint>(host: &Host<'_, R>, trace: Option<&Trace<'_, R>>) -> bool {
+    match trace {
+        Some(trace) => host.is_watched && !trace.file.is_standard_error(),
         None => host.is_watched,
     }
 }
