@@ -1,11 +1,12 @@
 //! The commands `inspect`, `values`, `status` and `report`: an image in a file, which is only read.
 
 use crate::clock;
+use crate::table::table_of;
 use mbdc_commands::look_ending;
 use mbdc_commands::words::Layout;
 use mbdc_ending::{Ending, ProgramFault, STREAM, ending_of};
 use mbdc_files::{Host, LookedAt, Output, ROUNDS, journal_lines, own_lines};
-use mbdc_io::NoMemory;
+use mbdc_io::{Bytes, IoFault, NoMemory};
 use mbdc_json::journal::{Journal, read_journal};
 use mbdc_log::Greatest;
 use mbdc_looks::{Asked, Form, Outlook, Report, Shown, answer, register_of, scan};
@@ -22,27 +23,57 @@ const SILENT: u64 = 172_800;
 const NO_TABLE: &str =
     "TABLE is neither 'register' nor a date that exists, as 2024-12-31; try mbdc --help";
 
+/// How what the meters say is printed.
+#[derive(Clone, Copy)]
+pub enum Shape {
+    /// As a text of lines, or as JSON Lines.
+    Lines(Form),
+    /// As a table.
+    Table {
+        /// Whether failures are red.
+        is_coloured: bool,
+    },
+}
+
 /// Prints what is asked of the image in that file, as it stands at one instant; another program may write it.
 pub fn look_into<'a, R>(host: &Host<'_, R>, asked: Asked, image: &'a str) -> Ending<'a>
 where
     R: Files<File = File> + Clock + Print + Eprint + AllocGlobal,
 {
-    let journal = match journal_for(host, &asked, image) {
-        Ok(journal) => journal,
-        Err(ending) => return ending,
-    };
-    let (shown, is_whole) = match look(host, asked, &journal, image) {
-        Ok(seen) => seen,
-        Err(ending) => return ending,
-    };
+    match seen(host, asked, image) {
+        Ok((text, ending)) => printed(host, text.as_slice(), ending),
+        Err(ending) => ending,
+    }
+}
+
+// The text of what is asked, and the ending of the command that prints it.
+fn seen<'a, R>(
+    host: &Host<'_, R>,
+    asked: Asked,
+    image: &'a str,
+) -> Result<(Bytes<Global>, Ending<'a>), Ending<'a>>
+where
+    R: Files<File = File> + Clock + Eprint + AllocGlobal,
+{
+    let journal = journal_for(host, &asked, image)?;
+    let (shown, is_whole) = look(host, asked, &journal, image)?;
     let Outlook { refusal, ahead } = shown.outlook;
     let ending = look_ending(refusal, ahead, is_whole, shown.is_silent);
     // A table is printed only of an image that would be opened.
     if matches!(asked, Asked::Table(..)) && (refusal.is_some() || !is_whole) {
-        return ending;
+        return Err(ending);
     }
+    Ok((shown.text, ending))
+}
+
+// Prints a text, and returns the ending.
+fn printed<'a, R: Files<File = File> + Print>(
+    host: &Host<'_, R>,
+    text: &[u8],
+    ending: Ending<'a>,
+) -> Ending<'a> {
     let mut out = Output::new(io::writer(host.rt), host);
-    if out.write_all(shown.text.as_slice()).is_err() || out.flush().is_err() {
+    if out.write_all(text).is_err() || out.flush().is_err() {
         return ending_of(Err(ProgramFault::Write), STREAM);
     }
     ending
@@ -93,7 +124,10 @@ fn look<'a, R: Files<File = File> + AllocGlobal>(
     image: &'a str,
 ) -> Result<(Shown<Global>, bool), Ending<'a>> {
     let file = LookedAt::open(host, image)?;
-    let greatest = scan_file(&file, image)?;
+    let greatest = match scan(&mut file.disk(image)?) {
+        Ok(greatest) => greatest,
+        Err(fault) => return Err(ending_of(Err(fault), image)),
+    };
     // Opening goes on past an unreadable sector that nothing needs. It is still named.
     let is_scanned_whole = !host.why.has_unreadable.get();
     host.why.has_unreadable.set(false);
@@ -132,15 +166,6 @@ fn look_once<'a, R: AllocGlobal>(
     Ok(None)
 }
 
-// Scans the halves of an image that is looked at, before the look.
-fn scan_file<'a>(file: &LookedAt<'_>, image: &'a str) -> Result<Greatest, Ending<'a>> {
-    let mut disk = file.disk(image)?;
-    match scan(&mut disk) {
-        Ok(greatest) => Ok(greatest),
-        Err(fault) => Err(ending_of(Err(fault), image)),
-    }
-}
-
 /// Prints the table that the word names.
 pub fn report_on_image<'a, R>(
     host: &Host<'_, R>,
@@ -154,41 +179,31 @@ where
     let Some(report) = Report::parse(table.as_bytes()) else {
         return Ending::Words(NO_TABLE);
     };
-    look_into(host, Asked::Table(report, form_of(is_json)), image)
+    let form = if is_json { Form::Json } else { Form::Text };
+    look_into(host, Asked::Table(report, form), image)
 }
 
-// The form of a text, or of JSON Lines.
-fn form_of(is_json: bool) -> Form {
-    if is_json { Form::Json } else { Form::Text }
-}
-
-/// How what the meters say is printed, where standard output is a terminal or isn't.
-pub fn shown_as(layout: Layout, is_terminal: bool) -> Layout {
-    match (layout, is_terminal) {
-        (Layout::Default, true) => Layout::Table,
-        (Layout::Default, false) => Layout::Lines,
-        (layout, _) => layout,
+/// How what the meters say is printed. At a terminal it is a table, which may be coloured.
+pub fn shape_of(layout: Layout, is_terminal: bool, is_coloured: bool) -> Shape {
+    match layout {
+        Layout::Json => Shape::Lines(Form::Json),
+        Layout::Table => Shape::Table { is_coloured },
+        Layout::Default if is_terminal => Shape::Table { is_coloured },
+        Layout::Default | Layout::Lines => Shape::Lines(Form::Text),
     }
 }
 
 /// Prints what the meters of the image in that file stand at; whether one is silent isn't asked.
-pub fn tell_values<'a, R>(host: &Host<'_, R>, image: &'a str, layout: Layout) -> Ending<'a>
+pub fn tell_values<'a, R>(host: &Host<'_, R>, image: &'a str, shape: Shape) -> Ending<'a>
 where
     R: Files<File = File> + Clock + Print + Eprint + AllocGlobal,
 {
-    let asked = match layout {
-        Layout::Table => return heard_of(tell_status(host, image, SILENT, layout)),
-        Layout::Json => Asked::Values(Form::Json),
-        Layout::Lines | Layout::Default => Asked::Values(Form::Text),
-    };
-    look_into(host, asked, image)
-}
-
-// The ending of a look that doesn't ask whether a meter is silent.
-fn heard_of(ending: Ending<'_>) -> Ending<'_> {
-    match ending {
-        Ending::Faulty => Ending::Clean,
-        ending => ending,
+    match shape {
+        Shape::Lines(form) => look_into(host, Asked::Values(form), image),
+        Shape::Table { .. } => match tell_status(host, image, SILENT, shape) {
+            Ending::Faulty => Ending::Clean,
+            ending => ending,
+        },
     }
 }
 
@@ -197,7 +212,7 @@ pub fn tell_status<'a, R>(
     host: &Host<'_, R>,
     image: &'a str,
     silent: u64,
-    layout: Layout,
+    shape: Shape,
 ) -> Ending<'a>
 where
     R: Files<File = File> + Clock + Print + Eprint + AllocGlobal,
@@ -209,10 +224,14 @@ where
         now: moment.seconds,
         patience: silent,
     };
-    let asked = match layout {
-        Layout::Table => Asked::Overview(clock),
-        Layout::Json => Asked::Status(Form::Json, clock),
-        Layout::Lines | Layout::Default => Asked::Status(Form::Text, clock),
-    };
-    look_into(host, asked, image)
+    match shape {
+        Shape::Lines(form) => look_into(host, Asked::Status(form, clock), image),
+        Shape::Table { is_coloured } => match seen(host, Asked::Overview(clock), image) {
+            Ok((cells, ending)) => match table_of(host.rt.alloc(), cells.as_slice(), is_coloured) {
+                Ok(table) => printed(host, table.as_slice(), ending),
+                Err(IoFault) => Ending::Memory,
+            },
+            Err(ending) => ending,
+        },
+    }
 }

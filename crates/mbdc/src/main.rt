@@ -16,6 +16,7 @@ mod pointed;
 mod poll;
 mod rescue;
 mod script;
+mod table;
 mod tasks;
 mod tracing;
 
@@ -23,6 +24,7 @@ use ending::{is_cut_off, told, told_disk, told_why, told_words};
 use mbdc_commands::words::{Call, call_of};
 use mbdc_ending::Ending;
 use mbdc_files::{ERRORS, Host, NOWHERE, Why, hold, is_full};
+use std::env::FillError;
 use std::io::{ErrorKind, IsTerminal, Write};
 use std::process::ExitCode;
 use std::rt::Env;
@@ -71,7 +73,15 @@ fn answer(rt: &HostRuntime, call: &Call<'_>) -> ExitCode {
         why: &why,
         is_watched: rt.stderr().is_terminal(),
     };
-    let ending = tasks::run(&host, &call.task, rt.stdout().is_terminal());
+    let is_terminal = rt.stdout().is_terminal();
+    // The variable NO_COLOR says that a terminal takes none.
+    let mut room = [0; 1];
+    let takes_all = matches!(
+        rt.var("NO_COLOR", &mut room),
+        Ok(0) | Err(FillError::NotPresent)
+    );
+    let is_coloured = is_terminal && takes_all;
+    let ending = tasks::run(&host, &call.task, is_terminal, is_coloured);
     // A reader that has seen enough, as head, is no mistake to tell a person of.
     if host.is_watched && is_cut_off(&ending, &why) {
         return ExitCode::from(ending.status());

@@ -3,7 +3,7 @@
 use crate::bench::on_bus;
 use crate::demo;
 use crate::fit::fit_on_image;
-use crate::inspect::{look_into, report_on_image, shown_as, tell_status, tell_values};
+use crate::inspect::{look_into, report_on_image, shape_of, tell_status, tell_values};
 use crate::order::order_on_image;
 use crate::pointed::Pointed;
 use crate::poll::poll_on_image;
@@ -29,8 +29,14 @@ use std::{fs, io, str};
 /// Number of bytes that go to standard output at once.
 pub const ROOM: usize = 65_536;
 
-/// Runs the task that the words name; `is_terminal` says that standard output is one.
-pub fn run<'a, R>(host: &Host<'a, R>, task: &Task<'a>, is_terminal: bool) -> Ending<'a>
+/// Runs the task that the words name; `is_terminal` says that standard output is one, and `is_coloured` that it takes
+/// colours.
+pub fn run<'a, R>(
+    host: &Host<'a, R>,
+    task: &Task<'a>,
+    is_terminal: bool,
+    is_coloured: bool,
+) -> Ending<'a>
 where
     R: Files<File = File>
         + Net<Stream = TcpStream, Listener = TcpListener>
@@ -55,12 +61,19 @@ where
             is_json,
         } => report_on_image(host, image, table, *is_json),
         Task::Inspect { image } => look_into(host, Asked::Contents, image),
-        Task::Values { image, layout } => tell_values(host, image, shown_as(*layout, is_terminal)),
+        Task::Values { image, layout } => {
+            tell_values(host, image, shape_of(*layout, is_terminal, is_coloured))
+        }
         Task::Status {
             image,
             silent,
             layout,
-        } => tell_status(host, image, *silent, shown_as(*layout, is_terminal)),
+        } => tell_status(
+            host,
+            image,
+            *silent,
+            shape_of(*layout, is_terminal, is_coloured),
+        ),
         Task::Fit { image, list } => fit_on_image(host, image, list),
         Task::Order(task) => order_on_image(host, task),
         Task::Copy { image, file } => back_up(host, image, file),
@@ -70,7 +83,7 @@ where
             let ending = poll_on_image(host, task);
             let is_polled = matches!(ending, Ending::Clean | Ending::Faulty);
             if is_terminal && is_polled && !task.is_json {
-                let _ = tell_values(host, task.image, Layout::Table);
+                let _ = tell_values(host, task.image, shape_of(Layout::Table, true, is_coloured));
             }
             ending
         }

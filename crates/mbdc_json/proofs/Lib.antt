@@ -4,8 +4,6 @@
 mod Told
 -- how many records aren't read
 mod Unread
--- how long a word is
-mod Words
 -- the names of VIFEs
 mod Names
 -- a prefix of one piece of a text

@@ -1,5 +1,5 @@
--- The table of a house's meters for a person (this product): a line for each registered meter, in columns.
-use Rattle.std.specs.Prelude.{ℕ, ◌-◌, ◌/◌, ◌%◌, ◌==◌, nat_lt, Bool, true, false, List, [], ◌∷◌, ◌++◌, take, length, codes, decimal}
+-- The cells of the table of a house's meters for a person (this product): a line for each registered meter.
+use Rattle.std.specs.Prelude.{ℕ, ◌/◌, ◌%◌, ◌==◌, nat_lt, Bool, true, false, List, [], ◌∷◌, ◌++◌, take, codes, decimal}
 use Rattle.std.specs.Prelude.{Option, None, Some, if◌then◌else◌}
 use Rattle.std.specs.List.{flat_map}
 use Rattle.mbdc_change.specs.State.{State}
@@ -22,29 +22,21 @@ use Rattle.mbdc_json.specs.declared.latest.reading.Shown.{Shown}
 use Rattle.mbdc_json.specs.declared.status.row.Row.{Row}
 use Rattle.mbdc_json.specs.declared.status.row.Told.{Told}
 
--- ---- columns
+-- ---- cells
 
--- the names of the columns, each at the left of its column but VALUE at the right
+-- the names of the columns
 unfoldable pub titles : List ℕ
-titles = codes "FLAT     METER    MEDIUM             VALUE UNIT  STATE           HEARD\n"
+titles = codes "FLAT\tMETER\tMEDIUM\tVALUE\tUNIT\tHEARD\tSTATE\n"
 
-abbrev pub blanks : List ℕ
-blanks = codes "                "
-
--- the blanks that a text of this length lacks to the width of its column; a longer text lacks none
-unfoldable pub lacking : ℕ → ℕ → List ℕ
-lacking width len = take (width - len) blanks
-
--- a text at the left of its column, and a blank
-unfoldable pub at_left : ℕ → List ℕ → List ℕ
-at_left width text = text ++ (lacking width (length text) ++ codes " ")
+-- a text, and the end of its cell
+unfoldable pub cell : List ℕ → List ℕ
+cell text = text ++ codes "\t"
 
 -- ---- what the meter stands at
 
--- a value at the right of its column, and its unit; a dash for what isn't there
+-- a value and its unit; a dash for what isn't there
 unfoldable pub cells : Option (List ℕ) → List ℕ → List ℕ
-cells value unit = lacking 12 (length (value_word value)) ++ (value_word value ++ (codes " " ++ (shown_word unit
-    ++ (lacking 5 (length (shown_word unit)) ++ codes " "))))
+cells value unit = value_word value ++ (codes "\t" ++ (shown_word unit ++ codes "\t"))
 
 unfoldable pub sent_cells : Sent → List ℕ
 sent_cells s = cells (value_text_of (reading_of s.entry s.len) s.entry.content)
@@ -104,19 +96,18 @@ age_words (Some age) = ago_words age
 
 abbrev pub failure_words : Option ℕ → List ℕ
 failure_words None = codes "\n"
-failure_words (Some number) = codes ", " ++ (failure_name number ++ codes "\n")
+failure_words (Some number) = codes " " ++ (failure_name number ++ codes "\n")
 
 -- ---- the table
 
 unfoldable pub place_cells : Place → List ℕ
-place_cells place = at_left 8 place.flat ++ (at_left 8 (take 8 (text_of place.meter))
-    ++ at_left 11 (medium_name place.meter.kind))
+place_cells place = cell place.flat ++ (cell (take 8 (text_of place.meter)) ++ cell (medium_name place.meter.kind))
 
 unfoldable pub state_cells : Row → List ℕ
-state_cells row = at_left 15 (state_by row.is_silent (failure_in row.told) row.status)
-    ++ (age_words row.age ++ failure_words (failure_in row.told))
+state_cells row = age_words row.age ++ (codes "\t"
+    ++ (state_by row.is_silent (failure_in row.told) row.status ++ failure_words (failure_in row.told)))
 
--- the line of a meter: its place, what it stands at, its state, and when it was heard
+-- the line of a meter: its place, what it stands at, when it was heard, and its state
 unfoldable pub overview_line : ℕ → ℕ → Notes → State → Place → List ℕ
 overview_line patience now journal s place = place_cells place
     ++ (value_cells place.meter.kind (shown_of journal s place.meter)

@@ -1,12 +1,11 @@
-//! The table of a house's meters for a person.
+//! The cells of the table of a house's meters for a person, which the program lays out.
 
-ghost use Rattle.std.specs.Prelude.{◌≡◌, ◌≤◌, length, option_map};
+ghost use Rattle.std.specs.Prelude.{◌≡◌, option_map};
 ghost use Rattle.mbdc_io.specs.Written.{Wrote};
-ghost use Rattle.mbdc_json.specs.Overview.{age_words, at_left, cells, failure_in, failure_words};
-ghost use Rattle.mbdc_json.specs.Overview.{first_cells, lacking, overview_line, overview_lines, overview_text};
+ghost use Rattle.mbdc_json.specs.Overview.{age_words, cell, cells, failure_in, failure_words};
+ghost use Rattle.mbdc_json.specs.Overview.{first_cells, overview_line, overview_lines, overview_text};
 ghost use Rattle.mbdc_json.specs.Overview.{name_of, place_cells, reported, seconds_of, sent_cells, state_by, state_cells, titles};
 ghost use Rattle.mbdc_json.specs.Overview.{value_cells};
-ghost use Rattle.mbdc_json.specs.LatestValues.{value_word};
 ghost use Rattle.mbdc_reading.specs.Sent.{sent_view};
 
 use crate::journal::Journal;
@@ -19,23 +18,9 @@ use mbdc_reading::{READING_ROOM, Sent, reading_of, unit_text, value_text};
 use mbdc_shown::Headline;
 use std::alloc::Allocator;
 
-const BLANKS: &[u8; 16] = b"                ";
-
-// The widths of the columns: with an age and a failure a line has 80 characters.
-const FLAT: usize = 8;
-
-const NUMBER: usize = 8;
-
-const MEDIUM: usize = 11;
-
-const VALUE: usize = 12;
-
-const UNIT: usize = 5;
-
-const STATE: usize = 15;
-
-/// Writes a line for each registered meter, by flat and then by identity: what it stands at, its state, and how long ago
-/// it was heard, at a clock and beside a journal.
+/// Writes the names of the columns, and then a line for each registered meter, by flat and then by identity: what it
+/// stands at, how long ago it was heard, and its state, at a clock and beside a journal. A tab ends each cell but the
+/// last of a line.
 #[tactic(auto, using(mbdc_io::proofs::Pieces::written), unfolding(crate::specs::Overview::overview_text))]
 pub fn put_overview<A: Allocator + Copy, W: Sink>(
     out: &mut W,
@@ -55,7 +40,7 @@ pub fn put_overview<A: Allocator + Copy, W: Sink>(
 fn titles() -> &'static [u8]
     ensures { result.now ≡ titles }
 {
-    b"FLAT     METER    MEDIUM             VALUE UNIT  STATE           HEARD\n"
+    b"FLAT\tMETER\tMEDIUM\tVALUE\tUNIT\tHEARD\tSTATE\n"
 }
 
 // Writes the line of each meter.
@@ -101,29 +86,18 @@ fn put_line<A: Allocator + Copy, W: Sink>(
 fn put_place<W: Sink>(out: &mut W, place: &Place) -> Result<(), IoFault>
     ensures { Wrote W.Sink result out.old out.new (place_cells place.now) }
 {
-    put_at_left(out, FLAT, place.flat.as_slice())?;
-    put_at_left(out, NUMBER, &place.meter.text()[..8])?;
-    put_at_left(out, MEDIUM, medium_name(place.meter.kind).as_bytes())
+    put_cell(out, place.flat.as_slice())?;
+    put_cell(out, &place.meter.text()[..8])?;
+    put_cell(out, medium_name(place.meter.kind).as_bytes())
 }
 
-// Writes the blanks that a text of this length lacks to the width of its column.
-#[tactic(auto, unfolding(crate::specs::Overview::lacking))]
-fn put_lacking<W: Sink>(out: &mut W, width: usize, len: usize) -> Result<(), IoFault>
-    requires { width ≤ 16 }
-    ensures { Wrote W.Sink result out.old out.new (lacking width len) }
-{
-    out.put(&BLANKS[..width.saturating_sub(len)])
-}
-
-// Writes a text at the left of its column.
-#[tactic(auto, using(mbdc_io::proofs::Pieces::written), unfolding(crate::specs::Overview::at_left))]
-fn put_at_left<W: Sink>(out: &mut W, width: usize, text: &[u8]) -> Result<(), IoFault>
-    requires { width ≤ 16 }
-    ensures { Wrote W.Sink result out.old out.new (at_left width text.now) }
+// Writes a text and the end of its cell.
+#[tactic(auto, using(mbdc_io::proofs::Pieces::written), unfolding(crate::specs::Overview::cell))]
+fn put_cell<W: Sink>(out: &mut W, text: &[u8]) -> Result<(), IoFault>
+    ensures { Wrote W.Sink result out.old out.new (cell text.now) }
 {
     out.put(text)?;
-    put_lacking(out, width, text.len())?;
-    out.put(b" ")
+    out.put(b"\t")
 }
 
 // Writes what a meter of this device type stands at by the reading that is shown.
@@ -162,40 +136,28 @@ fn put_sent<W: Sink>(out: &mut W, sent: &Sent<'_>) -> Result<(), IoFault>
     )
 }
 
-// Writes a value at the right of its column, and a unit.
+// Writes a value and a unit; a dash for what isn't there.
 #[tactic(auto, using(mbdc_io::proofs::Pieces::written), unfolding(crate::specs::Overview::cells))]
 fn put_cells<W: Sink>(out: &mut W, value: Option<&[u8]>, unit: &[u8]) -> Result<(), IoFault>
     ensures { Wrote W.Sink result out.old out.new
         (cells (option_map (λ s. s.now) value.entry) unit.now) }
 {
-    put_lacking(out, VALUE, value_len(value))?;
     put_value_word(out, value)?;
-    out.put(b" ")?;
+    out.put(b"\t")?;
     put_word(out, unit)?;
-    put_lacking(out, UNIT, value_len(Some(unit)))?;
-    out.put(b" ")
+    out.put(b"\t")
 }
 
-// The length of a value as a word.
-#[tactic(auto, using(crate::proofs::Words::shown_len))]
-fn value_len(value: Option<&[u8]>) -> usize
-    ensures { result ≡ length (value_word (option_map (λ s. s.now) value.entry)) }
-{
-    match value {
-        Some(text) => text.len().max(1),
-        None => 1,
-    }
-}
-
-// Writes the state of a meter, how long ago it was heard, and why its last readout since failed.
+// Writes how long ago a meter was heard, its state, and why its last readout since failed.
 #[tactic(auto, using(mbdc_io::proofs::Pieces::written), unfolding(crate::specs::Overview::state_cells))]
 fn put_state<W: Sink>(out: &mut W, row: &Row) -> Result<(), IoFault>
     ensures { Wrote W.Sink result out.old out.new (state_cells row.now) }
 {
     let failure = failure_in(row.told);
     let state = state_by(row.is_silent, failure, row.status);
-    put_at_left(out, STATE, state.as_bytes())?;
     put_age(out, row.age)?;
+    out.put(b"\t")?;
+    out.put(state.as_bytes())?;
     put_failure(out, failure)
 }
 
@@ -280,7 +242,7 @@ fn put_failure<W: Sink>(out: &mut W, failure: Option<u8>) -> Result<(), IoFault>
     ensures { Wrote W.Sink result out.old out.new (failure_words failure) }
 {
     if let Some(number) = failure {
-        out.put(b", ")?;
+        out.put(b" ")?;
         out.put(failure_name(number).as_bytes())?;
     }
     out.put(b"\n")

@@ -169,8 +169,9 @@ Faults: mbdc: open: 1 NotImage, 2 Damaged sector, 3 Version, 4 Worn, 5 Device;
 pub const VALUES: &str = "Example:
   mbdc values house.image
 
-Printed at a terminal, or with --table: a line a meter by flat, with the first
-  value that it stands at, its state, and how long ago it was heard.
+Printed at a terminal, or with --table: a line a meter, flat A2 before A10, with
+  the first value that it stands at, how long ago it was heard, and its state:
+  SILENT and FAILED in red, unless the variable NO_COLOR is set.
 Printed elsewhere, or with --lines, for each registered meter by flat: METER
   flat ident medium, and NONE where no reading of it is held, else the serial
   and the minute (UTC) of the last one; STATUS hex words, the status byte that
