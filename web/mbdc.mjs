@@ -9,6 +9,7 @@ const [FRAME, HEAD, RECORD] = [56, 96, 288];
 const [FIRST, NEXT] = [11, 17];
 const EMPTY = 1; // the fault of no byte
 const ENCRYPTED = FAULT + 3;
+const FIXED_DATA = 0x73; // a CI field, after which there are no fillers
 const FILLER = 0x2F;
 
 const url = new URL("./mbdc.wasm", import.meta.url);
@@ -61,7 +62,7 @@ function endOf(ci, body) {
   let at = numbers(head, HEAD)[FIRST];
   let result;
   while ((result = call("next_record", ci, after, body.length, at, record)) === DONE) at = numbers(record, RECORD)[NEXT];
-  while (result !== ENCRYPTED && body[at] === FILLER) at++;
+  while (ci !== FIXED_DATA && result !== ENCRYPTED && body[at] === FILLER) at++;
   return Math.min(at, body.length);
 }
 

@@ -75,6 +75,7 @@ CUT, ENCRYPTED = HEADER + VOLUME + b"\x04\x13\x10", HEADER[:-2] + b"\x00\x05" + 
 FAULTS = [(b"", 0, "frame", 1, "Empty"), (b"\x00", 0, "frame", 2, "Start"), (bytes.fromhex("E5104005461610"), 1, "frame", 7, "Checksum"),
           (b"\xe5" + bytes.fromhex(TELEGRAM)[:20], 1, "frame", 3, "Truncated"), (b"\xe5" + answer(2, b""), 8, "body", 1, "Short"),
           (b"\xe5" + answer(2, CUT), 25, "body", 9, "Cut"), (answer(2, HEADER + b"\x2f\x2f" + CUT[-3:]), 21, "body", 9, "Cut"),
+          (bytes.fromhex("68131368082B73749DDF3129DD9EBB2F1F105BE5F62D03EA16"), 15, "body", 2, "BadIdentity"),
           (answer(2, ENCRYPTED), 19, "body", 3, "Encrypted"), (answer(2, ENCRYPTED[:12] + b"\x2f" * 16), 19, "body", 3, "Encrypted")]
 
 
