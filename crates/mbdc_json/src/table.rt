@@ -9,8 +9,8 @@ use mbdc_reading::content::{
     Content, Counter, FixedData, REASON_ROOM, Security, Variable, medium_of, security_name,
 };
 use mbdc_reading::{
-    How, READING_ROOM, Reading, Sent, SentRecords, code_at, digits_text, label_text, maker_of,
-    number_of, reading_of, told_of, unit_text, value_text,
+    How, READING_ROOM, Reading, Sent, code_at, digits_text, label_text, maker_of, number_of,
+    reading_of, told_of, unit_text, value_text,
 };
 
 // The widths of the columns, in characters: a row of three short words in its last column has 80.
@@ -19,6 +19,9 @@ const QUANTITY: usize = 24;
 const VALUE: usize = 18;
 
 const UNIT: usize = 8;
+
+// The names of the columns.
+const COLUMNS: &[u8] = b"  quantity                 value              unit     which\n";
 
 // Writes this many spaces, and one more.
 fn put_spaces<W: Sink>(out: &mut W, count: usize) -> Result<(), IoFault> {
@@ -132,7 +135,8 @@ fn put_place_number<W: Sink>(
     put_number(out, number)
 }
 
-// Writes the row of a record: what it is of, its value information block where it has one, its unit, and what is read.
+// Writes the row of a record: what it is of, its unit, what is read, and of its value information block, where it has
+// one, the names of the VIFEs, the manufacturer's bytes and the text of a unit in plain text.
 fn put_told<W: Sink>(
     out: &mut W,
     found: &Record<'_>,
@@ -151,7 +155,16 @@ fn put_told<W: Sink>(
         put_spaces(out, UNIT.saturating_sub(unit.len()))?;
     }
     put_place(out, found)?;
-    put_qualifiers(out, vib)?;
+    put_names(out, told_of(vib))?;
+    if let Some(maker) = maker_of(vib) {
+        out.put(b", maker ")?;
+        put_hex(out, maker)?;
+    }
+    let mut room = [0u8; READING_ROOM];
+    if let Some(label) = label_text(vib, &mut room) {
+        out.put(b", text ")?;
+        put_shown(out, label)?;
+    }
     out.put(b"\n")
 }
 
@@ -183,39 +196,6 @@ fn put_counter<W: Sink>(out: &mut W, counter: &Counter<'_>) -> Result<(), IoFaul
     )
 }
 
-// Writes the names of a record's VIFEs, the manufacturer's bytes and the text of a unit in plain text.
-fn put_qualifiers<W: Sink>(out: &mut W, vib: &[u8]) -> Result<(), IoFault> {
-    put_names(out, told_of(vib))?;
-    if let Some(maker) = maker_of(vib) {
-        out.put(b", maker ")?;
-        put_hex(out, maker)?;
-    }
-    let mut room = [0u8; READING_ROOM];
-    if let Some(label) = label_text(vib, &mut room) {
-        out.put(b", text ")?;
-        put_shown(out, label)?;
-    }
-    Ok(())
-}
-
-// Writes the names of the columns.
-fn put_columns<W: Sink>(out: &mut W) -> Result<(), IoFault> {
-    out.put(b"  ")?;
-    put_cell(out, b"quantity", QUANTITY)?;
-    put_cell(out, b"value", VALUE)?;
-    put_cell(out, b"unit", UNIT)?;
-    out.put(b"which\n")
-}
-
-// Writes the names of the columns and a row for each record.
-fn put_records<W: Sink>(out: &mut W, records: SentRecords<'_>) -> Result<(), IoFault> {
-    put_columns(out)?;
-    'records: for found in records {
-        put_row(out, &found)?;
-    }
-    Ok(())
-}
-
 // Writes the header of variable data, and a row for each record before the first fault; of what is no telegram also its
 // structure.
 fn put_variable<W: Sink>(
@@ -230,7 +210,10 @@ fn put_variable<W: Sink>(
         put_header(out, variable.meter, head.access, head.status)?;
     }
     if variable.refused.is_none() {
-        put_records(out, variable.records())?;
+        out.put(COLUMNS)?;
+        'records: for found in variable.records() {
+            put_row(out, &found)?;
+        }
     }
     if is_telegram && matches!(variable.end(), Ok(End::More(_))) {
         out.put(b"  more records follow in the next telegram\n")?;
@@ -266,7 +249,7 @@ fn put_fixed<W: Sink>(out: &mut W, data: &FixedData<'_>) -> Result<(), IoFault> 
     }
     put_state(out, data.access, data.status)?;
     if data.shows_counters() {
-        put_columns(out)?;
+        out.put(COLUMNS)?;
         put_counter(out, &data.first)?;
         put_counter(out, &data.second)?;
     }

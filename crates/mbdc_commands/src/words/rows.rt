@@ -34,22 +34,11 @@ fn command_of<'a>(alloc: Global, row: &CommandRow) -> Result<Command<'a>, AllocE
         .args(args)
 }
 
-fn add_commands<'a>(
-    alloc: Global,
-    rows: &[CommandRow],
-    commands: &mut Vec<Command<'a>>,
-) -> Result<(), AllocError> {
-    for row in rows {
-        commands.push(command_of(alloc, row)?)?;
-    }
-    Ok(())
-}
-
 /// The program, as `clap` reads its words.
 pub(crate) fn program<'a>(alloc: Global) -> Result<Command<'a>, AllocError> {
     let mut commands = Vec::new(alloc);
-    for rows in [lines(), reading(), images(), bus()] {
-        add_commands(alloc, rows, &mut commands)?;
+    for row in [lines(), reading(), images(), bus()].into_iter().flatten() {
+        commands.push(command_of(alloc, row)?)?;
     }
     let verbose = arg_of(alloc, &VERBOSE)?;
     // It may stand before a command and after it.
