@@ -19,14 +19,23 @@ use std::rt::Files;
 use std::{fs, io};
 
 /// The file of an image, as long as its name leads to it: a sync fails once another file has the name, or none. So
-/// nothing counts as being on the disk that no name leads to.
+/// nothing counts as being on the disk that no name leads to. A write and a sync fail, too, once another program wrote
+/// over the root that this one wrote last: what is copied over an open image stays as it is.
 #[derive(Drop)]
 pub struct ImageFile<'h, 'n, R> {
     file: Noted<'h, File>,
     rt: &'h R,
     name: &'n str,
     syncs: Cell<u32>,
+    // The place of the root that was written last, and its bytes.
+    root: Cell<Option<(u64, [u8; SECTOR])>>,
 }
+
+// Number of bytes of a sector.
+const SECTOR: usize = 512;
+
+// The end of the root slots, which are the sectors 1 and 2.
+const ROOTS_END: u64 = 1536;
 
 // The number of the sync with which opening begins. The look at the image before it begins with the first one.
 const OPENS: u32 = 2;
@@ -50,6 +59,7 @@ pub fn open_disk<'h, 'n, R: Files<File = File>>(
         rt: host.rt,
         name,
         syncs: Cell::new(0),
+        root: Cell::new(None),
     };
     match FileDisk::lenient(file) {
         Ok(disk) => Ok(disk),
@@ -58,10 +68,26 @@ pub fn open_disk<'h, 'n, R: Files<File = File>>(
 }
 
 impl<R: Files<File = File>> ImageFile<'_, '_, R> {
+    // Whether the file still has the root that was written last.
+    fn has_own_root(&self) -> io::Result<()> {
+        let Some((at, written)) = self.root.get() else {
+            return Ok(());
+        };
+        let mut found = [0; SECTOR];
+        match self.file.read_at(&mut found, at) {
+            Ok(SECTOR) if found == written => Ok(()),
+            _ => self.file.noted(Err(io::Error::new(
+                ErrorKind::Other,
+                "another program wrote over it",
+            ))),
+        }
+    }
+
     // The answer to a sync, unless the name leads elsewhere.
     fn unless_moved(&self, answer: io::Result<()>) -> io::Result<()> {
         self.syncs.set(self.syncs.get().saturating_add(1));
         answer?;
+        self.has_own_root()?;
         match (self.file.metadata(), fs::metadata(self.rt, self.name)) {
             (Ok(own), Ok(seen)) if is_same_file(&own, &seen) => Ok(()),
             _ => self.file.noted(Err(io::Error::new(
@@ -85,7 +111,14 @@ impl<R: Files<File = File>> FileExt for ImageFile<'_, '_, R> {
     }
 
     fn write_at(&self, bytes: &[u8], at: u64) -> io::Result<usize> {
-        self.file.write_at(bytes, at)
+        self.has_own_root()?;
+        let written = self.file.write_at(bytes, at)?;
+        if at < ROOTS_END
+            && let Ok(root) = bytes.try_into()
+        {
+            self.root.set(Some((at, root)));
+        }
+        Ok(written)
     }
 }
 
