@@ -25,9 +25,11 @@ WHERE p.house = ANY (%(houses)s) AND EXISTS (
     SELECT FROM fittings o WHERE o.place = p.id
     AND o.during && tstzrange(day_begins(%(begin)s, h.zone), day_begins(%(after)s, h.zone)))
 ORDER BY p.id, lower(f.during)"""
+# (One whose telegram was dropped decides nothing any more: no audit would have evidence of it.)
 VALUES = """
 SELECT fitting, at, amount, value, unit, source, id, box, month::text, serial, part FROM day_values
-WHERE fitting = ANY (%s) AND struck_at IS NULL AND day BETWEEN %s AND %s ORDER BY fitting, day"""
+WHERE fitting = ANY (%s) AND struck_at IS NULL AND day BETWEEN %s AND %s
+  AND (month IS NULL OR month >= (SELECT first_month())) ORDER BY fitting, day"""
 RESTARTS = """
 SELECT fitting, at, unit, last_amount, last, first_amount, first, is_estimated, why FROM restarts
 WHERE fitting = ANY (%s) ORDER BY fitting, at"""

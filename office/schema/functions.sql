@@ -62,8 +62,14 @@ BEGIN
 END $$;
 SELECT make_months(current_date, 13);
 
+-- The first month whose readings weren't dropped.
+CREATE OR REPLACE FUNCTION first_month() RETURNS date LANGUAGE sql STABLE AS $$
+    SELECT min(to_date(right(inhrelid::regclass::text, 7), 'YYYY_MM')) FROM pg_inherits
+    WHERE inhparent = 'readings'::regclass
+$$;
+
 -- Drops the readings and points of the months before a day, with the due-date values that only they have. No serial of
--- them is taken again (boxes.stored).
+-- them is taken again (boxes.stored). Values of days that rest on them stay, and decide no month any more (supply.py).
 CREATE OR REPLACE FUNCTION drop_months_before(day date) RETURNS SETOF text LANGUAGE plpgsql AS $$
 DECLARE
     of_month text;

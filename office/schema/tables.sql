@@ -456,7 +456,7 @@ CREATE TABLE changes (
     PRIMARY KEY (house, month)
 );
 
--- The first day from which on the values of all days are there (office/retain).
+-- The first day from which on the values of all days are there, with their telegrams (office/retain).
 CREATE TABLE kept (since date NOT NULL);
 CREATE UNIQUE INDEX one_row ON kept ((true));
 

@@ -247,6 +247,21 @@ def test_neither_retain_nor_forget_changes_a_bill(office: Office, elm: Supplied,
     assert "no audit" in bill(office, "2021", status=5)
 
 
+def test_a_value_counts_as_long_as_its_telegram_is_there(office: Office, elm: Supplied, tmp_path: pathlib.Path) -> None:
+    """The ends of months stay where a user is forgotten; without their telegrams they decide no month and no bill."""
+    meter, silent = elm.meter(1, HEAT, "A1"), elm.meter(2, HEAT, "A2")
+    elm.reads(silent, at("2024-10-31T20:00"), 7_000)
+    for day, value in (("2024-10-31", 10_000), ("2024-11-30", 40_000), ("2024-12-31", 71_000), ("2025-01-01", 72_000),
+                       ("2025-01-31", 102_000), ("2025-02-01", 103_000), ("2025-02-02", 104_000)):
+        elm.reads(meter, at(f"{day}T20:00"), value)
+    assert office.run("close").status == 0
+    office.sql("SELECT drop_months_before('2024-12-01')")
+    assert office.sql("SELECT count(*) FROM day_values WHERE day < '2024-12-01'") == [(3,)]
+    assert elm.month("2025-01") == [("A1", 0, 31_000 * WH, "measured"), ("A2", 0, None, "missing")]
+    released(office, tmp_path, "2025-01")
+    assert cells(bill(office, "2025-01", status=1), "consumption", "grade") == [("31.000", "measured"), ("", "missing")]
+
+
 def test_a_bill_has_no_number_that_is_held(office: Office, elm: Supplied) -> None:
     """Until a person says why it is right; of a bill that is out that is another version."""
     meter = elm.meter(1, HEAT, "A1")
