@@ -1,6 +1,7 @@
 """A month or a bill that is out stays as it is; another number is another version, with a reason."""
 
 import csv
+import datetime
 import io
 import pathlib
 from typing import Any, List, Tuple
@@ -104,6 +105,23 @@ def test_a_month_may_be_left(office: Office, elm: Supplied, tmp_path: pathlib.Pa
     office.sql("SELECT put_value(%s, '2025-01-31', 1318000, 'Wh', 'read')", meter)
     assert office.run("close").status == 0 and "NEW changed" in office.run("alarms").printed
     assert len(rows(office)) == 1
+
+
+def test_forget_leaves_what_decides_months(office: Office, elm: Supplied, tmp_path: pathlib.Path) -> None:
+    """A meter that is read weekly, never on a month's last day, and a move in mid-month: no number becomes another."""
+    meter, one = elm.meter(1, HEAT, "A1", since=at("2024-12-01T00:00")), elm.tenancy("A1", "2024-01-01", "2025-02-12")
+    elm.tenancy("A1", "2025-02-12", None)
+    for week in range(16):
+        elm.reads(meter, at("2024-12-09T20:00") + datetime.timedelta(7 * week), 10_000 * week + 500 * week * week)
+    assert office.run("close").status == 0
+    for month in ("2024-12", "2025-01", "2025-02"):
+        released(office, tmp_path, month)
+    before = rows(office)
+    assert len(before) == 5 and office.run("forget", str(one)).status == 0
+    assert office.sql("SELECT array_agg(extract(day FROM day)::int ORDER BY day) FROM day_values WHERE day BETWEEN"
+                      " '2025-01-01' AND '2025-02-15'") == [([6, 27, 3, 10],)]
+    closed(office, "2024-12", "2025-01", "2025-02")
+    assert rows(office) == before and office.sql("SELECT count(*) FROM changes") == [(0,)]
 
 
 def computed_again(entries: List[int], begins: int, ends: int) -> int:
