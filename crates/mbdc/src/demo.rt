@@ -1,16 +1,16 @@
 //! The command `demo`: a gateway, a meter and the concentrator in one process, over a loopback socket to itself.
 
-use crate::tasks::{ROOM, flushed};
 use dc_address::{Identity, Primary};
 use dc_meters::House;
-use dc_poller::run_script;
 use dc_readout::{Bodies, Body, MeterScript, SimulatedMeter};
 use dc_recovery::Store;
 use dc_sectors::MemoryDisk;
+use mbdc_bus::blocks::Gateway;
 use mbdc_bus::world::{Looped, SimulatedBus};
-use mbdc_ending::{Ending, ProgramFault, STREAM, ending_of};
+use mbdc_commands::run_over;
+use mbdc_ending::{Ending, STREAM};
 use mbdc_files::{Host, Output};
-use mbdc_io::{Buffered, Bytes, NoMemory, ReadSource, WriteSink};
+use mbdc_io::{NoMemory, ReadSource, WriteSink};
 use std::alloc::Global;
 use std::fs::File;
 use std::io;
@@ -36,11 +36,11 @@ const FIRST: &[u8] = b"\x78\x56\x34\x12\x24\x40\x01\x07\x01\0\0\0\x0C\x13\x78\x5
 const LAST: &[u8] =
     b"\x78\x56\x34\x12\x24\x40\x01\x07\x02\0\0\0\x42\x6C\x1F\x3C\x4C\x13\x00\x50\x34\x12";
 
-// The stream that the concentrator reads, whose gateway is served on the way, and the one that it writes.
-type Ends = (
+// The gateway, over the stream that the concentrator reads, on which it is served on the way, and the one that it writes.
+type OwnGateway = Gateway<
     Looped<ReadSource<TcpStream>, ReadSource<TcpStream>, WriteSink<TcpStream>, Global>,
     WriteSink<TcpStream>,
-);
+>;
 
 /// Plays the demo, and prints what `run` prints of its script.
 pub fn play<R>(host: &Host<'_, R>) -> Ending<'static>
@@ -50,17 +50,21 @@ where
     let Ok(bus) = one_meter(host.rt.alloc()) else {
         return Ending::Memory;
     };
-    let ends = match join(host.rt, bus) {
-        Ok(ends) => ends,
+    let mut gateway = match join(host.rt, bus) {
+        Ok(gateway) => Some(gateway),
         Err(error) => return host.why.link(None, error),
     };
     let Ok(disk) = MemoryDisk::new(host.rt.alloc(), SECTORS) else {
         return Ending::Memory;
     };
-    match Store::format(disk) {
-        Ok(disk) => ending_of(work(host, disk, ends), STREAM),
-        Err((fault, _)) => Ending::Format(fault),
-    }
+    let disk = match Store::format(disk) {
+        Ok(disk) => disk,
+        Err((fault, _)) => return Ending::Format(fault),
+    };
+    let out = Output::new(io::writer(host.rt), host, false);
+    let (alloc, why) = (host.rt.alloc(), host.why);
+    let (_, ending) = run_over(alloc, why, disk, SCRIPT, out, &mut gateway, &mut (), STREAM);
+    ending
 }
 
 // A bus with the meter of the script on it.
@@ -80,7 +84,7 @@ fn one_meter(alloc: Global) -> Result<SimulatedBus<Global>, NoMemory> {
 }
 
 // A socket to this process itself. Each end has a handle to read and one to write.
-fn join<R>(rt: &R, bus: SimulatedBus<Global>) -> io::Result<Ends>
+fn join<R>(rt: &R, bus: SimulatedBus<Global>) -> io::Result<OwnGateway>
 where
     R: Net<Stream = TcpStream, Listener = TcpListener>,
 {
@@ -90,19 +94,5 @@ where
     let requests = ReadSource::new(far.try_clone()?);
     let answers = ReadSource::new(own.try_clone()?);
     let reader = Looped::new(answers, requests, WriteSink::new(far), bus);
-    Ok((reader, WriteSink::new(own)))
-}
-
-fn work<R: Files<File = File> + Print + AllocGlobal>(
-    host: &Host<'_, R>,
-    disk: MemoryDisk<Global>,
-    ends: Ends,
-) -> Result<bool, ProgramFault> {
-    let mut reader = Bytes::from_slice(host.rt.alloc(), SCRIPT)?;
-    let printer = Output::new(io::writer(host.rt), host, false);
-    let mut writer = Buffered::new(host.rt.alloc(), ROOM, WriteSink::new(printer))?;
-    let (_, outcome) = run_script(host.rt.alloc(), disk, &mut reader, &mut writer, Some(ends));
-    let faulty = outcome?;
-    flushed(writer)?;
-    Ok(faulty)
+    Ok(Gateway::new(reader, WriteSink::new(own)))
 }

@@ -6,7 +6,7 @@ ghost use Rattle.mbdc.specs.Tasks.{Answers};
 use crate::bench::on_bus;
 use crate::demo;
 use crate::fit::fit_on_image;
-use crate::inspect::{Screen, look_into, report_on_image, tell_status, tell_values};
+use crate::inspect::{Screen, look_into, tell};
 use crate::order::order_on_image;
 use crate::pointed::Pointed;
 use crate::poll::poll_on_image;
@@ -21,16 +21,19 @@ use mbdc_ending::{Ending, ProgramFault, STREAM};
 use mbdc_files::{Host, Noted, Output, back_up, format_image};
 use mbdc_io::{Buffered, Bytes, ReadSource, Sink, Source, WriteSink};
 use mbdc_json::explain_lines;
-use mbdc_looks::Asked;
-use std::alloc::{Allocator, Global};
+use mbdc_looks::{Asked, Form as LookForm, Report};
 use std::fs::File;
 use std::io::{Read, Write};
 use std::net::{Net, TcpListener, TcpStream};
 use std::rt::{Clock, Files};
 use std::{fs, io, str};
 
-/// Number of bytes that go to standard output at once.
-pub const ROOM: usize = 65_536;
+// Number of bytes that go to standard output at once.
+const ROOM: usize = 65_536;
+
+// The mistake of a word that names no table.
+const NO_TABLE: &str =
+    "TABLE is neither 'register' nor a date that exists, as 2024-12-31; try mbdc --help";
 
 /// Runs the task that the words name.
 pub fn run<'a, R>(host: &Host<'a, R>, task: &Task<'a>, screen: Screen) -> Ending<'a>
@@ -45,25 +48,37 @@ where
         + AllocGlobal,
 {
     match task {
-        Task::Lines {
-            engine,
-            file: Some(name),
-        } => work_on_file(host, *engine, name),
-        Task::Lines { engine, file: None } => work_on(host, *engine, host.rt.reader(), STREAM),
+        Task::Lines { engine, file } => match file {
+            None => work_on(host, *engine, host.rt.reader(), STREAM),
+            Some(name) => match fs::open(host.rt, name) {
+                Ok(file) => work_on(host, *engine, file, name),
+                Err(error) => host.why.file(name, error),
+            },
+        },
         Task::Format { image, sectors } => format_image(host, image, *sectors),
         Task::Run(task) => run_on_image(host, task),
         Task::Report {
             image,
             table,
             is_json,
-        } => report_on_image(host, image, table, *is_json),
-        Task::Inspect { image } => look_into(host, Asked::Contents, image),
-        Task::Values { image, layout } => tell_values(host, image, screen.shape_of(*layout)),
+        } => match Report::parse(table.as_bytes()) {
+            Some(report) => {
+                let form = if *is_json {
+                    LookForm::Json
+                } else {
+                    LookForm::Text
+                };
+                look_into(host, Asked::Table(report, form), image, false)
+            }
+            None => Ending::Words(NO_TABLE),
+        },
+        Task::Inspect { image } => look_into(host, Asked::Contents, image, false),
+        Task::Values { image, layout } => tell(host, image, None, *layout, screen),
         Task::Status {
             image,
             silent,
             layout,
-        } => tell_status(host, image, *silent, screen.shape_of(*layout)),
+        } => tell(host, image, Some(*silent), *layout, screen),
         Task::Fit { image, list } => fit_on_image(host, image, list),
         Task::Order(task) => order_on_image(host, task),
         Task::Copy { image, file } => back_up(host, image, file),
@@ -73,7 +88,7 @@ where
             let ending = poll_on_image(host, task);
             let is_polled = matches!(ending, Ending::Clean | Ending::Faulty);
             if screen.is_terminal && is_polled && !task.is_json {
-                let _ = tell_values(host, task.image, screen.shape_of(Layout::Table));
+                let _ = tell(host, task.image, None, Layout::Table, screen);
             }
             ending
         }
@@ -81,17 +96,7 @@ where
     }
 }
 
-fn work_on_file<'a, R: Files<File = File> + Print + Eprint + AllocGlobal>(
-    host: &Host<'_, R>,
-    engine: Engine,
-    name: &'a str,
-) -> Ending<'a> {
-    match fs::open(host.rt, name) {
-        Ok(file) => work_on(host, engine, file, name),
-        Err(error) => host.why.file(name, error),
-    }
-}
-
+// Runs the engine over an input, and ends by its answer. At a terminal what makes a line of hex digits a fault is named.
 fn work_on<'a, R: Files<File = File> + Print + Eprint + AllocGlobal, F: Read + Drop>(
     host: &Host<'_, R>,
     engine: Engine,
@@ -118,7 +123,10 @@ fn work<R: Files<File = File> + Print + Eprint + AllocGlobal, S: Source>(
     let printer = Output::new(io::writer(host.rt), host, false);
     let mut writer = Buffered::new(host.rt.alloc(), ROOM, WriteSink::new(printer))?;
     let faulty = answer_of(host, engine, reader, &mut writer)?;
-    flushed(writer)?;
+    let (mut output, put) = writer.finish();
+    if put.is_err() || output.flush().is_err() {
+        return Err(ProgramFault::Write);
+    }
     Ok(faulty)
 }
 
@@ -165,15 +173,4 @@ fn filled<R: Eprint + AllocGlobal, S: Source, W: Sink>(
         let _ = host.rt.eprint(text);
     }
     Ok(!is_right)
-}
-
-/// Flushes the writer.
-pub fn flushed<A: Allocator, W: Write + Drop>(
-    writer: Buffered<WriteSink<W>, A>,
-) -> Result<(), ProgramFault> {
-    let (mut output, put) = writer.finish();
-    if put.is_err() || output.flush().is_err() {
-        return Err(ProgramFault::Write);
-    }
-    Ok(())
 }
