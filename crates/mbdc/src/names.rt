@@ -4,9 +4,10 @@ use dc_address::Identity;
 use dc_meters::House;
 use dc_meters::named::{NameFault, Named, having, resolve_all};
 use dc_sectors::Disk;
+use mbdc_decode::tokens::{Piece, put_pieces};
 use mbdc_ending::{Ending, ending_of};
 use mbdc_files::Host;
-use mbdc_io::{Bytes, IoFault, Sink, put_number};
+use mbdc_io::{Bytes, Sink};
 use mbdc_log::Greatest;
 use mbdc_looks::register_of;
 use std::alloc::Global;
@@ -55,42 +56,48 @@ pub fn meters_in<'a>(
         Err(NameFault::Unknown(digits)) => (digits, Ok(Vec::new(alloc))),
         Err(NameFault::Several(digits)) => (digits, having(alloc, house, &digits)),
     };
-    let mut mistake = Bytes::new(alloc);
-    match several {
-        Ok(several) if put_mistake(&mut mistake, option, &digits, several.as_slice()).is_ok() =>
-            Err(leaked(alloc, &mistake)),
-        _ => Err(Ending::Memory),
+    let Ok(several) = several else {
+        return Err(Ending::Memory);
+    };
+    let mut said = Bytes::new(alloc);
+    let begun = match several.len() as u64 {
+        0 => said.put(b": no registered meter has this number"),
+        count => put_pieces(
+            &mut said,
+            &[
+                Piece::Text(b":"),
+                Piece::Word(count),
+                Piece::Text(b" meters have this number:"),
+            ],
+        ),
+    };
+    let mut before: &[u8] = b" ";
+    for meter in &several {
+        let text = meter.text();
+        if put_pieces(&mut said, &[Piece::Text(before), Piece::Text(&text)]).is_err() {
+            return Err(Ending::Memory);
+        }
+        before = b", ";
     }
+    if begun.is_err() {
+        return Err(Ending::Memory);
+    }
+    let pieces = [
+        Piece::Text(option.as_bytes()),
+        Piece::Text(&digits),
+        Piece::Text(said.as_slice()),
+    ];
+    Err(leaked(alloc, &pieces))
 }
 
 /// The ending by a mistake in the words. The text stays until the program ends, which it does next.
-pub fn leaked<'a>(alloc: Global, mistake: &Bytes<Global>) -> Ending<'a> {
-    match Vec::from_slice(alloc, mistake.as_slice()) {
+pub fn leaked<'a>(alloc: Global, mistake: &[Piece<'_>]) -> Ending<'a> {
+    let mut text = Bytes::new(alloc);
+    if put_pieces(&mut text, mistake).is_err() {
+        return Ending::Memory;
+    }
+    match Vec::from_slice(alloc, text.as_slice()) {
         Ok(text) => Ending::Words(str::from_utf8(text.leak()).unwrap_or_default()),
         Err(_) => Ending::Memory,
     }
-}
-
-// Writes the mistake of a number that these meters have.
-fn put_mistake<W: Sink>(
-    out: &mut W,
-    option: &str,
-    digits: &[u8],
-    meters: &[Identity],
-) -> Result<(), IoFault> {
-    out.put(option.as_bytes())?;
-    out.put(digits)?;
-    if meters.is_empty() {
-        return out.put(b": no registered meter has this number");
-    }
-    out.put(b": ")?;
-    put_number(out, meters.len() as u64)?;
-    out.put(b" meters have this number")?;
-    let mut before: &[u8] = b": ";
-    for meter in meters {
-        out.put(before)?;
-        out.put(&meter.text())?;
-        before = b", ";
-    }
-    Ok(())
 }

@@ -2,14 +2,13 @@
 
 use crate::fit::wished;
 use crate::names::{leaked, meters_in};
-use dc_address::Identity;
 use dc_meters::House;
-use mbdc_change::Flat;
 use mbdc_commands::words::{OrderTask, Turn};
+use mbdc_decode::tokens::{Piece, put_pieces};
 use mbdc_ending::{Ending, ending_of};
 use mbdc_files::{Host, open_disk};
 use mbdc_fit::list::{Order, Wish};
-use mbdc_io::{Bytes, IoFault, Sink, put_number};
+use mbdc_io::{Bytes, IoFault, Sink};
 use mbdc_log::Greatest;
 use mbdc_looks::register_of;
 use std::alloc::Global;
@@ -36,13 +35,17 @@ where
         Ok(order) => order,
         Err(ending) => return ending,
     };
-    if host.is_watched {
-        foretell(host, &house, &order);
+    let mut foretold = Bytes::new(alloc);
+    if host.is_watched
+        && put_foretold(&mut foretold, &house, &order).is_ok()
+        && let Ok(line) = str::from_utf8(foretold.as_slice())
+    {
+        let _ = host.rt.eprint(line);
     }
     wished(host, disk, task.image, Some(house), &Wish::One(order))
 }
 
-// The command that the words ask for.
+// The command that the words ask for. A meter that is replaced is in the flat that is named, if one is.
 fn order_of<'a>(
     alloc: Global,
     house: &House<Global>,
@@ -54,7 +57,20 @@ fn order_of<'a>(
     };
     match task.turn {
         Turn::Swap { new, address, flat } => {
-            is_in(alloc, house, meter, flat)?;
+            if let (Some(known), Some(flat)) = (house.meter(&meter), flat)
+                && known.flat().as_slice() != flat.as_slice()
+            {
+                let (text, known) = (meter.text(), known.flat());
+                let pieces = [
+                    Piece::Text(b"--flat "),
+                    Piece::Text(flat.as_slice()),
+                    Piece::Text(b": "),
+                    Piece::Text(&text),
+                    Piece::Text(b" is in flat "),
+                    Piece::Text(known.as_slice()),
+                ];
+                return Err(leaked(alloc, &pieces));
+            }
             Ok(Order::Swap {
                 old: meter,
                 new,
@@ -66,72 +82,44 @@ fn order_of<'a>(
     }
 }
 
-// Whether a registered meter is in the flat that is named.
-fn is_in<'a>(
-    alloc: Global,
-    house: &House<Global>,
-    meter: Identity,
-    flat: Option<Flat>,
-) -> Result<(), Ending<'a>> {
-    let (Some(known), Some(flat)) = (house.meter(&meter), flat) else {
-        return Ok(());
-    };
-    if known.flat().as_slice() == flat.as_slice() {
-        return Ok(());
-    }
-    let (meter, known) = (meter.text(), known.flat());
-    let pieces: [&[u8]; 6] = [
-        b"--flat ",
-        flat.as_slice(),
-        b": ",
-        &meter,
-        b" is in flat ",
-        known.as_slice(),
-    ];
-    let mut text = Bytes::new(alloc);
-    for piece in pieces {
-        if text.put(piece).is_err() {
-            return Err(Ending::Memory);
-        }
-    }
-    Err(leaked(alloc, &text))
-}
-
-// Says on standard error what will be done.
-fn foretell<R: Eprint + AllocGlobal>(host: &Host<'_, R>, house: &House<Global>, order: &Order) {
-    let mut text = Bytes::new(host.rt.alloc());
-    if put_foretold(&mut text, house, order).is_ok()
-        && let Ok(line) = str::from_utf8(text.as_slice())
-    {
-        let _ = host.rt.eprint(line);
-    }
-}
-
-// Of a meter that isn't registered nothing is said: the command is refused.
+// Writes what will be done. Of a meter that isn't registered nothing is said: the command is refused.
 fn put_foretold<W: Sink>(out: &mut W, house: &House<Global>, order: &Order) -> Result<(), IoFault> {
     let meter = order.subject();
     let Some(known) = house.meter(&meter) else {
         return Ok(());
     };
-    out.put(b"line ")?;
-    put_number(out, u64::from(known.line()))?;
-    out.put(b", flat ")?;
-    out.put(known.flat().as_slice())?;
-    out.put(b": ")?;
-    out.put(&meter.text())?;
+    let (flat, text) = (known.flat(), meter.text());
+    let row = [
+        Piece::Text(b"line"),
+        Piece::Word(u64::from(known.line())),
+        Piece::Text(b", flat "),
+        Piece::Text(flat.as_slice()),
+        Piece::Text(b": "),
+        Piece::Text(&text),
+    ];
+    put_pieces(out, &row)?;
     match order {
         Order::Swap { new, address, .. } => {
-            out.put(b" is replaced by ")?;
-            out.put(&new.text())?;
-            out.put(b", address ")?;
-            match address {
-                Some(address) => put_number(out, u64::from(address.get()))?,
-                None => out.put(b"S")?,
-            }
+            let new = new.text();
+            let row = [
+                Piece::Text(b" is replaced by "),
+                Piece::Text(&new),
+                Piece::Text(b", address"),
+                match address {
+                    Some(address) => Piece::Word(u64::from(address.get())),
+                    None => Piece::Text(b" S"),
+                },
+            ];
+            put_pieces(out, &row)?;
         }
         Order::Move { flat, .. } => {
-            out.put(b" moves to flat ")?;
-            out.put(flat.as_slice())?;
+            put_pieces(
+                out,
+                &[
+                    Piece::Text(b" moves to flat "),
+                    Piece::Text(flat.as_slice()),
+                ],
+            )?;
         }
         Order::Out { .. } => out.put(b" is removed")?,
     }
