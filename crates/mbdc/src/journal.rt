@@ -2,7 +2,6 @@
 //! first reads there who was silent in the last one.
 
 use crate::clock::moment;
-use dc_address::Identity;
 use dc_meters::House;
 use dc_poller::CommandNotes;
 use dc_readout::Why;
@@ -44,23 +43,18 @@ impl<'h, 'i, R: Files<File = File> + Clock + Eprint + AllocGlobal> Noting<'h, 'i
             is_open: false,
             house,
         };
-        noting.complete();
-        noting
-    }
-
-    fn complete(&mut self) {
-        let now = self.now();
-        let mut line = Bytes::new(self.rt.alloc());
-        match &self.house {
+        let now = noting.now();
+        let mut line = Bytes::new(host.rt.alloc());
+        let is_due = match &noting.house {
             Some(house) if house.last_number() > 0 => {
-                let (number, command) = (house.last_number(), house.last_line());
-                if put_command_note(&mut line, now, number, command).is_err() {
-                    return;
-                }
+                put_command_note(&mut line, now, house.last_number(), house.last_line()).is_ok()
             }
-            _ => return,
+            _ => false,
+        };
+        if is_due {
+            noting.append(&line, true);
         }
-        self.append(&line, true);
+        noting
     }
 
     fn open(&mut self) {
@@ -71,11 +65,12 @@ impl<'h, 'i, R: Files<File = File> + Clock + Eprint + AllocGlobal> Noting<'h, 'i
     }
 
     /// The meters of each of this many lines that nobody answered for in the last poll, as the journal has it: none of
-    /// a line that was lost then, and none at all where there is no journal of this image.
+    /// a line that was lost then, and none at all where there is no journal of this image, or where they get all their
+    /// tries.
     ///
     /// # Errors
     /// Out of memory.
-    pub fn doubts(&mut self, lines: u8) -> Result<Vec<Vec<Doubt>>, NoMemory> {
+    pub fn doubts(&mut self, lines: u8, all_tries: bool) -> Result<Vec<Vec<Doubt>>, NoMemory> {
         let (alloc, now) = (self.rt.alloc(), self.now());
         if self.house.is_some() {
             self.open();
@@ -96,6 +91,7 @@ impl<'h, 'i, R: Files<File = File> + Clock + Eprint + AllocGlobal> Noting<'h, 'i
         for line in 1..=lines {
             let mut silent = Vec::new(alloc);
             if let Some(house) = &self.house
+                && !all_tries
                 && !poll.contains(format!(in alloc; "{LOST}{line}")?.as_str())
             {
                 for (meter, row) in house.meters() {
@@ -134,8 +130,14 @@ impl<'h, 'i, R: Files<File = File> + Clock + Eprint + AllocGlobal> Noting<'h, 'i
 impl<R: Files<File = File> + Clock + Eprint + AllocGlobal> Notes for Noting<'_, '_, R> {
     fn note(&mut self, event: &Event<'_>) {
         let alloc = self.rt.alloc();
-        let flat = match (meter_of(event), &self.house) {
-            (Some(meter), Some(house)) => house.meter(&meter).map(|known| known.flat()),
+        let meter = match event {
+            Event::Read { meter, .. }
+            | Event::Failed { meter, .. }
+            | Event::Refused { meter, .. } => Some(meter),
+            Event::Lost { .. } | Event::Late { .. } | Event::End { .. } => None,
+        };
+        let flat = match (meter, &self.house) {
+            (Some(meter), Some(house)) => house.meter(meter).map(|known| known.flat()),
             _ => None,
         };
         let flat = match &flat {
@@ -161,15 +163,6 @@ fn last_poll(lines: &[u8]) -> &str {
     match before.rsplit_once(END) {
         Some((_, poll)) => poll,
         None => before,
-    }
-}
-
-// The meter of an event, if it is of one.
-fn meter_of(event: &Event<'_>) -> Option<Identity> {
-    match event {
-        Event::Read { meter, .. } | Event::Failed { meter, .. } | Event::Refused { meter, .. } =>
-            Some(*meter),
-        Event::Lost { .. } | Event::Late { .. } | Event::End { .. } => None,
     }
 }
 

@@ -18,7 +18,7 @@ use mbdc_files::{Host, Output, open_disk};
 use mbdc_io::NoMemory;
 use mbdc_poll::events::{Form, Notes};
 use mbdc_poll::{Doubt, Plan, Sparing};
-use mbdc_raw::links::{LinkBus, Peer, SystemBus, Watched};
+use mbdc_raw::links::{LinkBus, Peer, Watched};
 use std::alloc::Global;
 use std::fs::{File, OpenFile};
 use std::io;
@@ -87,10 +87,10 @@ where
         is_shown: shows_progress(host, trace),
     };
     let mut notes = Noting::new(host, task.image, house);
-    match (
-        tracers_of(host, trace, peers.len()),
-        notes.doubts(u8::try_from(peers.len()).unwrap_or_default()),
-    ) {
+    // A meter that is named gets all its tries.
+    let lines = u8::try_from(peers.len()).unwrap_or_default();
+    let doubts = notes.doubts(lines, !only.is_empty());
+    match (tracers_of(host, trace, peers.len()), doubts) {
         (Ok(observers), Ok(mut doubts)) => poll_peers(
             host,
             disk,
@@ -107,8 +107,8 @@ where
     }
 }
 
-// Makes the buses of connected links, and reads the meters over them. The observers are any, for the checker meets its
-// step limit over the parts of a trace.
+// Makes the bus of each connected link, with its observer, and reads the meters over them. The observers are any, for
+// the checker meets its step limit over the parts of a trace.
 fn poll_peers<'a, D, O, J, R>(
     host: &Host<'_, R>,
     disk: FileDisk<D>,
@@ -126,16 +126,22 @@ where
     J: Notes + Drop,
     R: Files<File = File> + Net<Stream = TcpStream> + Clock + Copy + Print + Eprint + AllocGlobal,
 {
-    // A meter that is named gets all its tries.
-    if !only.is_empty() {
-        for named in doubts.iter_mut() {
-            named.clear();
+    let mut buses = Vec::new(host.rt.alloc());
+    for (peer, observer) in peers.iter().zip(observers) {
+        // One without a link is absent.
+        let bus = match peer {
+            Some(peer) => peer.bus(*host.rt, task.patience.unwrap_or(peer.patience())),
+            None => Ok(LinkBus::Absent),
+        };
+        let bus = match bus {
+            Ok(bus) => Observed { bus, observer },
+            Err(error) => return host.why.link(None, error),
+        };
+        if buses.push(bus).is_err() {
+            return Ending::Memory;
         }
     }
-    match buses_of(host, peers, observers, task.patience) {
-        Ok(buses) => poll_sparing(host, disk, buses, doubts, only, printing, notes, task),
-        Err(ending) => ending,
-    }
+    poll_sparing(host, disk, buses, doubts, only, printing, notes, task)
 }
 
 // Reads the meters over these buses, each of which asks who was silent on it one question. They are any, as the
@@ -184,31 +190,4 @@ where
         task.image,
     );
     ending
-}
-
-// The bus of each line, with its observer; one without a link is absent.
-fn buses_of<'p, 'e, R, O>(
-    host: &Host<'_, R>,
-    peers: &'p [Option<Peer<R>>],
-    observers: Vec<O>,
-    patience: Option<u16>,
-) -> Result<Vec<Observed<SystemBus<'p, R>, O>, Global>, Ending<'e>>
-where
-    R: Net<Stream = TcpStream> + Clock + Copy + Eprint + AllocGlobal,
-    O: Observer + Drop,
-{
-    let mut buses = Vec::new(host.rt.alloc());
-    for (peer, observer) in peers.iter().zip(observers) {
-        let bus = match peer {
-            Some(peer) => match peer.bus(*host.rt, patience.unwrap_or(peer.patience())) {
-                Ok(bus) => bus,
-                Err(error) => return Err(host.why.link(None, error)),
-            },
-            None => LinkBus::Absent,
-        };
-        if buses.push(Observed { bus, observer }).is_err() {
-            return Err(Ending::Memory);
-        }
-    }
-    Ok(buses)
 }

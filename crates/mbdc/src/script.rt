@@ -12,16 +12,13 @@ use mbdc_files::{Host, Noted, Output, open_disk};
 use mbdc_io::ReadSource;
 use mbdc_log::Greatest;
 use mbdc_looks::register_of;
-use mbdc_raw::links::{Peer, SystemBus, Waiter};
+use mbdc_raw::links::{Peer, Waiter};
 use std::fs::{File, OpenFile};
 use std::io::Read;
 use std::net::{Net, TcpStream};
 use std::os::unix::fs::FileExt;
 use std::rt::{Clock, Files};
 use std::{fs, io};
-
-// The bus of a gateway.
-type GatewayBus<'a, C> = Both<SystemBus<'a, C>, Waiter>;
 
 /// Runs the script over the image, from file to file, over the gateway.
 pub fn run_on_image<'a, R>(host: &Host<'_, R>, task: &RunTask<'a>) -> Ending<'a>
@@ -58,9 +55,12 @@ where
     D: FileExt + OpenFile + Drop,
     R: Files<File = File> + Net<Stream = TcpStream> + Clock + Copy + Print + Eprint + AllocGlobal,
 {
-    let mut gateway = match bus_of(host, peers, task) {
-        Ok(gateway) => gateway,
-        Err(ending) => return ending,
+    let mut gateway = match peers {
+        [Some(peer)] => match peer.bus(*host.rt, task.patience.unwrap_or(peer.patience())) {
+            Ok(bus) => Some(Both { bus, pause: Waiter }),
+            Err(error) => return host.why.link(None, error),
+        },
+        _ => None,
     };
     let lines = match read_whole(host.rt.alloc(), &mut ReadSource::new(lines)) {
         Ok(lines) => lines,
@@ -84,22 +84,4 @@ where
         task.script,
     );
     ending
-}
-
-// The bus of the one link, if there is one.
-fn bus_of<'p, 'e, R>(
-    host: &Host<'_, R>,
-    peers: &'p [Option<Peer<R>>],
-    task: &RunTask<'_>,
-) -> Result<Option<GatewayBus<'p, R>>, Ending<'e>>
-where
-    R: Net<Stream = TcpStream> + Clock + Copy + AllocGlobal,
-{
-    let [Some(peer)] = peers else {
-        return Ok(None);
-    };
-    match peer.bus(*host.rt, task.patience.unwrap_or(peer.patience())) {
-        Ok(bus) => Ok(Some(Both { bus, pause: Waiter })),
-        Err(error) => Err(host.why.link(None, error)),
-    }
 }

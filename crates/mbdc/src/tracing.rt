@@ -115,25 +115,7 @@ where
     }))
 }
 
-/// What writes the trace of a bus line, from 1; without a trace it writes nothing.
-pub fn tracer_of<'t, 'h, R: Clock + Eprint>(
-    trace: Option<&'t Trace<'h, R>>,
-    line: u8,
-) -> LineTracer<'t, 'h, R> {
-    let file = match trace {
-        Some(trace) => Some(&trace.file),
-        None => None,
-    };
-    LineTracer {
-        tracer: Tracer {
-            out: TraceLines::new(file),
-            line,
-        },
-        trace,
-    }
-}
-
-/// What writes the traces of this many bus lines.
+/// What writes the traces of this many bus lines, from 1 on; without a trace it writes nothing.
 ///
 /// # Errors
 /// The ending of the command: memory ran out.
@@ -142,13 +124,18 @@ pub fn tracers_of<'t, 'h, 'e, R: Clock + Eprint + AllocGlobal>(
     trace: Option<&'t Trace<'h, R>>,
     lines: usize,
 ) -> Result<Vec<LineTracer<'t, 'h, R>>, Ending<'e>> {
+    let file = match trace {
+        Some(trace) => Some(&trace.file),
+        None => None,
+    };
     let mut tracers = Vec::new(host.rt.alloc());
-    for _ in 0..lines {
-        let line = u8::try_from(tracers.len()).unwrap_or(u8::MAX);
-        if tracers
-            .push(tracer_of(trace, line.saturating_add(1)))
-            .is_err()
-        {
+    for before in 0..lines {
+        let line = u8::try_from(before).unwrap_or(u8::MAX).saturating_add(1);
+        let tracer = Tracer {
+            out: TraceLines::new(file),
+            line,
+        };
+        if tracers.push(LineTracer { tracer, trace }).is_err() {
             return Err(Ending::Memory);
         }
     }
