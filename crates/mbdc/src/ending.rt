@@ -270,19 +270,12 @@ fn mistake(alloc: Global, error: &Error, words: &[String]) -> Result<String, All
         && let Some(word) = words.iter().skip(1).find(|word| !word.starts_with('-'))
         && let Some(command) = nearest(word)
     {
-        add_meant(&mut what, command)?;
+        return format!(in alloc; "{what}; did you mean {command}?; try mbdc --help");
     }
     if let Some((_, tip)) = text.as_str().split_once(SIMILAR)
         && let Some((option, _)) = tip.split_once('\'')
     {
-        add_meant(&mut what, option)?;
+        return format!(in alloc; "{what}; did you mean {option}?; try mbdc --help");
     }
-    what.push_str("; try mbdc --help")?;
-    Ok(what)
-}
-
-fn add_meant(what: &mut String, meant: &str) -> Result<(), AllocError> {
-    what.push_str("; did you mean ")?;
-    what.push_str(meant)?;
-    what.push_str("?")
+    format!(in alloc; "{what}; try mbdc --help")
 }

@@ -25,37 +25,31 @@ use inspect::Screen;
 use mbdc_commands::words::{Call, call_of};
 use mbdc_ending::{Ending, STREAM};
 use mbdc_files::{ERRORS, Host, NOWHERE, Why, hold, is_full};
+use std::alloc::AllocError;
+use std::env;
 use std::env::FillError;
 use std::io::{ErrorKind, IsTerminal, Write};
 use std::process::ExitCode;
 use std::rt::Env;
-use std::{env, io};
 
 // What a person sees who calls the program without words: it waits for lines to decode.
 const AT_TERMINAL: &[u8] =
     b"mbdc: decoding the lines that you type, up to Ctrl-D; mbdc --help names the commands\n";
 
-fn words_of(rt: &(impl Env + AllocGlobal)) -> io::Result<Vec<String>> {
-    let mut words = Vec::new(rt.alloc());
-    for word in env::args(rt)? {
-        words.push(word)?;
-    }
-    Ok(words)
-}
-
 fn main(rt: HostRuntime) -> ExitCode {
     if hold(&rt).is_err() {
         return told(&rt, &Ending::File(NOWHERE));
     }
-    let words = match words_of(&rt) {
-        Ok(words) => words,
-        Err(error) if error.kind() == ErrorKind::OutOfMemory => {
-            return told(&rt, &Ending::Memory);
-        }
+    let words: Result<Vec<String>, AllocError> = match env::args(&rt) {
+        Ok(words) => words.collect(rt.alloc()),
+        Err(error) if error.kind() == ErrorKind::OutOfMemory => Err(AllocError),
         Err(_) => return told(
             &rt,
             &Ending::Words("the words aren't UTF-8 text; try mbdc --help"),
         ),
+    };
+    let Ok(words) = words else {
+        return told(&rt, &Ending::Memory);
     };
     if words.len() <= 1 && rt.stdin().is_terminal() {
         let _ = rt.stderr().write_all(AT_TERMINAL);
