@@ -57,13 +57,6 @@ impl<'h, 'i, R: Files<File = File> + Clock + Eprint + AllocGlobal> Noting<'h, 'i
         noting
     }
 
-    fn open(&mut self) {
-        if !self.is_open {
-            self.journal = Journal::open(self.rt, self.image);
-            self.is_open = true;
-        }
-    }
-
     /// The meters of each of this many lines that nobody answered for in the last poll, as the journal has it: none of
     /// a line that was lost then, and none at all where there is no journal of this image, or where they get all their
     /// tries.
@@ -72,9 +65,7 @@ impl<'h, 'i, R: Files<File = File> + Clock + Eprint + AllocGlobal> Noting<'h, 'i
     /// Out of memory.
     pub fn doubts(&mut self, lines: u8, all_tries: bool) -> Result<Vec<Vec<Doubt>>, NoMemory> {
         let (alloc, now) = (self.rt.alloc(), self.now());
-        if self.house.is_some() {
-            self.open();
-        }
+        // It is open for the last command: an image without one has no meters.
         let journal = match &self.journal {
             Some(_) => journal_lines(self.rt, self.image)?,
             None => None,
@@ -110,7 +101,10 @@ impl<'h, 'i, R: Files<File = File> + Clock + Eprint + AllocGlobal> Noting<'h, 'i
 
     // Appends a line, or only one that isn't there.
     fn append(&mut self, line: &Bytes<Global>, is_new: bool) {
-        self.open();
+        if !self.is_open {
+            self.journal = Journal::open(self.rt, self.image);
+            self.is_open = true;
+        }
         if let Some(journal) = &mut self.journal
             && (!is_new || matches!(journal.has(self.image, line.as_slice()), Ok(false)))
         {
