@@ -11,7 +11,7 @@ use mbdc_io::{IoFault, NoMemory};
 use mbdc_json::journal::{Journal, read_journal};
 use mbdc_json::status::Clock as Silence;
 use mbdc_log::Greatest;
-use mbdc_looks::{Asked, Form, Outlook, Shown, answer, register_of, scan};
+use mbdc_looks::{Asked, Form, Outlook, Report, Shown, answer, register_of, scan};
 use std::alloc::Global;
 use std::fs::File;
 use std::io;
@@ -20,6 +20,10 @@ use std::rt::{Clock, Files};
 
 // Seconds after which a meter is silent where nothing is said of it: the default of `status`.
 const SILENT: u64 = 172_800;
+
+// The mistake of a word that names no table.
+const NO_TABLE: &str =
+    "TABLE is neither 'register' nor a date that exists, as 2024-12-31; try mbdc --help";
 
 /// Where standard output goes.
 #[derive(Clone, Copy)]
@@ -134,6 +138,23 @@ fn look<'a, R: Files<File = File> + AllocGlobal>(
         }
     }
     Err(file.busy(image))
+}
+
+/// Prints the table that the word names.
+pub fn report_on<'a, R>(
+    host: &Host<'_, R>,
+    image: &'a str,
+    table: &str,
+    is_json: bool,
+) -> Ending<'a>
+where
+    R: Files<File = File> + Clock + Print + Eprint + AllocGlobal,
+{
+    let Some(report) = Report::parse(table.as_bytes()) else {
+        return Ending::Words(NO_TABLE);
+    };
+    let form = if is_json { Form::Json } else { Form::Text };
+    look_into(host, Asked::Table(report, form), image, false)
 }
 
 /// Prints when the meters of the image in that file were last heard; one is silent after `silent` seconds. Where that

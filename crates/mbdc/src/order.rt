@@ -8,7 +8,7 @@ use mbdc_decode::tokens::{Piece, put_pieces};
 use mbdc_ending::{Ending, ending_of};
 use mbdc_files::{Host, open_disk};
 use mbdc_fit::list::{Order, Wish};
-use mbdc_io::{Bytes, IoFault, Sink};
+use mbdc_io::{Bytes, IoFault, Sink, put_number};
 use mbdc_log::Greatest;
 use mbdc_looks::register_of;
 use std::alloc::Global;
@@ -100,26 +100,17 @@ fn put_foretold<W: Sink>(out: &mut W, house: &House<Global>, order: &Order) -> R
     put_pieces(out, &row)?;
     match order {
         Order::Swap { new, address, .. } => {
-            let new = new.text();
-            let row = [
-                Piece::Text(b" is replaced by "),
-                Piece::Text(&new),
-                Piece::Text(b", address"),
-                match address {
-                    Some(address) => Piece::Word(u64::from(address.get())),
-                    None => Piece::Text(b" S"),
-                },
-            ];
-            put_pieces(out, &row)?;
+            out.put(b" is replaced by ")?;
+            out.put(&new.text())?;
+            out.put(b", address ")?;
+            match address {
+                Some(address) => put_number(out, u64::from(address.get()))?,
+                None => out.put(b"S")?,
+            }
         }
         Order::Move { flat, .. } => {
-            put_pieces(
-                out,
-                &[
-                    Piece::Text(b" moves to flat "),
-                    Piece::Text(flat.as_slice()),
-                ],
-            )?;
+            out.put(b" moves to flat ")?;
+            out.put(flat.as_slice())?;
         }
         Order::Out { .. } => out.put(b" is removed")?,
     }

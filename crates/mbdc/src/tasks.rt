@@ -6,7 +6,7 @@ ghost use Rattle.mbdc.specs.Tasks.{Answers};
 use crate::bench::on_bus;
 use crate::demo;
 use crate::fit::fit_on_image;
-use crate::inspect::{Screen, look_into, tell};
+use crate::inspect::{Screen, look_into, report_on, tell};
 use crate::order::order_on_image;
 use crate::pointed::Pointed;
 use crate::poll::poll_on_image;
@@ -21,7 +21,7 @@ use mbdc_ending::{Ending, ProgramFault, STREAM};
 use mbdc_files::{Host, Noted, Output, back_up, format_image};
 use mbdc_io::{Buffered, Bytes, ReadSource, Sink, Source, WriteSink};
 use mbdc_json::explain_lines;
-use mbdc_looks::{Asked, Form as LookForm, Report};
+use mbdc_looks::Asked;
 use std::fs::File;
 use std::io::{Read, Write};
 use std::net::{Net, TcpListener, TcpStream};
@@ -30,10 +30,6 @@ use std::{fs, io, str};
 
 // Number of bytes that go to standard output at once.
 const ROOM: usize = 65_536;
-
-// The mistake of a word that names no table.
-const NO_TABLE: &str =
-    "TABLE is neither 'register' nor a date that exists, as 2024-12-31; try mbdc --help";
 
 /// Runs the task that the words name.
 pub fn run<'a, R>(host: &Host<'a, R>, task: &Task<'a>, screen: Screen) -> Ending<'a>
@@ -61,17 +57,7 @@ where
             image,
             table,
             is_json,
-        } => match Report::parse(table.as_bytes()) {
-            Some(report) => {
-                let form = if *is_json {
-                    LookForm::Json
-                } else {
-                    LookForm::Text
-                };
-                look_into(host, Asked::Table(report, form), image, false)
-            }
-            None => Ending::Words(NO_TABLE),
-        },
+        } => report_on(host, image, table, *is_json),
         Task::Inspect { image } => look_into(host, Asked::Contents, image, false),
         Task::Values { image, layout } => tell(host, image, None, *layout, screen),
         Task::Status {
