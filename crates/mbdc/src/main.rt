@@ -16,6 +16,7 @@ mod pointed;
 mod poll;
 mod rescue;
 mod script;
+mod system;
 mod table;
 mod tasks;
 mod tracing;
@@ -79,7 +80,7 @@ fn answer(rt: &HostRuntime, call: &Call<'_>) -> ExitCode {
         is_terminal,
         is_coloured: is_terminal && takes_all,
     };
-    let ending = tasks::run(&host, &call.task, screen);
+    let ending = tasks::run(&host, &host, &call.task, screen);
     // A reader that has seen enough, as head, is no mistake to tell a person of.
     if host.is_watched
         && matches!(ending, Ending::File(STREAM))

@@ -1,6 +1,8 @@
-//! What makes a line of hex digits a `HEX FAULT`, named for a person at a terminal.
+//! An input, and what makes a line of hex digits a `HEX FAULT`, named for a person at a terminal.
 
+use mbdc_files::Noted;
 use mbdc_io::LONGEST;
+use std::fs::File;
 use std::io;
 use std::io::Read;
 
@@ -15,11 +17,22 @@ enum Mistake {
     Odd(u64),
 }
 
-/// Lines of hex digits that are read on; the first mistake of each line is named on standard error.
+/// A file, or standard input.
 #[derive(Drop)]
-pub struct Pointed<'r, R, F: Drop> {
-    inner: F,
+pub enum Opened<'r, T: Drop> {
+    /// A file.
+    File(Noted<'r, File>),
+    /// Standard input.
+    Standard(Noted<'r, T>),
+}
+
+/// Lines of hex digits that are read on; where it is asked for, the first mistake of each line is named on standard
+/// error.
+#[derive(Drop)]
+pub struct Pointed<'r, R, T: Drop> {
+    inner: Opened<'r, T>,
     rt: &'r R,
+    is_pointed: bool,
     // The line, from 1, and the number of its bytes and digits so far.
     line: u64,
     bytes: u64,
@@ -27,12 +40,13 @@ pub struct Pointed<'r, R, F: Drop> {
     is_named: bool,
 }
 
-impl<'r, R: Eprint, F: Drop> Pointed<'r, R, F> {
+impl<'r, R: Eprint, T: Drop> Pointed<'r, R, T> {
     /// Wraps the input, before its first line.
-    pub fn new(inner: F, rt: &'r R) -> Self {
+    pub fn new(inner: Opened<'r, T>, rt: &'r R, is_pointed: bool) -> Self {
         Pointed {
             inner,
             rt,
+            is_pointed,
             line: 1,
             bytes: 0,
             digits: 0,
@@ -86,9 +100,15 @@ impl<'r, R: Eprint, F: Drop> Pointed<'r, R, F> {
     }
 }
 
-impl<R: Eprint, F: Read + Drop> Read for Pointed<'_, R, F> {
+impl<R: Eprint, T: Read + Drop> Read for Pointed<'_, R, T> {
     fn read(&mut self, room: &mut [u8]) -> io::Result<usize> {
-        let count = self.inner.read(room)?;
+        let count = match &mut self.inner {
+            Opened::File(file) => file.read(room)?,
+            Opened::Standard(input) => input.read(room)?,
+        };
+        if !self.is_pointed {
+            return Ok(count);
+        }
         for byte in &room[..count] {
             if *byte == b'\n' {
                 self.end_line();

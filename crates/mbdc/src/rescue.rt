@@ -1,8 +1,11 @@
 //! The command `rescue`: what is left of an image, in a new one.
 
+ghost use Rattle.std.specs.Prelude.{◌≡◌};
+ghost use Rattle.mbdc.specs.Tasks.{Rescues};
+
 use mbdc_commands::{put_rescued, rescue_to};
 use mbdc_ending::{Ending, STREAM, ending_of};
-use mbdc_files::{Host, Output};
+use mbdc_files::{Host, Output, Shelf};
 use mbdc_io::{Sink, WriteSink};
 use mbdc_json::journal::Journal;
 use mbdc_looks::{Asked, answer, scan};
@@ -12,12 +15,20 @@ use std::rt::Files;
 
 /// Writes what the image reads as, or what is left of it, to a new image in that file, and prints what was rescued and
 /// what the new image holds.
-pub fn rescue_image<'a, R>(host: &Host<'_, R>, image: &'a str, file: &'a str) -> Ending<'a>
+pub fn rescue_image<'a, R, S: Shelf>(
+    host: &Host<'_, R>,
+    shelf: &S,
+    image: &'a str,
+    file: &'a str,
+) -> Ending<'a>
 where
     R: Files<File = File> + Print + AllocGlobal,
+    // At status 0 each image that a crash may leave of the new disk stands for the state that was rescued.
+    ensures { result ≡ Ending.Clean → Rescues S.Old.Disk S.New.Disk (S.copied shelf.now image.now)
+        (S.named shelf.now file.now) }
 {
     let alloc = host.rt.alloc();
-    let (rescued, mut new) = match rescue_to(alloc, host, image, file) {
+    let (rescued, mut new) = match rescue_to(alloc, shelf, image, file) {
         Ok(rescued) => rescued,
         Err(ending) => return ending,
     };

@@ -1,38 +1,39 @@
 //! The commands: an engine of a library between the files and links that the words name.
 
 ghost use Rattle.std.specs.Prelude.{IfOk};
-ghost use Rattle.mbdc.specs.Tasks.{Answers};
+ghost use Rattle.mbdc.specs.Tasks.{Answers, Runs, Works};
 
 use crate::bench::on_bus;
 use crate::demo;
 use crate::fit::fit_on_image;
 use crate::inspect::{Screen, look_into, report_on, tell};
 use crate::order::order_on_image;
-use crate::pointed::Pointed;
 use crate::poll::poll_on_image;
 use crate::rescue::rescue_image;
 use crate::script::run_on_image;
+use crate::system::System;
 use dc_poller::fold_lines;
 use mbdc_audit::{audit, fill};
 use mbdc_commands::words::{Engine, Form, Layout, Task};
 use mbdc_decode::decode_lines;
 use mbdc_decode::objects::json_lines;
 use mbdc_ending::{Ending, ProgramFault, STREAM};
-use mbdc_files::{Host, Noted, Output, back_up, format_image};
-use mbdc_io::{Buffered, Bytes, ReadSource, Sink, Source, WriteSink};
+use mbdc_files::{Host, Output, back_up, format_image};
+use mbdc_io::{Buffered, Bytes, Sink, Source, WriteSink};
 use mbdc_json::explain_lines;
 use mbdc_looks::Asked;
 use std::fs::File;
-use std::io::{Read, Write};
+use std::io::Write;
 use std::net::{Net, TcpListener, TcpStream};
 use std::rt::{Clock, Files};
-use std::{fs, io, str};
+use std::{io, str};
 
 // Number of bytes that go to standard output at once.
 const ROOM: usize = 65_536;
 
-/// Runs the task that the words name.
-pub fn run<'a, R>(host: &Host<'a, R>, task: &Task<'a>, screen: Screen) -> Ending<'a>
+/// Runs the task that the words name. The files that an engine over lines reads, and those that are made, are of the
+/// system; no clause names what the other commands do.
+pub fn run<'a, R, S>(host: &Host<'a, R>, system: &S, task: &Task<'a>, screen: Screen) -> Ending<'a>
 where
     R: Files<File = File>
         + Net<Stream = TcpStream, Listener = TcpListener>
@@ -42,16 +43,23 @@ where
         + Print
         + Eprint
         + AllocGlobal,
+    S: System,
+    ensures { Runs (record {
+      old = S.Old.Disk;
+      new = S.New.Disk;
+      copied = S.copied system.now;
+      named = S.named system.now;
+      opened = S.opened system.now;
+      left = S.Lines.left;
+    }) task.now result }
 {
     match task {
-        Task::Lines { engine, file } => match file {
-            None => work_on(host, *engine, host.rt.reader(), STREAM),
-            Some(name) => match fs::open(host.rt, name) {
-                Ok(file) => work_on(host, *engine, file, name),
-                Err(error) => host.why.file(name, error),
-            },
-        },
-        Task::Format { image, sectors } => format_image(host, image, *sectors),
+        Task::Lines {
+            engine,
+            file: Some(name),
+        } => work_on(host, system, *engine, name),
+        Task::Lines { engine, file: None } => work_on(host, system, *engine, STREAM),
+        Task::Format { image, sectors } => format_image(system, image, *sectors),
         Task::Run(task) => run_on_image(host, task),
         Task::Report {
             image,
@@ -67,8 +75,8 @@ where
         } => tell(host, image, Some(*silent), *layout, screen),
         Task::Fit { image, list } => fit_on_image(host, image, list),
         Task::Order(task) => order_on_image(host, task),
-        Task::Copy { image, file } => back_up(host, image, file),
-        Task::Rescue { image, file } => rescue_image(host, image, file),
+        Task::Copy { image, file } => back_up(system, image, file),
+        Task::Rescue { image, file } => rescue_image(host, system, image, file),
         Task::Bus(task) => on_bus(host, task),
         Task::Poll(task) => {
             let ending = poll_on_image(host, task);
@@ -82,20 +90,20 @@ where
     }
 }
 
-// Runs the engine over an input, and ends by its answer. At a terminal what makes a line of hex digits a fault is named.
-fn work_on<'a, R: Files<File = File> + Print + Eprint + AllocGlobal, F: Read + Drop>(
+// Runs the engine over the input of that name, and ends by its answer.
+fn work_on<'a, R: Files<File = File> + Print + Eprint + AllocGlobal, S: System>(
     host: &Host<'_, R>,
+    system: &S,
     engine: Engine,
-    file: F,
     name: &'a str,
-) -> Ending<'a> {
-    let noted = Noted::new(file, host.why);
-    if host.is_watched && matches!(engine, Engine::Decode(_)) {
-        let mut reader = ReadSource::new(Pointed::new(noted, host.rt));
-        return host.why.ended(work(host, engine, &mut reader), name);
+) -> Ending<'a>
+    ensures { Works (S.opened system.now) S.Lines.left engine name.now result }
+{
+    let is_pointed = host.is_watched && matches!(engine, Engine::Decode(_));
+    match system.lines(name, is_pointed) {
+        Ok(mut lines) => host.why.ended(work(host, engine, &mut lines), name),
+        Err(ending) => ending,
     }
-    let mut reader = ReadSource::new(noted);
-    host.why.ended(work(host, engine, &mut reader), name)
 }
 
 // Runs the engine from what the source has left to standard output. It writes in large pieces.

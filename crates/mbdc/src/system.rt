@@ -1,0 +1,55 @@
+//! What the engines over lines read, beside the files in which images are made.
+
+ghost use Rattle.std.specs.Prelude.{ℕ, List, IfOk, IfErr};
+ghost use Rattle.mbdc_ending.specs.Outcome.{IsOfFile};
+
+use crate::pointed::{Opened, Pointed};
+use mbdc_ending::{Ending, STREAM};
+use mbdc_files::{Host, Noted, Shelf};
+use mbdc_io::{ReadSource, Source};
+use std::fs;
+use std::fs::File;
+use std::rt::Files;
+
+/// The inputs and the files of images.
+pub trait System: Shelf {
+    /// An input.
+    type Lines: Source + Drop;
+
+    // The file of that name was opened as this input; - is standard input.
+    ghost opened: { Self → List ℕ → Self.Lines → Type 0 };
+
+    /// Opens the file of that name, or standard input for `-`. Where `is_pointed` says so, standard error names what
+    /// makes a line of hex digits a fault.
+    ///
+    /// # Errors
+    /// The ending of the command: it can't be opened.
+    fn lines<'a>(&self, name: &'a str, is_pointed: bool) -> Result<Self::Lines, Ending<'a>>
+        ensures opened { IfOk result (λ lines. opened self.now name.now lines) }
+        ensures failed { IfErr result (λ ending. IsOfFile ending name.now) };
+}
+
+impl<'h, R: Files<File = File> + Input + Eprint + AllocGlobal> System for Host<'h, R> {
+    ghost use Rattle.std.specs.Prelude.{⊤};
+
+    type Lines = ReadSource<Pointed<'h, R, R::Reader>>;
+
+    // What the system's files hold is in no contract.
+    ghost opened = { λ _ _ _. ⊤ };
+
+    fn lines<'a>(
+        &self,
+        name: &'a str,
+        is_pointed: bool,
+    ) -> Result<ReadSource<Pointed<'h, R, R::Reader>>, Ending<'a>> {
+        let input = if name == STREAM {
+            Opened::Standard(Noted::new(self.rt.reader(), self.why))
+        } else {
+            match fs::open(self.rt, name) {
+                Ok(file) => Opened::File(Noted::new(file, self.why)),
+                Err(error) => return Err(self.why.file(name, error)),
+            }
+        };
+        Ok(ReadSource::new(Pointed::new(input, self.rt, is_pointed)))
+    }
+}
