@@ -6,6 +6,7 @@ use mbdc_commands::links_of;
 use mbdc_commands::words::{LinkName, Links};
 use mbdc_ending::Ending;
 use mbdc_files::{Host, without_number};
+use mbdc_raw::GivenUp;
 use mbdc_raw::links::reach::{Connector, Unconnected, connect_all, reach_all, release_all};
 use mbdc_raw::links::{Connection, Held, Peer, Socket};
 use std::fs::File;
@@ -47,8 +48,21 @@ where
     links_of(host.why, peers)
 }
 
-/// Says on standard error which lines were given up, since nobody answers, and gives the terminals of links back to
-/// other programs, at the end of the command.
+// Says on standard error why a line was given up, if it was: what is wrong on a bus where only such bytes come.
+fn say_why<R: Eprint>(host: &Host<'_, R>, line: u8, why: Option<GivenUp>) {
+    let words = match why {
+        None => return,
+        Some(GivenUp::Silent) => "nobody answers",
+        Some(GivenUp::Noisy(0xFF)) => "nobody answers, and FF comes: a break, or an overload of the bus",
+        Some(GivenUp::Noisy(0x00)) => "nobody answers, and 00 comes: a short circuit of the bus",
+        Some(GivenUp::Noisy(_)) => "nobody answers, and bytes come: another speed, or noise",
+        Some(GivenUp::Loud) => "bytes keep coming: another master, or noise",
+    };
+    let _ = eprint!(host.rt; "mbdc: gateway: line {line}: {words}\n");
+}
+
+/// Says on standard error which lines were given up and why, and gives the terminals of links back to other programs, at
+/// the end of the command.
 pub fn released<R>(host: &Host<'_, R>, peers: &[Option<Peer<R>>])
 where
     R: Files<File = File> + Net<Stream = TcpStream> + Clock + Copy + Eprint + AllocGlobal,
@@ -57,9 +71,7 @@ where
     for peer in peers {
         line = line.saturating_add(1);
         if let Some(peer) = peer {
-            if peer.is_deserted() {
-                let _ = eprint!(host.rt; "mbdc: gateway: line {line}: nobody answers\n");
-            }
+            say_why(host, line, peer.given_up());
         }
     }
     let mut linker = Linker { rt: host.rt };

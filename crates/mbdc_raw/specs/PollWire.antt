@@ -1,6 +1,6 @@
 -- What a wire over a reader and a writer does to both, and how long it waits (this product).
 use Rattle.std.specs.Prelude.{◌≡◌, ℕ, ◌+◌, ◌-◌, ◌*◌, ◌^◌, ◌≤◌, min, Bool, true, false, List, [], Option}
-use Rattle.std.specs.Prelude.{◌==◌, length, if◌then◌else◌}
+use Rattle.std.specs.Prelude.{◌&&◌, ◌==◌, is_some, length, if◌then◌else◌}
 use Rattle.std.specs.Io.KnownBytes.{Appends}
 use Rattle.std.specs.Time.{instant_nanos}
 use Rattle.std.specs.declared.time.Instant.{Instant}
@@ -32,8 +32,8 @@ Ends wire at = IsOver wire.until wire at
 
 -- ---- a request
 
--- when silence comes after a request: after the reset of all selected meters in a fixed time; after
--- one that several meters may answer at the end of their window; else after the patience
+-- when silence comes after a request: after the reset of all selected meters in a fixed time, once the delay of an
+-- acknowledgement is known; after one that several meters may answer at the end of their window; else after the patience
 abbrev pub until_by : Bool → Bool → Until
 until_by true many = Over
 until_by false true = Paused
@@ -60,7 +60,7 @@ pub record WireSends {R W C : Type 0} (contents : W → Option (List ℕ)) (old 
   pub came : new.came ≡ old.came
   pub asks : new.asks ≡ true
   pub waited : new.waited ≡ old.waited
-  pub until : new.until ≡ until_by (is_reset (frame_of bytes)) asking.many
+  pub until : new.until ≡ until_by (is_reset (frame_of bytes) && is_some new.pace.delay) asking.many
   pub limit : new.limit ≡ limit_by (is_reset (frame_of bytes)) asking.many
       (wants_ack (frame_of bytes)) new.pace new.patience
 

@@ -1,6 +1,6 @@
 -- When a request may go out on a line, and what answers it (this product; the frames of EN 13757-2).
 use Rattle.std.specs.Prelude.{ℕ, ◌+◌, ◌-◌, ◌^◌, min, Bool, true, false, not, ◌&&◌, ◌==◌, List}
-use Rattle.std.specs.Prelude.{Option, Some, None, bytes_eq, if◌then◌else◌}
+use Rattle.std.specs.Prelude.{Option, Some, None, bytes_eq, length, if◌then◌else◌}
 use Rattle.dc_linkframe.specs.Control.{selected, snd_nke, snd_ud}
 use Rattle.dc_linkframe.specs.Frame.{FrameSeen, ack, short, long}
 use Rattle.dc_linkframe.specs.Reading.{frame_of}
@@ -12,13 +12,21 @@ use Rattle.mbdc_raw.specs.declared.state.Kind.TheVariants.{One, All, Nobody}
 
 -- ---- one request under way
 
--- A REQUEST MAY GO OUT on a quiet line; behind a window, if several meters may answer it; behind an
--- answer, if it differs from the request that was answered; never while something may be under way
+-- the reset of all selected meters: nobody needs to know who answers it
+abbrev pub is_reset : Option FrameSeen → Bool
+is_reset None = false
+is_reset (Some ack) = false
+is_reset (Some (short control address)) = control == snd_nke && address == selected
+is_reset (Some (long control address ci body)) = false
+
+-- A REQUEST MAY GO OUT on a quiet line; after a window, if several meters may answer it; after an answer, if it differs
+-- from the request that was answered; and while something may be under way, if that was asked before the line was
+-- connected, and the request is the reset of all selected meters, after which all is dropped
 abbrev pub may_go : State → List ℕ → List ℕ → Bool → Bool
 may_go Quiet last request many = true
 may_go Listened last request many = many
 may_go Answered last request many = not (bytes_eq last request)
-may_go Busy last request many = false
+may_go Busy last request many = length last == 0 && is_reset (frame_of request)
 
 -- a byte where nothing could be under way makes the line busy, and silence makes it quiet
 abbrev pub state_by : Sound → State → State
@@ -71,13 +79,6 @@ is_wrong request (Some (long control address ci body)) = wants_ack request
 abbrev pub is_copy : Option (List ℕ) → List ℕ → Bool
 is_copy None answer = false
 is_copy (Some last) answer = bytes_eq last answer
-
--- the reset of all selected meters: nobody needs to know who answers it
-abbrev pub is_reset : Option FrameSeen → Bool
-is_reset None = false
-is_reset (Some ack) = false
-is_reset (Some (short control address)) = control == snd_nke && address == selected
-is_reset (Some (long control address ci body)) = false
 
 abbrev pub kind_of : Option FrameSeen → Bool → Kind
 kind_of request many = if is_reset request then Nobody else if many then All else One

@@ -12,7 +12,7 @@ ghost use Rattle.mbdc_raw.specs.declared.poll_wire.Until.TheVariants.{Still};
 ghost use Rattle.mbdc_raw.specs.Wire.{FitsRoom, Wanes, sound_of};
 
 use crate::pace::Pace;
-use crate::polling::{between, now, read_past_noise};
+use crate::polling::{between, now, read_past_noise, read_within};
 use crate::state::{is_reset, wants_ack};
 use crate::wire::{Asking, Came, Wire};
 use mbdc_bus::AnswerBuf;
@@ -49,13 +49,27 @@ const MOST_WAITS: u16 = 32_767;
 // microseconds.
 const MOST_WAITED: u64 = 120_000_000;
 
+// How long a line that is given up is listened to for noise, in microseconds.
+const LISTENING: u64 = 100_000;
+
 /// A link that may close.
 pub trait Link {
     /// Opens the link again, once, where it has closed. Returns whether it did.
     fn reopen(&mut self) -> bool;
 
-    /// Takes that the line is given up, since nobody answers.
-    fn desert(&mut self);
+    /// Takes that the line is given up, and why.
+    fn desert(&mut self, why: GivenUp);
+}
+
+/// Why a line is given up.
+#[derive(Clone, Copy)]
+pub enum GivenUp {
+    /// Nobody answers.
+    Silent,
+    /// Nobody answers, and this byte comes.
+    Noisy(u8),
+    /// Bytes keep coming.
+    Loud,
 }
 
 /// When silence comes after a request.
@@ -73,7 +87,7 @@ pub enum Until {
 /// that returns no byte when the descriptor is readable means the end of the stream.
 ///
 /// After a request the time-out is the patience. After the reset of all selected meters it is as long
-/// as an acknowledgement takes, by the [`Pace`] of the line; after a request that several meters may
+/// as an acknowledgement takes, by the [`Pace`] of the line, once there was one; after a request that several meters may
 /// answer, as long as one of them may take to begin. Bytes that begin no frame are dropped where no
 /// answer has begun and only one meter may answer, and time goes on as if they hadn't come. A frame begins with 68 L L 68
 /// and a fifth byte, as a whole short frame, or with an acknowledgement that is awaited: first bytes are held back for a
@@ -269,6 +283,7 @@ impl<R: Read + AsRawFd + Drop, W: Write + Link + Drop, C: Clock + Drop> PollWire
                 .saturating_mul(MOST_PATIENCES)
                 .max(LONGEST_ANSWER)
         {
+            self.writer.desert(GivenUp::Loud);
             return Err(IoFault);
         }
         self.pace.take(between(self.asked, self.at), bytes);
@@ -319,7 +334,8 @@ impl<R: Read + AsRawFd + Drop, W: Write + Link + Drop, C: Clock + Drop> PollWire
             self.asks = false;
             if !self.came && self.waited >= MOST_WAITED {
                 self.deserted = true;
-                self.writer.desert();
+                let why = what_comes(&mut self.reader);
+                self.writer.desert(why);
                 return Err(IoFault);
             }
             self.since = self.at;
@@ -367,7 +383,7 @@ impl<R: Read + AsRawFd + Drop, W: Write + Link + Drop, C: Clock + Drop> PollWire
         self.waits = MOST_WAITS;
         self.pace.begin(bytes);
         self.patience = patience_after(self.stated, asking.late);
-        self.until = until_by(is_reset(bytes), asking.many);
+        self.until = until_by(is_reset(bytes) && self.pace.delay.is_some(), asking.many);
         self.limit = self.limit_by(bytes, asking.many);
         Ok(())
     }
@@ -404,8 +420,17 @@ impl<R: Read + AsRawFd + Drop, W: Write + Link + Drop, C: Clock + Drop> PollWire
     }
 }
 
-// When silence comes after a request: the reset of all selected meters, or one that several meters
-// may answer, or another one.
+// What a line is on which nobody answers: it is silent, or bytes come that begin no frame.
+fn what_comes<R: Read + AsRawFd>(reader: &mut R) -> GivenUp {
+    let mut room = [0; 1];
+    match read_within(reader, LISTENING, &mut room) {
+        Ok(count) if count > 0 => GivenUp::Noisy(room[0]),
+        _ => GivenUp::Silent,
+    }
+}
+
+// When silence comes after a request: the reset of all selected meters, once an acknowledgement has shown how long one
+// takes; one that several meters may answer; or another one.
 fn until_by(resets: bool, many: bool) -> Until
     ensures { result ≡ until_by resets many }
 {

@@ -37,7 +37,8 @@ pub enum Kind {
 }
 
 /// Whether a request may go out, which several meters may answer or not: on a quiet line any, and
-/// after an answer one that differs from the request that it answered.
+/// after an answer one that differs from the request that it answered. The reset of all selected meters also goes out as
+/// the first request of a line: what comes is dropped until the line is quiet.
 pub fn may_go(state: State, last: &FrameBuf, request: &FrameBuf, many: bool) -> bool
     ensures { result ≡ may_go state last.now request.now many }
 {
@@ -45,7 +46,7 @@ pub fn may_go(state: State, last: &FrameBuf, request: &FrameBuf, many: bool) -> 
         State::Quiet => true,
         State::Listened => many,
         State::Answered => last.as_slice() != request.as_slice(),
-        State::Busy => false,
+        State::Busy => last.as_slice().is_empty() && is_reset(request.as_slice()),
     }
 }
 

@@ -1,5 +1,5 @@
 -- What is under way on a line: copies of the last answer, and answers to the request that is out.
-use Rattle.std.proofs.Common.{◌≡◌, ◌⊎◌, inl, inr, ℕ, zero, suc, ◌≤◌, List, [], ◌∷◌, length, drop, Option, Some, arith, sym, ◌∙◌, ap, subst, Bool, true, false, ◌==◌, ◌++◌, None, cond, if◌then◌else◌, refl}
+use Rattle.std.proofs.Common.{◌≡◌, ◌⊎◌, inl, inr, ℕ, zero, suc, ◌≤◌, List, [], ◌∷◌, length, drop, Option, Some, arith, sym, ◌∙◌, ap, subst, Bool, true, false, ◌&&◌, ◌==◌, ◌++◌, None, cond, if◌then◌else◌, refl}
 use Rattle.std.specs.List.{AllByRecursion}
 use Rattle.std.specs.Str.{bytes_eq}
 use Rattle.std.proofs.lemmas.Bool.{eqb-true, false≢true}
@@ -217,7 +217,7 @@ module _ {W : Type 0} (wire : WireGhosts W) (reply : Option (List ℕ)) where
   record IsOut (line : Line On) : Type 0 where
     none : line.held ≡ None
     busy : line.state ≡ Busy
-    under : Under line.last reply line.wire.way
+    under : line.kind ≡ One → Under line.last reply line.wire.way
     framed : Framed line.last
     kind : (line.kind ≡ All) → ⊥
 
@@ -239,12 +239,18 @@ module _ {W : Type 0} (wire : WireGhosts W) (reply : Option (List ℕ)) where
       go true e = let bad : Nobody ≡ All = sym (ap (λ (b : Bool). cond b Nobody (cond many All One)) e) ∙ is in absurd cc
       go false e = let bad : One ≡ All = sym (ap (λ (b : Bool). cond b Nobody (cond many All One)) e ∙ ap (λ (b : Bool). cond b All One) one) ∙ is in absurd cc
 
+  -- what comes after the reset that goes out on a busy line is dropped
+  no_one : (empty resets : Bool) (many : Bool) → (empty && resets) ≡ true → cond resets Nobody (cond many All One) ≡ One → ⊥
+  no_one true true many may is = let bad : Nobody ≡ One = is in absurd cc
+  no_one true false many may is = false≢true may
+  no_one false resets many may is = false≢true may
+
   behind : (state : State) (last : Option (List ℕ)) (old new : Way) (before request : List ℕ) (many : Bool) → many ≡ false → may_go state before request many ≡ true → Standing state last old → Puts reply old new
-      → Under (last_behind state last) reply new
-  behind Quiet last old new before request many one may stands puts = puts_under (telegram_in last) reply old new (copies_none (telegram_in last) old (stands.quiet refl)) puts
-  behind Listened last old new before request many one may stands puts = absurd (false≢true (sym one ∙ may))
-  behind Answered last old new before request many one may stands puts = puts_under last reply old new (stands.answered refl) puts
-  behind Busy last old new before request many one may stands puts = absurd (false≢true may)
+      → kind_of (frame_of request) many ≡ One → Under (last_behind state last) reply new
+  behind Quiet last old new before request many one may stands puts kind = puts_under (telegram_in last) reply old new (copies_none (telegram_in last) old (stands.quiet refl)) puts
+  behind Listened last old new before request many one may stands puts kind = absurd (false≢true (sym one ∙ may))
+  behind Answered last old new before request many one may stands puts kind = puts_under last reply old new (stands.answered refl) puts
+  behind Busy last old new before request many one may stands puts kind = absurd (no_one (length before == 0) (is_reset (frame_of request)) many may kind)
 
   framed_telegram : (answer : List ℕ) (ack : Bool) → Framed (Some answer) → Framed (if ack then None else Some answer)
   framed_telegram answer true framed = λ other is. absurd cc
@@ -295,15 +301,19 @@ module _ {W : Type 0} (wire : WireGhosts W) (reply : Option (List ℕ)) where
 
   -- ---- the answer of one meter
 
-  skipped : (old new : Line On) → IsOut old → (skips : Skips g old new) → SkipsNoStray skips → IsOut new
-  skipped old new is (no_copy same) so = subst IsOut (sym same) is
-  skipped old new is (a_copy copy answers copied same) comes =
+  skips_kind : (old new : Line On) → Skips g old new → new.kind ≡ old.kind
+  skips_kind old new (no_copy same) = ap (λ (l : Line On). l.kind) same
+  skips_kind old new (a_copy copy answers copied same) = ap (λ (l : Line On). l.kind) same
+
+  skipped : (old new : Line On) → IsOut old → old.kind ≡ One → (skips : Skips g old new) → SkipsNoStray skips → IsOut new
+  skipped old new is one (no_copy same) so = subst IsOut (sym same) is
+  skipped old new is one (a_copy copy answers copied same) comes =
       let was : old.last ≡ Some copy = copy_of_last old.last copy copied in
       let last : new.last ≡ old.last = ap (λ (l : Line On). l.last) same in
       record {
         none = ap (λ (l : Line On). l.held) same ∙ is.none;
         busy = ap (λ (l : Line On). l.state) same ∙ is.busy;
-        under = inl (own comes was);
+        under = λ kind. inl (own comes was);
         framed = subst Framed (sym last) is.framed;
         kind = λ e. is.kind (sym (ap (λ (l : Line On). l.kind) same) ∙ e);
       }
@@ -314,9 +324,9 @@ module _ {W : Type 0} (wire : WireGhosts W) (reply : Option (List ℕ)) where
 
       own : Comes copy old.wire.way new.wire.way → old.last ≡ Some copy → Own reply new.wire.way
       own (no_frame none) was = absurd (is.framed copy was none)
-      own (oldest lost left) was = by (taken old.last reply copy lost old.wire.way new.wire.way is.under left)
+      own (oldest lost left) was = by (taken old.last reply copy lost old.wire.way new.wire.way (is.under one) left)
 
-  module _ (old : Line On) (answer : List ℕ) (new : Line On) (is : IsOut old) (gives : GivesOne g old answer new) (skips_so : SkipsNoStray gives.skips) (comes : Comes answer gives.between.wire.way new.wire.way) where
+  module _ (old : Line On) (answer : List ℕ) (new : Line On) (is : IsOut old) (one : old.kind ≡ One) (gives : GivesOne g old answer new) (skips_so : SkipsNoStray gives.skips) (comes : Comes answer gives.between.wire.way new.wire.way) where
     abbrev mid : Line On
     mid = gives.between
 
@@ -324,7 +334,10 @@ module _ {W : Type 0} (wire : WireGhosts W) (reply : Option (List ℕ)) where
     request = frame_of new.hearing.request
 
     out : IsOut mid
-    out = skipped old mid is gives.skips skips_so
+    out = skipped old mid is one gives.skips skips_so
+
+    mid_one : mid.kind ≡ One
+    mid_one = skips_kind old mid gives.skips ∙ one
 
     not_copy : mid.last ≡ Some answer → ⊥
     not_copy last = false≢true (sym gives.plain ∙ last_is_copy mid.last answer last)
@@ -335,7 +348,7 @@ module _ {W : Type 0} (wire : WireGhosts W) (reply : Option (List ℕ)) where
     replied (inr t) = t
 
     took : (lost : ℕ) → drop lost mid.wire.way ≡ answer ∷ new.wire.way → (reply ≡ Some answer) × Copies reply new.wire.way
-    took lost left = replied (taken mid.last reply answer lost mid.wire.way new.wire.way out.under left)
+    took lost left = replied (taken mid.last reply answer lost mid.wire.way new.wire.way (out.under mid_one) left)
 
     one_to_it : Comes answer mid.wire.way new.wire.way → IsToIt reply answer
     one_to_it (no_frame none) = inl none
@@ -401,11 +414,11 @@ module _ {W : Type 0} (wire : WireGhosts W) (reply : Option (List ℕ)) where
 
   -- ---- one call
 
-  still_out : (old new : Line On) → IsOut old → Under old.last reply new.wire.way → new.held ≡ old.held → new.state ≡ old.state → new.last ≡ old.last → new.kind ≡ old.kind → IsOut new
+  still_out : (old new : Line On) → IsOut old → (old.kind ≡ One → Under old.last reply new.wire.way) → new.held ≡ old.held → new.state ≡ old.state → new.last ≡ old.last → new.kind ≡ old.kind → IsOut new
   still_out old new is under held state last kind = record {
     none = held ∙ is.none;
     busy = state ∙ is.busy;
-    under = subst (λ (l : Option (List ℕ)). Under l reply new.wire.way) (sym last) under;
+    under = λ one. subst (λ (l : Option (List ℕ)). Under l reply new.wire.way) (sym last) (under (sym kind ∙ one));
     framed = subst Framed (sym last) is.framed;
     kind = λ e. is.kind (sym kind ∙ e);
   }
@@ -428,16 +441,16 @@ module _ {W : Type 0} (wire : WireGhosts W) (reply : Option (List ℕ)) where
   waited old new (inl is) (waits_one runs none one waits) so = absurd (not_held old is none)
   waited old new (inr is) (waits_one runs none one waits) so =
       let mid : Line On = waits.between in
-      let out : IsOut mid = skipped old mid is waits.skips so in
+      let out : IsOut mid = skipped old mid is one waits.skips so in
       inr (still_out mid new out
-      (under_heard mid.last (pieces waits.waits.bursts ++ waits.waits.last ∷ []) mid.wire new.wire waits.waits.gave out.under)
+      (λ kind. under_heard mid.last (pieces waits.waits.bursts ++ waits.waits.last ∷ []) mid.wire new.wire waits.waits.gave (out.under kind))
       (ap (λ (l : Line On). l.held) waits.kept) (ap (λ (l : Line On). l.state) waits.kept) (ap (λ (l : Line On). l.last) waits.kept) (ap (λ (l : Line On). l.kind) waits.kept))
   waited old new (inl is) (waits_all runs none all waits) so = absurd (not_held old is none)
   waited old new (inr is) (waits_all runs none all waits) so = absurd (is.kind all)
   waited old new (inl is) (waits_nothing runs none nobody waits) so = absurd (not_held old is none)
   waited old new (inr is) (waits_nothing runs none nobody waits) so =
       inr (still_out old new is
-      (under_heard old.last (pieces waits.gathers.bursts ++ waits.gathers.end) old.wire new.wire waits.gathers.gave is.under)
+      (λ kind. under_heard old.last (pieces waits.gathers.bursts ++ waits.gathers.end) old.wire new.wire waits.gathers.gave (is.under kind))
       (ap (λ (l : Line On). l.held) waits.kept) (ap (λ (l : Line On). l.state) waits.kept) (ap (λ (l : Line On). l.last) waits.kept) (ap (λ (l : Line On). l.kind) waits.kept))
 
   waits_run : (old new : Line On) → (waits : LineWaits g old new) → old.lost ≡ false
@@ -464,8 +477,8 @@ module _ {W : Type 0} (wire : WireGhosts W) (reply : Option (List ℕ)) where
   gave old new answer (inl is) (gives_one none one gives) so = absurd (not_held old is none)
   gave old new answer (inr is) (gives_one none one (two_copies silent gives)) so = silent_ended answer new silent (λ runs. given_up_orderly old new is gives)
   gave old new answer (inr is) (gives_one none one (one_answer gives)) so = record {
-    orderly = λ runs. one_orderly old answer new is gives so.0 so.1;
-    to_it = one_to_it old answer new is gives so.0 so.1 so.1;
+    orderly = λ runs. one_orderly old answer new is one gives so.0 so.1;
+    to_it = one_to_it old answer new is one gives so.0 so.1 so.1;
   }
   gave old new answer (inl is) (gives_all none all gives) so = absurd (not_held old is none)
   gave old new answer (inr is) (gives_all none all gives) so = absurd (is.kind all)

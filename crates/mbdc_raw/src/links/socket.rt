@@ -1,8 +1,8 @@
 //! Connections that pass the bytes of a bus on.
 
-use crate::Link;
 use crate::links::connection::connect;
 use crate::links::terminal::Held;
+use crate::{GivenUp, Link};
 use libc::net::{POLLERR, POLLHUP, POLLOUT, POLLRDHUP, poll};
 use libc::types::pollfd;
 use std::cell::Cell;
@@ -43,8 +43,8 @@ pub struct Socket<C> {
     opened: Cell<u8>,
     // Whether a request went out on the stream. ser2net says why it closes before one comes.
     is_asked: Cell<bool>,
-    /// Whether its line was given up, since nobody answers.
-    pub deserted: Cell<bool>,
+    /// Why its line was given up, if it was.
+    pub deserted: Cell<Option<GivenUp>>,
 }
 
 impl<C> Socket<C> {
@@ -64,7 +64,7 @@ impl<C> Socket<C> {
             stream: Cell::new(Some(prepared(stream)?)),
             opened: Cell::new(0),
             is_asked: Cell::new(false),
-            deserted: Cell::new(false),
+            deserted: Cell::new(None),
         })
     }
 
@@ -188,8 +188,8 @@ impl<C: Net<Stream = TcpStream>> Link for Tcp<'_, C> {
         socket.fd() != CLOSED
     }
 
-    fn desert(&mut self) {
-        self.socket.deserted.set(true);
+    fn desert(&mut self, why: GivenUp) {
+        self.socket.deserted.set(Some(why));
     }
 }
 
@@ -227,8 +227,8 @@ impl Link for Terminal<'_> {
         false
     }
 
-    fn desert(&mut self) {
-        self.held.deserted.set(true);
+    fn desert(&mut self, why: GivenUp) {
+        self.held.deserted.set(Some(why));
     }
 }
 

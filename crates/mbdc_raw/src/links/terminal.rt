@@ -1,5 +1,6 @@
 //! Serial terminals, each of which one program uses at a time: a bus has one master.
 
+use crate::GivenUp;
 use crate::links::lock_file::{in_use, make};
 use std::cell::Cell;
 use std::fs::{File, OpenOptions, TryLockError};
@@ -19,8 +20,8 @@ pub struct Held {
     pub file: File,
     /// The name of the lock file, if one was made.
     pub lock_file: Option<String>,
-    /// Whether its line was given up, since nobody answers.
-    pub deserted: Cell<bool>,
+    /// Why its line was given up, if it was.
+    pub deserted: Cell<Option<GivenUp>>,
 }
 
 impl Held {
@@ -52,7 +53,7 @@ impl Held {
         Ok(Held {
             file,
             lock_file,
-            deserted: Cell::new(false),
+            deserted: Cell::new(None),
         })
     }
 }
