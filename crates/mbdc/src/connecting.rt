@@ -1,35 +1,34 @@
 //! The links of the bus lines on this system.
 
-ghost use Rattle.std.specs.Prelude.{⊤, ◌≤◌, length};
+ghost use Rattle.std.specs.Prelude.{⊤};
 
 use mbdc_commands::links_of;
 use mbdc_commands::words::{LinkName, Links};
 use mbdc_ending::Ending;
 use mbdc_files::{Host, without_number};
 use mbdc_raw::GivenUp;
-use mbdc_raw::links::reach::{Connector, Unconnected, connect_all, reach_all, release_all};
+use mbdc_raw::links::reach::{Connector, reach_all, release_all};
 use mbdc_raw::links::{Connection, Held, Peer, Socket};
 use std::fs::File;
 use std::net::{Net, TcpStream};
 use std::rt::{Clock, Files};
 use std::{fs, io};
 
-// The links of a command, or the ending of the command without them.
-type Connected<'a, R> = Result<Vec<Option<Peer<R>>>, Ending<'a>>;
-
-/// Connects each of at most eight links; the first is that of line 1. A command with one link has no numbers of lines.
+/// Connects the one link of a command, if it has one.
 ///
 /// # Errors
-/// The ending of the command: a link can't be connected, or memory ran out.
-pub fn connected<'a, R>(host: &Host<'_, R>, links: &[Option<LinkName<'_>>]) -> Connected<'a, R>
+/// The ending of the command: the link can't be connected.
+pub fn connected<'a, R>(host: &Host<'_, R>, link: Option<LinkName<'_>>) -> Result<Option<Peer<R>>, Ending<'a>>
 where
     R: Files<File = File> + Net<Stream = TcpStream> + Clock + Copy + Eprint + AllocGlobal,
-    requires { length links.now ≤ 8 }
 {
+    let Some(name) = link else {
+        return Ok(None);
+    };
     let mut linker = Linker { rt: host.rt };
-    match connect_all(host.rt.alloc(), links, &mut linker) {
-        Err(Unconnected::Link(missed)) if links.len() == 1 => Err(host.why.link(None, missed.why)),
-        peers => links_of(host.why, peers),
+    match linker.connect(&name) {
+        Ok(peer) => Ok(Some(peer)),
+        Err(why) => Err(host.why.link(None, why)),
     }
 }
 
@@ -38,7 +37,7 @@ where
 ///
 /// # Errors
 /// The ending of the command: no link can be connected, or memory ran out.
-pub fn reached<'a, R>(host: &Host<'_, R>, links: &Links<'_>) -> Connected<'a, R>
+pub fn reached<'a, R>(host: &Host<'_, R>, links: &Links<'_>) -> Result<Vec<Option<Peer<R>>>, Ending<'a>>
 where
     R: Files<File = File> + Net<Stream = TcpStream> + Clock + Copy + Eprint + AllocGlobal,
 {

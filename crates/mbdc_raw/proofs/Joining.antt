@@ -1,7 +1,7 @@
 -- One line, and the lines after it.
-use Rattle.std.proofs.Common.{◌≡◌, ℕ, ◌+◌, List, [], ◌∷◌, ◌++◌, Option, None, Some, refl, sym, ap, subst, ◌∙◌, arith}
+use Rattle.std.proofs.Common.{◌≡◌, ℕ, ◌+◌, List, [], ◌∷◌, ◌++◌, Option, None, Some, sym, ap, subst, ◌∙◌}
 use Rattle.std.proofs.lemmas.List.{append_assoc, append-nil}
-use Rattle.mbdc_raw.specs.Reach.{Connects, Reaches, Stops}
+use Rattle.mbdc_raw.specs.Reach.{Reaches}
 
 -- peers that follow others, and one more before them
 pub one_more : {X : Type 0} (xs added : List X) (x : X) (mid new : List X) → mid ≡ xs ++ x ∷ [] → new ≡ mid ++ added → new ≡ xs ++ x ∷ added
@@ -11,36 +11,6 @@ pub all_of_none : {X : Type 0} (xs : List X) → xs ≡ xs ++ []
 all_of_none xs = sym (append-nil xs)
 
 module _ {C N P : Type 0} (tries : C → N → Option P → C → Type 0) where
-  pub connects_first : (link : Option N) (links : List (Option N)) (peer : Option P) (peers : List (Option P)) (old mid new : C) → Connects tries (link ∷ []) (peer ∷ []) old mid → Connects tries links peers mid new → Connects tries (link ∷ links) (peer ∷ peers) old new
-  connects_first None links None peers old mid new first rest = subst (λ (c : C). Connects tries links peers c new) first rest
-  connects_first None links (Some peer) peers old mid new first rest = absurd first
-  connects_first (Some link) links None peers old mid new first rest = absurd first
-  connects_first (Some link) links (Some peer) peers old mid new (came, tried, same) rest = (came, tried, subst (λ (c : C). Connects tries links peers c new) same rest)
-
-  pub stops_at_once : (first line : ℕ) (link : N) (links : List (Option N)) (old new : C) → line ≡ first → tries old link None new → Stops tries first line (Some link ∷ links) [] old new
-  stops_at_once first line link links old new is tried = record {
-    before = [];
-    link = link;
-    after = links;
-    links_are = refl;
-    line_is = omega (arith, is);
-    mid = old;
-    came = refl;
-    missed = tried;
-  }
-
-  pub stops_later : (first line : ℕ) (link : Option N) (links : List (Option N)) (peer : Option P) (peers : List (Option P)) (old mid new : C) → Connects tries (link ∷ []) (peer ∷ []) old mid → Stops tries (first + 1) line links peers mid new → Stops tries first line (link ∷ links) (peer ∷ peers) old new
-  stops_later first line link links peer peers old mid new one stops = record {
-    before = link ∷ stops.before;
-    link = stops.link;
-    after = stops.after;
-    links_are = ap (λ xs. link ∷ xs) stops.links_are;
-    line_is = let is = stops.line_is in omega (arith, is);
-    mid = stops.mid;
-    came = connects_first link stops.before peer peers old mid stops.mid one stops.came;
-    missed = stops.missed;
-  }
-
   pub reaches_first : (says : C → ℕ → C → Type 0) (line : ℕ) (link : Option N) (links : List (Option N)) (peer : Option P) (peers : List (Option P)) (old mid new : C) → Reaches tries says line (link ∷ []) (peer ∷ []) old mid → Reaches tries says (line + 1) links peers mid new → Reaches tries says line (link ∷ links) (peer ∷ peers) old new
   reaches_first says line None links None peers old mid new first rest = subst (λ (c : C). Reaches tries says (line + 1) links peers c new) first rest
   reaches_first says line None links (Some peer) peers old mid new first rest = absurd first
@@ -48,6 +18,4 @@ module _ {C N P : Type 0} (tries : C → N → Option P → C → Type 0) where
   reaches_first says line (Some link) links None peers old mid new (missed, said, tried, told, same) rest = (missed, said, tried, told, subst (λ (c : C). Reaches tries says (line + 1) links peers c new) same rest)
 
 -- the lines from one on
-pub ruleset all_connected = (connects_first, all_of_none, one_more)
-
 pub ruleset all_reached = (reaches_first, all_of_none, one_more)
