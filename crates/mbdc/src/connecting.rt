@@ -18,7 +18,10 @@ use std::{fs, io};
 ///
 /// # Errors
 /// The ending of the command: the link can't be connected.
-pub fn connected<'a, R>(host: &Host<'_, R>, link: Option<LinkName<'_>>) -> Result<Option<Peer<R>>, Ending<'a>>
+pub fn connected<'a, R>(
+    host: &Host<'_, R>,
+    link: Option<LinkName<'_>>,
+) -> Result<Option<Peer<R>>, Ending<'a>>
 where
     R: Files<File = File> + Net<Stream = TcpStream> + Clock + Copy + Eprint + AllocGlobal,
 {
@@ -37,7 +40,10 @@ where
 ///
 /// # Errors
 /// The ending of the command: no link can be connected, or memory ran out.
-pub fn reached<'a, R>(host: &Host<'_, R>, links: &Links<'_>) -> Result<Vec<Option<Peer<R>>>, Ending<'a>>
+pub fn reached<'a, R>(
+    host: &Host<'_, R>,
+    links: &Links<'_>,
+) -> Result<Vec<Option<Peer<R>>>, Ending<'a>>
 where
     R: Files<File = File> + Net<Stream = TcpStream> + Clock + Copy + Eprint + AllocGlobal,
 {
@@ -52,7 +58,8 @@ fn say_why<R: Eprint>(host: &Host<'_, R>, line: u8, why: Option<GivenUp>) {
     let words = match why {
         None => return,
         Some(GivenUp::Silent) => "nobody answers",
-        Some(GivenUp::Noisy(0xFF)) => "nobody answers, and FF comes: a break, or an overload of the bus",
+        Some(GivenUp::Noisy(0xFF)) =>
+            "nobody answers, and FF comes: a break, or an overload of the bus",
         Some(GivenUp::Noisy(0x00)) => "nobody answers, and 00 comes: a short circuit of the bus",
         Some(GivenUp::Noisy(_)) => "nobody answers, and bytes come: another speed, or noise",
         Some(GivenUp::Loud) => "bytes keep coming: another master, or noise",
