@@ -24,8 +24,8 @@ where
         Ok(trace) => trace,
         Err(error) => return host.why.file(task.trace.unwrap_or_default(), error),
     };
-    let peer = match connected(host, Some(task.link)) {
-        Ok(peer) => peer,
+    let peers = match connected(host, &[Some(task.link)]) {
+        Ok(peers) => peers,
         Err(ending) => return ending,
     };
     let is_shown = matches!(task.work, Work::Search(_)) && shows_progress(host, trace.as_ref());
@@ -33,8 +33,8 @@ where
     let second = Show {
         progress: &progress,
     };
-    let ending = match (&peer, tracers_of(host, trace.as_ref(), 1)) {
-        (Some(peer), Ok(mut tracers)) => match tracers.pop() {
+    let ending = match (peers.as_slice(), tracers_of(host, trace.as_ref(), 1)) {
+        ([Some(peer)], Ok(mut tracers)) => match tracers.pop() {
             Some(first) => over_bus(host, peer, task, Pair { first, second }, &progress),
             None => Ending::Memory,
         },
@@ -42,7 +42,7 @@ where
         _ => Ending::Gateway,
     };
     progress.clear();
-    released(host, &[peer]);
+    released(host, peers.as_slice());
     ending
 }
 

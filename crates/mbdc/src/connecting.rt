@@ -7,31 +7,31 @@ use mbdc_commands::words::{LinkName, Links};
 use mbdc_ending::Ending;
 use mbdc_files::{Host, without_number};
 use mbdc_raw::GivenUp;
-use mbdc_raw::links::reach::{Connector, reach_all, release_all};
+use mbdc_raw::links::reach::{Connector, Unconnected, reach_all, release_all};
 use mbdc_raw::links::{Connection, Held, Peer, Socket};
 use std::fs::File;
 use std::net::{Net, TcpStream};
 use std::rt::{Clock, Files};
 use std::{fs, io};
 
-/// Connects the one link of a command, if it has one.
+// The links of a command, or the ending of the command without them.
+type Connected<'a, R> = Result<Vec<Option<Peer<R>>>, Ending<'a>>;
+
+/// Connects the one link of a command, which has no numbers of lines, if it has one.
 ///
 /// # Errors
-/// The ending of the command: the link can't be connected.
-pub fn connected<'a, R>(
-    host: &Host<'_, R>,
-    link: Option<LinkName<'_>>,
-) -> Result<Option<Peer<R>>, Ending<'a>>
+/// The ending of the command: the link can't be connected, or memory ran out.
+pub fn connected<'a, R>(host: &Host<'_, R>, links: &[Option<LinkName<'_>>; 1]) -> Connected<'a, R>
 where
     R: Files<File = File> + Net<Stream = TcpStream> + Clock + Copy + Eprint + AllocGlobal,
 {
-    let Some(name) = link else {
-        return Ok(None);
+    let mut linker = Linker {
+        rt: host.rt,
+        has_lines: false,
     };
-    let mut linker = Linker { rt: host.rt };
-    match linker.connect(&name) {
-        Ok(peer) => Ok(Some(peer)),
-        Err(why) => Err(host.why.link(None, why)),
+    match reach_all(host.rt.alloc(), links, &mut linker) {
+        Err(Unconnected::Link(missed)) => Err(host.why.link(None, missed.why)),
+        peers => links_of(host.why, peers),
     }
 }
 
@@ -40,14 +40,14 @@ where
 ///
 /// # Errors
 /// The ending of the command: no link can be connected, or memory ran out.
-pub fn reached<'a, R>(
-    host: &Host<'_, R>,
-    links: &Links<'_>,
-) -> Result<Vec<Option<Peer<R>>>, Ending<'a>>
+pub fn reached<'a, R>(host: &Host<'_, R>, links: &Links<'_>) -> Connected<'a, R>
 where
     R: Files<File = File> + Net<Stream = TcpStream> + Clock + Copy + Eprint + AllocGlobal,
 {
-    let mut linker = Linker { rt: host.rt };
+    let mut linker = Linker {
+        rt: host.rt,
+        has_lines: true,
+    };
     let peers = reach_all(host.rt.alloc(), &links.links, &mut linker);
     host.why.is_named.set(peers.is_err());
     links_of(host.why, peers)
@@ -80,15 +80,19 @@ where
             say_why(host, line, peer.given_up());
         }
     }
-    let mut linker = Linker { rt: host.rt };
+    let mut linker = Linker {
+        rt: host.rt,
+        has_lines: true,
+    };
     release_all::<LinkName<'_>, Peer<R>, io::Error, Linker<'_, R>>(peers, &mut linker);
 }
 
-// Connects links by TCP and over terminals, and says on standard error which can't be connected.
+// Connects links by TCP and over terminals, and says on standard error which lines' links can't be connected.
 #[derive(Clone, Copy, Drop)]
 struct Linker<'r, R> {
     // The system.
     rt: &'r R,
+    has_lines: bool,
 }
 
 impl<'n, R> Connector<LinkName<'n>, Peer<R>, io::Error> for Linker<'_, R>
@@ -117,7 +121,9 @@ where
     fn say(&mut self, line: u8, error: &io::Error)
         ensures { ⊤ }
     {
-        if let Ok(said) = format!(in self.rt.alloc(); "{error}") {
+        if self.has_lines
+            && let Ok(said) = format!(in self.rt.alloc(); "{error}")
+        {
             let words = without_number(said.as_str());
             let _ = eprint!(self.rt; "mbdc: gateway: line {line}: {words}\n");
         }

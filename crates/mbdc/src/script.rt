@@ -33,21 +33,21 @@ where
         Ok(lines) => Noted::new(lines, host.why),
         Err(error) => return host.why.file(task.script, error),
     };
-    let peer = match connected(host, task.gateway) {
-        Ok(peer) => peer,
+    let peers = match connected(host, &[task.gateway]) {
+        Ok(peers) => peers,
         Err(ending) => return ending,
     };
-    let ending = run_over_peer(host, disk, lines, peer.as_ref(), task);
-    released(host, &[peer]);
+    let ending = run_over_peers(host, disk, lines, peers.as_slice(), task);
+    released(host, peers.as_slice());
     ending
 }
 
 // Runs the lines of a file over a disk, with a connected gateway. They are read before the image is looked at.
-fn run_over_peer<'a, F, D, R>(
+fn run_over_peers<'a, F, D, R>(
     host: &Host<'_, R>,
     disk: FileDisk<D>,
     lines: F,
-    peer: Option<&Peer<R>>,
+    peers: &[Option<Peer<R>>],
     task: &RunTask<'a>,
 ) -> Ending<'a>
 where
@@ -55,12 +55,12 @@ where
     D: FileExt + OpenFile + Drop,
     R: Files<File = File> + Net<Stream = TcpStream> + Clock + Copy + Print + Eprint + AllocGlobal,
 {
-    let mut gateway = match peer {
-        Some(peer) => match peer.bus(*host.rt, task.patience.unwrap_or(peer.patience())) {
+    let mut gateway = match peers {
+        [Some(peer)] => match peer.bus(*host.rt, task.patience.unwrap_or(peer.patience())) {
             Ok(bus) => Some(Both { bus, pause: Waiter }),
             Err(error) => return host.why.link(None, error),
         },
-        None => None,
+        _ => None,
     };
     let lines = match read_whole(host.rt.alloc(), &mut ReadSource::new(lines)) {
         Ok(lines) => lines,
