@@ -7,7 +7,7 @@ from typing import Any, Dict, Iterable, Iterator, List, NamedTuple, Optional, Se
 from psycopg2.extras import DateRange, Json
 
 from database import Cursor, Database, Row as DatabaseRow, row_of, rows_of, value_of
-from exporting import NONE, Readings, Writer, bodies_of, file_of, span_line, struck_of, use_lines, user_lines
+from exporting import FORMAT, NONE, Readings, Writer, bodies_in, file_of, span_line, struck_of, use_lines, user_lines
 from months import (PROVISIONAL, Period, Split, around, differences, graded, kept_month, lock, shown_line, splits_of,
                     window_at)
 from periods import begin_of, later_month
@@ -132,16 +132,16 @@ def bill_of(cursor: Cursor, house: str, days: DateRange) -> Bill:
                     key=lambda it: (it.place.flat, it.place.use, it.place.number))
     held, zone = rows_of(cursor, HELD_MONTHS, house, days), value_of(cursor, ZONE, house)
     windows = [window_at(it, days.lower, days.upper) for it in splits]
-    writer = Writer(bodies_of(cursor, windows),
+    writer = Writer(bodies_in(cursor, windows),
                     struck_of(cursor, house, seconds(begin_of(days.lower, zone)), seconds(begin_of(days.upper, zone))))
-    writer.lines += [f"audit,1,{days.lower:%Y-%m}", span_line(1, days.lower, days.upper, zone), *use_lines(
-        cursor, {it.use for it in windows}), *user_lines(cursor, house, windows, days.lower, days.upper)]
+    writer.lines += [f"{FORMAT},{days.lower:%Y-%m}", span_line(1, days.lower, days.upper, zone),
+                     *use_lines(cursor, windows), *user_lines(cursor, house, windows, days.lower, days.upper)]
     found: List[Tuple[int, Dict[str, int], Asked]] = []
     for split, window in zip(splits, windows):
         asked = [asked_row(split, period, held) for period in split.parts]
         readings: Readings = {it.key: (it.shown, it.unit) for row in asked for it in row.ends.values()}
         lines = [line for row in asked for line in row.lines.values()]
-        at = writer.window(1, window, lines, readings)
+        at = writer.place({1: window}, lines, readings)
         places = {key: place for place, key in enumerate(readings, at + len(lines))}
         for row in asked:
             found.append((at, {name: places[end.key] for name, end in row.ends.items()}, row))

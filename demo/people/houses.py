@@ -45,7 +45,7 @@ KEPT = 4096  # places of which a moment's values are kept
 BESIDE = 12  # entries: three moments, of each at most a stored one, a false one, and two of an exchange
 WRONG = datetime.datetime(2000, 1, 1, 0, 7, tzinfo=UTC)  # of a clock that began anew
 COMPANY = bytes([0x24, 0x40])
-STATUS = bytes([0, 0, 0, 0])  # access number, status, configuration
+STATUS = bytes([0, 0, 0])  # status, configuration
 
 
 def begin_of(day: datetime.date) -> Moment:
@@ -82,7 +82,7 @@ class Device:
 
     def body(self, told: Telegram) -> bytes:
         """A telegram without its frame: header, value, and the date and value that are stored."""
-        header = bcd(self.number) + COMPANY + bytes([1, self.kind.medium]) + STATUS
+        header = bcd(self.number) + COMPANY + bytes([1, self.kind.medium, told.at.toordinal() % 256]) + STATUS
         value = bytes([0x0C, self.kind.vif]) + bcd(told.digits)
         if told.stored is None:
             return header + value

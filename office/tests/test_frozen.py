@@ -1,6 +1,7 @@
 """A month or a bill that is out stays as it is; another number is another version, with a reason."""
 
 import csv
+import datetime
 import io
 import pathlib
 from typing import Any, List, Tuple
@@ -104,6 +105,23 @@ def test_a_month_may_be_left(office: Office, elm: Supplied, tmp_path: pathlib.Pa
     office.sql("SELECT put_value(%s, '2025-01-31', 1318000, 'Wh', 'read')", meter)
     assert office.run("close").status == 0 and "NEW changed" in office.run("alarms").printed
     assert len(rows(office)) == 1
+
+
+def test_forget_leaves_what_decides_months(office: Office, elm: Supplied, tmp_path: pathlib.Path) -> None:
+    """A meter that is read weekly, never on a month's last day, and a move in mid-month: no number becomes another."""
+    meter, one = elm.meter(1, HEAT, "A1", since=at("2024-12-01T00:00")), elm.tenancy("A1", "2024-01-01", "2025-02-12")
+    elm.tenancy("A1", "2025-02-12", None)
+    for week in range(16):
+        elm.reads(meter, at("2024-12-09T20:00") + datetime.timedelta(7 * week), 10_000 * week + 500 * week * week)
+    assert office.run("close").status == 0
+    for month in ("2024-12", "2025-01", "2025-02"):
+        released(office, tmp_path, month)
+    before = rows(office)
+    assert len(before) == 5 and office.run("forget", str(one)).status == 0
+    assert office.sql("SELECT array_agg(extract(day FROM day)::int ORDER BY day) FROM day_values WHERE day BETWEEN"
+                      " '2025-01-01' AND '2025-02-15'") == [([6, 27, 3, 10],)]
+    closed(office, "2024-12", "2025-01", "2025-02")
+    assert rows(office) == before and office.sql("SELECT count(*) FROM changes") == [(0,)]
 
 
 def computed_again(entries: List[int], begins: int, ends: int) -> int:
@@ -245,6 +263,21 @@ def test_neither_retain_nor_forget_changes_a_bill(office: Office, elm: Supplied,
     assert bill(office, "2021-01-01..2021-03-31") == after and "changed" not in office.run("alarms").printed
     assert "were dropped" in office.run("publish", "elm-1", "2021", "--bill").printed
     assert "no audit" in bill(office, "2021", status=5)
+
+
+def test_a_value_counts_as_long_as_its_telegram_is_there(office: Office, elm: Supplied, tmp_path: pathlib.Path) -> None:
+    """The ends of months stay where a user is forgotten; without their telegrams they decide no month and no bill."""
+    meter, silent = elm.meter(1, HEAT, "A1"), elm.meter(2, HEAT, "A2")
+    elm.reads(silent, at("2024-10-31T20:00"), 7_000)
+    for day, value in (("2024-10-31", 10_000), ("2024-11-30", 40_000), ("2024-12-31", 71_000), ("2025-01-01", 72_000),
+                       ("2025-01-31", 102_000), ("2025-02-01", 103_000), ("2025-02-02", 104_000)):
+        elm.reads(meter, at(f"{day}T20:00"), value)
+    assert office.run("close").status == 0
+    office.sql("SELECT drop_months_before('2024-12-01')")
+    assert office.sql("SELECT count(*) FROM day_values WHERE day < '2024-12-01'") == [(3,)]
+    assert elm.month("2025-01") == [("A1", 0, 31_000 * WH, "measured"), ("A2", 0, None, "missing")]
+    released(office, tmp_path, "2025-01")
+    assert cells(bill(office, "2025-01", status=1), "consumption", "grade") == [("31.000", "measured"), ("", "missing")]
 
 
 def test_a_bill_has_no_number_that_is_held(office: Office, elm: Supplied) -> None:

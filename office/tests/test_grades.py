@@ -11,6 +11,8 @@ from test_bills import billed
 from test_schema import refused
 from test_sheets import checked, published, read_sheet, sheet_of, written
 
+from program import audited
+
 FEBRUARY = ("2025-01", "2025-02", "2025-03")
 
 
@@ -150,6 +152,21 @@ def test_a_restart_that_a_person_declares(office: Office, elm: Supplied) -> None
     office.sql(begun, None)
     assert elm.month("2025-01") == [("A1", 0, (1190 - 1060 + 175) * WH, "estimated")]
     assert "no meter" in refused(office, "SELECT restart('elm-1', '00000001.PAD.01.04', now(), 1, 0, 'm3', 'x')")
+
+
+def test_the_same_telegram_again_is_an_estimate(office: Office, elm: Supplied, tmp_path: pathlib.Path) -> None:
+    """Of a meter that stands still, and doesn't number its answers; also in the file of who moved in meanwhile."""
+    meter = elm.meter(1, COLD, "A1")
+    users = [elm.tenancy("A1", "2024-01-01", "2025-01-11"), elm.tenancy("A1", "2025-01-11", None)]
+    for day in range(45):
+        elm.reads(meter, at("2024-12-25T20:00") + datetime.timedelta(day), 7 + max(0, day - 25))
+    office.sql("UPDATE readings SET bodies = (SELECT bodies FROM readings WHERE serial = 1) WHERE serial <= 25")
+    assert office.run("close").status == 0
+    assert elm.month("2025-01")[1:] == [("A1", 1, 0, "estimated"), ("A1", 2, 12 * 10**6 + 166_666, "estimated")]
+    written(office, tmp_path, "--pdf", "none")
+    for user in users:
+        lines = sheet_of(office, tmp_path, user, form="audit").read_text(encoding="ascii").splitlines()
+        assert audited(lines).holds and sum(line.endswith(",estimated") for line in lines) == 2
 
 
 def test_a_number_is_held_until_a_person_says_why(office: Office, elm: Supplied, tmp_path: pathlib.Path) -> None:

@@ -6,6 +6,7 @@ import datetime
 from conftest import Office
 from supplied import COLD, HEAT, WATER, WH, Supplied, at
 from test_schema import refused
+from test_sheets import published
 
 
 def days_of(office: Office) -> object:
@@ -88,15 +89,14 @@ def test_an_exchange(office: Office, elm: Supplied) -> None:
     assert sources == ["stored", "removed", "fitted", "stored"]
 
 
-def test_two_meters_read_in_turns_are_unclear(office: Office, elm: Supplied) -> None:
-    """What fittings say is one exchange; the entries have more."""
+def test_a_meter_that_was_removed_counts_no_more(office: Office, elm: Supplied) -> None:
+    """Whatever it says later: what a person says of an exchange holds."""
     old = elm.meter(1, COLD, "A1")
     new = elm.exchange(old, 2, at("2025-01-10T12:00"), 9, 0, "m3")
-    elm.values(old, {"2024-12-30": 4, "2024-12-31": 5, "2025-01-20": 8}, "m3")  # read after it was removed
+    elm.values(old, {"2024-12-30": 4, "2024-12-31": 5, "2025-01-20": 8}, "m3")
     elm.values(new, {"2025-01-31": 7, "2025-02-01": 7}, "m3")
-    assert elm.month("2025-01") == [("A1", 0, None, "unclear")]
-    office.sql("SELECT strike(id, 'another meter''s') FROM day_values WHERE value = 8")
     assert elm.month("2025-01") == [("A1", 0, 11_000_000, "hand")]
+    published(office)
 
 
 def test_zero_missing_and_leaps(office: Office, elm: Supplied) -> None:

@@ -17,7 +17,7 @@ import program
 import rendering
 from catalogue import Catalogue
 from database import Database
-from exporting import Reader, month_file
+from exporting import Reader, month_files
 from program import Key
 
 Lie = Callable[[List[str]], List[str]]
@@ -69,19 +69,16 @@ def elm_of(office: Office) -> Supplied:
 
 def test_a_key_says_what_its_line_says() -> None:
     """Whose a number is, of which month, and in which unit, is read from the lines that were audited."""
-    lines = ["audit,1,2025-01", "span,1,2024-12-31,60,2025-01-31,60", "span,2,2024-11-30,60,2024-12-31,60",
+    lines = ["audit,2,2025-01", "span,1,2024-12-31,60,2025-01-31,60", "span,2,2024-11-30,60,2024-12-31,60",
              "use,heat,energy",
              "price,heat,kWh,1,11.5", "user,7,A1,50", "place,1,A1,heat,1", "window,1", "part,1,10,20,7",
              "part,1,20,30,-",
-             "shown,1,10,20,kWh,348.3,measured", "shown,1,20,30,kWh,1.0,hand", "value,1,20,412,kWh", "totals",
-             "of_user,1,7,heat,kWh,348,measured",
-             "of_user,1,7,heat,kWh,348.3,measured", "of_user,2,7,heat,kWh,99,measured",
-             "of_user,2,7,heat,kWh,99.0,measured",
+             "shown,1,10,20,kWh,348.3,measured", "shown,1,20,30,kWh,1.0,hand", "value,1,20,412,kWh", "window,2",
+             "part,2,1,10,7", "totals", "of_user,1,7,heat,kWh,348.3,measured", "of_user,2,7,heat,kWh,99.0,measured",
              "of_flat,1,A1,heat,kWh,349.3,hand", "of_house,1,heat,kWh,349.3,1,2", "mean,1,7,heat,kWh,-",
              "change,1,2,7,heat,kWh,252", "end"]
-    chart = Key("chart", "A1", "heat", 0, "2025-01", "kWh")
     assert sorted(Reader([(3, [9])]).read(lines), key=str) == [
-        (7, Key("change", "A1", "heat", 0, "2024-12"), "252", "change"), (7, chart, "348", "measured"),
+        (7, Key("change", "A1", "heat", 0, "2024-12"), "252", "change"),
         (7, Key("month", "A1", "heat", 0, "2024-12", "kWh"), "99.0", "measured"),
         (7, Key("month", "A1", "heat", 0, "2025-01", "kWh"), "348.3", "measured"),
         (7, Key("place", "A1", "heat", 3, "10 20", "kWh"), "348.3", "measured"),
@@ -89,12 +86,6 @@ def test_a_key_says_what_its_line_says() -> None:
         (None, Key("flat", "A1", "heat"), "349.3", "hand"), (None, Key("house", use="heat"), "349.3", "1 2"),
         (None, Key("place", "A1", "heat", 3, "20 30", "kWh"), "1.0", "hand"),
         (None, Key("reading", place=9, period="20"), "412", "reading")]
-    edge = [line.replace(",348.3,", ",99.7,").replace(",348,", ",100,")
-            for line in (*lines[:14], lines[15], lines[14], *lines[16:])]
-    assert (7, chart, "99.7", "measured") in Reader([(3, [9])]).read(edge)
-    small = [line.replace("348", "9") for line in lines if line != "of_user,1,7,heat,kWh,348,measured"]
-    small.insert(14, "of_user,1,7,heat,kWh,9,measured")
-    assert (7, chart, "9.3", "measured") in Reader([(3, [9])]).read(small)
 
 
 def test_each_digit_was_accepted(office: Office, elm: Supplied, tmp_path: pathlib.Path) -> None:
@@ -139,7 +130,7 @@ def test_what_is_stored(office: Office, elm: Supplied, tmp_path: pathlib.Path) -
     assert (tmp_path / "audits/elm-1/2025-01.audit").read_bytes() == bytes(file)
     assert office.sql("SELECT DISTINCT s.audit = a.id FROM sheets s, audits a") == [(True,)]
     lines = bytes(file).decode().splitlines()
-    assert lines[0] == "audit,1,2025-01" and lines[-1] == "end" and sum(line.startswith("span,") for line in lines) == 3
+    assert lines[0] == "audit,2,2025-01" and lines[-1] == "end" and sum(line.startswith("span,") for line in lines) == 3
     elm.month("2025-01")  # computed anew: what was accepted says nothing of it
     assert office.run("sheets", "2025-01", "--out", str(tmp_path), "--pdf", "none").status == 5
     assert office.sql("SELECT count(*) FROM audits_now") == [(0,)]
@@ -231,7 +222,7 @@ def test_no_lie_is_published(office: Office, elm: Supplied, monkeypatch: pytest.
     elm.months()
     of, database = program.Of("elm-1", datetime.date(2025, 1, 1), None, 1, "2025-01"), Database(office.name, 600)
     with database.transaction() as cursor:
-        file = month_file(cursor, "elm-1", datetime.date(2025, 1, 1), {})
+        file = next(month_files(cursor, "elm-1", datetime.date(2025, 1, 1), {}))
         made = program.filled(file.lines)
         for what, lie in LIES.items():
             monkeypatch.setattr(program, "filled", lambda _, false=lie(made.lines): made._replace(lines=false))
@@ -365,6 +356,29 @@ def test_the_audit_accepts(office: Office, elm: Supplied) -> None:
         assert f"\n{kind}," in lines or kind == "struck", kind
 
 
+def test_an_older_month_that_is_known_otherwise_is_left_out(office: Office, elm: Supplied) -> None:
+    """One that has another value at the common end, or was computed with another fact of a meter: no per cent of it."""
+    def spans() -> List[str]:
+        published(office)
+        lines = bytes(office.sql("SELECT file FROM audits ORDER BY id DESC LIMIT 1")[0][0]).decode().splitlines()
+        assert {line.split(",")[2] for line in lines if line.startswith("change,")} <= {"2", "3"}
+        assert sum(line.startswith("struck,1,") and line.endswith(",gestort: 2 m3") for line in lines) == 1
+        return [line.split(",")[2] for line in lines if line.startswith("span,")]
+    elm.tenancy("A1", "2023-01-01", None)
+    elm.months()
+    meter, = office.sql("SELECT id FROM fittings WHERE identity = '00000001.PAD.01.04'")[0]
+    office.sql("SELECT strike(id, 'gest\u00f6rt: 2 m\u00b3') FROM day_values WHERE (fitting, day) = (%s, '2025-01-15')",
+               meter)
+    elm.month("2025-01")
+    assert spans() == ["2024-12-31", "2024-11-30", "2023-12-31"]
+    office.sql("SELECT put_value(%s, '2024-12-31', 5404500, 'Wh', 'read at the meter')", meter)
+    elm.month("2025-01")
+    assert spans() == ["2024-12-31", "2023-12-31"]
+    office.sql("UPDATE fittings SET most = 10^12")
+    elm.month("2025-01")
+    assert spans() == ["2024-12-31"]
+
+
 # What a publisher might write: the present audit once more, and its numbers, one of them another
 AGAIN = """
 WITH a AS (INSERT INTO audits (house, month, days, version, file, sha256, program, program_sha256, says)
@@ -395,7 +409,7 @@ def test_a_number_that_its_audit_file_does_not_have(office: Office, elm: Supplie
         assert {path: path.stat().st_mtime_ns for path in tmp_path.rglob("*.*")} == files
         office.sql("UPDATE audits SET void_at = now() WHERE id = (SELECT max(id) FROM audits)")
     for month, kind, period in (("2025-01", "month", "2025-01"), ("2025-01", "place", "1735686000 1738364400"),
-                                ("2025-01", "reading", "%"), ("2025-01", "house", ""), ("2024-12", "chart", "2024-12")):
+                                ("2025-01", "reading", "%"), ("2025-01", "house", ""), ("2024-12", "month", "2024-12")):
         (audit, number), = office.sql(
             "SELECT p.audit, min(p.id) FROM published p JOIN audits_now a ON a.id = p.audit"
             " WHERE a.month = %s AND p.kind = %s AND p.period LIKE %s GROUP BY 1", f"{month}-01", kind, period)
@@ -430,7 +444,8 @@ def test_an_audit_is_its_file(office: Office, elm: Supplied) -> None:
     ((3, 1, 2), "Telegrammen der Zähler (3), von Hand eingetragenen Werten (1) und Schätzungen (2).",
      "telegrams of the meters (3), values put by hand (1) and estimates (2).")])
 def test_a_sheet_says_what_its_audit_counted(counts: Tuple[int, int, int], german: str, english: str) -> None:
-    says = "numbers 5, differ 0, readings {}, refused 0, by hand {}, estimated {}, struck 0, places 1".format(*counts)
+    says = ("numbers 5, differ 0, rules 0, readings {}, refused 0, by hand {}, estimated {}, struck 0,"
+            " places 1").format(*counts)
     assert rendering.audited_of(7, says, Catalogue("de", "UTC")) == f"Nachgerechnet (Prüfung 7) aus {german}"
     assert rendering.audited_of(7, says, Catalogue("en", "UTC")) == f"Computed again (audit 7) from {english}"
     assert rendering.audited_of(None, "", Catalogue("en", "UTC")) == ""

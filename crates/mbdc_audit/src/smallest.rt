@@ -1,6 +1,6 @@
 //! Decimals as lines spell them, and whole numbers of the smallest unit.
 
-ghost use Rattle.std.specs.Prelude.{◌≡◌, ◌<◌, ◌≤◌, ◌^◌, ◌*◌, IfSome, length, option_map};
+ghost use Rattle.std.specs.Prelude.{◌≡◌, ◌<◌, ◌≤◌, ◌^◌, ◌*◌, IfSome, length, option_map, pos, ℕ};
 ghost use Rattle.std.specs.List.{position};
 ghost use Rattle.std.specs.Option.{SomeIff};
 ghost use Rattle.mbdc_audit.specs.Smallest.{decimal_in, digits_on, end_of_values, fitting};
@@ -30,7 +30,7 @@ const MOST_POWER: u32 = 38;
 pub const OF_RATIO: u64 = 1_000_000;
 
 /// A decimal: its digits as a number, and how many of them are after the point.
-#[derive(Clone, Copy)]
+#[derive(Clone, Copy, PartialEq, Eq)]
 pub struct Spelled {
     pub digits: u64,
     pub decimals: u32,
@@ -67,7 +67,8 @@ pub fn whole_in(text: &[u8]) -> Option<u64>
     }
 }
 
-fn first_point(text: &[u8]) -> Option<usize>
+/// The place of the first point.
+pub fn first_point(text: &[u8]) -> Option<usize>
     ensures { result ≡ position is_point text.now }
 {
     text.iter().position(|byte| *byte == b'.')
@@ -138,11 +139,12 @@ pub fn decimal_in(text: &[u8], most: usize) -> Option<Spelled>
     spelled_after(most, digits_on(0, whole), after)
 }
 
-// A decimal of at most six decimals, times 10^6.
-fn ratio_of(spelled: Spelled) -> Option<u64>
-    requires { spelled.decimals ≤ 6 }
-    ensures { result ≡ ratio_of spelled }
+/// The ratio that a text spells, times 10^6: at most nine digits before the point, and six after it.
+#[tactic(auto, unfolding(crate::specs::Smallest::ratio_in))]
+pub fn ratio_in(text: &[u8]) -> Option<u64>
+    ensures { result ≡ ratio_in text.now }
 {
+    let spelled = decimal_in(text, MOST_RATIO_DECIMALS)?;
     let scale = power_of_ten(6 - spelled.decimals);
     let ratio = u128::from(spelled.digits).checked_mul(scale)?;
     if ratio < END_OF_RATIOS {
@@ -150,14 +152,6 @@ fn ratio_of(spelled: Spelled) -> Option<u64>
     } else {
         None
     }
-}
-
-/// The ratio that a text spells, times 10^6: at most nine digits before the point, and six after it.
-#[tactic(auto, unfolding(crate::specs::Smallest::ratio_in))]
-pub fn ratio_in(text: &[u8]) -> Option<u64>
-    ensures { result ≡ ratio_in text.now }
-{
-    ratio_of(decimal_in(text, MOST_RATIO_DECIMALS)?)
 }
 
 // A number of smallest units below 10^18.
@@ -171,9 +165,9 @@ fn fitting(units: u128) -> Option<u64>
     }
 }
 
-// A power of ten.
+/// A power of ten.
 #[tactic(auto, using(crate::proofs::Powers::power_some, crate::proofs::Powers::power_fits))]
-fn power_of_ten(power: u32) -> u128
+pub fn power_of_ten(power: u32) -> u128
     requires { power ≤ 38 }
     ensures value { result ≡ 10 ^ power }
     ensures some { 0 < result }
@@ -236,7 +230,8 @@ fn of_magnitude(n: u64, exponent: i8, size: u64) -> Option<u64>
 
 /// A decimal of units of this size as a whole number of the smallest unit of at least 0 and below 10^18.
 pub fn of_decimal(decimal: Decimal, size: u64) -> Option<u64>
-    ensures { result ≡ of_decimal decimal size }
+    ensures value { result ≡ of_decimal decimal size }
+    ensures digits { (n : ℕ) → decimal.mantissa ≡ pos n → n < 2 ^ 64 }
 {
     if decimal.mantissa < 0 {
         return None;

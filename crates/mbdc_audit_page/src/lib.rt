@@ -4,8 +4,8 @@
 //! `tools/library` makes a module of it for a web page, with the heap of `library/heap.c`.
 #![tactic(auto)]
 
-ghost use Rattle.std.specs.Prelude.{◌≡◌, ◌<◌, ◌≤◌, false, length};
-ghost use Rattle.mbdc_audit.specs.File.{IsRight};
+ghost use Rattle.std.specs.Prelude.{◌≡◌, ◌<◌, ◌≤◌, ⊥, false, length};
+ghost use Rattle.mbdc_audit.specs.File.{IsLimited, IsRight};
 ghost use Rattle.mbdc_io.specs.Lines.{lines_of};
 
 use mbdc_audit::audit;
@@ -28,7 +28,8 @@ pub const TOO_LONG: u64 = 3;
 /// holds, or why nothing is known.
 #[unsafe(no_mangle)]
 pub extern "C" fn mbdc_audit(alloc: Global, file: &[u8], out: &mut [u8], size: &mut usize) -> u64
-    ensures right { result ≡ RIGHT → IsRight false (lines_of file.now) }
+    ensures right { result ≡ RIGHT → IsRight (lines_of file.now) }
+    ensures wrong { result ≡ WRONG → IsLimited file.now → ⊥ }
     ensures known { result < 4 }
     ensures fits { size.new ≤ length out.old }
 {

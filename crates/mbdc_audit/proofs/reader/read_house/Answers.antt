@@ -1,0 +1,73 @@
+use Rattle.std.proofs.Common.{◌≡◌, ◌∷◌, ◌++◌, ◌∙◌, ℕ, List, [], map, inl, inr, refl, ap, sym, subst, arith}
+use Rattle.std.proofs.lemmas.List.{append-nil}
+use Rattle.mbdc_audit.specs.File.{Steps, bare_house, empty}
+use Rattle.mbdc_audit.specs.House.{House}
+use Rattle.mbdc_io.specs.Lines.{lines_of}
+use Rattle.mbdc_audit.specs.View.{allowed_of, house_of, number_of, place_of, span_of, use_of, user_of}
+use Rattle.mbdc_audit.proofs.Steps.{next_lines, one_step}
+use Rattle.mbdc_audit.proofs.Refused.{next_follows, one_end, same_empty}
+use Rattle.mbdc_audit.proofs.Unasked.{right_number}
+use Rattle.mbdc_audit.proofs.ReadAs.{begun, no_lines, none_left, read_as}
+use Rattle.mbdc_audit.proofs.reader.read_house.Goals as goal
+
+pub lines-init : goal.lines-init
+lines-init g c = (
+  [],
+  refl,
+  (
+    refl,
+    begun _ _ _ _ _ _ _ (ap (map use_of) c.new.ensures.items) (ap (map allowed_of) c.new-2.ensures.items) (ap (map span_of) c.new-3.ensures.items)
+        c.new-4.ensures.items (ap (map user_of) c.new-5.ensures.items) (ap (map place_of) c.new-6.ensures.items)
+        (ap (map number_of) c.new-7.ensures.items),
+  ),
+  omega arith,
+  refl,
+)
+
+pub lines-preserved : goal.lines-preserved
+lines-preserved g c =
+    let inv = c.lines.invariant in
+    let shorter = c.first_line.ensures.shorter in (
+      inv.0 ++ c.first_line.result.0.now ∷ [],
+      next_lines _ inv.0 (lines_of c.first_line.result.1.now) c.first_line.result.0.now _ inv.1 c.first_line.ensures.lines,
+      one_step 0 empty inv.0 c.lines.reader.stage (house_of c.lines.reader.house) c.first_line.result.0.now _ _ inv.2 c.in-Ok.ensures.ok,
+      omega (arith, inv.3, shorter),
+      c.in-Ok.ensures.kept ∙ inv.4,
+    )
+
+abbrev all_lines : (lines before left rest : List (List ℕ)) (line : List ℕ) → lines ≡ before ++ left → left ≡ line ∷ rest
+    → lines ≡ before ++ line ∷ rest
+all_lines lines before left rest line is next = is ∙ ap (λ (ls : List (List ℕ)). before ++ ls) next
+
+all_read : (input : List ℕ) (before : List (List ℕ)) (left : List ℕ) → lines_of input ≡ before ++ lines_of left → left ≡ [] → lines_of input ≡ before
+all_read input before left is none =
+    is ∙ (ap (λ (bytes : List ℕ). before ++ lines_of bytes) none ∙ (ap (λ (ls : List (List ℕ)). before ++ ls) no_lines ∙ append-nil before))
+
+pub returns-in-Err-clause-err : goal.returns-in-Err-clause-err
+returns-in-Err-clause-err g c = λ asks fault limited.
+    let inv = c.lines.invariant in
+    let line : List ℕ = c.first_line.result.0.now in
+    let rest : List (List ℕ) = lines_of c.first_line.result.1.now in
+    let right : Steps 0 empty (inv.0 ++ line ∷ rest) 12 (bare_house limited.right.house) =
+    subst (λ (ls : List (List ℕ)). Steps 0 empty ls 12 (bare_house limited.right.house))
+    (all_lines (lines_of c.args.file.now) inv.0 (lines_of c.lines.left.now) rest line inv.1 c.first_line.ensures.lines) limited.right.spelled in
+    let next = next_follows 0 empty empty inv.0 c.lines.reader.stage (house_of c.lines.reader.house) line rest 12 (bare_house limited.right.house)
+    same_empty inv.2 right in
+    elim (c.in-Err.ensures.err fault) [ inl cant ↦ cant next.0 next.1 next.2 | inr asked ↦ ? ]
+
+pub returns-then-reader-ne-ENDED-clause-err : goal.returns-then-reader-ne-ENDED-clause-err
+returns-then-reader-ne-ENDED-clause-err g c = λ asks fault limited.
+    let inv = c.lines.invariant in
+    let all = all_read c.args.file.now inv.0 c.lines.left.now inv.1 (none_left c.lines.left.now c.is_empty.ensures c.lines-test.false) in
+    let ends : c.lines.reader.stage ≡ 12 = one_end 0 empty empty inv.0 c.lines.reader.stage (house_of c.lines.reader.house) 12 (bare_house limited.right.house)
+    same_empty inv.2 (subst (λ (ls : List (List ℕ)). Steps 0 empty ls 12 (bare_house limited.right.house)) all limited.right.spelled) in
+    absurd (c.if-reader-ne-ENDED.true ends)
+
+pub returns-clause-ok : goal.returns-clause-ok
+returns-clause-ok g c =
+    let inv = c.lines.invariant in
+    let h : House = house_of c.lines.reader.house in
+    let all = all_read c.args.file.now inv.0 c.lines.left.now inv.1 (none_left c.lines.left.now c.is_empty.ensures c.lines-test.false) in
+    let steps : Steps 0 empty (lines_of c.args.file.now) c.lines.reader.stage h =
+    subst (λ (ls : List (List ℕ)). Steps 0 empty ls c.lines.reader.stage h) (sym all) inv.2 in
+    read_as c.args.file.now c.lines.reader.stage h (c.is_fed.ensures.0 c.if-not-is_fed.false) c.if-reader-ne-ENDED.false steps

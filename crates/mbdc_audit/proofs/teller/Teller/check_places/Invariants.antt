@@ -1,0 +1,13 @@
+use Rattle.std.proofs.Common.{◌≡◌, ◌↔◌, ◌⊎◌, ◌<◌, ◌≤◌, ◌++◌, ℕ, List, All, AllPairs, IsTrue, take, map, flat_map, Some, slice_get, length}
+use Rattle.mbdc_audit.specs.Walk.{AreFound, Walks}
+use Rattle.std.specs.BTreeMap.{get}
+use Rattle.std.specs.Ordering.{nat_cmp}
+use Rattle.mbdc_audit.specs.Sound.{IsBuilt, ends_of_place}
+use Rattle.mbdc_audit.specs.View.{house_of, place_of}
+use Rattle.mbdc_audit.proofs.Places.{SoFar}
+use Rattle.mbdc_audit.proofs.teller.Teller.check_places.Given as goal
+
+abbrev pub invariant-places : goal.invariant-places
+invariant-places g l = IsBuilt (house_of l.house) → All (λ p. All (λ w. AreFound w.values.items) p.windows.items) l.places
+    → l.places ≡ l.house.places.items → Walks l.initial.self.counts (get nat_cmp l.initial.offsets) l.self.counts (get nat_cmp l.offsets)
+    (flat_map (λ p. ends_of_place (place_of p)) (take l.i l.places)) (SoFar (house_of l.house) (take l.i l.places))
