@@ -21,7 +21,7 @@ pub const PAUSE: i32 = 20;
 /// Why a folder, a pipe or a device is refused.
 pub const NO_FILE: &str = "it is no regular file";
 
-/// Why a file is refused in which no image of so many sectors fits.
+/// Why a file of another length than the image's is refused.
 pub const OTHER_LENGTH: &str = "it has another length";
 
 // The limit of a file's length, of Linux.

@@ -18,14 +18,23 @@ use std::rt::Files;
 use std::{fs, io};
 
 /// The file of an image, as long as its name leads to it: a sync fails once another file has the name, or none. So
-/// nothing counts as being on the disk that no name leads to.
+/// nothing counts as being on the disk that no name leads to. A write and a sync fail, too, once another program wrote
+/// over one of the two root sectors: what is copied over an open image stays as it is.
 #[derive(Drop)]
 pub struct ImageFile<'h, 'n, R> {
     file: Noted<'h, File>,
     rt: &'h R,
     name: &'n str,
     syncs: Cell<u32>,
+    // The root sectors, as they were last read or written.
+    roots: [Cell<Option<[u8; SECTOR]>>; 2],
 }
+
+// Number of bytes of a sector.
+const SECTOR: usize = 512;
+
+// Where the root sectors lie.
+const ROOTS: [u64; 2] = [512, 1_024];
 
 // The number of the sync with which opening begins. The look at the image before it begins with the first one.
 const OPENS: u32 = 2;
@@ -49,6 +58,7 @@ pub fn open_disk<'h, 'n, R: Files<File = File>>(
         rt: host.rt,
         name,
         syncs: Cell::new(0),
+        roots: [Cell::new(None), Cell::new(None)],
     };
     match FileDisk::lenient(file) {
         Ok(disk) => Ok(disk),
@@ -57,10 +67,36 @@ pub fn open_disk<'h, 'n, R: Files<File = File>>(
 }
 
 impl<R: Files<File = File>> ImageFile<'_, '_, R> {
-    // The answer to a sync, unless the name leads elsewhere.
+    // Notes a sector that was read or written, if it is a root.
+    fn note(&self, sector: &[u8], at: u64) {
+        'roots: for (known, place) in self.roots.iter().zip(ROOTS.iter()) {
+            if *place == at {
+                known.set(sector.try_into().ok());
+            }
+        }
+    }
+
+    // Nothing, unless another program wrote over a root.
+    fn unless_overwritten(&self) -> io::Result<()> {
+        'roots: for (known, place) in self.roots.iter().zip(ROOTS.iter()) {
+            let mut found = [0; SECTOR];
+            if let Some(known) = known.get()
+                && (self.file.read_at(&mut found, *place)? < SECTOR || found != known)
+            {
+                return self.file.noted(Err(io::Error::new(
+                    ErrorKind::Other,
+                    "another program wrote over it",
+                )));
+            }
+        }
+        Ok(())
+    }
+
+    // The answer to a sync, unless another program wrote over the image or its name leads elsewhere.
     fn unless_moved(&self, answer: io::Result<()>) -> io::Result<()> {
         self.syncs.set(self.syncs.get().saturating_add(1));
         answer?;
+        self.unless_overwritten()?;
         match (self.file.metadata(), fs::metadata(self.rt, self.name)) {
             (Ok(own), Ok(seen)) if is_same_file(&own, &seen) => Ok(()),
             _ => self.file.noted(Err(io::Error::new(
@@ -79,11 +115,16 @@ impl<R: Files<File = File>> FileExt for ImageFile<'_, '_, R> {
             Err(error) if self.syncs.get() >= OPENS && error.raw_os_error() == Some(EIO) => {
                 Err(io::Error::new(ErrorKind::Other, "the drive can't read a sector"))
             }
-            answer => answer,
+            answer => {
+                self.note(room, at);
+                answer
+            }
         }
     }
 
     fn write_at(&self, bytes: &[u8], at: u64) -> io::Result<usize> {
+        self.unless_overwritten()?;
+        self.note(bytes, at);
         self.file.write_at(bytes, at)
     }
 }

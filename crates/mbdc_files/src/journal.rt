@@ -180,8 +180,8 @@ fn open_journal<R: Files<File = File>>(
 // The most bytes of a file that are read: the last ones.
 const MOST: u64 = 2 * FULL;
 
-/// The lines of an image's journal, first those of the file that was put aside; none where there is no such file. Of each
-/// file the last 16 MiB are read. One that can't be read, or that is no journal, is named on standard error.
+/// The lines of an image's journal, first those of the file that was put aside; none where there is no such file. Of
+/// each file the last 16 MiB are read. One that can't be read, or that is no journal, is named on standard error.
 ///
 /// # Errors
 /// Out of memory.
@@ -235,8 +235,8 @@ fn add_lines(file: &File, lines: &mut Vec<u8>) -> Result<(), AllocError> {
     Ok(())
 }
 
-/// The lines of a journal that are of an image whose next reading gets that serial: those from its first reading on after
-/// the last one of another image, which has a serial that this image hasn't given.
+/// The lines of a journal that are of an image whose next reading gets that serial: those from its first reading on
+/// after the last one of another image, which has a serial that this image hasn't given.
 pub fn own_lines(lines: &[u8], next_serial: u64) -> &[u8] {
     let mut own = lines;
     let mut is_own = true;
