@@ -67,8 +67,8 @@ fn say_why<R: Eprint>(host: &Host<'_, R>, line: u8, why: Option<GivenUp>) {
     let _ = eprint!(host.rt; "mbdc: gateway: line {line}: {words}\n");
 }
 
-/// Says on standard error which lines were given up and why, and gives the terminals of links back to other programs, at
-/// the end of the command.
+/// Says on standard error which lines were given up and why, and gives the terminals of links back to other programs,
+/// at the end of the command.
 pub fn released<R>(host: &Host<'_, R>, peers: &[Option<Peer<R>>])
 where
     R: Files<File = File> + Net<Stream = TcpStream> + Clock + Copy + Eprint + AllocGlobal,

@@ -36,7 +36,8 @@ const FIRST: &[u8] = b"\x78\x56\x34\x12\x24\x40\x01\x07\x01\0\0\0\x0C\x13\x78\x5
 const LAST: &[u8] =
     b"\x78\x56\x34\x12\x24\x40\x01\x07\x02\0\0\0\x42\x6C\x1F\x3C\x4C\x13\x00\x50\x34\x12";
 
-// The gateway, over the stream that the concentrator reads, on which it is served on the way, and the one that it writes.
+// The gateway, over the stream that the concentrator reads, on which it is served on the way, and the one that it
+// writes.
 type OwnGateway = Gateway<
     Looped<ReadSource<TcpStream>, ReadSource<TcpStream>, WriteSink<TcpStream>, Global>,
     WriteSink<TcpStream>,

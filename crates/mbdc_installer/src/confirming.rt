@@ -1,10 +1,10 @@
 //! Who answers a wildcard, where several meters may answer in step.
 //!
 //! Meters of one type that were fitted together answer a wildcard at the same moment, bit by bit. The line then shows
-//! the AND of what they send, since the current of a space wins (EN 13757-2), and that may be a whole frame: of a number
-//! that nobody has, or of one of the meters, behind which the others hide. So a meter that answered a wildcard is
-//! selected by its whole identity, and of each digit that the wildcard leaves open those digits are selected that have
-//! its bits, and more: only meters with such a digit can hide behind it.
+//! the AND of what they send, since the current of a space wins (EN 13757-2), and that may be a whole frame: of a
+//! number that nobody has, or of one of the meters, which hides the others. So a meter that answered a wildcard is
+//! selected by its whole identity. Of each digit that the wildcard leaves open, those digits are selected that have its
+//! bits, and more: it can hide only meters with such a digit.
 
 ghost use Rattle.std.specs.Prelude.{◌≡◌, ◌≤◌, ◌<◌, [], length, true};
 ghost use Rattle.dc_linkframe.specs.Reading.{frame_of};
@@ -27,8 +27,8 @@ use mbdc_bus::{AnswerBuf, Bus, TRIES, insist};
 // Number of digits of an identification number.
 const DIGITS: usize = 8;
 
-// In so many bytes two telegrams of one type differ whose meters aren't in step: more than the number, the answer's
-// number, the checksum and a clock have.
+// Number of bytes in which two telegrams of one type differ whose meters aren't in step: more than the number, the
+// answer's number, the checksum and a clock have.
 const MANY: usize = 16;
 
 /// A telegram that was confirmed, and its meter.
@@ -52,7 +52,7 @@ pub(crate) struct Wildcard {
 }
 
 /// Sends a request that several meters may answer. The first telegram after a selection is returned only where the
-/// meter that it names answers its whole identity, and nobody can hide behind it; otherwise noise is, as of meters that
+/// meter that it names answers its whole identity and hides nobody; otherwise noise is, as of meters that
 /// answer out of step.
 pub(crate) fn ask<B: Bus>(bus: &mut B, wildcard: &mut Wildcard, request: &FrameBuf) -> AnswerBuf
     requires { length request.now ≤ most_request }
@@ -88,7 +88,7 @@ pub(crate) fn ask<B: Bus>(bus: &mut B, wildcard: &mut Wildcard, request: &FrameB
     answer
 }
 
-// Whether a meter answers its whole identity, and nobody answers who could hide behind it.
+// Whether a meter answers its whole identity, and nobody answers whom it could hide.
 fn is_confirmed<B: Bus>(bus: &mut B, wire: &[u8; 8], meter: &Identity, is_due: bool) -> bool
     ensures { Confirms B.asks_all wire.now meter.now is_due bus.old result bus.new }
 {
@@ -106,7 +106,7 @@ fn ask_identity<B: Bus>(bus: &mut B, meter: &Identity) -> AnswerBuf
     insist(bus, &request, TRIES)
 }
 
-// Whether nobody answers who could hide behind a meter, if that is due.
+// Whether nobody answers whom a meter could hide, if that is due.
 fn is_nobody_hidden<B: Bus>(bus: &mut B, wire: &[u8; 8], meter: &Identity, is_due: bool) -> bool
     ensures { AsksHidden B.asks_all wire.now meter.now is_due bus.old result bus.new }
 {
@@ -189,7 +189,7 @@ fn ask_digit<B: Bus>(bus: &mut B, mask: &Mask, place: usize, digit: u8) -> Answe
     bus.ask_all(&request)
 }
 
-// Whether a meter with this digit can hide behind one with its own: it has all its bits, and more.
+// Whether a meter with its own digit can hide one with this digit, which has all its bits, and more.
 fn can_hide(own: u8, digit: u8) -> bool
     ensures { result ≡ can_hide own digit }
 {

@@ -2,9 +2,9 @@
 //!
 //! [`Printer`] prints a line of text for each event, or a JSON object (RFC 8259); `specs/Text.antt` and
 //! `specs/Object.antt` define them. The object of a meter that was read has what its last telegram reports.
-//! [`Unfailing`] goes on without output where another teller fails. [`Progress`] shows a terminal how many meters are done
-//! with, and [`put_reason`] writes what the tries of a failed readout brought. [`put_note`] writes the line of an event in
-//! an image's journal; what takes such lines ([`Notes`]) changes nothing of the poll.
+//! [`Unfailing`] goes on without output where another teller fails. [`Progress`] shows a terminal how many meters are
+//! done with, and [`put_reason`] writes what the tries of a failed readout brought. [`put_note`] writes the line of an
+//! event in an image's journal; what takes such lines ([`Notes`]) changes nothing of the poll.
 
 mod content;
 mod laws;

@@ -203,12 +203,13 @@ fn tell_finish<B: HalfBus + Drop, N: Teller>(
 
 /// Reads the meters of up to eight lines, of which line k + 1 is that of the station at k.
 ///
-/// So many meters were counted before. A line's meters are read in passes, at most `tries` of them: a meter whose
-/// readout failed is started again after the line's other meters. The poll ends whatever the lines give. On each line
-/// the requests of the concentrator go out, and nothing else, and it hears what the bus gave. Each round commits its
-/// telegrams, and then tells how readouts ended ([`Event::Read`], [`Event::Failed`], [`Event::Refused`]), and once of
-/// each line that became lost ([`Event::Lost`]). If a commit returns a fault, the poll ends, and the outcome has that
-/// fault. At the end it tells the late answers of each line ([`Event::Late`]) and the counts ([`Event::End`]).
+/// `before` has the meters that were counted before. A line's meters are read in passes, at most `tries` of them: a
+/// meter whose readout failed is started again after the line's other meters. The poll ends whatever the lines give. On
+/// each line the requests of the concentrator go out, and nothing else, and it hears what the bus gave. Each round
+/// commits its telegrams, and then tells how readouts ended ([`Event::Read`], [`Event::Failed`], [`Event::Refused`]),
+/// and once of each line that became lost ([`Event::Lost`]). If a commit returns a fault, the poll ends, and the
+/// outcome has that fault. At the end it tells the late answers of each line ([`Event::Late`]) and the counts
+/// ([`Event::End`]).
 ///
 /// # Errors
 /// The teller couldn't take an event.

@@ -86,14 +86,14 @@ pub enum Until {
 /// A TCP stream or a terminal as a wire, by polls that don't wait: its reader and its writer. A read
 /// that returns no byte when the descriptor is readable means the end of the stream.
 ///
-/// After a request the time-out is the patience. After the reset of all selected meters it is as long
-/// as an acknowledgement takes, by the [`Pace`] of the line, once there was one; after a request that several meters may
-/// answer, as long as one of them may take to begin. Bytes that begin no frame are dropped where no
-/// answer has begun and only one meter may answer, and time goes on as if they hadn't come. A frame begins with 68 L L 68
-/// and a fifth byte, as a whole short frame, or with an acknowledgement that is awaited: first bytes are held back for a
-/// gap, to see whether that follows. A line on which bytes keep coming for ten patiences, or 15 s where that is longer,
-/// without a request or silence between them, fails. So does one on which requests met silence for 120 s, and no byte
-/// came since it was connected.
+/// After a request the time-out is the patience. After the reset of all selected meters it is as long as an
+/// acknowledgement takes, by the [`Pace`] of the line, once there was one; after a request that several meters may
+/// answer, as long as one of them may take to begin. Bytes that begin no frame are dropped where no answer has begun
+/// and only one meter may answer, and time goes on as if they hadn't come. A frame begins with 68 L L 68 and a fifth
+/// byte, as a whole short frame, or with an acknowledgement that is awaited: first bytes are held back for a gap, to
+/// see whether that follows. A line on which bytes keep coming for ten patiences, or 15 s where that is longer, without
+/// a request or silence between them, fails. So does one on which requests met silence for 120 s, and no byte came
+/// since it was connected.
 #[derive(Drop)]
 pub struct PollWire<R: Read + AsRawFd + Drop, W: Write + Link + Drop, C: Clock + Drop> {
     reader: R,

@@ -163,7 +163,7 @@ fn give(ahead: &mut AnswerBuf, awaits_ack: bool, takes_all: bool, room: &mut [u8
     count
 }
 
-// Reads at most so many bytes, within this many microseconds, after those that are ahead.
+// Reads at most `most` bytes, within `micros` microseconds, after those that are ahead.
 fn read_ahead<R: Read + AsRawFd>(
     reader: &mut R,
     ahead: &mut AnswerBuf,
@@ -185,8 +185,8 @@ fn read_ahead<R: Read + AsRawFd>(
     Ok(())
 }
 
-// Reads what comes within this many microseconds, and gives the bytes of an answer. Unless all bytes are taken, those that
-// begin no frame are dropped before it, and those that may begin one are held back.
+// Reads what comes within this many microseconds, and gives the bytes of an answer. Unless all bytes are taken, those
+// that begin no frame are dropped before it, and those that may begin one are held back.
 pub(crate) fn read_past_noise<R: Read + AsRawFd>(
     reader: &mut R,
     ahead: &mut AnswerBuf,

@@ -36,9 +36,9 @@ pub enum Kind {
     Nobody,
 }
 
-/// Whether a request may go out, which several meters may answer or not: on a quiet line any, and
-/// after an answer one that differs from the request that it answered. The reset of all selected meters also goes out as
-/// the first request of a line: what comes is dropped until the line is quiet.
+/// Whether a request may go out, which several meters may answer or not: on a quiet line any, and after an answer one
+/// that differs from the request that it answered. The reset of all selected meters also goes out as the first request
+/// of a line: what comes is dropped until the line is quiet.
 pub fn may_go(state: State, last: &FrameBuf, request: &FrameBuf, many: bool) -> bool
     ensures { result ≡ may_go state last.now request.now many }
 {

@@ -9,8 +9,8 @@ use dc_linkframe::{Frame, parse};
 use dc_records::Telegram;
 use mbdc_reading::content::{Content, content_of};
 
-/// What an answer says where its frame is no telegram that the register takes: an encrypted one, one with another header
-/// or none, fixed data, or records with a fault.
+/// What an answer says where its frame is no telegram that the register takes: an encrypted one, one with another
+/// header or none, fixed data, or records with a fault.
 #[tactic(auto, unfolding(crate::specs::Content::untaken_body))]
 pub(crate) fn untaken(answer: &[u8]) -> Option<Content<'_>>
     ensures { option_map content_view result ≡ untaken answer.now }

@@ -13,10 +13,10 @@ use mbdc_decode::tokens::{Piece, put_pieces};
 use mbdc_io::{IoFault, Sink};
 use mbdc_reading::content::REASON_ROOM;
 
-/// Writes what the tries of a failed readout brought: where some failed, how many brought what, as a line
-/// `mbdc: line 2: 12345678.PAD.01.07: 3 tries failed: 2 silent, 1 unreadable`; and where the last answer is a telegram of
-/// another kind, why the register doesn't take it: `mbdc: line 2: 12345678.PAD.01.07: fixed data (CI 73): not registered`.
-/// Of another event it writes nothing.
+/// Writes what the tries of a failed readout brought: where some failed, how many brought what, as a line `mbdc: line
+/// 2: 12345678.PAD.01.07: 3 tries failed: 2 silent, 1 unreadable`; and where the last answer is a telegram of another
+/// kind, why the register doesn't take it: `mbdc: line 2: 12345678.PAD.01.07: fixed data (CI 73): not registered`. Of
+/// another event it writes nothing.
 #[tactic(auto, using(mbdc_io::proofs::Pieces::written))]
 pub fn put_reason<W: Sink>(out: &mut W, event: &Event<'_>) -> Result<(), IoFault>
     ensures { Wrote W.Sink result out.old out.new (reason_of event.now) }
