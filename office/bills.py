@@ -2,14 +2,15 @@
 
 import datetime
 import zoneinfo
-from typing import Any, Dict, Iterable, Iterator, List, NamedTuple, Optional, Set, Tuple
+from typing import Any, Dict, Iterable, Iterator, List, NamedTuple, Optional, Tuple
 
 from psycopg2.extras import DateRange, Json
 
 from database import Cursor, Database, Row as DatabaseRow, row_of, rows_of, value_of
-from exporting import NONE, Readings, Writer, bodies_of, file_of, span_line, struck_of, use_lines, user_lines
-from months import (PROVISIONAL, Period, Split, around, differences, graded, kept_month, lock, shown_line, splits_of,
-                    window_at)
+from exporting import (FORMAT, NONE, SHOWN_UNITS, Facts, Readings, Writer, bodies_in, file_of, span_line, struck_of,
+                       use_lines, user_lines)
+from months import (MEASURED, PROVISIONAL, ZERO, Period, Split, around, differences, graded, kept_month, lock,
+                    shown_line, splits_of, window_at)
 from periods import begin_of, later_month
 from program import KEY, AtFault, Key, NotComputed, Published, filled
 from supply import Value, seconds
@@ -23,8 +24,6 @@ SHOWN = {"energy": ("mJ", "kWh"), "volume": ("ml", "m3"), "allocation": ("0.001 
 QUANTITIES = {smallest: quantity for quantity, (smallest, _) in SHOWN.items()}
 DECIMALS = 3
 SMALLEST = "smallest"
-# by unit of the audit file
-COLUMNS = {SMALLEST: "amount", "HCA": "HCA", **{unit: "consumption" for _, unit in SHOWN.values()}}
 HELD = "held"
 PRINTED = f"""
 SELECT p.tenancy, {KEY}, p.text FROM published p
@@ -132,16 +131,16 @@ def bill_of(cursor: Cursor, house: str, days: DateRange) -> Bill:
                     key=lambda it: (it.place.flat, it.place.use, it.place.number))
     held, zone = rows_of(cursor, HELD_MONTHS, house, days), value_of(cursor, ZONE, house)
     windows = [window_at(it, days.lower, days.upper) for it in splits]
-    writer = Writer(bodies_of(cursor, windows),
+    writer = Writer(bodies_in(cursor, windows),
                     struck_of(cursor, house, seconds(begin_of(days.lower, zone)), seconds(begin_of(days.upper, zone))))
-    writer.lines += [f"audit,1,{days.lower:%Y-%m}", span_line(1, days.lower, days.upper, zone), *use_lines(
-        cursor, {it.use for it in windows}), *user_lines(cursor, house, windows, days.lower, days.upper)]
+    writer.lines += [f"{FORMAT},{days.lower:%Y-%m}", span_line(1, days.lower, days.upper, zone),
+                     *use_lines(cursor, windows), *user_lines(cursor, house, windows, days.lower, days.upper)]
     found: List[Tuple[int, Dict[str, int], Asked]] = []
     for split, window in zip(splits, windows):
         asked = [asked_row(split, period, held) for period in split.parts]
         readings: Readings = {it.key: (it.shown, it.unit) for row in asked for it in row.ends.values()}
         lines = [line for row in asked for line in row.lines.values()]
-        at = writer.window(1, window, lines, readings)
+        at = writer.place({1: window}, lines, readings)
         places = {key: place for place, key in enumerate(readings, at + len(lines))}
         for row in asked:
             found.append((at, {name: places[end.key] for name, end in row.ends.items()}, row))
@@ -176,45 +175,22 @@ def accepted(cursor: Cursor, house: str, days: DateRange) -> Optional[List[Row]]
 def compared(cursor: Cursor, house: str, audit: Optional[int], found: List[Row]) -> List[Row]:
     """These rows. Raises NotComputed where one has a number that the bill's audit file doesn't have, as long as that is
     kept."""
-    lines = file_of(cursor, audit)
-    facts = set() if lines is None else facts_of(lines, zoneinfo.ZoneInfo(value_of(cursor, ZONE, house)))
-    wrong = next((it for row in found for it in numbers_of(row) if it not in facts), None)
-    if wrong and lines is not None:
-        raise NotComputed(f"the bill isn't printed: {' '.join(map(str, wrong))} isn't in its audit file")
+    lines, zone = file_of(cursor, audit), zoneinfo.ZoneInfo(value_of(cursor, ZONE, house))
+    wrong = None if lines is None else Facts(lines, lambda it: local(int(it), zone)).lacks(
+        it for row in found for it in numbers_of(row))
+    if wrong:
+        raise NotComputed(f"the bill isn't printed: {wrong} isn't in its audit file")
     return found
 
 
-def numbers_of(row: Row) -> Iterator[Tuple[str, ...]]:
+def numbers_of(row: Row) -> Iterator[Published]:
     """What a row says that an audit file has to say."""
-    cells, place = row.cells, (row.cells["flat"], row.cells["use"])
-    period = (*place, cells["from"], cells["to"])
-    yield from ((*period, column, cells[column]) for column in dict.fromkeys(COLUMNS.values()) if column in cells)
-    yield from ((*place, cells["meter"], cells[f"{name}_at"], cells[f"{name}_value"]) for name in ("first", "last")
-                if f"{name}_value" in cells)
-    if "amount" in cells:
-        yield (*period, "grade", cells["grade"])
-        if row.tenancy is not None:
-            yield (*period, "user", str(row.tenancy))
-
-
-def facts_of(lines: List[str], zone: zoneinfo.ZoneInfo) -> Set[Tuple[str, ...]]:
-    """What a bill's audit file says of periods of places and of meters' values, with moments as a row has them."""
-    found: Set[Tuple[str, ...]] = set()
-    place: Tuple[str, ...] = ()
-    meters: Dict[str, str] = {}
-    for kind, *fields in (line.split(",") for line in lines):
-        if kind == "place":
-            place = (fields[1], fields[2])
-        elif kind == "meter":
-            meters[fields[0]] = fields[1]
-        elif kind == "value":
-            found.add((*place, meters[fields[0]], local(int(fields[1]), zone), fields[2]))
-        elif kind in ("part", "shown"):
-            period = (*place, *(local(int(it), zone) for it in fields[1:3]))
-            found.add((*period, "user", fields[3]) if kind == "part" else (*period, COLUMNS[fields[3]], fields[4]))
-            if kind == "shown" and fields[3] == SMALLEST:
-                found.add((*period, "grade", graded(*fields[4:]).grade))
-    return found
+    cells, mark = row.cells, MEASURED if row.cells["grade"] == ZERO else row.cells["grade"]
+    period, units = f"{cells['from']} {cells['to']}", {"amount": SMALLEST, "consumption": cells["unit"], "HCA": "HCA"}
+    yield from ((row.tenancy, Key("place", cells["flat"], cells["use"], 0, period, SHOWN_UNITS.get(unit, unit)),
+                 cells[column], mark) for column, unit in units.items() if column in cells)
+    yield from ((None, Key("reading", use=cells["meter"], period=cells[f"{it}_at"]), cells[f"{it}_value"], "reading")
+                for it in ("first", "last") if f"{it}_value" in cells)
 
 
 def local(moment: int, zone: zoneinfo.ZoneInfo) -> str:

@@ -21,6 +21,7 @@ MIDNIGHT = re.compile(r"T00:00(:00)?")  # which ends the day before
 FLAGS, OTHER = "flags", "other"
 NO_ERROR = ["no error"]  # VIFE 00, which says no more than its absence (EN 13757-3)
 COUNTED = ("energy", "volume", "heat cost allocation")
+UNITS = ("Wh", "MWh", "J", "GJ", "m3", "HCA")  # of the decoder's table, which has no REAL
 FIRST_DAY = "0001-01-01"
 
 
@@ -46,8 +47,10 @@ class Point(NamedTuple):
 
     @property
     def value(self) -> Optional[decimal.Decimal]:
-        """The number, exact; None of a date, of flags, and where there is none."""
-        is_number = self.unit != FLAGS and NUMBER.fullmatch(self.shown)
+        """The number, exact; None of a date, of flags, where there is none, and of a count that is a REAL: no audit takes
+        one."""
+        is_real = not self.is_point and self.quantity in COUNTED and self.unit in UNITS
+        is_number = self.unit != FLAGS and not is_real and NUMBER.fullmatch(self.shown)
         return decimal.Decimal(self.shown) if is_number else None
 
     @property

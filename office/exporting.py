@@ -2,12 +2,13 @@
 
 `mbdc audit` fills them in, and judges them: those are published.
 
-A file lists a place once for each month (span): the meters and what is known of them are those that the month was
-computed with.
+A file lists a place once, with its meters as they are known now, and a window for each month (span). An older month
+that was computed with others is left out of it.
 """
 
 import datetime
-import decimal
+import itertools
+import unicodedata
 import zoneinfo
 from typing import Any, Callable, Dict, Iterable, Iterator, List, NamedTuple, Optional, Sequence, Set, Tuple
 
@@ -16,10 +17,11 @@ from database import Cursor, grouped, plain, rows_of, value_of
 from periods import DAY, begin_of, later_month, next_month
 from program import KEY, File, Key, Published
 from sheet_data import HELD_USES, Averages, House, Number, Sheet, Use, declared_average, house_of, sheets_of
-from supply import (BY_HAND, DUE_DATE, ENDED, ESTIMATED, FITTED, READ, REMOVED, RESTARTED, RUNS, STORED, Place, Run,
-                    Telegram, Value, plain_number, seconds)
+from supply import (BY_HAND, DUE_DATE, ENDED, ESTIMATED, FITTED, READ, REMOVED, RESTARTED, RUNS, STORED, Bodies, Place,
+                    Run, Telegram, Value, bodies_of, places_of, plain_number, seconds)
 
 NONE = "-"
+FORMAT = "audit,2"  # what a file begins with
 
 
 class Printed(NamedTuple):
@@ -41,9 +43,9 @@ def use_key(flat: str, use: str, what: str, unit: str = "") -> Key:
     return Key(kind, flat, use, 0, period, unit)
 
 
-def month_key(flat: str, use: Any, month: datetime.date, kind: str = "month") -> Key:
-    """The key of a month of a use, or of its chart's."""
-    return use_key(flat, use.use, f"{kind} {month:%Y-%m}", use.unit)
+def month_key(flat: str, use: Any, month: datetime.date) -> Key:
+    """The key of a month of a use."""
+    return use_key(flat, use.use, f"month {month:%Y-%m}", use.unit)
 
 
 def place_key(flat: str, use: Any, place: Any) -> Key:
@@ -80,7 +82,6 @@ NOW = "1"  # the span of the file's month
 # marks of what is said beside amounts
 BESIDE = {"mean": "average", "change": "change", "carbon": "carbon", "weather": "weather", "cost": "cost"}
 DECLARED = "declared"  # the mark of what no audit computes
-CHARTED_WHOLE = 100  # from here on a chart's number has no decimals
 Spans = Dict[datetime.date, int]
 
 
@@ -102,8 +103,6 @@ def of_sheet(sheet: Sheet, spans: Spans) -> Iterator[Asked]:
     user, now = sheet.user, spans[sheet.month]
     for use in sheet.uses:
         name, shown = f"{user.id},{use.use},{AUDIT_UNITS[use.unit]}", asked(DECIMALS[use.unit])
-        if use.is_charted and not use.months[sheet.month].why:
-            yield from (Asked(f"of_user,{now},{name},{asked(decimals)},?") for decimals in (1, 0))
         for month, span in spans.items():
             if month in use.months and not use.months[month].why:
                 yield Asked(f"of_user,{span},{name},{shown},?")
@@ -222,18 +221,13 @@ class Reader:
     def take_shown(self, _: str, begins: str, ends: str, unit: str, text: str, mark: str) -> None:
         flat, use, number = self.place
         self.put(self.parts.get((begins, ends), NONE),
-                 Key("place", flat, use, number, f"{begins} {ends}", SHOWN_UNITS[unit]), text, mark)
+                 Key("place", flat, use, number, f"{begins} {ends}", SHOWN_UNITS.get(unit, unit)), text, mark)
 
     def take_value(self, run: str, moment: str, text: str, _: str) -> None:
         self.put(NONE, reading_key(self.runs[int(run) - 1], int(moment)), text, "reading")
 
     def take_of_user(self, span: str, user: str, use: str, of_file: str, text: str, mark: str) -> None:
-        unit, month, decimals = SHOWN_UNITS[of_file], self.months[span], len(text.partition(".")[2])
-        if decimals == DECIMALS[unit] or text == NONE:
-            self.put(user, use_key(self.flats[user], use, f"month {month}", unit), text, mark)
-        # 99.7 comes before its 100
-        if span == NOW and (text == NONE or decimals == (decimal.Decimal(text) < CHARTED_WHOLE)):
-            self.put(user, use_key(self.flats[user], use, f"chart {month}", unit), text, mark)
+        self.put(user, use_key(self.flats[user], use, f"month {self.months[span]}", SHOWN_UNITS[of_file]), text, mark)
         for what in ("factor", "price") if span == NOW else ():
             self.put_of(user, use, what, self.facts.get((what, use, of_file, span), NONE), DECLARED)
 
@@ -251,11 +245,11 @@ CHARTED = 13  # months
 AUDITS = """
 SELECT n.house, n.id, a.says FROM audits_now n JOIN audits a ON a.id = n.id WHERE n.house = ANY (%s) AND n.month = %s"""
 # What was published of a month, and of earlier ones and their users: for charts and where a month has no evidence any
-# more
+# more. (Charts had numbers of their own up to 0.2.0.)
 NUMBERS = f"""
 SELECT p.audit, p.tenancy, {KEY}, p.text, p.mark FROM published p JOIN audits_now a ON a.id = p.audit
-WHERE a.house = %s AND (a.month = %s OR a.month >= %s AND a.month < %s AND p.tenancy IS NOT NULL
-                        AND p.kind IN ('month', 'chart') AND p.period = to_char(a.month, 'YYYY-MM'))
+WHERE p.kind <> 'chart' AND a.house = %s AND (a.month = %s OR a.month >= %s AND a.month < %s AND p.tenancy IS NOT NULL
+                        AND p.kind = 'month' AND p.period = to_char(a.month, 'YYYY-MM'))
 ORDER BY a.month, p.id"""
 FILE = "SELECT file FROM audits WHERE id = %s AND file IS NOT NULL"
 IDENTITIES = "SELECT id, identity FROM fittings WHERE id = ANY (%s)"
@@ -263,12 +257,15 @@ IDENTITIES = "SELECT id, identity FROM fittings WHERE id = ANY (%s)"
 
 class Facts(Reader):
     """All numbers of an audit file, by keys as the file knows them: without which place of a flat's use it is, and of a
-    reading with the meter's identity as its use."""
+    reading with the meter's identity as its use. moment: how a moment is written."""
 
-    def __init__(self) -> None:
+    def __init__(self, lines: List[str], moment: Callable[[str], str] = str) -> None:
         super().__init__([])
         self.all: Set[Published] = set()
         self.meters: Dict[str, str] = {}  # of the place
+        self.moment = moment
+        self.read(lines)
+        self.nobodys = {it[1:] for it in self.all}
 
     def put(self, user: str, key: Key, text: str, mark: str) -> None:
         self.all.add((None if user == NONE else int(user), key, text, mark))
@@ -279,8 +276,19 @@ class Facts(Reader):
     def take_meter(self, run: str, identity: str, *_: str) -> None:
         self.meters[run] = identity
 
+    def take_part(self, _: str, begins: str, ends: str, user: str) -> None:
+        super().take_part(_, self.moment(begins), self.moment(ends), user)
+
+    def take_shown(self, _: str, begins: str, ends: str, unit: str, text: str, mark: str) -> None:
+        super().take_shown(_, self.moment(begins), self.moment(ends), unit, text, mark)
+
     def take_value(self, run: str, moment: str, text: str, _: str) -> None:
-        self.put(NONE, Key("reading", use=self.meters[run], period=moment), text, "reading")
+        self.put(NONE, Key("reading", use=self.meters[run], period=self.moment(moment)), text, "reading")
+
+    def lacks(self, numbers: Iterable[Published]) -> Optional[str]:
+        """The first of these numbers that the file doesn't have. A user who was forgotten has none."""
+        return next((" ".join(map(str, (*filter(None, it[1]), it[2]))) for it in numbers
+                     if it not in self.all and (it[0] is not None or it[1:] not in self.nobodys)), None)
 
 
 def file_of(cursor: Cursor, audit: Optional[int]) -> Optional[List[str]]:
@@ -290,20 +298,12 @@ def file_of(cursor: Cursor, audit: Optional[int]) -> Optional[List[str]]:
 
 
 def unknown(cursor: Cursor, audit: int, numbers: List[Published]) -> Optional[str]:
-    """The first of an audit's numbers that its file doesn't have. A user who was forgotten has none."""
+    """The first of an audit's numbers that its file doesn't have."""
     lines = file_of(cursor, audit)
-    if lines is None:
-        return None
-    facts = Facts()
-    facts.read(lines)
-    nobodys = {it[1:] for it in facts.all}
     meters = dict(rows_of(cursor, IDENTITIES, [key.place // RUNS for _, key, *_ in numbers if key.kind == "reading"]))
-    for tenancy, key, text, mark in numbers:
-        use = meters.get(key.place // RUNS, "") if key.kind == "reading" else key.use
-        number = (key._replace(place=0, use=use), text, mark)
-        if (tenancy, *number) not in facts.all and (tenancy is not None or number not in nobodys):
-            return " ".join(map(str, (*filter(None, key), text)))
-    return None
+    return None if lines is None else Facts(lines).lacks(
+        (tenancy, key._replace(place=0, use=meters.get(key.place // RUNS, "") if key.kind == "reading" else key.use),
+         text, mark) for tenancy, key, text, mark in numbers)
 
 
 def published_of(cursor: Cursor, houses: List[str], month: datetime.date) -> Tuple[Dict[str, Printable], List[str]]:
@@ -328,6 +328,11 @@ NOBODY = 10**17  # users of this number and above are flats that nobody uses
 AT_ENDS = {FITTED: "first", RESTARTED: "first", REMOVED: "last", ENDED: "last"}
 PUT = {BY_HAND: "hand", ESTIMATED: "estimated"}
 LONGEST_WHY = 60
+# The device types that count a use by themselves (COMMANDS), and cooling 0D, where the record is named; of others a
+# file says who says so
+TYPES = {"heat": "04 0C 0D", "cooling": "0A 0B", "warm water": "06 15", "cold water": "07 16", "electricity": "02",
+         "gas": "03", "allocator": "08"}
+DECIDED = "decided in the office"
 FROZEN = """
 SELECT v.month, p.id, p.flat, p.use, p.number, p.weight, h.zone, v.entries, v.evidence, v.meters
 FROM frozen_values v JOIN places p ON p.id = v.place JOIN houses h ON h.house = p.house
@@ -344,10 +349,6 @@ STRUCK = """
 SELECT f.place, f.id, d.at, coalesce(d.struck_why, 'struck') AS why
 FROM day_values d JOIN fittings f ON f.id = d.fitting
 WHERE f.house = %s AND d.struck_at IS NOT NULL AND d.at BETWEEN %s AND %s ORDER BY d.at, d.id"""
-BODIES = """
-SELECT month::text, box, serial, bodies FROM readings WHERE (month, box, serial) IN (
-    SELECT k.month::date, k.box, k.serial
-FROM unnest(%s::text[], %s::text[], %s::bigint[]) AS k (month, box, serial))"""
 USES = """
 SELECT use, CASE quantity WHEN 'allocation' THEN 'units' ELSE quantity END AS quantity FROM uses WHERE use = ANY (%s)
 ORDER BY position, use"""
@@ -386,8 +387,20 @@ class Window(NamedTuple):
     def name(self) -> str:
         return f"{self.flat} {self.use} {self.number}"
 
+    def settled(self) -> List[Evidence]:
+        """Its values as a file has them: the last one of each run's moment; where an allocator began its year that is
+        the telegram that stored it, or else an estimate."""
+        begins, found = {run.number: run.begins for run in self.runs}, []  # type: Dict[int, int], List[Evidence]
+        for value in self.values:
+            is_again = bool(found) and (found[-1].run, found[-1].moment) == (value.run, value.moment)
+            before = found.pop() if is_again else None
+            if value.source == DUE_DATE and begins[value.run] != value.moment:
+                value = (value._replace(telegram=before.telegram) if before is not None and before.source == STORED
+                         else value._replace(source=ENDED, is_estimated=True))
+            found.append(value)
+        return found
 
-Bodies = Dict[Tuple[str, str, int], List[bytes]]
+
 Struck = Dict[int, List[Tuple[int, int, str]]]  # by place: fitting, moment, why
 Readings = Dict[Tuple[int, int], Tuple[str, str]]  # by run and moment: text and unit
 Declared = Dict[Tuple[str, ...], str]
@@ -419,7 +432,7 @@ def window_of(place: Place, entries: Sequence[Value], parts: List[Part], begins:
     """What decides the periods of a place, as it is known now."""
     values = [Evidence(*it.line[:3], it.source, it.shown, it.unit, it.is_estimated, it.telegram) for it in entries]
     return Window(begins, ends, place.id, place.flat, place.use, place.number, plain_number(place.weight), place.zone,
-                  [run for fitting in place.fittings for run in fitting.runs()], values, parts)
+                  place.runs, values, parts)
 
 
 def windows_of(cursor: Cursor, house: str, months: List[datetime.date]) -> Dict[datetime.date, List[Window]]:
@@ -451,11 +464,9 @@ def needed_runs(window: Window) -> List[Run]:
             and (run.begins <= last or at > 0 and (runs[at - 1].ends or 0) < window.ends)]
 
 
-def bodies_of(cursor: Cursor, windows: Iterable[Window]) -> Bodies:
+def bodies_in(cursor: Cursor, windows: Iterable[Window]) -> Bodies:
     """The telegrams behind windows."""
-    keys = sorted({it.telegram[:3] for window in windows for it in window.values if it.telegram is not None})
-    found = rows_of(cursor, BODIES, *([key[at] for key in keys] for at in range(3)))
-    return {(it.month, it.box, it.serial): [bytes(body) for body in it.bodies] for it in found}
+    return bodies_of(cursor, (it.telegram for window in windows for it in window.values))
 
 
 class Writer:
@@ -466,48 +477,46 @@ class Writer:
         self.bodies, self.struck = bodies, struck
         self.places: List[Tuple[int, List[int]]] = []  # of each its number, and the numbers of its meters' runs
 
-    def window(self, span: int, window: Window, numbers: List[str], readings: Readings) -> int:
-        """A place in a span, its numbers, and its readings as they are printed; where the first number stands."""
-        runs = needed_runs(window)
-        number = {run.number: at for at, run in enumerate(runs, 1)}
-        self.places.append((window.number, list(number)))
-        self.lines.append(f"place,{len(self.places)},{window.flat},{window.use},{window.weight}")
+    def place(self, windows: Dict[int, Window], numbers: List[str], readings: Readings) -> int:
+        """A place: its meters, and what it has of each span; with the first one its numbers, and its readings as they
+        are printed. Returns where the first number stands."""
+        (first, one), *older = sorted(windows.items())
+        wanted = [one.runs.index(run) for it in windows.values() for run in needed_runs(it)]
+        number = {run.number: at for at, run in enumerate(one.runs[min(wanted):max(wanted) + 1], 1)}
+        self.places.append((one.number, list(number)))
+        self.lines.append(f"place,{len(self.places)},{one.flat},{one.use},{one.weight}")
         self.lines += [f"meter,{number[it.number]},{it.identity},{it.begins},{'-' if it.ends is None else it.ends},"
-                       f"{it.most},{it.size},{it.vib or '-'}" for it in runs]
-        self.lines.append(f"window,{span}")
-        for at, value in enumerate(window.values):
-            later = window.values[at + 1] if at + 1 < len(window.values) else None
-            if later is None or (later.run, later.moment) != (value.run, value.moment):  # else the later one counts
-                self.value(value, number, window.zone, window.values[at - 1] if at else None)
+                       f"{it.most or '-'},{it.size or '-'},{it.vib or '-'}" for it in one.runs if it.number in number]
+        self.window(first, one, number)
+        at = len(self.lines)
+        self.lines += numbers
+        self.lines += [f"value,{number[run]},{moment},{','.join(shown)}" for (run, moment), shown in readings.items()]
+        for span, window in older:
+            self.window(span, window, number)
+        return at
+
+    def window(self, span: int, window: Window, number: Dict[int, int]) -> None:
+        """What a place has of a span. number: of each run."""
+        values = window.settled()
+        self.lines += [f"window,{span}", *(self.value(it, number[it.run], window.zone) for it in values)]
         # where another telegram of that moment counts, the one that was struck says nothing
-        told = {(value.run, value.moment) for value in window.values if value.source in (STORED, READ)}
+        told = {(it.run, it.moment) for it in values if it.telegram is not None}
         self.lines += [f"struck,{number[fitting * RUNS]},{moment},{why}" for fitting, moment, why in self.struck.get(
             window.place, []) if window.begins - MARGIN <= moment <= window.ends + MARGIN
             and fitting * RUNS in number and (fitting * RUNS, moment) not in told]
         self.lines += [f"part,{span},{part.begins},{part.ends},{part.user or '-'}" for part in window.parts]
-        self.lines += numbers
-        self.lines += [f"value,{number[run]},{moment},{','.join(shown)}" for (run, moment), shown in readings.items()]
-        return len(self.lines) - len(readings) - len(numbers)
 
-    def value(self, value: Evidence, number: Dict[int, int], zone: str, before: Optional[Evidence]) -> None:
+    def value(self, value: Evidence, run: int, zone: str) -> str:
         """The line of a value."""
-        run, ends = number[value.run], end_fields(utc(value.moment), zone)
         if value.source in AT_ENDS:
             how = "estimated" if value.is_estimated else "hand"
-            line = f"{AT_ENDS[value.source]},{run},{value.value},{value.unit},{how}"
-        elif value.source == DUE_DATE and before is not None and before.run != value.run:
-            line = f"zero,{run}"
-        elif value.source == DUE_DATE:
-            is_stored = before is not None and (before.run, before.moment, before.source) == (value.run, value.moment,
-                                                                                              STORED)
-            line = (f"ended,{run},{ends},{self.hex(before)}" if is_stored and before is not None
-                    else f"last,{run},{value.value},{value.unit},estimated")
-        elif value.source in PUT:
-            line = f"{PUT[value.source]},{run},{value.moment},{value.value},{value.unit}"
-        else:
-            line = (f"stored,{run},{ends},{self.hex(value)}" if value.source == STORED
-                    else f"read,{run},{value.moment},{self.hex(value)}")
-        self.lines.append(line)
+            return f"{AT_ENDS[value.source]},{run},{value.value},{value.unit},{how}"
+        if value.source in PUT:
+            return f"{PUT[value.source]},{run},{value.moment},{value.value},{value.unit}"
+        if value.source == READ:
+            return f"read,{run},{value.moment},{self.hex(value)}"
+        stored = f"{run},{end_fields(utc(value.moment), zone)},{self.hex(value)}"
+        return f"stored,{stored}" if value.source == STORED else f"ended,{stored}" if value.telegram else f"zero,{run}"
 
     def hex(self, value: Evidence) -> str:
         """The bodies of a value: of a current one the one that has it."""
@@ -519,49 +528,73 @@ class Writer:
 
 def struck_of(cursor: Cursor, house: str, begins: int, ends: int) -> Struck:
     """The values that people struck, by place."""
-    return grouped((it.place, (it.id, seconds(it.at), plain(it.why.replace(",", " "), LONGEST_WHY)))
+    def reason(why: str) -> str:
+        letters = unicodedata.normalize("NFKD", why.replace(",", " ")).encode("ascii", "ignore").decode()
+        return plain(letters, LONGEST_WHY) or "struck"
+    return grouped((it.place, (it.id, seconds(it.at), reason(it.why)))
                    for it in rows_of(cursor, STRUCK, house, utc(begins - MARGIN), utc(ends + MARGIN)))
 
 
 # ---- a month
 
-def month_file(cursor: Cursor, house: str, month: datetime.date, averages: Averages) -> File:
-    """The audit file of a house's month, beside those before it, and of the year before, that have their evidence.
+def month_files(cursor: Cursor, house: str, month: datetime.date, averages: Averages) -> Iterator[File]:
+    """The audit file of a house's month, beside the one before it and that of the year before, as far as they have
+    their evidence; then without one of these, and without both, as what is known of them may be another now.
 
     Raises NoEvidence where the month hasn't, and LookupError where it isn't computed."""
     page = house_of(cursor, house, month)
     if not page.uses:
         raise LookupError(f"{month:%Y-%m} of {house} isn't computed")
-    windows = windows_of(cursor, house, [month, later_month(month, -1), later_month(month, -12)])
-    bodies = bodies_of(cursor, [it for of_month in windows.values() for it in of_month])
-    known = sorted((it for it in windows if has_evidence(windows[it], bodies)), reverse=True)
-    spans = {one: number for number, one in enumerate(known, 1)}
-    if month not in spans:
+    found = windows_of(cursor, house, [month, later_month(month, -1), later_month(month, -12)])
+    bodies = bodies_in(cursor, itertools.chain(*found.values()))
+    windows = {one: found[one] for one in sorted(found, reverse=True) if has_evidence(found[one], bodies)}
+    if month not in windows:
         raise NoEvidence(f"{month:%Y-%m} was computed before there were audits, or a telegram isn't there any more")
-    sheets, of_spans = sheets_of(cursor, [house], month), [it for one in spans for it in windows[one]]
+    places = places_of(cursor, [house], min(windows), next_month(month), has_values=False)
+    windows = as_known(windows, month, {it.id: it.runs for it in places})
+    sheets = sheets_of(cursor, [house], month)
+    others = [one for one in windows if one != month]
+    for count in range(len(others), -1, -1):
+        for kept in itertools.combinations(others, count):
+            yield month_file(cursor, page, {one: windows[one] for one in (month, *kept)}, sheets, averages, bodies)
+
+
+def as_known(windows: Dict[datetime.date, List[Window]], month: datetime.date,
+             runs: Dict[int, List[Run]]) -> Dict[datetime.date, List[Window]]:
+    """The windows of months with the present runs of places; of the month those that it was computed with, where they
+    are others. A month that was computed with others than these is left out."""
+    def agrees(it: Window) -> bool:
+        one, other = (needed_runs(it._replace(runs=of)) for of in (it.runs, runs.get(it.place, [])))
+        return [run._replace(ends=None) for run in one] == [run._replace(ends=None) for run in other]
+    runs.update({it.place: it.runs for it in windows[month] if not agrees(it)})
+    return {one: [it._replace(runs=runs[it.place]) for it in found] for one, found in windows.items()
+            if all(map(agrees, found))}
+
+
+def month_file(cursor: Cursor, page: House, windows: Dict[datetime.date, List[Window]], sheets: List[Sheet],
+               averages: Averages, bodies: Bodies) -> File:
+    """The file of a month and older ones, the latest one first."""
+    spans, month = {one: number for number, one in enumerate(windows, 1)}, page.month
+    of_spans = list(itertools.chain(*windows.values()))
     declared, readings = declared_of(cursor, page, spans, sheets, averages), readings_of(sheets, page)
-    writer = Writer(bodies, struck_of(cursor, house, min(it[0].begins for it in windows.values()),
-                                      max(it[0].ends for it in windows.values())))
-    writer.lines += [f"audit,1,{month:%Y-%m}",
+    writer = Writer(bodies, struck_of(cursor, page.house, min(it.begins for it in of_spans),
+                                      max(it.ends for it in of_spans)))
+    writer.lines += [f"{FORMAT},{month:%Y-%m}",
                      *(span_line(number, one, next_month(one), page.zone) for one, number in spans.items()),
-                     *use_lines(cursor, {it.use for it in of_spans} | {key[1] for key in declared})]
+                     *use_lines(cursor, of_spans, {key[1] for key in declared})]
     writer.lines += [f"{','.join(key)},{number}" for key, number in declared.items()]
-    writer.lines += user_lines(cursor, house, of_spans, min(spans), next_month(month))
+    writer.lines += user_lines(cursor, page.house, of_spans, min(spans), next_month(month))
     asked = [it for sheet in sheets for it in of_sheet(sheet, spans)]
-    asked += of_house(page, {it.use for it in rows_of(cursor, HELD_USES, [house], month)}, spans[month])
-    shown = [(span, window, one == month) for one, span in spans.items() for window in windows[one]]
-    write(writer, shown, asked, readings)
-    return File(writer.lines, lambda lines: Reader(writer.places).read(lines))
-
-
-def write(writer: Writer, windows: List[Tuple[int, Window, bool]], asked: List[Asked], readings: Readings) -> None:
-    """Writes the windows, those of the month with what is asked there, and the sums."""
+    asked += of_house(page, {it.use for it in rows_of(cursor, HELD_USES, [page.house], month)}, spans[month])
     of_places = grouped((it.place, it.line) for it in asked)
-    for span, window, is_now in windows:
-        keys = [(it.run, it.moment) for it in window.values] if is_now else []
-        named = {key: readings[key] for key in keys if key in readings}
-        writer.window(span, window, of_places.get(window.name, []) if is_now else [], named)
+    for of_place in grouped((it.place, (spans[one], it)) for one, found in windows.items() for it in found).values():
+        (span, one), *_ = of_place
+        is_now = span == spans[month]
+        keys = [(it.run, it.moment) for it in one.values] if is_now else []
+        writer.place(dict(of_place), of_places.get(one.name, []) if is_now else [],
+                     {key: readings[key] for key in keys if key in readings})
     writer.lines += ["totals", *of_places.get("", []), "end"]
+    return File(writer.lines, lambda lines: Reader(writer.places).read(lines))
 
 
 def declared_of(cursor: Cursor, page: House, spans: Spans, sheets: List[Sheet], averages: Averages) -> Declared:
@@ -586,9 +619,13 @@ def declared_of(cursor: Cursor, page: House, spans: Spans, sheets: List[Sheet], 
     return found
 
 
-def use_lines(cursor: Cursor, uses: Set[str]) -> List[str]:
-    """What each of these uses counts."""
-    return [f"use,{it.use},{it.quantity}" for it in rows_of(cursor, USES, list(uses))]
+def use_lines(cursor: Cursor, windows: List[Window], more: Iterable[str] = ()) -> List[str]:
+    """What the uses of windows, and more uses, count; and the device types of meters that don't say it."""
+    uses, runs = [*{*(it.use for it in windows), *more}], [(it.use, run) for it in windows for run in needed_runs(it)]
+    decided = {(use, run.identity[-2:]) for use, run in runs if run.identity[-2:] not in TYPES.get(use, "").split()
+               and not (use == "cooling" and run.identity[-2:] == "0D" and run.vib)}
+    return [*(f"use,{it.use},{it.quantity}" for it in rows_of(cursor, USES, uses)),
+            *(f"as,{use},{kind},{DECIDED}" for use, kind in sorted(decided))]
 
 
 def user_lines(cursor: Cursor, house: str, windows: List[Window], first: datetime.date,

@@ -14,7 +14,7 @@ from psycopg2.extras import Json
 
 from command import SECONDS
 from database import Cursor, Database, Row, column_of, grouped, insert, rows_of, value_of
-from exporting import NONE, Part, Window, Writer, asked, bodies_of, span_line, use_lines, window_of
+from exporting import FORMAT, NONE, Part, Window, Writer, asked, bodies_in, span_line, use_lines, window_of
 from periods import begin_of, later_month, next_month
 from program import AtFault, filled
 from supply import DUE_DATE, ENDED, FITTED, REMOVED, RESTARTED, Place, Value, needed, places_of, seconds, tenancies_of
@@ -190,7 +190,7 @@ def split(place: Place, first: datetime.date, after: datetime.date, tenancies: L
              for number, (one, other) in enumerate(zip(moments, moments[1:]), 1)]
     whole = Period(0, begins, ends, parts[0].tenancy if len(parts) == 1 else None)
     entries = place.entries()
-    earliest, latest = needed((entry.at for entry in entries), begins, ends)
+    earliest, latest = needed((it.at for it in entries), (it.at for it in entries if it.telegram), begins, ends)
     return Split(place, [entry for entry in entries if earliest <= entry.at <= latest],
                  [whole, *parts] if len(parts) > 1 else [whole])
 
@@ -214,13 +214,13 @@ def graded_periods(cursor: Cursor, splits: List[Split], first: datetime.date,
     # whose parts are nobody's: amounts and grades don't depend on it
     nobodys = {place: window._replace(parts=[part._replace(user=None) for part in window.parts])
                for place, window in windows.items()}
-    bodies = bodies_of(cursor, windows.values())
+    bodies = bodies_in(cursor, windows.values())
     for of_house in grouped((one.place.house, one) for one in splits).values():
         writer = Writer(bodies, {})
-        writer.lines += [f"audit,1,{first:%Y-%m}", span_line(1, first, after, of_house[0].place.zone),
-                         *use_lines(cursor, {it.place.use for it in of_house})]
-        begins = [writer.window(1, nobodys[it.place.id],
-                                [shown_line(period, "smallest", 0) for period in it.periods], {}) for it in of_house]
+        writer.lines += [f"{FORMAT},{first:%Y-%m}", span_line(1, first, after, of_house[0].place.zone),
+                         *use_lines(cursor, [nobodys[it.place.id] for it in of_house])]
+        begins = [writer.place({1: nobodys[it.place.id]},
+                               [shown_line(period, "smallest", 0) for period in it.periods], {}) for it in of_house]
         try:
             lines = filled([*writer.lines, "totals", "end"]).lines
         except AtFault:  # office/publish says which one
@@ -290,8 +290,7 @@ def lock(cursor: Cursor, month: datetime.date, houses: List[str]) -> None:
 def frozen(one: Split) -> Tuple[str, Json, Json]:
     """What a place's month is computed from: entries, one after the other; where each comes from; and the runs."""
     entries = ",".join(str(number) for entry in one.entries for number in entry.line)
-    runs = [run for fitting in one.place.fittings for run in fitting.runs()]
-    return f"{{{entries}}}", Json([entry.evidence for entry in one.entries]), Json(runs)
+    return f"{{{entries}}}", Json([entry.evidence for entry in one.entries]), Json(one.place.runs)
 
 
 def note_change(cursor: Cursor, month: datetime.date, house: str, now: List[Tuple[Any, ...]]) -> None:

@@ -17,6 +17,7 @@ MBDC = os.environ.get("MBDC", "mbdc")  # an installed program
 SECONDS = 600  # at most, of one run
 LONGEST = 300
 HOLDS, DOES_NOT_HOLD = 0, 1
+AT_FAULT = "LINE "  # which line spells nothing
 
 
 class NotComputed(Exception):
@@ -83,7 +84,7 @@ def audited(lines: List[str], *words: str) -> Audited:
         path = pathlib.Path(folder, "numbers.audit")
         path.write_bytes(content_of(lines))
         done = run("audit", *words, str(path))
-    if done.returncode not in (HOLDS, DOES_NOT_HOLD) or not done.stdout:
+    if done.returncode not in (HOLDS, DOES_NOT_HOLD) or not done.stdout and AT_FAULT not in done.stderr:
         raise NotComputed(
             f"{MBDC} audit ended with status {done.returncode}: {plain(done.stdout + done.stderr, LONGEST)}")
     return Audited(done.stdout.split("\n")[:-1], done.stderr.split("\n")[:-1], done.returncode == HOLDS)

@@ -260,7 +260,7 @@ def part_of(number: Number, month: datetime.date, words: Catalogue) -> str:
 
 def charts_of(sheet: Sheet, numbers: Numbers, words: Catalogue) -> List[Tuple[Use, Chart]]:
     """The charts of the uses that have one."""
-    return [(use, chart_of([bar_of(numbers.get(month_key(sheet.user.flat, use, month, "chart")), month, words)
+    return [(use, chart_of([bar_of(numbers.get(month_key(sheet.user.flat, use, month)), month, words)
                             for month in charted(use, sheet.month)])) for use in sheet.uses if use.is_charted]
 
 

@@ -8,13 +8,11 @@ import re
 from fractions import Fraction
 from typing import Any, Dict, Iterable, List, NamedTuple, Optional, Sequence, Set, Tuple
 
-import psycopg2.extras
-
 from database import Cursor, Row, grouped, row_of, rows_of
 from decoding import frame_of
 from periods import later_month, next_month
 from program import KEY, Key
-from supply import RUNS, Telegram, seconds
+from supply import RUNS, Telegram, bodies_of, seconds
 
 MONTHS = 13  # of the chart
 FEWEST_COMPARED = 3  # flats of an average, so that it tells of nobody
@@ -50,10 +48,6 @@ SELECT category, use, sum(energy) AS energy, sum(kwh) AS kwh, sum(area_m2) FILTE
     GROUP BY u.house, u.flat, u.use, h.category, f.area_m2
     HAVING bool_and(u.grade IN ('measured', 'zero', 'hand'))) AS of_each
 GROUP BY category, use"""
-BODIES = """
-SELECT r.month::text, r.box, r.serial, k.part, r.bodies[k.part] AS body
-FROM (VALUES %s) AS k (month, box, serial, part) JOIN readings r
-ON r.month = k.month::date AND r.box = k.box AND r.serial = k.serial"""
 
 
 # Of the flats of a category: what they consumed, their area, and how many they are; and in which houses.
@@ -181,9 +175,8 @@ def telegram_of(basis: Dict[str, Any]) -> Optional[Telegram]:
 def frames_of(cursor: Cursor, bases: List[Dict[str, Any]]) -> Dict[Telegram, str]:
     """The telegrams behind values, each as a long frame."""
     keys = {key for key in map(telegram_of, bases) if key is not None}
-    find = psycopg2.extras.execute_values
-    found = find(cursor, BODIES, sorted(keys), fetch=True, page_size=len(keys)) if keys else []
-    return {(it.month, it.box, it.serial, it.part): frame_of(bytes(it.body)) for it in found if it.body is not None}
+    bodies = bodies_of(cursor, keys)
+    return {key: frame_of(bodies[key[:3]][key[3] - 1]) for key in keys if key[:3] in bodies}
 
 
 def reading_of(basis: Dict[str, Any], frames: Dict[Telegram, str]) -> Reading:

@@ -8,8 +8,9 @@ from database import Cursor, Row, grouped, rows_of
 from periods import begin_of
 
 MARGIN = datetime.timedelta(days=10)  # in which the values around a period are looked for first
-BEFORE = 3  # moments at or before a period: two for the mark after a doubtful step, one to spare
-AFTER = 2  # moments at or after its end: the last step's, and the next one's
+# Moments of values, and again of telegrams' values alone: `measured` is what these give by themselves
+BEFORE = 3  # at or before a period: two for the mark after a doubtful step, one to spare
+AFTER = 2  # at or after its end: the last step's, and the next one's
 STORED, READ, ESTIMATED, BY_HAND = "stored", "read", "estimated", "by hand"  # sources of a value
 FITTED, REMOVED, RESTARTED, ENDED = "fitted", "removed", "restarted", "ended"
 DUE_DATE = "due date"  # why the office noted a restart by itself
@@ -36,8 +37,13 @@ WHERE fitting = ANY (%s) ORDER BY fitting, at"""
 TENANCIES = """
 SELECT house, flat, id, lower(days) AS begins, upper(days) AS ends FROM tenancies
 WHERE house = ANY (%s) AND days && daterange(%s, %s) ORDER BY house, flat, days"""
+BODIES = """
+SELECT month::text, box, serial, bodies FROM readings WHERE (month, box, serial) IN (
+    SELECT k.month::date, k.box, k.serial
+FROM unnest(%s::text[], %s::text[], %s::bigint[]) AS k (month, box, serial))"""
 FIRST_DAY, LAST_DAY = datetime.date(1, 1, 1), datetime.date(9999, 12, 31)
 Telegram = Tuple[str, str, int, int]  # month, box, serial, part
+Bodies = Dict[Tuple[str, str, int], List[bytes]]  # by month, box and serial
 Moment = TypeVar("Moment", int, datetime.datetime)
 
 
@@ -103,8 +109,10 @@ class Fitting:
         self.restarts: List[Restart] = []
 
     def all_values(self) -> List[Value]:
-        """Its values in order, with the first and the last one. An estimate counts as long as no reading follows it."""
-        values = [*self.first, *sorted(self.values, key=lambda value: value.at), *self.last]
+        """Its values in its time in order, with the first and the last one. An estimate counts as long as no reading
+        follows it."""
+        values = [*self.first, *sorted((it for it in self.values if self.begins <= it.at and (
+            self.ends is None or it.at <= self.ends)), key=lambda value: value.at), *self.last]
         known = [value.at for value in values if value.source != ESTIMATED]
         return [value for value in values if value.source != ESTIMATED or not known or value.at > known[-1]]
 
@@ -138,6 +146,10 @@ class Place:
     def name(self) -> str:
         return f"{self.house}/{self.flat}/{self.use}/{self.number}"
 
+    @property
+    def runs(self) -> List[Run]:
+        return [run for fitting in self.fittings for run in fitting.runs()]
+
     def entries(self) -> List[Value]:
         """All values at the place in order of moment; at an exchange the old meter's come first."""
         return sorted((it for fitting in self.fittings for it in fitting.entries()), key=lambda it: it.at)
@@ -151,15 +163,17 @@ def plain_number(number: Any) -> str:
     return f"{number.normalize():f}"
 
 
-def places_of(cursor: Cursor, houses: List[str], first: datetime.date, after: datetime.date) -> List[Place]:
+def places_of(cursor: Cursor, houses: List[str], first: datetime.date, after: datetime.date,
+              has_values: bool = True) -> List[Place]:
     """The places that had a meter on a day from the first one to the one before `after`, with the values around."""
     places: Dict[int, Place] = {}
     for row in rows_of(cursor, PLACES, houses=houses, begin=first, after=after):
         places.setdefault(row.id, Place(row)).fittings.append(Fitting(row))
     found = list(places.values())
     read_restarts(cursor, found)
-    read_values(cursor, found, first - MARGIN, after + MARGIN)
-    read_values(cursor, [place for place in found if not is_covered(place, first, after)], FIRST_DAY, LAST_DAY)
+    if has_values:
+        read_values(cursor, found, first - MARGIN, after + MARGIN)
+        read_values(cursor, [place for place in found if not is_covered(place, first, after)], FIRST_DAY, LAST_DAY)
     return found
 
 
@@ -176,6 +190,15 @@ def read_values(cursor: Cursor, places: Iterable[Place], first: datetime.date, l
                                 it.source == ESTIMATED, it.id,
                                 None if it.month is None else (it.month, it.box, it.serial, it.part))
                           for it in of_fittings.get(number, [])]
+        if any(it.amount >= fitting.size for it in fitting.values):
+            fitting.size = 0  # its counter goes on at another value
+
+
+def bodies_of(cursor: Cursor, telegrams: Iterable[Optional[Telegram]]) -> Bodies:
+    """The telegrams of the readings of these, as far as they are there."""
+    keys = sorted({it[:3] for it in telegrams if it is not None})
+    found = rows_of(cursor, BODIES, *([key[at] for key in keys] for at in range(3)))
+    return {(it.month, it.box, it.serial): [bytes(body) for body in it.bodies] for it in found}
 
 
 def read_restarts(cursor: Cursor, places: Iterable[Place]) -> None:
@@ -191,7 +214,7 @@ def is_covered(place: Place, first: datetime.date, after: datetime.date) -> bool
     """Whether the values that were read decide the consumption and the marks of these days, or there are no others.
     (A later reading may put an estimate out of force: then all values are read.)"""
     begins, ends = begin_of(first, place.zone), begin_of(after, place.zone)
-    values = [value for fitting in place.fittings for value in fitting.values]
+    values = [it for fitting in place.fittings for it in fitting.values if it.telegram is not None or it.is_estimated]
     is_begun = (sum(value.at <= begins for value in values) >= BEFORE
                 or place.fittings[0].begins >= begins - MARGIN + datetime.timedelta(days=2))
     is_ended = sum(value.at >= ends for value in values) >= AFTER or (
@@ -204,9 +227,11 @@ def tenancies_of(cursor: Cursor, houses: List[str], first: datetime.date, after:
     return grouped(((it.house, it.flat), it) for it in rows_of(cursor, TENANCIES, houses, first, after))
 
 
-def needed(moments: Iterable[Moment], begins: Moment, ends: Moment) -> Tuple[Moment, Moment]:
-    """The first and the last moment of the values that decide the consumption and the marks of a period."""
-    distinct = sorted(set(moments))
-    before = distinct[:bisect.bisect_right(distinct, begins)][-BEFORE:]
-    after = distinct[bisect.bisect_left(distinct, ends):][:AFTER]
-    return before[0] if before else begins, after[-1] if after else ends
+def needed(moments: Iterable[Moment], told: Iterable[Moment], begins: Moment, ends: Moment) -> Tuple[Moment, Moment]:
+    """The first and the last moment of the values that decide the consumption and the marks of a period.
+    told: the moments of telegrams' values."""
+    firsts, lasts = [begins], [ends]
+    for distinct in (sorted(set(moments)), sorted(set(told))):
+        firsts += distinct[:bisect.bisect_right(distinct, begins)][-BEFORE:]
+        lasts += distinct[bisect.bisect_left(distinct, ends):][:AFTER]
+    return min(firsts), max(lasts)

@@ -16,12 +16,12 @@ const NUMBERS = {
 };
 const DECLARED = {
   price: "use unit span text", average: "use unit span text", factor: "use span text", co2: "use span text",
-  degrees: "of span text", user: "user flat text", place: "place flat use text",
+  degrees: "of span text", user: "user flat text", place: "place flat use text", as: "use type text",
 };
 const FIELDS = { ...NUMBERS, ...DECLARED };
 const KINDS = Object.keys(FIELDS);
 const UNITS = { change: () => "%", weather: () => "kWh", carbon: () => "kg", cost: () => "€", factor: () => "kWh", co2: () => "g/kWh", degrees: () => "",
-  price: (unit) => `ct/${unit}`, average: (unit) => `${unit}/m²`, user: () => "m²", place: () => "" };
+  price: (unit) => `ct/${unit}`, average: (unit) => `${unit}/m²`, user: () => "m²", place: () => "", as: () => "" };
 const MINUTE = 60_000; // milliseconds
 const DAY = 1440 * MINUTE;
 const ZONES = [Intl.DateTimeFormat().resolvedOptions().timeZone, "Europe/Berlin"];
@@ -36,6 +36,7 @@ const WORDS = {
     right: (n) => (n === 1 ? "The number is right." : `All ${n} numbers are right.`),
     wrong: (n, all, which) => `${n} of ${all} numbers ${n === 1 ? "is" : "are"} wrong: ${which}.`,
     unproved: (n) => `${n} ${n === 1 ? "reading has" : "readings have"} no evidence.`,
+    broken: (n, which) => `${n} ${n === 1 ? "rule is" : "rules are"} broken: ${which}.`,
     unreadable: (line, fault) => `Line ${line} can't be audited (${fault}), and nothing after it.`,
     noMemory: "The browser has no memory for this file.", tooLong: "Too much is printed of this file.", unread: "The file can't be read.",
     hash: (text) => `SHA-256 of the file: ${text}.`, same: "It is the file that the sheet names.", another: "It is not the file that the sheet names.",
@@ -46,7 +47,7 @@ const WORDS = {
     more: (n) => `${n} more are not shown.`,
     kinds: { of_user: "consumption", of_flat: "flat", of_house: "house", shown: "place", mean: "average", change: "change", weather: "by the weather",
       carbon: "CO2", cost: "cost", value: "reading", factor: "factor", co2: "CO2 of a kWh", degrees: "degree days", price: "price", average: "average of a m²",
-      user: "floor area", place: "weight" },
+      user: "floor area", place: "weight", as: "device type" },
     marks: { measured: "measured", hand: "by a person", provisional: "provisional", estimated: "estimated", unclear: "unclear", disturbed: "disturbed", missing: "missing" },
   },
   de: {
@@ -58,6 +59,7 @@ const WORDS = {
     right: (n) => (n === 1 ? "Die Zahl stimmt." : `Alle ${n} Zahlen stimmen.`),
     wrong: (n, all, which) => `${n} von ${all} Zahlen ${n === 1 ? "ist" : "sind"} falsch: ${which}.`,
     unproved: (n) => `${n} ${n === 1 ? "Ablesung ist" : "Ablesungen sind"} nicht belegt.`,
+    broken: (n, which) => `${n} ${n === 1 ? "Regel ist" : "Regeln sind"} verletzt: ${which}.`,
     unreadable: (line, fault) => `Zeile ${line} ist nicht prüfbar (${fault}), und nichts danach.`,
     noMemory: "Der Browser hat keinen Speicher für diese Datei.", tooLong: "Zu dieser Datei wird zu viel gedruckt.", unread: "Die Datei ist nicht lesbar.",
     hash: (text) => `SHA-256 der Datei: ${text}.`, same: "Es ist die Datei, die das Blatt nennt.", another: "Es ist nicht die Datei, die das Blatt nennt.",
@@ -68,7 +70,7 @@ const WORDS = {
     more: (n) => `${n} weitere werden nicht gezeigt.`,
     kinds: { of_user: "Verbrauch", of_flat: "Wohnung", of_house: "Haus", shown: "Messstelle", mean: "Durchschnitt", change: "Änderung", weather: "nach dem Wetter",
       carbon: "CO2", cost: "Kosten", value: "Stand", factor: "Faktor", co2: "CO2 je kWh", degrees: "Gradtage", price: "Preis", average: "Durchschnitt je m²",
-      user: "Wohnfläche", place: "Gewicht" },
+      user: "Wohnfläche", place: "Gewicht", as: "Geräteart" },
     marks: { measured: "gemessen", hand: "von einer Person", provisional: "vorläufig", estimated: "geschätzt", unclear: "unklar", disturbed: "gestört", missing: "fehlt" },
   },
 };
@@ -163,7 +165,7 @@ function rowsOf(lines, zone) {
     const [flat, use] = kind === "shown" || kind === "value" ? place : [flats.get(one.user) ?? "", ""];
     const period = { shown: () => periodShown(one.from, one.to, zone), value: () => momentShown(one.moment, zone) }[kind];
     rows.push({
-      line: at + 1, kind, of: one.flat ?? flat, use: one.use ?? use, period: period?.() ?? spans.get(one.span) ?? "", number: one.text,
+      line: at + 1, kind, of: one.flat ?? one.type ?? flat, use: one.use ?? use, period: period?.() ?? spans.get(one.span) ?? "", number: one.text,
       unit: (UNITS[kind]?.(one.unit) ?? one.unit).replace("m3", "m³"), mark: Object.hasOwn(DECLARED, kind) ? "declared" : one.mark ?? "",
     });
   }
@@ -177,7 +179,7 @@ function rowShown(row, wrong) {
   const marks = [row.mark === "declared" ? words.declared : words.marks[row.mark] ?? row.mark];
   if (number) marks.push(words.computed([local(number), words.marks[mark] ?? mark].join(" ")));
   const cells = [[words.of, `${words.kinds[row.kind]} ${row.of}`, "place"], [words.use, row.use, "whole"], [words.period, row.period, "whole"],
-    [words.number, row.number === "-" ? "–" : `${local(row.number)} ${row.unit}`, "number"],
+    [words.number, row.number === "-" ? "–" : `${row.kind === "as" ? row.number : local(row.number)} ${row.unit}`, "number"],
     [words.mark, marks.filter(Boolean).join("; "), "whole"]];
   const made = element("tr", null, { role: "row", tabindex: "0", class: number ? "bad" : "" });
   for (const [label, text, kind] of cells) made.append(element("td", text, { role: "cell", "data-label": label, class: kind }));
@@ -198,18 +200,20 @@ function tableShown(rows, zone, wrong) {
   return table;
 }
 
-// What the audit found, in a sentence or two: the rows with a wrong number by name.
+// What the audit found, in a sentence or more: the rows with a wrong number, and the rules, by name.
 function found({ verdict, printed }, wrong) {
   const words = WORDS[language];
   const [, line, fault] = /^LINE (\d+) FAULT \d+ (\w+)$/m.exec(printed) ?? [];
-  const counts = /^numbers (\d+), differ (\d+), readings \d+, refused (\d+)/m.exec(printed);
+  const counts = /^numbers (\d+), differ (\d+), rules (\d+), readings \d+, refused (\d+)/m.exec(printed);
   if (line) return words.unreadable(line, fault);
   if (!counts) return words[verdict];
-  const [all, differ, refused] = counts.slice(1).map(Number);
+  const [all, differ, rules, refused] = counts.slice(1).map(Number);
   if (verdict === "right") return words.right(all);
   const names = wrong.slice(0, NAMED).map((row) => `${words.kinds[row.kind]} ${row.of} ${row.use}`.trim());
   const which = [...names, ...(wrong.length > NAMED ? [".."] : [])].join(", ");
-  return [...(differ ? [words.wrong(differ, all, which)] : []), ...(refused ? [words.unproved(refused)] : [])].join(" ");
+  const broken = [...new Set(Array.from(printed.matchAll(/^RULE line \d+ (\w+):/gm), ([, name]) => name))].join(", ");
+  return [...(differ ? [words.wrong(differ, all, which)] : []), ...(refused ? [words.unproved(refused)] : []),
+    ...(rules ? [words.broken(rules, broken)] : [])].join(" ");
 }
 
 function show() {

@@ -1,778 +1,776 @@
-"""Judges and fills an audit file as `mbdc audit` has to (docs/COMMANDS.md): by the definitions alone, with a decoder of
-its own and exact ratios. demo/same compares the program with it."""
+"""What `mbdc audit` has to print of a file: docs/COMMANDS.md, `audit FILE`, as code, with exact fractions and a decoder
+of its own. demo/same compares the program with it. A file's bytes are characters here (latin-1)."""
 
 import datetime
 import re
+import types
 from fractions import Fraction
-from typing import Callable, Dict, Iterator, List, NamedTuple, Optional, Sequence, Set, Tuple
+from typing import Callable, Iterator, Optional
 
-FAULTS = ("Header", "Row", "Order", "Moment", "Part", "Unit", "Fact", "TooMany", "TooLarge", "End")
-HEADER, ROW, ORDER, MOMENT, PART, UNIT, FACT, TOO_MANY, TOO_LARGE, END = range(1, 11)
-SPANS, USES, USERS, METERS, ENTRIES, PARTS, TOTALS = 4, 64, 4096, 16, 2048, 64, 16384  # at most
-LONGEST, HOUR, DAY, NEAR = 4096, 3600, 86_400, 48 * 3600
-LARGEST = 10**18 - 1
-SMALLEST = {"Wh": ("energy", 3_600_000), "kWh": ("energy", 3_600_000_000), "MWh": ("energy", 3_600_000_000_000),
-            "J": ("energy", 1000), "GJ": ("energy", 10**12), "m3": ("volume", 10**6), "HCA": ("units", 1000)}
-RATIOS = {"energy": 3_600_000_000, "volume": 10**6, "units": 1000}  # smallest units of kWh, m3 and an allocator's unit
+from people.telegrams import (DAY, EPOCH, HOUR, SIZES, NoEvidence, Record, code_of, date_of, scale_of, telegram_of,
+                              whole_of)
+
+END = 10**18
+FAULTS = {"Header": 1, "Row": 2, "Order": 3, "Unit": 6, "Fact": 7, "TooMany": 8, "TooLarge": 9, "End": 10}
 MARKS = ("measured", "hand", "provisional", "estimated", "unclear", "disturbed", "missing")
-NO_NUMBER = MARKS[4:]
-EMPTY, NOTHING = "missing", "-"
+UNITS = {("energy", "kWh"): 3_600_000_000, ("volume", "m3"): 10**6, ("volume", "kWh"): 10**6, ("units", "HCA"): 1000,
+         ("units", "count"): 1000, ("units", "kWh"): 1000, ("energy", "smallest"): 1, ("volume", "smallest"): 1,
+         ("units", "smallest"): 1}
+TYPES = {"heat": "04 0C 0D", "cooling": "0A 0B", "warm water": "06 15", "cold water": "07 16", "electricity": "02",
+         "gas": "03", "allocator": "08"}
 
-NUMBER, RATIO, WORD = "(?:0|[1-9][0-9]{0,17})", r"[0-9]{1,9}(?:\.[0-9]{1,6})?", "[^,]+"
-VALUE = r"(?=[0-9.]{1,19}$)[0-9]{1,18}(?:\.[0-9]{1,9})?"
-DATE, OFFSET = r"[0-9]{4}-[0-9]{2}-[0-9]{2}", "-?[0-9]{1,4}"
-MAYBE, HEX, HOW = f"{NUMBER}|-", "(?:[0-9A-Fa-f]{2})+", "hand|estimated"
-USE, COUNT, QUANTITY = "[a-z0-9 -]{1,32}", f"(?:{NUMBER})", "|".join(RATIOS)
-TEXT, MARK = r"-|-?(?:0|[1-9][0-9]{0,20})(?:\.[0-9]{1,3})?", "|".join(MARKS)
-# where a number may be asked for
-ASKED = {TEXT: rf"{TEXT}|\?(?:\.0{{1,3}})?", MARK: rf"{MARK}|\?", COUNT: rf"{COUNT}|\?"}
-AMOUNT_UNIT, VALUE_UNIT = "kWh|m3|HCA|count|smallest", "|".join(SMALLEST)
-IDENTITY = r"[0-9]{8}\.[A-Z]{3}\.[0-9A-F]{2}\.[0-9A-F]{2}"
-FORMS: Dict[str, Tuple[str, ...]] = {
-    "audit": ("1", WORD), "span": (NUMBER, DATE, OFFSET, DATE, OFFSET), "use": (USE, QUANTITY),
-    "factor": (USE, NUMBER, RATIO), "co2": (USE, NUMBER, RATIO),
-    "degrees": ("-", NUMBER, RATIO), "price": (USE, AMOUNT_UNIT, NUMBER, RATIO),
-    "average": (USE, AMOUNT_UNIT, NUMBER, RATIO),
-    "user": (NUMBER, WORD, f"{RATIO}|-"), "place": (NUMBER, WORD, USE, RATIO),
-    "meter": (NUMBER, IDENTITY, MAYBE, MAYBE, MAYBE, MAYBE, f"{HEX}|-"), "window": (NUMBER,),
-    "read": (NUMBER, NUMBER, HEX), "stored": (NUMBER, DATE, OFFSET, HEX), "hand": (NUMBER, NUMBER, VALUE, VALUE_UNIT),
-    "estimated": (NUMBER, NUMBER, VALUE, VALUE_UNIT), "first": (NUMBER, VALUE, VALUE_UNIT, HOW),
-    "last": (NUMBER, VALUE, VALUE_UNIT, HOW),
-    "struck": (NUMBER, NUMBER, WORD), "ended": (NUMBER, DATE, OFFSET, HEX), "zero": (NUMBER,),
-    "part": (NUMBER, NUMBER, NUMBER, MAYBE), "shown": (NUMBER, NUMBER, NUMBER, AMOUNT_UNIT, TEXT, MARK),
-    "value": (NUMBER, NUMBER, VALUE, VALUE_UNIT), "totals": (), "of_user": (NUMBER, NUMBER, USE, AMOUNT_UNIT, TEXT,
-                                                                            MARK),
-    "of_flat": (NUMBER, WORD, USE, AMOUNT_UNIT, TEXT, MARK), "of_house": (NUMBER, USE, AMOUNT_UNIT, TEXT, COUNT, COUNT),
-    "mean": (NUMBER, NUMBER, USE, AMOUNT_UNIT, TEXT), "change": (NUMBER, NUMBER, NUMBER, USE, AMOUNT_UNIT, TEXT),
-    "carbon": (NUMBER, NUMBER, USE, TEXT), "cost": (NUMBER, NUMBER, USE, AMOUNT_UNIT, TEXT),
-    "weather": (NUMBER, NUMBER, NUMBER, USE, TEXT), "end": ()}
-MANY = ("read", "stored", "ended")  # with one body and more
-FACTS = ("span", "use", "factor", "co2", "degrees", "price", "average", "user")
-VALUES = ("read", "stored", "hand", "estimated", "first", "last", "ended", "zero")
-NUMBERS = ("of_user", "of_flat", "of_house", "mean", "change", "carbon", "cost", "weather")
-CLOSED = ("window", "place", "totals")
-AFTER: Dict[str, Sequence[str]] = {  # what may follow what
-    **dict.fromkeys(("audit", *FACTS), (*FACTS, "place", "totals")), "place": ("meter",), "meter": ("meter", *CLOSED),
-    **dict.fromkeys(("window", *VALUES), (*VALUES, "struck", "part", "shown", "value", *CLOSED)),
-    "struck": ("struck", "part", "shown", "value", *CLOSED), "part": ("part", "shown", "value", *CLOSED),
-    **dict.fromkeys(("shown", "value"), ("shown", "value", *CLOSED)),
-    **dict.fromkeys(("totals", *NUMBERS), (*NUMBERS, "end")), "end": ()}
+N, X, DAYS = r"(?:0|[1-9]\d{0,17})", r"(?:0|[1-9]\d{0,8})(?:\.\d{1,6})?", r"\d{4}-\d\d-\d\d"
+MAYBE, ABOVE, ANY, VALUE = f"{N}|-", f"(?!0(?:\\.0+)?$){X}", "[^,]*", r"(?:0|[1-9]\d*)(?:\.\d{1,9})?"
+FLAT, WHY, HOW, OFFSET = "[A-Za-z0-9._/-]{1,12}", "[ -+\\--~]{1,60}", "hand|estimated", r"-?(?:0|[1-9]\d{0,3})"
+BODIES, TEXT = "(?:[0-9A-F]{2})+(?:,(?:[0-9A-F]{2})+)*", r"-|\?(?:\.0{1,3})?|-?(?:0|[1-9]\d*)(?:\.\d{1,3})?"
+# Each word: how far the file has come with it, and its fields
+FORMS: dict[str, tuple[int, tuple[str, ...]]] = {
+    "audit": (1, ("2", r"\d{4}-(?:0[1-9]|1[0-2])")), "use": (2, ("[a-z0-9 -]{1,32}", "energy|volume|units")),
+    "as": (2, (ANY, "[0-9A-F]{2}", WHY)), "span": (2, (N, DAYS, OFFSET, DAYS, OFFSET)),
+    "user": (2, (N, FLAT, f"{ABOVE}|-")),
+    "factor": (2, (ANY, N, X)), "co2": (2, (ANY, N, X)), "degrees": (2, ("-", N, X)), "price": (2, (ANY, ANY, N, X)),
+    "average": (2, (ANY, ANY, N, X)), "place": (3, (N, FLAT, ANY, ABOVE)),
+    "meter": (4, (N, r"\d{8}\.[A-Z]{3}(?:\.[0-9A-F]{2}){2}", N, MAYBE, MAYBE, MAYBE, "-|(?:[0-9A-F]{2}){1,11}")),
+    "window": (5, (N,)),
+    "read": (6, (N, N, BODIES)), "stored": (6, (N, DAYS, OFFSET, BODIES)), "ended": (6, (N, DAYS, OFFSET, BODIES)),
+    "zero": (6, (N,)),
+    "hand": (6, (N, N, VALUE, ANY)), "estimated": (6, (N, N, VALUE, ANY)), "first": (6, (N, VALUE, ANY, HOW)),
+    "last": (6, (N, VALUE, ANY, HOW)), "struck": (7, (N, N, WHY)), "part": (8, (N, N, N, MAYBE)),
+    "shown": (9, (N, N, N, ANY, TEXT, ANY)), "value": (9, (N, N, rf"\?|{VALUE}", ANY)), "totals": (10, ()),
+    "of_user": (11, (N, N, ANY, ANY, TEXT, ANY)), "of_flat": (11, (N, ANY, ANY, ANY, TEXT, ANY)),
+    "of_house": (11, (N, ANY, ANY, TEXT, ANY, ANY)),
+    "mean": (11, (N, N, ANY, ANY, TEXT)), "change": (11, (N, N, N, ANY, ANY, TEXT)),
+    "weather": (11, (N, N, N, ANY, TEXT)),
+    "carbon": (11, (N, N, ANY, TEXT)), "cost": (11, (N, N, ANY, ANY, TEXT)), "end": (12, ())}
+PATTERNS = {word: re.compile(",".join([word, *(f"({it})" for it in forms)]), re.ASCII)
+            for word, (_, forms) in FORMS.items()}
+FOLLOWS = {1: {0}, 2: {1, 2}, 3: {2, 4, 5, 6, 7, 8, 9}, 4: {3, 4}, 5: {4, 6, 7, 8, 9}, 6: {5, 6, 7}, 7: {5, 6, 7},
+           8: {5, 6, 7, 8}, 9: {8, 9}, 10: {1, 2, 4, 8, 9}, 11: {10, 11}, 12: {10, 11}}
 
 
 class AtFault(Exception):
-    """A line is at fault: the number of the fault."""
+    """A line spells nothing: the name of the fault."""
 
 
-class NoEvidence(Exception):
-    """A value isn't shown by its bodies: why."""
+# ---- the house
+
+# A span, run, value, part, number, window or place: what its line says, and what was computed of it
+Row = types.SimpleNamespace
 
 
-class Record(NamedTuple):
-    """A record of a telegram (EN 13757-3)."""
-    function: int
-    tariff: int
-    subunit: int
-    storage: int
-    field: int
-    vib: bytes
-    data: bytes
+def is_over(run: Row, moment: int) -> bool:
+    return run.end is not None and bool(run.end <= moment)
 
 
-class Entry(NamedTuple):
-    """A value of a meter at a moment, in the smallest unit."""
-    meter: int
-    moment: int
-    value: int
-    most: int = 0  # what the meter can count in an hour; 0: not declared
-    size: int = 0  # what its counter never shows; 0: it doesn't turn
+def reach(place: Row, span: Row) -> tuple[int, int]:
+    """When a place has a time in a span."""
+    last = place.runs[-1].end
+    return max(span.time[0], place.runs[0].begin), span.time[1] if last is None else min(span.time[1], last)
 
 
-class Step(NamedTuple):
-    """From an entry to the next."""
-    begins: int
-    ends: int
-    amount: int
-    is_marked: bool  # doubtful, or beside one that is
-    is_exchange: bool
-
-    def touches(self, begins: int, ends: int) -> bool:
-        return begins < self.ends and (self.begins < ends or self.ends <= ends)
+def window_of(place: Row, span: int) -> Optional[Row]:
+    return next((it for it in place.windows if it.span == span), None)
 
 
-class Run(NamedTuple):
-    identity: str
-    begins: int
-    ends: Optional[int]
-    most: int
-    size: int
-    vib: str
+def moment_of(day: int, offset: int) -> int:
+    """The end of a day."""
+    return max(0, DAY * (day + 1) - 60 * offset)
 
 
-class Counted(NamedTuple):
-    """An entry and where it comes from."""
-    entry: Entry
-    kind: str
-    how: str  # hand, estimated, or nothing
-
-
-class Part(NamedTuple):
-    """What was consumed at a place in a part of a span."""
-    weight: Fraction
-    amount: Optional[int]
-    mark: str
-
-
-# ---- telegrams
-
-WIDTHS = (0, 1, 2, 3, 4, 4, 6, 8, 0, 1, 2, 3, 4, 0, 6)
-
-
-def extended(data: bytes, at: int) -> int:
-    """Where the bytes end that each announce another, ten after the first at most."""
-    end = at
-    while data[end] & 0x80:
-        end += 1
-        if end - at > 10:
-            raise IndexError
-    return end + 1
-
-
-def records_of(body: bytes) -> Tuple[List[Record], bool]:
-    """The records of a body of security mode 0, and whether more follow in the next one. Raises IndexError of a text
-    that is none."""
-    found, at = [], 12
-    if len(body) < 12 or not body[:4].hex().isdecimal() or not is_maker(body) or body[11] & 0x1F:
-        raise IndexError
-    while at < len(body) and body[at] not in (0x0F, 0x1F):
-        if body[at] == 0x2F:
-            at += 1
-            continue
-        if body[at] & 15 == 15:
-            raise IndexError
-        dif, vif = body[at], extended(body, at)
-        difes = body[at + 1:vif]
-        if body[vif] == 0xFC:
-            raise IndexError
-        data = extended(body, vif) if body[vif] != 0x7C else vif + 2 + counted_length(body[vif + 1])
-        field, begins = dif & 15, data
-        length = WIDTHS[field] if field != 13 else counted_length(body[data])
-        begins += field == 13
-        at = begins + length
-        if at > len(body):
-            raise IndexError
-        found.append(Record(dif >> 4 & 3, sum((it >> 4 & 3) << 2 * n for n, it in enumerate(difes)),
-                            sum((it >> 6 & 1) << n for n, it in enumerate(difes)),
-                            (dif >> 6 & 1) + sum((it & 15) << 4 * n + 1 for n, it in enumerate(difes)), field,
-                            body[vif:data], body[begins:at]))
-    return found, body[at:at + 1] == b"\x1f"
-
-
-def counted_length(byte: int) -> int:
-    if byte >= 0xF0:
-        raise IndexError
-    return byte if byte < 0xC0 else byte % 16
-
-
-def is_maker(body: bytes) -> bool:
-    maker = int.from_bytes(body[4:6], "little")
-    return maker < 1 << 15 and all(1 <= maker >> shift & 31 <= 26 for shift in (0, 5, 10))
-
-
-def identity_of(body: bytes) -> str:
-    maker = int.from_bytes(body[4:6], "little")
-    letters = "".join(chr(64 + (maker >> shift & 31)) for shift in (10, 5, 0))
-    return f"{body[3::-1].hex()}.{letters}.{body[6]:02X}.{body[7]:02X}"
-
-
-def plain_vib(vib: bytes) -> bytes:
-    """Without a last VIFE 00, which says that there is no error."""
-    head = 2 if vib[:1] == b"\xfb" else 1
-    return bytes([*vib[:head - 1], vib[head - 1] & 0x7F]) if vib[head:] == b"\x00" and vib[head - 1] & 0x80 else vib
-
-
-def scaled(vib: bytes) -> Optional[Tuple[str, Fraction]]:
-    """The quantity of a VIB, and how many smallest units its last digit is (the tables of EN 13757-3)."""
-    code = vib[-1] if len(vib) == 1 or len(vib) == 2 and vib[0] == 0xFB else 0xFF
-    if len(vib) == 1 and code <= 0x07:
-        return "energy", 3_600_000 * Fraction(10) ** (code - 3)
-    if len(vib) == 1 and code <= 0x0F:
-        return "energy", 1000 * Fraction(10) ** (code - 8)
-    if len(vib) == 1 and code <= 0x17 or len(vib) == 2 and code in (0x10, 0x11):
-        return "volume", 10**6 * Fraction(10) ** (code - 0x16 if len(vib) == 1 else code - 0x10 + 2)
-    if len(vib) == 1 and code == 0x6E:
-        return "units", Fraction(1000)
-    if len(vib) == 2 and code in (0x00, 0x01):
-        return "energy", 3_600_000_000_000 * Fraction(10) ** (code - 1)
-    return ("energy", 10**12 * Fraction(10) ** (code - 9)) if len(vib) == 2 and code in (0x08, 0x09) else None
-
-
-def whole(record: Record) -> Optional[int]:
-    """The number of a data field: whole, or packed BCD."""
-    if record.field in (1, 2, 3, 4, 6, 7):
-        number = int.from_bytes(record.data, "little", signed=True)
-        return None if number == -(1 << 8 * len(record.data) - 1) else number
-    digits = record.data[::-1].hex()
-    if record.field in (9, 10, 11, 12, 14) and digits.lstrip("f" if digits[:1] == "f" else "")[:1] != "":
-        sign, digits = (-1, digits[1:]) if digits[0] == "f" else (1, digits)
-        return sign * int(digits) if digits.isdecimal() else None
-    return None
-
-
-def date_of(record: Record) -> Optional[datetime.date]:
-    """The day at whose end a record's time point of type G or F lies, or on which it lies."""
-    code = record.vib
-    if code == b"\x6c" and record.field == 2:
-        minutes, century, (low, high) = None, 0, record.data
-    elif code == b"\x6d" and record.field == 4:
-        one, other, low, high = record.data
-        minutes, century = (one & 63) + 60 * (other & 31), other >> 5 & 3
-        if one & 0x80 or one & 63 > 59 or other & 31 > 23:
-            return None
-    else:
-        return None
-    short = low >> 5 | high >> 4 << 3
-    if short > 99:
-        return None
-    year = 1900 + 100 * century + short if century else short + (2000 if short <= 80 else 1900)
+def day_end(day: str, offset: str) -> tuple[int, int, str, str]:
     try:
-        day = datetime.date(year, high & 15, low & 31)
+        number = (datetime.date.fromisoformat(day) - EPOCH).days
     except ValueError:
-        return None
-    return day - datetime.timedelta(days=1) if minutes == 0 else day
+        number = -1
+    need(number >= 0, "Row")
+    return number, int(offset), day, offset
 
 
-def value_in(run: Run, quantity: str, bodies: List[bytes], day: Optional[datetime.date]) -> int:
-    """The value that the bodies of a readout show: the current one, or that of a day. Raises NoEvidence."""
-    found: List[Record] = []
-    for at, body in enumerate(bodies, 1):
-        try:
-            records, more_follow = records_of(body)
-        except IndexError:
-            raise NoEvidence("a body isn't a telegram") from None
-        if identity_of(body) != run.identity:
-            raise NoEvidence("a body of another meter")
-        if body[9] & 8 or body[9] & 3 == 2:
-            raise NoEvidence("the meter reports an error")
-        if at < len(bodies) and not more_follow:
-            raise NoEvidence("bodies of two readouts")
-        found += records
-    found = [it for it in found if (it.function, it.tariff, it.subunit) == (0, 0, 0)]
-    dates: Dict[int, datetime.date] = {}
-    for record in found:
-        dated = date_of(record)
-        if record.storage > 0 and dated is not None:
-            dates.setdefault(record.storage, dated)
-    storages = [0] if day is None else [storage for storage, it in dates.items() if it == day]
-    if not storages:
-        raise NoEvidence("no record dated so")
-    for record in found:
-        vib, number = plain_vib(record.vib), whole(record)
-        scale = scaled(vib)
-        if record.storage not in storages or scale is None or scale[0] != quantity or number is None or run.vib not in (
-            "-", vib.hex().upper()):
-            continue
-        amount = number * scale[1]
-        if amount.denominator == 1 and 0 <= amount <= LARGEST:
-            return int(amount)
-    raise NoEvidence("no record of the use")
+def need(holds: bool, fault: str) -> None:
+    if not holds:
+        raise AtFault(fault)
 
 
-# ---- consumptions
-
-def room(one: Entry, other: Entry) -> int:
-    return one.most * ((other.moment - one.moment) // HOUR + 2)
+def maybe(text: str) -> Optional[int]:
+    return None if text == "-" else int(text)
 
 
-def is_turn(one: Entry, other: Entry) -> bool:
-    return one.meter == other.meter and other.value < one.value < one.size and (
-        one.size - one.value + other.value <= room(one, other))
+class Reader:
+    """Reads lines into a house. Raises AtFault."""
 
+    def __init__(self, may_ask: bool) -> None:
+        self.may_ask, self.line, self.stage, self.label = may_ask, 0, 0, ""
+        self.uses: dict[str, str] = {}
+        self.allowed: dict[tuple[str, str], tuple[int, str]] = {}
+        self.spans: list[Row] = []
+        self.facts: dict[tuple[str, ...], Fraction] = {}
+        self.users: dict[int, tuple[int, str, Optional[Fraction]]] = {}  # the line, the flat, the area
+        self.places: list[Row] = []
+        self.numbers: list[Row] = []
 
-def is_doubtful(one: Entry, other: Entry) -> bool:
-    if one.meter != other.meter or is_turn(one, other):
-        return False
-    return other.value < one.value or one.most > 0 and other.value - one.value > room(one, other)
-
-
-def amount_of(one: Entry, other: Entry) -> int:
-    if one.meter != other.meter:
-        return 0
-    return one.size - one.value + other.value if is_turn(one, other) else max(other.value - one.value, 0)
-
-
-def steps_of(entries: List[Entry]) -> List[Step]:
-    pairs = list(zip(entries, entries[1:]))
-    doubts = [False, *(is_doubtful(*pair) for pair in pairs), False]
-    return [Step(one.moment, other.moment, amount_of(one, other), any(doubts[place:place + 3]),
-                 one.meter != other.meter) for place, (one, other) in enumerate(pairs)]
-
-
-def curve(entries: List[Entry], steps: List[Step], moment: int) -> Optional[int]:
-    """All that was consumed up to a moment; None before the first entry and after the last."""
-    if not entries or moment < entries[0].moment or moment > entries[-1].moment:
-        return None
-    total = 0
-    for step in steps:
-        if step.ends <= moment:
-            total += step.amount
-        elif step.begins <= moment:
-            return total + step.amount * (moment - step.begins) // (step.ends - step.begins)
-    return total
-
-
-def consumed(entries: List[Entry], begins: int, ends: int) -> Tuple[Optional[int], List[Step]]:
-    """What was consumed in a period, and the steps that touch it."""
-    steps = steps_of(entries)
-    first, last = curve(entries, steps, begins), curve(entries, steps, ends)
-    return None if first is None or last is None else last - first, [step for step in steps
-                                                                     if step.touches(begins, ends)]
-
-
-# ---- numbers
-
-def rounded(value: Optional[Fraction], text: str) -> str:
-    """Half away from zero, to the decimals that the text has; `-` of none."""
-    if value is None:
-        return NOTHING
-    decimals = 3 if text == NOTHING else len(text.partition(".")[2])
-    scaled = int(abs(value) * 10**decimals + Fraction(1, 2))
-    if scaled > LARGEST:
-        raise AtFault(TOO_LARGE)
-    digits = f"{scaled:0{decimals + 1}}"
-    sign = "-" if value < 0 and digits.strip("0") else ""
-    return sign + (f"{digits[:-decimals]}.{digits[-decimals:]}" if decimals else digits)
-
-
-def end_of(day: str, offset: str) -> int:
-    """The moment of a day's end."""
-    try:
-        number = datetime.date.fromisoformat(day).toordinal() - datetime.date(1970, 1, 1).toordinal()
-    except ValueError:
-        raise AtFault(ROW) from None
-    moment = (number + 1) * DAY - 60 * int(offset)
-    if moment < 0 or abs(int(offset)) > 840 or int(offset) % 15:
-        raise AtFault(ROW)
-    return moment
-
-
-def worst(marks: List[str]) -> str:
-    return max(marks, key=MARKS.index, default=EMPTY)
-
-
-class Audit:
-    """What is read of a file so far. Where it fills, a `?` is a number that is asked for."""
-
-    def __init__(self, fills: bool = False) -> None:
-        self.fills, self.filled = fills, ""  # the line with what was asked
-        self.uses: Dict[str, str] = {}
-        self.line, self.kind, self.printed = 0, "", []  # type: int, str, List[str]
-        self.counts = dict.fromkeys(("numbers", "differ", "readings", "refused", "by hand", "estimated", "struck",
-                                     "places"), 0)
-        self.spans: Dict[int, Tuple[int, int]] = {}
-        self.facts: Dict[Tuple[str, ...], Fraction] = {}
-        self.users: Dict[int, str] = {}
-        self.own: Dict[int, Optional[Fraction]] = {}
-        self.areas: Dict[str, Fraction] = {}
-        self.flat, self.use, self.weight, self.runs = "", "", Fraction(), []  # type: str, str, Fraction, List[Run]
-        self.span, self.entries, self.until = 0, [], None  # type: int, List[Counted], Optional[int]
-        self.parts: Dict[Tuple[int, str, str, object], List[Part]] = {}  # by span, use, and whose
-        self.in_window = 0
-        self.told: Set[Tuple[int, int]] = set()  # by run and moment: telegrams of the open window
-        self.means: Dict[Tuple[str, str, str], Optional[Fraction]] = {}
+    def read(self, text: str) -> None:
+        lines = text.split("\n")
+        for line in lines[:-1] if lines[-1] == "" else lines:
+            self.line += 1
+            self.take(line)
+        self.line += 1
+        need(self.stage == 12 and lines[-1] == "", "End")
+        self.line -= 1
 
     def take(self, line: str) -> None:
-        """A line. Raises AtFault."""
-        self.line += 1
-        kind, *fields = line.split(",")
-        if self.line == 1:
-            if kind != "audit" or len(fields) != 2 or fields[0] != "1" or not fields[1]:
-                raise AtFault(HEADER)
-            self.kind, self.filled = kind, line
-            return
-        if self.kind == "end":
-            raise AtFault(END)
-        forms = FORMS.get(kind)
-        if forms is None or kind == "audit" or len(line.encode()) > LONGEST:
-            raise AtFault(ROW)
-        forms, self.filled = forms + (HEX,) * (len(fields) - len(forms) if kind in MANY else 0), line
-        if len(fields) != len(forms) or not all(re.fullmatch(ASKED.get(form, form) if self.fills else form, field)
-                                                for form, field in zip(forms, fields)):
-            raise AtFault(ROW)
-        if kind not in AFTER[self.kind]:
-            raise AtFault(ORDER)
-        if kind != "use" and any(form == USE and field not in self.uses for form, field in zip(forms, fields)):
-            raise AtFault(FACT)
-        if self.kind in ("window", *VALUES, "struck", "part", "shown",
-                         "value") and kind in CLOSED and self.until != self.limits()[1] and not self.is_empty():
-            raise AtFault(PART)
-        self.kind = kind
-        handler: Callable[..., None] = getattr(self, f"take_{kind}", self.take_nothing)
-        if kind in (*VALUES, "struck"):
-            self.take_entry(kind, fields)
-        elif kind in ("factor", "co2", "degrees", "price", "average"):
-            self.take_fact(kind, fields)
-        else:
-            handler(*fields)
+        need(len(line) <= 4096 and self.stage != 12, "End")
+        need(self.stage > 0 or line.startswith("audit,2,") and line.count(",") == 2, "Header")
+        word = line.split(",")[0]
+        found = PATTERNS[word].fullmatch(line) if word in FORMS else None
+        if found is None:
+            raise AtFault("Row")
+        fields, stage = found.groups(), FORMS[word][0]
+        for form, field in zip(FORMS[word][1], fields):
+            need(form not in (VALUE, TEXT, rf"\?|{VALUE}") or int(re.sub(r"[^\d]", "", field) or 0) < END, "Row")
+        ends = [day_end(*fields[at:at + 2]) for at, form in enumerate(FORMS[word][1]) if form == DAYS]
+        need(self.may_ask or stage not in (9, 11) or "?" not in line, "Row")
+        need(self.stage in FOLLOWS[stage], "Order")
+        self.stage = stage
+        if stage in (6, 7):
+            self.take_value(word, fields, ends)
+        elif stage == 9:
+            self.take_number_of_place(word, fields)
+        elif stage == 11:
+            self.take_number(word, fields)
+        elif word == "span":
+            need(int(fields[0]) == len(self.spans) + 1, "Order")
+            need(len(self.spans) < 4, "TooMany")
+            self.spans.append(Row(line=self.line, ends=ends, time=(moment_of(*ends[0][:2]), moment_of(*ends[1][:2]))))
+        elif word in ("factor", "co2", "degrees", "price", "average"):
+            self.take_fact(word, *fields)
+        elif stage < 10:
+            getattr(self, f"take_{word}")(*fields)
 
-    def take_nothing(self) -> None:
-        """`totals` and `end` say nothing more."""
+    def used(self, use: str) -> str:
+        need(use in self.uses, "Fact")
+        return self.uses[use]
 
-    # ---- what is declared
+    def span(self, number: str) -> int:
+        need(0 < int(number) <= len(self.spans), "Fact")
+        return int(number) - 1
 
-    def take_span(self, number: str, *days: str) -> None:
-        begins, ends = end_of(*days[:2]), end_of(*days[2:])
-        if int(number) != len(self.spans) + 1:
-            raise AtFault(ORDER if int(number) <= SPANS else TOO_MANY)
-        if begins >= ends:
-            raise AtFault(MOMENT)
-        self.spans[int(number)] = begins, ends
+    def unit(self, use: str, unit: str) -> None:
+        need((self.used(use), unit) in UNITS, "Unit")
+
+    def take_audit(self, _: str, label: str) -> None:
+        self.label = label
 
     def take_use(self, use: str, quantity: str) -> None:
-        if use in self.uses:
-            raise AtFault(FACT)
-        if len(self.uses) == USES:
-            raise AtFault(TOO_MANY)
+        need(use not in self.uses, "Fact")
+        need(len(self.uses) < 64, "TooMany")
         self.uses[use] = quantity
 
-    def take_fact(self, kind: str, fields: List[str]) -> None:
-        key = (kind, *fields[:-1])
-        if kind in ("price", "average"):
-            self.quantity_of(fields[0], fields[1])
-        self.known(int(fields[-2]))
-        if key in self.facts:
-            raise AtFault(FACT)
+    def take_as(self, use: str, kind: str, why: str) -> None:
+        need(use in self.uses and (use, kind) not in self.allowed, "Fact")
+        self.allowed[use, kind] = self.line, why
+
+    def take_fact(self, word: str, *fields: str) -> None:
+        if word != "degrees":
+            self.used(fields[0])
+        if word in ("price", "average"):
+            self.unit(fields[0], fields[1])
+        key = (word, *fields[:-2], str(self.span(fields[-2])))
+        need(key not in self.facts, "Fact")
         self.facts[key] = Fraction(fields[-1])
 
     def take_user(self, number: str, flat: str, area: str) -> None:
-        if int(number) <= max(self.users, default=0):
-            raise AtFault(FACT)
-        if len(self.users) == USERS:
-            raise AtFault(TOO_MANY)
-        if area != NOTHING and self.areas.setdefault(flat, Fraction(area)) != Fraction(area):
-            raise AtFault(FACT)
-        self.users[int(number)], self.own[int(number)] = flat, None if area == NOTHING else Fraction(area)
-
-    def known(self, span: int) -> None:
-        if span not in self.spans:
-            raise AtFault(FACT)
+        need(not self.users or int(number) > max(self.users), "Order")
+        need(len(self.users) < 4096, "TooMany")
+        self.users[int(number)] = self.line, flat, None if area == "-" else Fraction(area)
 
     def take_place(self, number: str, flat: str, use: str, weight: str) -> None:
-        if int(number) != self.counts["places"] + 1:
-            raise AtFault(ORDER)
-        self.counts["places"] += 1
-        self.flat, self.use, self.weight, self.runs, self.span = flat, use, Fraction(weight), [], 0
+        need(int(number) == len(self.places) + 1, "Order")
+        need(len(self.places) < 16_384, "TooMany")
+        self.used(use)
+        self.places.append(Row(line=self.line, flat=flat, use=use, weight=Fraction(weight), runs=[], windows=[]))
 
-    def take_meter(self, number: str, identity: str, begins: str, ends: str, most: str, size: str, vib: str) -> None:
-        begin, end = self.moment(begins), None if ends == NOTHING else int(ends)
-        if int(number) != len(self.runs) + 1:
-            raise AtFault(ORDER)
-        if len(self.runs) == METERS:
-            raise AtFault(TOO_MANY)
-        before = self.runs[-1].ends if self.runs else 0
-        if before is None or begin < before or end is not None and end < begin:
-            raise AtFault(MOMENT)
-        self.runs.append(Run(identity, begin, end, self.moment(most), self.moment(size), vib.upper()))
-
-    @staticmethod
-    def moment(text: str) -> int:
-        return 0 if text == NOTHING else int(text)
-
-    # ---- a window
+    def take_meter(self, number: str, identity: str, begin: str, end: str, most: str, size: str, vib: str) -> None:
+        runs = self.places[-1].runs
+        need(int(number) == len(runs) + 1, "Order")
+        need(len(runs) < 16, "TooMany")
+        named = b"" if vib == "-" else bytes.fromhex(vib)
+        runs.append(Row(line=self.line, identity=identity, begin=int(begin), end=maybe(end), most=maybe(most) or 0,
+                        size=maybe(size) or 0, vib=named))
 
     def take_window(self, span: str) -> None:
-        self.known(int(span))
-        if int(span) <= self.span:
-            raise AtFault(ORDER)
-        self.span, self.entries, self.until, self.in_window, self.told = int(span), [], None, 0, set()
+        place, number = self.places[-1], self.span(span)
+        need(not place.windows or place.windows[-1].span < number, "Order")
+        place.windows.append(Row(line=self.line, span=number, values=[], struck=[], parts=[], numbers=[]))
 
-    def take_entry(self, kind: str, fields: List[str]) -> None:
-        number = int(fields[0])
-        if not 1 <= number <= len(self.runs):
-            raise AtFault(FACT)
-        run = self.runs[number - 1]
-        if kind == "struck":
-            if (number, int(fields[1])) in self.told:
-                raise AtFault(MOMENT)
-            self.counts["struck"] += 1
+    def take_value(self, word: str, fields: tuple[str, ...], ends: list[tuple[int, int, str, str]]) -> None:
+        place = self.places[-1]
+        window, number = place.windows[-1], int(fields[0])
+        need(0 < number <= len(place.runs), "Order")
+        if word == "struck":
+            window.struck.append((number - 1, int(fields[1])))
             return
-        moment = self.moment_of(kind, run, fields)
-        how = {"hand": "hand", "estimated": "estimated", "first": fields[-1], "last": fields[-1]}.get(kind, "")
-        amount = self.amount_put(*fields[-3 if kind in ("first", "last") else -2:][:2]) if how else None
-        before = self.entries[-1].entry if self.entries else Entry(0, 0, 0)
-        is_restart = number > 1 and self.runs[number - 2].identity == run.identity
-        if kind == "ended" and moment != run.ends or kind == "zero" and not is_restart:
-            raise AtFault(MOMENT)
-        if moment < before.moment:
-            raise AtFault(MOMENT)
-        if kind in MANY:
-            day = None if kind == "read" else datetime.date.fromisoformat(fields[1])
+        need(len(window.values) < 2048, "TooMany")
+        run = place.runs[number - 1]
+        value = Row(line=self.line, word=word, run=number - 1, day=None, bodies=(), put=None, is_guess=False,
+                    found=None, why="",
+                    is_again=False, is_told=word in ("read", "stored", "ended"))
+        if word in ("hand", "estimated", "first", "last"):
+            text, unit = fields[1:3] if word in ("first", "last") else fields[2:4]
+            need(unit in SIZES, "Unit")
+            value.put = Fraction(text) * SIZES[unit][1] if SIZES[unit][0] == self.uses[place.use] else Fraction(-1)
+            value.is_guess = "estimated" in (word, fields[-1])
+        if ends:
+            value.day, value.moment = ends[0], moment_of(*ends[0][:2])
+        elif word in ("read", "hand", "estimated"):
+            value.moment = int(fields[1])
+        else:
+            value.moment = run.end if word == "last" and run.end is not None else run.begin
+        if value.is_told:
+            value.bodies = tuple(bytes.fromhex(it) for it in fields[-1].split(","))
+        window.values.append(value)
+
+    def take_part(self, span: str, begin: str, end: str, user: str) -> None:
+        window = self.places[-1].windows[-1]
+        need(int(span) == window.span + 1, "Order")
+        need(len(window.parts) < 64, "TooMany")
+        need(user == "-" or int(user) in self.users, "Fact")
+        window.parts.append(Row(line=self.line, begin=int(begin), end=int(end), user=maybe(user), amount=None,
+                                mark="missing"))
+
+    def take_number_of_place(self, word: str, fields: tuple[str, ...]) -> None:
+        place = self.places[-1]
+        window = place.windows[-1]
+        number = Row(line=self.line, word=word, fields=fields, at=2 if word == "value" else 4, use=place.use,
+                     unit=fields[3])
+        if word == "value":
+            need(SIZES.get(fields[3], ("", 0))[0] == self.uses[place.use], "Unit")
+        else:
+            self.unit(place.use, fields[3])
+            span = self.span(fields[0])
+            self.declared(number, span)
+            need(span == window.span, "Order")
+        window.numbers.append(number)
+
+    def declared(self, number: Row, span: int) -> None:
+        """What a number needs of a span is declared."""
+        keys = {"weather": ("degrees", "-"), "carbon": ("co2", number.use), "cost": ("price", number.use, number.unit)}
+        needed = [keys[number.word]] if number.word in keys else []
+        if number.unit == "kWh" and self.uses[number.use] != "energy":
+            needed.append(("factor", number.use))
+        need(all((*key, str(span)) in self.facts for key in needed), "Fact")
+
+    def take_number(self, word: str, fields: tuple[str, ...]) -> None:
+        text, has_unit = FORMS[word][1].index(TEXT), word not in ("weather", "carbon")
+        at = text - 1 - has_unit
+        self.used(fields[at])
+        if has_unit:
+            self.unit(fields[at], fields[at + 1])
+        number = Row(line=self.line, word=word, fields=fields, at=text, use=fields[at],
+                     unit=fields[at + 1] if has_unit else "kWh", span=self.span(fields[0]), whose=fields[at - 1])
+        self.declared(number, number.span)
+        if word in ("change", "weather"):
+            number.then = self.span(fields[1])
+            self.declared(number, number.then)
+        if word == "of_flat":
+            need(number.whose in {it[1] for it in self.users.values()} | {it.flat for it in self.places}, "Fact")
+        elif word != "of_house":
+            need(int(number.whose) in self.users, "Fact")
+        self.numbers.append(number)
+
+
+# ---- evidence
+
+def value_of(value: Row, run: Row, quantity: str) -> int:
+    """The value of a line in the smallest unit. Raises NoEvidence."""
+    if value.word == "zero":
+        return 0
+    if value.put is not None:
+        return fitting(value.put)
+    records: list[Record] = []
+    for n, body in enumerate(value.bodies, 1):
+        identity, status, found, more_follow = telegram_of(body)
+        if identity != run.identity:
+            raise NoEvidence("a body of another meter")
+        if status & 8 or status & 3 == 2:
+            raise NoEvidence("the meter reports an error")
+        if n < len(value.bodies) and not more_follow:
+            raise NoEvidence("bodies of two readouts")
+        records += [it for it in found if it.is_main]
+    meant = storages_of(value, records)
+    for record in records:
+        if record.storage not in meant or run.vib and record.vib != run.vib:
+            continue
+        (counts, size), number = scale_of(code_of(run.vib) if run.vib else record.vib), whole_of(record)
+        if counts == quantity and number is not None:
+            return fitting(number * size)
+    raise NoEvidence("no record of the use")
+
+
+def fitting(amount: Fraction) -> int:
+    if amount.denominator != 1 or not 0 <= amount < END:
+        raise NoEvidence("no record of the use")
+    return int(amount)
+
+
+def storages_of(value: Row, records: list[Record]) -> list[int]:
+    """The storage numbers that are meant, by their dates. Raises NoEvidence of dates that contradict."""
+    dates = [(it.storage, *date) for it in records if (date := date_of(it)) is not None and date[0] >= 0]
+    days: dict[int, int] = {}
+    for storage, day, _ in dates:
+        if storage and days.setdefault(storage, day) != day:
+            raise NoEvidence("bodies of two readouts")
+    own = [second for storage, _, second in dates if storage == 0 and second is not None]
+    if value.day is None:
+        if any(abs(second - value.moment) > DAY + 14 * HOUR for second in own):
+            raise NoEvidence("dated another day")
+        if any((day + 1) * DAY > value.moment + DAY + 14 * HOUR for day in days.values()):
+            raise NoEvidence("it knows a later day")
+        return [0]
+    if any(second < value.day[0] * DAY for second in own):
+        raise NoEvidence("dated after its own clock")
+    if value.day[0] not in days.values():
+        raise NoEvidence("no record dated so")
+    return [storage for storage, day in days.items() if day == value.day[0]]
+
+
+# ---- amounts and marks
+
+def is_put(value: Row) -> bool:
+    return value.put is not None or bool(value.is_again)
+
+
+def curve_of(values: list[Row], are_told: bool = False) -> list[Row]:
+    """The values that count, or of them those that telegrams show: of several of a run and moment in a row the last."""
+    kept: list[Row] = []
+    for value in values:
+        if value.found is not None and not (are_told and is_put(value)):
+            if kept and (kept[-1].run, kept[-1].moment) == (value.run, value.moment):
+                kept.pop()
+            kept.append(value)
+    return kept
+
+
+def deciding(curve: list[Row], moment: int) -> list[Row]:
+    """The last value at a moment or before it and, where that is before it, the next."""
+    last = [it for it in curve if it.moment <= moment][-1:]
+    return last if last and last[0].moment == moment else last + [it for it in curve if it.moment > moment][:1]
+
+
+def step(runs: list[Row], one: Row, other: Row) -> tuple[int, bool]:
+    """What was consumed from a value to the next, and whether that is in doubt."""
+    if one.run != other.run:
+        return 0, False
+    before, after, run = one.found or 0, other.found or 0, runs[one.run]
+    room = run.most * (max(0, other.moment - one.moment) // HOUR + 2)
+    if after < before:
+        turned = run.size - before + after
+        return (turned, False) if before < run.size and turned <= room else (0, True)
+    return after - before, 0 < run.most and room < after - before
+
+
+def graded(runs: list[Row], curve: list[Row], begin: int, end: int) -> tuple[Optional[int], str]:
+    """What a place consumed in a period, and the first mark that applies."""
+    pairs = list(zip(curve, curve[1:]))
+    steps = [step(runs, *pair) for pair in pairs]
+    touches = [n for n, (one, other) in enumerate(pairs) if begin < other.moment
+               and (one.moment < end or other.moment <= end)]
+    if any(in_doubt for n in touches for _, in_doubt in steps[max(0, n - 1):n + 2]):
+        return None, "disturbed"
+    count = exchanges_of(runs, curve, begin, end)
+    ends = [consumed(curve, [amount for amount, _ in steps], moment) for moment in (begin, end)]
+    in_order = begin <= end and all(one.moment <= other.moment for one, other in pairs)
+    amount = ends[1] - ends[0] if in_order and ends[0] is not None and ends[1] is not None else None
+    if count != sum(pairs[n][0].run != pairs[n][1].run for n in touches) or (amount or 0) >= END:
+        return None, "unclear"
+    if amount is None:
+        return None, "missing"
+    around = [deciding(curve, moment) for moment in (begin, end)]
+    basis = [*around[0], *around[1],
+             *(it for it in curve if it.word in ("first", "zero", "last", "ended") and begin < it.moment <= end)]
+    is_far = any(len(it) > 1 and it[1].moment - it[0].moment > 48 * HOUR for it in around)
+    if is_far or any(it.is_guess or it.is_again for it in basis):
+        return amount, "estimated"
+    if not is_over(runs[-1], end) and len({it.moment for it in curve if it.moment >= end}) < 2:
+        return amount, "provisional"
+    return amount, "hand" if any(is_put(it) for it in basis) else "measured"
+
+
+def exchanges_of(runs: list[Row], curve: list[Row], begin: int, end: int) -> Optional[int]:
+    """Number of exchanges of a period by its runs; none if one of them lacks a value, or time lies between the runs."""
+    words, count = {(it.run, it.word) for it in curve}, 0
+    for n, (old, new) in enumerate(zip(runs, runs[1:])):
+        if begin < new.begin and (old.end is not None and old.end < end or new.begin <= end):
+            count += 1
+            have = words & {(n, "last"), (n, "ended")} and words & {(n + 1, "first"), (n + 1, "zero")}
+            if old.end != new.begin or not have:
+                return None
+    return count
+
+
+def consumed(curve: list[Row], amounts: list[int], moment: int) -> Optional[int]:
+    """All that was consumed up to a moment, of values in order."""
+    last = sum(it.moment <= moment for it in curve) - 1
+    if last < 0 or last == len(curve) - 1 and curve[last].moment != moment:
+        return None
+    whole = sum(amounts[:last])
+    if last == len(curve) - 1:
+        return whole
+    one, other = curve[last:last + 2]
+    return whole + int(amounts[last] * (moment - one.moment) // max(1, other.moment - one.moment))
+
+
+def amount_of(runs: list[Row], values: list[Row], begin: int, end: int) -> tuple[Optional[int], str]:
+    """As graded, but measured only where it is the same without every value that was put."""
+    found: tuple[Optional[int], str] = graded(runs, curve_of(values), begin, end)
+    put = [it for it in values if it.found is not None and is_put(it)]
+    if found[1] != "measured" or not put or graded(runs, curve_of(values, True), begin, end) == found:
+        return found
+    return found[0], "estimated" if any(it.is_guess or it.is_again for it in put) else "hand"
+
+
+# ---- the audit
+
+def rounded(exact: Optional[Fraction], decimals: int) -> str:
+    """Half away from zero; `-` of no number."""
+    if exact is None:
+        return "-"
+    whole = int(abs(exact) * 10**decimals + Fraction(1, 2))
+    need(whole < END, "TooLarge")
+    text = f"{whole:0{decimals + 1}}"
+    return ("-" if exact < 0 < whole else "") + (f"{text[:-decimals]}.{text[-decimals:]}" if decimals else text)
+
+
+class Audit(Reader):
+    """Says what is wrong with a house."""
+
+    def __init__(self, may_ask: bool) -> None:
+        super().__init__(may_ask)
+        self.printed: list[str] = []
+        self.counts = dict.fromkeys(("numbers", "differ", "rules", "readings", "refused", "by hand", "estimated",
+                                     "struck"), 0)
+        self.offsets: dict[int, int] = {}
+        self.fills: dict[int, tuple[int, list[str]]] = {}  # of a line: the place of its text, and what holds
+
+    def rule(self, line: int, name: str, words: str) -> None:
+        self.counts["rules"] += 1
+        self.printed.append(f"RULE line {line} {name}: {words}")
+
+    def judge(self) -> None:
+        self.printed += [f"AS line {line}: {use} by {kind}: {why}" for (use, kind), (line, why) in self.allowed.items()]
+        for place in self.places:
+            for window in place.windows:
+                self.find_values(place, window)
+        self.check_house()
+        for place in self.places:
+            for window in place.windows:
+                for number in window.numbers:
+                    holds = self.reading if number.word == "value" else self.shown
+                    self.check_number(number, *holds(place, window, number))
+        for number in self.numbers:
+            self.check_number(number, *self.of_house(number))
+        counts = ", ".join(f"{name} {count}" for name, count in self.counts.items())
+        self.printed.append(f"{counts}, places {len(self.places)}")
+
+    # ---- values
+
+    def find_values(self, place: Row, window: Row) -> None:
+        for value in window.values:
             try:
-                bodies = [bytes.fromhex(body) for body in fields[2 if kind == "read" else 3:]]
-                amount = value_in(run, self.uses[self.use], bodies, day)
+                value.found = value_of(value, place.runs[value.run], self.uses[place.use])
             except NoEvidence as why:
-                self.counts["refused"] += 1
-                self.printed.append(f"NO EVIDENCE line {self.line}: {why}")
-                return
-            self.counts["readings"] += 1
-            self.told.add((number, moment))
-        if how:
-            self.counts["by hand" if how == "hand" else "estimated"] += 1
-        self.in_window += 1
-        if self.in_window > ENTRIES:
-            raise AtFault(TOO_MANY)
-        if self.entries and (before.meter, before.moment) == (number, moment):
-            self.entries.pop()
-        self.entries.append(Counted(Entry(number, moment, amount or 0, run.most, run.size), kind, how))
+                value.why = str(why)
+        told = [it for it in window.values if it.is_told and it.found is not None]
+        for value in window.values:
+            high = [it.found for it in told if it.run == value.run - 1][-1:]
+            low = [it.found for it in told if it.run == value.run and it.moment > value.moment][:1]
+            if value.word == "zero" and not (high and low and low < high):
+                value.found, value.why = None, "no telegram shows that it began anew"
+            value.is_again = value.word == "read" and value.found is not None and any(
+                it.word == "read" and (it.run, it.bodies) == (value.run, value.bodies)
+                and it.moment < value.moment for it in told)
+            self.tell_value(value, place.runs[value.run].size or END)
+            if value.is_told and (value.run, value.moment) in window.struck:
+                self.rule(value.line, "Struck", "a struck value counts")
+            at_once = [it.found for it in told if (it.run, it.moment) == (value.run, value.moment)]
+            if value in told and any(it != value.found for it in at_once):
+                self.rule(value.line, "Moment", "two values at one moment")
+        self.counts["struck"] += len(window.struck)
+        for part in window.parts:
+            part.amount, part.mark = amount_of(place.runs, window.values, part.begin, part.end)
 
-    def moment_of(self, kind: str, run: Run, fields: List[str]) -> int:
-        if kind in ("stored", "ended"):
-            return end_of(fields[1], fields[2])
-        if kind in ("read", "hand", "estimated"):
-            return int(fields[1])
-        if kind == "last" and run.ends is None:
-            raise AtFault(ROW)
-        return run.begins if kind in ("first", "zero") else run.ends or 0
+    def tell_value(self, value: Row, size: int) -> None:
+        if value.found is None:
+            self.counts["refused"] += 1
+            self.printed.append(f"NO EVIDENCE line {value.line}: {value.why}")
+        elif value.found >= size:
+            self.rule(value.line, "Moment", "a value that reaches the meter's size")
+        if value.put is not None:
+            self.counts["estimated" if value.is_guess else "by hand"] += 1
+        self.counts["readings"] += value.is_told and value.found is not None
 
-    def amount_put(self, value: str, unit: str) -> int:
-        quantity, smallest = SMALLEST[unit]
-        amount = Fraction(value) * smallest
-        if quantity != self.uses[self.use] or amount.denominator != 1 or amount > LARGEST:
-            raise AtFault(UNIT)
-        return int(amount)
+    # ---- the rules of a house
 
-    def limits(self) -> Tuple[int, int]:
-        """From where to where the window's parts go."""
-        begins, ends = self.spans[self.span]
-        last = self.runs[-1].ends
-        return max(begins, self.runs[0].begins), ends if last is None else min(ends, last)
+    def check_house(self) -> None:
+        self.check_spans()
+        areas: dict[str, set[Optional[Fraction]]] = {}
+        for line, flat, area in self.users.values():
+            areas.setdefault(flat, set()).add(area)
+            if len(areas[flat]) > 1:
+                self.rule(line, "Tenancy", f"the users of {flat} have two areas")
+        for n, place in enumerate(self.places, 1):
+            self.check_place(place, n)
+            self.check_ends(place)
+            for k, other in enumerate(self.places[:n], 1):
+                self.check_meters(place, other, n, k)
+                if place.flat == other.flat:
+                    self.check_tenancy(place, other, k)
+        if not self.places or not (self.numbers or any(it.numbers for place in self.places for it in place.windows)):
+            self.rule(self.line, "Empty", "no number is asked")
 
-    def is_empty(self) -> bool:
-        begins, ends = self.limits()
-        return begins >= ends
+    def check_offset(self, line: int, day: int, offset: int, *spelled: str) -> None:
+        if self.offsets.get(day, offset) != offset or offset % 15 or abs(offset) > 840:
+            self.rule(line, "Offset", f"{spelled[0]} has another offset than {spelled[1]}")
+        self.offsets[day] = offset
 
-    def take_part(self, span: str, begins: str, ends: str, user: str) -> None:
-        first, last = self.limits()
-        number = None if user == NOTHING else int(user)
-        if int(span) != self.span or int(begins) != (first if self.until is None
-                                                     else self.until) or not int(begins) < int(ends) <= last:
-            raise AtFault(PART)
-        if number is not None and self.users.get(number) != self.flat:
-            raise AtFault(FACT if number not in self.users else PART)
-        self.until = int(ends)
-        amount, mark = self.graded(int(begins), int(ends))
-        place = self.counts["places"]
-        if len(self.parts.get((self.span, self.use, "place", place), [])) == PARTS:
-            raise AtFault(TOO_MANY)
-        for of, whose in (("user", number), ("flat", self.flat), ("place", place)):
-            self.parts.setdefault((self.span, self.use, of, whose), []).append(Part(self.weight, amount, mark))
+    def check_spans(self) -> None:
+        for n, span in enumerate(self.spans):
+            for end in span.ends:
+                self.check_offset(span.line, *end)
+            if span.time[0] >= span.time[1] or any(span.time == it.time for it in self.spans[:n]):
+                self.rule(span.line, "Span", "it has no time, or is one before it")
+        if self.spans:
+            last = max(self.spans, key=lambda it: int(it.time[1]))
+            month = f"{EPOCH + datetime.timedelta(last.ends[0][0] + 1)}"[:7]
+            if month != self.label:
+                self.rule(1, "Label", "not the month in which the span that ends last begins")
 
-    # ---- grades
+    def check_place(self, place: Row, number: int) -> None:
+        if self.uses[place.use] != "units" and place.weight != 1:
+            self.rule(place.line, "Type", "a weight of what isn't an allocator")
+        for n, run in enumerate(place.runs):
+            if run.end is not None and run.end <= run.begin or not all(is_over(it, run.begin) for it in place.runs[:n]):
+                self.rule(run.line, "Moment", "the meters' times aren't in order")
+            kind = run.identity[-2:]
+            is_both = (place.use, kind) == ("cooling", "0D") and run.vib
+            if kind not in TYPES.get(place.use, "").split() and not is_both and (place.use, kind) not in self.allowed:
+                self.rule(run.line, "Type", f"{place.use} by device type {kind}")
+        for n, span in enumerate(self.spans):
+            window, (begin, end) = window_of(place, n), reach(place, span)
+            if (window is not None) != (begin < end):
+                has = "a" if window else "no"
+                self.rule((window or place).line, "Window", f"place {number} has {has} window of span {n + 1}")
+        for opened in place.windows:
+            self.check_values(place, opened, self.spans[opened.span])
+            self.check_parts(place, opened, *reach(place, self.spans[opened.span]))
 
-    def graded(self, begins: int, ends: int) -> Tuple[Optional[int], str]:
-        """What the place consumed in a period, and its mark."""
-        amount, touching = consumed([it.entry for it in self.entries], begins, ends)
-        mark = self.mark(begins, ends, amount, touching)
-        return (None if mark in NO_NUMBER else amount), mark
+    def check_values(self, place: Row, window: Row, span: Row) -> None:
+        for n, value in enumerate(window.values):
+            run = place.runs[value.run]
+            is_anew = any((it.identity, it.vib, it.end) == (run.identity, run.vib, run.begin)
+                          for it in place.runs[:value.run][-1:])
+            if value.day is not None:
+                self.check_offset(value.line, *value.day)
+                if all(abs(value.day[1] - end[1]) > 60 for end in span.ends):
+                    self.rule(value.line, "Offset", "far from its span's")
+            if value.word in ("ended", "last") and value.moment != run.end:
+                self.rule(value.line, "Moment", "not at the meter's end")
+            if value.moment < run.begin or run.end is not None and run.end < value.moment:
+                self.rule(value.line, "Moment", "outside of its meter's time")
+            if value.word == "zero" and not is_anew:
+                self.rule(value.line, "Restart", "not of the meter before")
+            if n and (value.moment, value.run) < (window.values[n - 1].moment, window.values[n - 1].run):
+                self.rule(value.line, "Moment", "before the value before it")
 
-    def mark(self, begins: int, ends: int, amount: Optional[int], touching: List[Step]) -> str:
-        if any(step.is_marked for step in touching):
-            return "disturbed"
-        if self.is_unclear(begins, ends, sum(step.is_exchange for step in touching)):
-            return "unclear"
-        if amount is None:
-            return "missing"
-        if amount > LARGEST:
-            return "unclear"
-        basis = [*self.around(begins), *self.around(ends), *(
-            it for it in self.entries if it.kind in ("first", "last", "ended", "zero") and begins < it.entry.moment
-            <= ends)]
-        is_far = any(len(pair) > 1 and pair[1].entry.moment - pair[0].entry.moment > NEAR
-                     for pair in map(self.around, (begins, ends)))
-        if is_far or any(it.how == "estimated" for it in basis):
-            return "estimated"
-        last = self.runs[-1].ends
-        if (last is None or last > ends) and len({it.entry.moment for it in self.entries
-                                                  if it.entry.moment >= ends}) < 2:
-            return "provisional"
-        return "hand" if any(it.how == "hand" for it in basis) else "measured"
+    def check_parts(self, place: Row, window: Row, begin: int, end: int) -> None:
+        reached = begin
+        for part in window.parts:
+            if part.begin != reached or part.begin >= part.end or part.end > end:
+                self.rule(part.line, "Part", "not adjacent, or beyond the span or the place's time")
+            if part.user is not None and self.users[part.user][1] != place.flat:
+                self.rule(part.line, "Part", f"user {part.user} is of another flat")
+            reached = part.end
+        if reached != end:
+            self.rule(window.line, "Part", "the parts don't reach the end")
 
-    def is_unclear(self, begins: int, ends: int, found: int) -> bool:
-        """Whether the exchanges aren't those of the meters, or lack a value."""
-        pairs = [(number, old, new) for number, (old, new) in enumerate(zip(self.runs, self.runs[1:]), 1)
-                 if begins < new.begins and (old.ends or 0) < ends or begins < new.begins <= ends]
-        kinds = {(it.entry.meter, it.kind) for it in self.entries}
-        return len(pairs) != found or any(
-            old.ends != new.begins or not {(number, "last"), (number, "ended")} & kinds
-            or not {(number + 1, "first"), (number + 1, "zero")} & kinds for number, old, new in pairs)
+    def check_ends(self, place: Row) -> None:
+        for n, window in enumerate(place.windows):
+            for other in place.windows[:n]:
+                times = [self.spans[it.span].time for it in (window, other)]
+                for moment in dict.fromkeys([*times[0], *times[1]]):
+                    one, two = ([(it.run, it.moment, it.found, it.word)
+                                 for it in deciding(curve_of(its.values), moment)]
+                                for its in (window, other))
+                    if all(begin <= moment <= end for begin, end in times) and one != two:
+                        words = f"other values at the common end {moment} than span {other.span + 1}"
+                        self.rule(window.line, "Ends", words)
 
-    def around(self, moment: int) -> List[Counted]:
-        """The last entry at a moment or before it and, where that one is before it, the next."""
-        before = [it for it in self.entries if it.entry.moment <= moment][-1:]
-        after = [it for it in self.entries if it.entry.moment > moment][:1]
-        return before if before and before[0].entry.moment == moment else before + after
+    def check_meters(self, place: Row, other: Row, number: int, before: int) -> None:
+        for n, run in enumerate(place.runs):
+            for it in place.runs[:n] if place is other else other.runs:
+                are_two = place.use != other.use and run.vib and it.vib and run.vib != it.vib
+                overlap = not is_over(run, it.begin) and not is_over(it, run.begin)
+                if it.identity == run.identity and overlap and not are_two:
+                    self.rule(run.line, "Twice", f"{run.identity} is at places {before} and {number} at one time")
+
+    def check_tenancy(self, place: Row, other: Row, before: int) -> None:
+        for part in (it for window in place.windows for it in window.parts):
+            for it in (it for window in other.windows for it in window.parts if it.line < part.line):
+                if max(part.begin, it.begin) < min(part.end, it.end) and it.user != part.user:
+                    self.rule(part.line, "Tenancy", f"flat {place.flat} has another user at place {before}")
 
     # ---- numbers
 
-    def ratio(self, use: str, unit: str, span: int, weight: Fraction) -> Fraction:
-        """What an amount of the smallest unit is in a unit."""
-        quantity = self.quantity_of(use, unit)
-        if unit == "smallest":
-            return Fraction(1)
-        of_unit = Fraction(1, RATIOS[quantity]) * (weight if quantity == "units" and unit != "count" else 1)
-        return of_unit * self.fact("factor", use, str(span)) if unit == "kWh" and quantity != "energy" else of_unit
-
-    def quantity_of(self, use: str, unit: str) -> str:
-        """The quantity of a use, which has to have the unit."""
+    def in_unit(self, amounts: list[tuple[int, Fraction]], use: str, unit: str, span: int) -> Fraction:
+        """The sum of amounts, each with its place's weight, in a unit."""
         quantity = self.uses[use]
-        units = {"energy": ("kWh",), "volume": ("m3", "kWh"), "units": ("HCA", "count", "kWh")}[quantity]
-        if unit not in (*units, "smallest"):
-            raise AtFault(UNIT)
-        return quantity
+        is_weighted = quantity == "units" and unit in ("HCA", "kWh")
+        exact = sum((amount * (weight if is_weighted else Fraction(1)) for amount, weight in amounts), Fraction())
+        exact /= UNITS[quantity, unit]
+        return exact * self.facts["factor", use, str(span)] if unit == "kWh" and quantity != "energy" else exact
 
-    def fact(self, *key: str) -> Fraction:
-        if key not in self.facts:
-            raise AtFault(FACT)
-        return self.facts[key]
+    def shares(self, span: int, use: str,
+               is_its: Callable[[Row, Row], bool]) -> Iterator[tuple[Optional[int], Fraction, str]]:
+        """Of each place with the use that has such parts in a span: their sum, its weight, and their worst mark."""
+        for place in self.places:
+            window = window_of(place, span) if place.use == use else None
+            parts = [it for it in window.parts if is_its(place, it)] if window else []
+            if parts:
+                mark = max((it.mark for it in parts), key=MARKS.index)
+                yield sum(it.amount or 0 for it in parts) if mark in MARKS[:4] else None, place.weight, mark
 
-    def of_parts(self, span: int, use: str, unit: str, kind: str, whose: object) -> Tuple[Optional[Fraction], str]:
-        """The sum of the parts of a user, a flat or a place, and the worst mark; no number where one has none."""
-        self.known(span)
-        parts = self.parts.get((span, use, kind, whose), [])
-        ratios = {weight: self.ratio(use, unit, span, weight) for weight in {Fraction(1), *(it.weight for it in parts)}}
-        mark = worst([it.mark for it in parts])
-        if mark in NO_NUMBER:
-            return None, mark
-        return sum((it.amount * ratios[it.weight] for it in parts if it.amount is not None), Fraction()), mark
+    def sum(self, span: int, use: str, unit: str, is_its: Callable[[Row, Row], bool]) -> tuple[Optional[Fraction], str]:
+        found = list(self.shares(span, use, is_its))
+        mark = max((it[2] for it in found), key=MARKS.index, default="missing")
+        known = [(amount, weight) for amount, weight, _ in found if amount is not None]
+        return self.in_unit(known, use, unit, span) if mark in MARKS[:4] else None, mark
 
-    def of_user(self, span: int, user: int, use: str, unit: str) -> Tuple[Optional[Fraction], str]:
-        if user not in self.users:
-            raise AtFault(FACT)
-        return self.of_parts(span, use, unit, "user", user)
+    def of_user(self, number: Row, span: int) -> tuple[Optional[Fraction], str]:
+        return self.sum(span, number.use, number.unit, lambda _, part: bool(part.user == int(number.whose)))
 
-    def compare(self, name: str, published: str, computed: str, is_same: Optional[bool] = None) -> None:
+    def of_flat(self, number: Row, flat: str) -> tuple[Optional[Fraction], str]:
+        return self.sum(number.span, number.use, number.unit, lambda place, _: bool(place.flat == flat))
+
+    def reading(self, _: Row, window: Row, number: Row) -> tuple[Optional[Fraction], list[str]]:
+        run, moment = int(number.fields[0]) - 1, int(number.fields[1])
+        found = [it.found for it in window.values if (it.run, it.moment) == (run, moment) and it.found is not None]
+        return (Fraction(found[-1], SIZES[number.unit][1]) if found else None), []
+
+    def shown(self, place: Row, window: Row, number: Row) -> tuple[Optional[Fraction], list[str]]:
+        begin, end = int(number.fields[1]), int(number.fields[2])
+        cuts = {moment for it in (*window.parts, *place.runs) for moment in (it.begin, it.end)}
+        is_within = bool(window.parts) and window.parts[0].begin <= begin < end <= window.parts[-1].end
+        if not is_within or not {begin, end} <= cuts:
+            self.rule(number.line, "Part", "not of whole parts or meters")
+            return None, ["missing"]
+        amount, mark = amount_of(place.runs, window.values, begin, end)
+        known = [] if amount is None else [(amount, place.weight)]
+        return (self.in_unit(known, place.use, number.unit, window.span) if known else None), [mark]
+
+    def of_house(self, number: Row) -> tuple[Optional[Fraction], list[str]]:
+        """What holds of a number of the house, and what is beside it."""
+        span, use, unit = number.span, number.use, number.unit
+        if number.word == "of_user":
+            exact, mark = self.of_user(number, span)
+            return exact, [mark]
+        if number.word == "of_flat":
+            exact, mark = self.of_flat(number, number.whose)
+            return exact, [mark]
+        if number.word == "of_house":
+            found = list(self.shares(span, use, lambda *_: True))
+            known = [(amount, weight) for amount, weight, _ in found if amount is not None]
+            counts = [f"{len(found) - len(known)}", f"{len(found)}"]
+            return (self.in_unit(known, use, unit, span) if known else None), counts
+        if number.word == "mean":
+            return self.mean(number), []
+        if number.word in ("change", "weather"):
+            return self.compared(number), []
+        key = ("co2", use, f"{span}") if number.word == "carbon" else ("price", use, unit, f"{span}")
+        exact = self.of_user(number, span)[0]
+        return (None if exact is None else exact * self.facts[key] / (1000 if number.word == "carbon" else 100)), []
+
+    def mean(self, number: Row) -> Optional[Fraction]:
+        area = self.users[int(number.whose)][2]
+        if area is None:
+            return None
+        declared = self.facts.get(("average", number.use, number.unit, f"{number.span}"))
+        if declared is not None:
+            return declared * area
+        areas = {flat: it for _, flat, it in self.users.values() if it is not None}
+        found = [(*self.of_flat(number, flat), it) for flat, it in areas.items()]
+        flats = [(exact, it) for exact, mark, it in found if exact is not None and mark in ("measured", "hand")]
+        return area * sum(exact for exact, _ in flats) / sum(it for _, it in flats) if len(flats) >= 3 else None
+
+    def has_whole(self, number: Row, span: int) -> bool:
+        user, time = int(number.whose), self.spans[span].time
+        places = [it for it in self.places if (it.flat, it.use) == (self.users[user][1], number.use)]
+        its = [(reach(it, self.spans[span]), window) for it in places if (window := window_of(it, span))]
+        return bool(its) and all(reached == time and all(it.user == user for it in window.parts)
+                                 for reached, window in its)
+
+    def compared(self, number: Row) -> Optional[Fraction]:
+        if not self.has_whole(number, number.span) or not self.has_whole(number, number.then):
+            return None
+        then = self.of_user(number, number.then)[0]
+        if number.word == "weather":
+            now, before = (self.facts["degrees", "-", f"{it}"] for it in (number.span, number.then))
+            return then * now / before if then is not None and before else None
+        here = self.of_user(number, number.span)[0]
+        return 100 * (here - then) / then if here is not None and then else None
+
+    def check_number(self, number: Row, exact: Optional[Fraction], beside: list[str]) -> None:
+        said = number.fields[number.at:number.at + 1 + len(beside)]
+        if number.word == "value":
+            held = [self.value_text(exact)]
+            is_right = said[0] == "?" or exact is not None and Fraction(said[0]) == exact
+        else:
+            decimals = len(said[0].partition(".")[2])
+            held = [rounded(exact, decimals), *beside]
+            if exact is not None and said[0] != "-" and not suffice(number, decimals, exact):
+                self.rule(number.line, "Decimals", f"{decimals} decimals")
+            are_same = all(one in ("?", other) for one, other in zip(said[1:], beside))
+            is_right = are_same and (said[0][0] == "?" or said[0] == held[0])
         self.counts["numbers"] += 1
-        wanted, found = published.split(" "), computed.split(" ")
-        if is_same is None:
-            is_same = all(one[0] == "?" or one == other for one, other in zip(wanted, found))
-            fields = [other if one[0] == "?" else one for one, other in zip(wanted, found)]
-            self.filled = ",".join([*self.filled.split(",")[:-len(fields)], *fields])
-        if not is_same:
+        self.fills[number.line] = number.at, held
+        if not is_right:
             self.counts["differ"] += 1
-            self.printed.append(f"DIFFERS line {self.line}: {name}: published {published}, computed {computed}")
+            asked = f"{number.word} {','.join(number.fields[:number.at])}"
+            both = f"published {' '.join(said)}, computed {' '.join(held)}"
+            self.printed.append(f"DIFFERS line {number.line}: {asked}: {both}")
 
-    def take_shown(self, span: str, begins: str, ends: str, unit: str, text: str, mark: str) -> None:
-        first, last = self.spans[self.span]
-        if int(span) != self.span:
-            raise AtFault(ORDER)
-        if not first <= int(begins) < int(ends) <= last:
-            raise AtFault(PART)
-        ratio = self.ratio(self.use, unit, self.span, self.weight)
-        amount, found = self.graded(int(begins), int(ends))
-        self.compare(f"place {self.counts['places']} {self.use}", f"{text} {mark}",
-                     f"{rounded(None if amount is None else amount * ratio, text)} {found}")
-
-    def take_value(self, run: str, moment: str, text: str, unit: str) -> None:
-        quantity, smallest = SMALLEST[unit]
-        if quantity != self.uses[self.use]:
-            raise AtFault(UNIT)
-        if not 1 <= int(run) <= len(self.runs):
-            raise AtFault(FACT)
-        found = [it.entry.value for it in self.entries if (it.entry.meter, it.entry.moment) == (int(run), int(moment))]
-        is_same = bool(found) and Fraction(text) * smallest == found[0]
-        exact = text if is_same else rounded(Fraction(found[0], smallest), "0.000000") if found else NOTHING
-        self.compare(f"place {self.counts['places']} {self.use}", f"{text} {unit}", f"{exact} {unit}", is_same)
-
-    def take_of_user(self, span: str, user: str, use: str, unit: str, text: str, mark: str) -> None:
-        value, found = self.of_user(int(span), int(user), use, unit)
-        self.compare(f"user {user} {use}", f"{text} {mark}", f"{rounded(value, text)} {found}")
-
-    def take_of_flat(self, span: str, flat: str, use: str, unit: str, text: str, mark: str) -> None:
-        value, found = self.of_parts(int(span), use, unit, "flat", flat)
-        self.compare(f"flat {flat} {use}", f"{text} {mark}", f"{rounded(value, text)} {found}")
-
-    def take_of_house(self, span: str, use: str, unit: str, text: str, none: str, count: str) -> None:
-        self.of_parts(int(span), use, unit, "none", None)
-        sums = [self.of_parts(int(span), use, unit, "place", whose)[0] for of, by, kind, whose in list(self.parts)
-                if (of, by, kind) == (int(span), use, "place")]
-        known = [it for it in sums if it is not None]
-        value = sum(known, Fraction()) if known else None
-        self.compare(f"house {use}", f"{text} {none} {count}", f"{rounded(value, text)} {len(sums) - len(known)}"
-                     f" {len(sums)}")
-
-    def take_mean(self, span: str, user: str, use: str, unit: str, text: str) -> None:
-        self.of_user(int(span), int(user), use, unit)
-        area, declared = self.own[int(user)], self.facts.get(("average", use, unit, span))
-        if declared is None:
-            if (span, use, unit) not in self.means:
-                self.means[span, use, unit] = self.mean_of(int(span), use, unit)
-            declared = self.means[span, use, unit]
-        value = None if area is None or declared is None else declared * area
-        self.compare(f"mean of user {user} {use}", text, rounded(value, text))
-
-    def mean_of(self, span: int, use: str, unit: str) -> Optional[Fraction]:
-        """What a square metre consumed, of three flats at least."""
-        sums = {flat: self.of_parts(span, use, unit, "flat", flat) for flat in self.areas}
-        counted = {flat: value for flat, (value, mark) in sums.items() if value is not None
-                   and mark in ("measured", "hand")}
-        area = sum((self.areas[flat] for flat in counted), Fraction())
-        return sum(counted.values(), Fraction()) / area if len(counted) >= 3 and area else None
-
-    def take_change(self, span: str, other: str, user: str, use: str, unit: str, text: str) -> None:
-        now, then = (self.of_user(int(it), int(user), use, unit)[0] for it in (span, other))
-        value = 100 * (now - then) / then if now is not None and then else None
-        self.compare(f"change of user {user} {use}", text, rounded(value, text))
-
-    def take_carbon(self, span: str, user: str, use: str, text: str) -> None:
-        value, grams = self.of_user(int(span), int(user), use, "kWh")[0], self.fact("co2", use, span)
-        self.compare(f"carbon of user {user} {use}", text, rounded(None if value is None else value * grams / 1000,
-                                                                   text))
-
-    def take_cost(self, span: str, user: str, use: str, unit: str, text: str) -> None:
-        if text != "-" and len(text.partition(".")[2]) != 2:
-            raise AtFault(ROW)
-        value, cents = self.of_user(int(span), int(user), use, unit)[0], self.fact("price", use, unit, span)
-        self.compare(f"cost of user {user} {use}", text, rounded(None if value is None else value * cents / 100, text))
-
-    def take_weather(self, span: str, other: str, user: str, use: str, text: str) -> None:
-        self.known(int(span))
-        value = self.of_user(int(other), int(user), use, "kWh")[0]
-        now, then = self.fact("degrees", "-", span), self.fact("degrees", "-", other)
-        self.compare(f"weather of user {user} {use}", text, rounded(None if value is None or not then
-                                                                    else value * now / then, text))
+    @staticmethod
+    def value_text(exact: Optional[Fraction]) -> str:
+        """A value with the decimals that it needs."""
+        text = rounded(exact, 9) if exact is not None and exact * 10**9 < END else rounded(exact, 0)
+        return text.rstrip("0").rstrip(".") if "." in text else text
 
 
-def judged(content: bytes) -> Tuple[List[str], int]:
-    """What is printed of a file, and the status."""
-    audit = Audit()
+def suffice(number: Row, decimals: int, exact: Fraction) -> bool:
+    if number.word in ("change", "carbon", "cost"):
+        return {"change": True, "carbon": decimals > 0, "cost": decimals == 2}[number.word]
+    return decimals >= {"kWh": 1, "HCA": 1, "m3": 2}.get(number.unit, 0) or decimals == 0 and abs(exact) >= 100
+
+
+def judged(content: bytes, may_ask: bool = False) -> tuple[list[str], int, Audit]:
+    """What is printed of a file, the status, and the audit."""
+    audit = Audit(may_ask)
     try:
-        for line in lines_of(content):
-            audit.take(line)
-        if audit.kind != "end":
-            audit.line += 1
-            raise AtFault(HEADER if audit.line == 1 else END)
+        audit.read(content.decode("latin-1"))
+        audit.judge()
     except AtFault as fault:
-        number = fault.args[0]
-        return [*audit.printed, f"LINE {audit.line} FAULT {number} {FAULTS[number - 1]}"], 1
-    closing = ", ".join(f"{name} {count}" for name, count in audit.counts.items())
-    return [*audit.printed, closing], int(audit.counts["differ"] + audit.counts["refused"] > 0)
+        audit.printed.append(f"LINE {audit.line} FAULT {FAULTS[str(fault)]} {fault}")
+        return audit.printed, 1, audit
+    return audit.printed, int(any(audit.counts[it] for it in ("differ", "rules", "refused"))), audit
 
 
-def filled(content: bytes) -> Tuple[List[str], List[str], int]:
-    """The lines of a file with what was asked, what is said beside, and the status."""
-    audit, made = Audit(fills=True), []  # type: Audit, List[str]
-    try:
-        for line in lines_of(content):
-            audit.take(line)
-            made.append(audit.filled)
-        if audit.kind != "end":
-            audit.line += 1
-            raise AtFault(HEADER if audit.line == 1 else END)
-    except AtFault as fault:
-        number = fault.args[0]
-        return made, [*audit.printed, f"LINE {audit.line} FAULT {number} {FAULTS[number - 1]}"], 1
-    return made, audit.printed, int(bool(audit.printed))
-
-
-def lines_of(content: bytes) -> Iterator[str]:
-    lines = content.decode("utf-8", "surrogateescape").split("\n")
-    yield from lines[:-1] if lines[-1] == "" else lines
+def filled(content: bytes) -> tuple[str, list[str], int]:
+    """A file with what holds in the place of each `?`, what is said beside, and the status."""
+    printed, status, audit = judged(content, True)
+    if printed[-1].startswith("LINE "):
+        return "", printed, status
+    lines = content.decode("latin-1").split("\n")
+    for line, (at, held) in audit.fills.items():
+        word, *fields = lines[line - 1].split(",")
+        for n, text in enumerate(held, at):
+            fields[n] = text if fields[n].startswith("?") else fields[n]
+        lines[line - 1] = ",".join([word, *fields])
+    return "\n".join(lines), printed, status

@@ -18,6 +18,8 @@ ZONE = "Europe/Berlin"
 BERLIN = zoneinfo.ZoneInfo(ZONE)
 UTC = datetime.timezone.utc
 Moment = datetime.datetime
+DAY = datetime.timedelta(days=1)
+NEVER = Moment.max.replace(tzinfo=UTC)
 
 
 class Kind(NamedTuple):
@@ -45,7 +47,7 @@ KEPT = 4096  # places of which a moment's values are kept
 BESIDE = 12  # entries: three moments, of each at most a stored one, a false one, and two of an exchange
 WRONG = datetime.datetime(2000, 1, 1, 0, 7, tzinfo=UTC)  # of a clock that began anew
 COMPANY = bytes([0x24, 0x40])
-STATUS = bytes([0, 0, 0, 0])  # access number, status, configuration
+STATUS = bytes([0, 0, 0])  # status, configuration
 
 
 def begin_of(day: datetime.date) -> Moment:
@@ -82,7 +84,7 @@ class Device:
 
     def body(self, told: Telegram) -> bytes:
         """A telegram without its frame: header, value, and the date and value that are stored."""
-        header = bcd(self.number) + COMPANY + bytes([1, self.kind.medium]) + STATUS
+        header = bcd(self.number) + COMPANY + bytes([1, self.kind.medium, told.at.toordinal() % 256]) + STATUS
         value = bytes([0x0C, self.kind.vif]) + bcd(told.digits)
         if told.stored is None:
             return header + value
@@ -96,10 +98,11 @@ class Device:
 
 
 class Knot(NamedTuple):
-    """What was consumed up to a moment, in smallest units, and when the office can know it."""
+    """What was consumed up to a moment, in smallest units, when the office can know it, and until when that counts."""
     at: Moment
     amount: int
     known_at: Moment
+    until: Moment = NEVER
 
 
 class False_(NamedTuple):
@@ -148,7 +151,7 @@ class Place:
         not."""
         noted = {device.begins for device in self.devices}
         return [knot for knot in self.knots if (knot.known_at if knot.at in noted else self.comes(knot.known_at))
-                <= now]
+                <= now < self.comes(knot.until)]
 
     def consumed(self, moment: Moment, now: Moment) -> Optional[Consumed]:
         """What was consumed up to a moment as it can be known; None where no knot lies before or after it."""
@@ -314,9 +317,14 @@ def fill(place: Place, plan: Plan, first: datetime.date, after: datetime.date, h
         knots.append((moment, amount))
         digits_of[moment], last = amount, moment
     exchange(place, plan, digits_of, rng)
-    tell(place, plan, first, after, hour, dict(knots))
+    amounts = dict(knots)
+    tell(place, plan, first, after, hour, amounts)
     for moment, amount in knots:
-        place.knots.append(Knot(moment, amount, known_at(place, plan, moment)))
+        known = known_at(place, plan, moment)
+        if known > moment:  # until a stored value comes the reading of its day counts
+            place.knots += [Knot(told.at, amounts[it.begins] + (told.digits - it.first) * it.kind.digit, told.at, known)
+                            for it in place.devices for told in it.telegrams if moment - DAY < told.at < moment]
+        place.knots.append(Knot(moment, amount, known))
 
 
 def knots_of(plan: Plan, first: datetime.date, after: datetime.date, hour: datetime.time) -> List[Moment]:
@@ -401,5 +409,4 @@ def known_at(place: Place, plan: Plan, moment: Moment) -> Moment:
     if moment.astimezone(BERLIN).time() != datetime.time() or not plan.is_storing or moment == plan.exchanged_at:
         return moment
     return min((telegram.at for device in place.devices for telegram in device.telegrams if telegram.at >= moment
-                and telegram.stored is not None), default=datetime.datetime.max.replace(tzinfo=UTC)) if (
-        moment > place.devices[0].begins) else moment
+                and telegram.stored is not None), default=NEVER) if moment > place.devices[0].begins else moment

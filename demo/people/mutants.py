@@ -1,4 +1,4 @@
-"""Wrong offices, for demo/office and demo/fleet: what refuses each mutant, and what it would change where nothing did.
+"""Wrong offices, for demo/office: what refuses each mutant, and what it would change where nothing did.
 
 A mutant of demo/office-mutants.txt is some lines: its name and what is wrong; `in FILE by JUDGE`, a test of the office
 or demo/office with some words, and `, the audit` where that has to refuse it, too; and small edits, the old text (-),

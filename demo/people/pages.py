@@ -145,7 +145,7 @@ class Checker:
                     self.same(f"{where} chart {label}", found, "kein Wert" if user.language == "de" else "no value")
                 elif number.value is not None:
                     self.same(f"{where} chart {label}", found,
-                              written(number.value, 0 if number.value >= 100 else 1, user.language))
+                              written(number.value, DECIMALS[self.truth.unit(house.name, use)], user.language))
 
     def told_in(self, house: House, flat: str, language: str) -> Dict[Tuple[str, str], str]:
         """What the meters of a flat told, by meter and moment as they are written."""

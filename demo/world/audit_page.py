@@ -1,12 +1,11 @@
-"""The cases of the page that audits a sheet's file, against `mbdc audit`: over files by chance, right and wrong, it prints the very text."""
+"""The cases of the page that audits a sheet's file. demo/same compares its module with `mbdc audit` over files by chance."""
 
 import base64
 import hashlib
 import json
 import pathlib
-import random
+import re
 import subprocess
-import sys
 import tempfile
 from typing import Any, Optional
 
@@ -15,28 +14,8 @@ from world.cases import until, wants
 
 ROOT = pathlib.Path(__file__).resolve().parent.parent.parent
 SECONDS = 60
-EXAMPLE = """audit,1,2026-10
-use,cold water,volume
-span,1,2026-09-30,120,2026-10-31,60
-price,cold water,m3,1,215
-user,1,A1,62.5
-place,1,A1,cold water,1
-meter,1,12345678.PAD.01.16,1773525600,-,3125000,-,-
-window,1
-read,1,1790719200,7856341224400116010000000C1300184100
-stored,1,2026-09-30,120,7856341224400116010000000C13752041004C1370204100426C5E39
-read,1,1792101600,7856341224400116010000000C1300654100
-stored,1,2026-10-31,60,7856341224400116010000000C13851342004C1380134200426C5F3A
-read,1,1793574000,7856341224400116010000000C1300174200
-part,1,1790805600,1793487600,1
-shown,1,1790805600,1793487600,m3,9.31,measured
-value,1,1790805600,412.07,m3
-value,1,1793487600,421.38,m3
-totals
-of_user,1,1,cold water,m3,9.31,measured
-cost,1,1,cold water,m3,20.02
-end
-"""
+# The file that the tests in code have, too
+EXAMPLE = re.findall(r'EXAMPLE: &\[u8\] = b"(.*?)"', (ROOT / "tests/audit/file.test").read_text(encoding="utf-8"), re.DOTALL)[0]
 
 
 def audited(browser: Browser, content: bytes, is_file: bool = False) -> tuple[str, str]:
@@ -64,21 +43,6 @@ def printed(program: str, content: bytes) -> tuple[str, str]:
     return ("right", "wrong")[done.returncode], done.stdout.decode("utf-8", "replace")
 
 
-def equal(browser: Browser, program: str, count: int, seed: int) -> None:
-    """The page prints what the program prints."""
-    sys.path.insert(0, str(ROOT / "office/tests"))
-    from people.audited import files
-    found = {"right": 0, "wrong": 0}
-    browser.open()
-    for number, (_, lines) in enumerate(files(random.Random(seed), count)):
-        content = "".join(f"{line}\n" for line in lines).encode()
-        wanted = printed(program, content)
-        wants(audited(browser, content, number % 2 == 0) == wanted, f"file {number}: {browser.run('return last.printed;')[:200]!r} and not {wanted}")
-        found[wanted[0]] += 1
-    print(f"    {found['right']} right and {found['wrong']} wrong files", flush=True)
-    wants(min(found.values()) > 0 or count < 10, "files of one kind alone")
-
-
 def sheets(browser: Browser, program: str, folder: pathlib.Path) -> None:
     """Each sheet's file holds, and is the one that its sheet names."""
     files = sorted(folder.rglob("*/sheets/*/*.audit")) or sorted(folder.rglob("*.audit"))
@@ -102,6 +66,9 @@ def links(browser: Browser) -> None:
     wants(browser.run("return document.getElementById('said').className;") == "bad", "it isn't red")
     row = browser.run("return document.querySelector('tr.bad').textContent;")
     wants("9.32 m³" in row and "computed: 9.31 measured" in row, row)
+    twice = content.replace(b"2026-10-31,60\nprice", b"2026-10-31,60\nspan,2,2026-10-31,60,2026-10-31,60\nprice").replace(b"426C5F3A", b"426C5E3A")
+    wants(audited(browser, twice, True)[0] == "wrong", browser.said())
+    wants(browser.said().endswith(" 1 reading has no evidence. 1 rule is broken: Span."), browser.said())
 
 
 def numbers(browser: Browser) -> None:
@@ -120,6 +87,9 @@ def numbers(browser: Browser) -> None:
     audited(browser, allocator.encode())
     row = browser.run("return Array.from(document.querySelectorAll('tbody tr')[7].cells, (it) => it.textContent);")
     wants(row == ["weight A1", "cold water", "", "1.75 ", "declared, not audited"], f"{row}")
+    audited(browser, EXAMPLE.replace("span,1,", "as,cold water,06,no other meter\nspan,1,").encode())
+    row = browser.run("return Array.from(document.querySelectorAll('tbody tr')[7].cells, (it) => it.textContent);")
+    wants(row == ["device type 06", "cold water", "", "no other meter ", "declared, not audited"], f"{row}")
 
 
 def hostile(browser: Browser) -> None:
@@ -128,7 +98,7 @@ def hostile(browser: Browser) -> None:
     lines = EXAMPLE.replace("A1", "<img src=x onerror=document.title=1>")
     for text in ("", "\n", "audit", "<script>document.title=1</script>", lines, "\u202e", "place,\n" * 1000, "of_user,__proto__\n", "x" * 5000, EXAMPLE + "end\n"):
         verdict, _ = audited(browser, text.encode())
-        wants(verdict == ("right" if text == lines else "wrong"), f"{text[:40]!r}: {verdict}")
+        wants(verdict == "wrong", f"{text[:40]!r}: {verdict}")
         wants(browser.run("return document.title;") == "Audit a sheet", f"{text[:40]!r} ran")
         wants(browser.run("return document.querySelectorAll('#found img, #found script').length;") == 0, f"{text[:40]!r}: an element")
     large = EXAMPLE.replace("window,1\n", "window,1\n" + "hand,1,1790719200,410,m3\n" * 2000)

@@ -356,7 +356,7 @@ CREATE OR REPLACE FUNCTION note_restarts(changed to_close[]) RETURNS void LANGUA
       AND s.day BETWEEN q.day - 40 AND q.day
     JOIN LATERAL (
         SELECT k.amount FROM day_values k WHERE k.fitting = q.fitting AND k.struck_at IS NULL
-        AND k.source <> 'estimated' AND k.at > s.at ORDER BY k.at LIMIT 1) n ON n.amount < s.amount
+        AND k.source IN ('stored', 'read') AND k.at > s.at ORDER BY k.at LIMIT 1) n ON n.amount < s.amount
     WHERE f.quantity = 'allocation' ON CONFLICT (fitting, at) DO NOTHING
 $$;
 
@@ -405,9 +405,28 @@ CREATE OR REPLACE FUNCTION has_two_energies(of_identity text, of_vib text, of_mo
           AND quantity_of(p.unit) = 'energy' AND p.value IS NOT NULL)
 $$;
 
+-- Whether a telegram's own dates allow its current value to be of a moment, or those of a reading (part: NULL) one that
+-- was stored then, as an audit wants it: a day and 14 hours away, since nobody knows their zone; none of a later day;
+-- and no storage has two.
+CREATE OR REPLACE FUNCTION has_its_date(of_month date, of_box text, of_serial bigint, of_part smallint,
+    moment timestamptz) RETURNS boolean LANGUAGE sql STABLE AS $$
+    SELECT NOT EXISTS (
+        SELECT FROM (SELECT storage, left(shown, 10)::timestamp AS day, shown ~ 'T' AS has_time,
+                            left(shown, 16)::timestamp - (moment AT TIME ZONE 'UTC') AS later
+                     FROM points WHERE (month, box, serial) = (of_month, of_box, of_serial)
+                       AND part = coalesce(of_part, part) AND vib IN ('6C', '6D') AND shown ~ '^\d{4}-\d\d-\d\d') k
+        GROUP BY storage
+        HAVING CASE WHEN storage = 0
+                    THEN bool_or(has_time AND (later < CASE WHEN of_part IS NULL THEN interval '-10 hours'
+                                                            ELSE interval '-38 hours' END
+                                               OR later > interval '38 hours' AND of_part IS NOT NULL))
+                    ELSE count(DISTINCT day) > 1 OR max(day) > moment AT TIME ZONE 'UTC' + interval '14 hours'
+                        AND of_part IS NOT NULL END)
+$$;
+
 -- The value of a fitting for a day: the one that the meter stored at its end, else the last reading of the day. One
--- that a person struck is passed over, in each telegram that has it, and so is one with an error: the next best one
--- counts.
+-- that a person struck is passed over, in each telegram that has it, and so is one with an error, or with other dates:
+-- the next best one counts.
 CREATE OR REPLACE FUNCTION value_for(of_fitting bigint, of_day date, begins timestamptz, ends timestamptz)
 RETURNS TABLE (at timestamptz, value numeric, unit text, source text, month date, box text, serial bigint,
     part smallint) LANGUAGE sql STABLE AS $$
@@ -419,13 +438,14 @@ RETURNS TABLE (at timestamptz, value numeric, unit text, source text, month date
          JOIN points p ON (p.month, p.box, p.serial, p.due) = (d.month, d.box, d.serial, d.due)
          WHERE w.fitting = of_fitting AND w.boxed && tstzrange(ends, NULL) AND ends > lower(w.fitted)
            AND ends <= coalesce(upper(w.fitted), 'infinity') AND counts(p, w.vib, w.quantity)
-           AND NOT has_error(r.bodies[p.part]))
+           AND NOT has_error(r.bodies[p.part]) AND has_its_date(r.month, r.box, r.serial, NULL, ends))
         UNION ALL
         (SELECT 2, r.at, p.value, p.unit, 'read', p.month, p.box, p.serial, p.part, p.place, w.identity, w.vib
          FROM heard w JOIN readings r ON (r.box, r.identity) = (w.box, w.identity) AND w.during @> r.at
          JOIN points p ON (p.month, p.box, p.serial) = (r.month, r.box, r.serial)
          WHERE w.fitting = of_fitting AND r.month >= date_trunc('month', of_day - 1) AND r.at >= begins AND r.at < ends
-           AND p.storage = 0 AND counts(p, w.vib, w.quantity) AND NOT has_error(r.bodies[p.part]))) v
+           AND p.storage = 0 AND counts(p, w.vib, w.quantity) AND NOT has_error(r.bodies[p.part])
+           AND has_its_date(r.month, r.box, r.serial, p.part, r.at))) v
     WHERE smallest(v.value, v.unit) IS NOT NULL AND NOT has_two_energies(v.identity, v.vib, v.month, v.box, v.serial)
       AND NOT EXISTS (SELECT FROM day_values k WHERE k.fitting = of_fitting AND k.day = of_day
                       AND k.struck_at IS NOT NULL AND (k.source, k.value, k.unit) = (v.source, v.value, v.unit))
@@ -439,7 +459,8 @@ CREATE OR REPLACE FUNCTION why_no_value(of_fitting bigint, begins timestamptz, e
                 WHEN bool_and(has_error(r.bodies[cardinality(r.bodies)])) THEN 'error'
                 WHEN bool_or(has_two_energies(w.identity, w.vib, r.month, r.box, r.serial)) THEN 'two energies'
                 WHEN bool_or(p.value IS NOT NULL AND smallest(p.value, p.unit) IS NULL) THEN 'too large'
-                WHEN count(p.value) = 0 THEN 'no record' END
+                WHEN count(p.value) = 0 THEN 'no record'
+                WHEN NOT bool_or(has_its_date(r.month, r.box, r.serial, p.part, r.at)) THEN 'other date' END
     FROM heard w JOIN readings r ON (r.box, r.identity) = (w.box, w.identity) AND w.during @> r.at
     LEFT JOIN points p ON (p.month, p.box, p.serial) = (r.month, r.box, r.serial) AND p.storage = 0
       AND counts(p, w.vib, w.quantity)

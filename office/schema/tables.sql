@@ -313,10 +313,12 @@ CREATE UNIQUE INDEX one_value_a_day ON day_values (fitting, day) WHERE struck_at
 CREATE INDEX struck_values ON day_values (fitting, day) WHERE struck_at IS NOT NULL;
 
 -- A day on which a meter was read, and has no value; why: 'error' (the status byte), 'too large' (for 18 digits of the
--- smallest unit, or no whole number of them), 'two energies', or 'no record' of the use's quantity.
+-- smallest unit, or no whole number of them), 'two energies', 'no record' of the use's quantity, or 'other date': the
+-- telegram's own dates aren't those of its moment.
 CREATE TABLE gaps (
     fitting bigint NOT NULL REFERENCES fittings ON DELETE CASCADE, day date NOT NULL,
-    why text NOT NULL CHECK (why IN ('error', 'too large', 'two energies', 'no record')), PRIMARY KEY (fitting, day)
+    why text NOT NULL CHECK (why IN ('error', 'too large', 'two energies', 'no record', 'other date')),
+    PRIMARY KEY (fitting, day)
 );
 
 -- What ran through a water meter between 0:00 and 5:00, in smallest units; only of nights with two readings and more.

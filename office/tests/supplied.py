@@ -19,9 +19,10 @@ VIBS = {"Wh": "03", "MWh": "FB00", "GJ": "FB08", "J": "08", "m3": "13", "HCA": "
 DIGITS = {"MWh": 10, "GJ": 10, "m3": 1000}  # of a telegram's value; of others 1
 
 
-def header(identity: str, status: int = 0) -> bytes:
+def header(identity: str, status: int = 0, access: int = 1) -> bytes:
+    """access: the answer's number, which no two of a meter share here: the same telegram again is an estimate."""
     number, _, version, medium = identity.split(".")
-    return bytes.fromhex(number)[::-1] + bytes.fromhex(f"2440{version}{medium}01") + bytes([status, 0, 0])
+    return bytes.fromhex(number)[::-1] + bytes.fromhex(f"2440{version}{medium}") + bytes([access % 256, status, 0, 0])
 
 
 def record(unit: str, value: Any, storage: int = 0) -> bytes:
@@ -76,7 +77,7 @@ class Supplied:
         self.office.sql("SELECT make_months(%s, 1)", month)
         self.office.sql("INSERT INTO readings (month, box, serial, identity, flat, heard, at, bodies)"
                         " VALUES (%s, %s, %s, %s, 'x', %s, %s, %s)", month, box, self.serial, identity, [moment],
-                        moment, [header(identity, status) + record(unit, value)
+                        moment, [header(identity, status, self.serial) + record(unit, value)
                                  + (dated(due[0]) + record(unit, due[1], 1) if due else b"")])
         points = [(1, 0, value, None), *([(2, 1, due[1], due[0])] if due else [])]
         for place, storage, number, day in points:

@@ -1,10 +1,8 @@
 """office/collect: each reading once, each box's failure its own, and records from the decoder's JSON objects."""
 
-import contextlib
 import decimal
 import os
 import pathlib
-import random
 import signal
 import subprocess
 import sys
@@ -139,28 +137,6 @@ def test_processes_end_with_their_parent(office: Office, box: Box) -> None:
     while any(pathlib.Path(f"/proc/{pid}").exists() for pid in found):
         assert time.monotonic() < end
         time.sleep(0.1)
-
-
-def test_processes_are_killed_again_and_again(office: Office) -> None:
-    """At any point of a collection: none hangs, and the last one has everything once."""
-    boxes = [office.box(f"house-{place}") for place in range(6)]
-    for box in boxes:
-        assert office.order(box.name, *FITS).status == 0
-        box.hears(120)
-    rng = random.Random(1)
-    for _ in range(8):
-        process = started(office, "--workers", "3", "--tries", "1", "--timeout", "10")
-        while process.poll() is None:
-            time.sleep(rng.uniform(0, 0.15))
-            found = workers_of(process)
-            if found:
-                with contextlib.suppress(ProcessLookupError):
-                    os.kill(rng.choice(found), signal.SIGKILL)
-        assert process.communicate(timeout=60)[0].splitlines()[-1].startswith("6 boxes, ")
-    ended = office.collect()
-    assert ended.status == 0, ended.printed
-    assert office.sql("SELECT count(*), count(DISTINCT (box, serial)) FROM readings") == [(720, 720)]
-    assert [box.confirmed() for box in boxes] == [120] * 6
 
 
 def test_few_records_are_in_memory_at_once(office: Office, box: Box, monkeypatch: pytest.MonkeyPatch) -> None:
@@ -311,6 +287,7 @@ def test_other_qualifiers_quantities_and_errors_do_not_count() -> None:
     for other in others:
         point = decoding.point_of_object({**ENERGY, **other})
         assert (point.vib, point.is_point) == ("8400", False)
+    assert point.value is None  # of a REAL
 
 
 def test_a_stored_energy_without_error_has_its_due_date() -> None:

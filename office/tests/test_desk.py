@@ -213,6 +213,10 @@ def test_hostile_words_are_text(office: Office, elm: Supplied, desk: Desk, tmp_p
                        ("/do/flat", {"house": "evil", "flat": "A1"}),
                        ("/do/tenant", {"house": "evil", "flat": "A1", "since": "2024-01-01", "person": HOSTILE})):
         assert desk.post(path, {**form, "why": HOSTILE})[0] == 303
+    for action, field in ((action, field) for action, it in ACTIONS.items() for field in it.fields):
+        form = {**dict.fromkeys(ACTIONS[action].fields, "1"), field: HOSTILE, "why": HOSTILE}
+        status, text = desk.post(f"/do/{action}", form)
+        assert status in (303, 422) and "<script>" not in text, (action, field, status)
     office.sql("INSERT INTO boxes (name, command, house, fault, collected_at) VALUES ('evil', 'false', 'evil', %s,"
                " '2025-01-01')", HOSTILE)
     office.run(*NOON)

@@ -160,32 +160,6 @@ def test_neither_retain_nor_forget_changes_a_number(office: Office, elm: Supplie
     assert rows(office) == before and office.sql("SELECT count(*) FROM changes") == [(0,)]
 
 
-def test_a_cron_changes_nothing_that_was_out(office: Office, elm: Supplied, tmp_path: pathlib.Path) -> None:
-    """Month by month: close, estimate, release; late readings come each time, and only the open month is another."""
-    meter, dead = elm.meter(1, HEAT, "A1"), elm.meter(2, HEAT, "A2")
-    for flat in ("A1", "A2"):
-        elm.tenancy(flat, "2024-01-01", None)
-    out: List[Tuple[Any, ...]] = []
-    elm.reads(meter, at("2024-12-30T20:00"), 970_000)
-    elm.reads(meter, at("2024-12-31T20:00"), 980_000)
-    elm.reads(dead, at("2024-12-31T20:00"), 980_000)
-    for number in (1, 2, 3):
-        for day in (1, 2, 15, 27, 28):
-            elm.reads(meter, at(f"2025-0{number}-{day:02}T20:00"), 1_000_000 * number + 10_000 * day)
-        elm.reads(meter, at(f"2025-0{number + 1}-01T20:00"), 1_000_000 * (number + 1) + 5_000)
-        elm.reads(meter, at(f"2025-0{number + 1}-02T08:00"), 1_000_000 * (number + 1) + 6_000)
-        month = f"2025-0{number}"
-        assert office.run("close").status == 0
-        assert office.run("close", "--month", month).status == 0
-        assert office.run("estimate", month).status == 0
-        released(office, tmp_path, month)
-        assert rows(office)[:len(out)] == out
-        out = rows(office)
-        elm.reads(dead, at(f"2025-0{number}-20T20:00"), 980_000 + number)  # weeks late
-    assert len(out) == 6 and office.run("close").status == 0
-    assert rows(office) == out and "NEW changed" in office.run("alarms").printed
-
-
 def bill(office: Office, *words: str, status: int = 0) -> str:
     assert office.run("publish", "elm-1", words[0], "--bill").status in (0, 2)
     ended = office.run("bill", "elm-1", *words)

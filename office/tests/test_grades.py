@@ -9,7 +9,9 @@ from conftest import Office
 from supplied import ALLOCATOR, COLD, HEAT, WH, Supplied, at
 from test_bills import billed
 from test_schema import refused
-from test_sheets import checked, published, read_sheet, sheet_of, written
+from test_sheets import published, read_sheet, sheet_of, written
+
+from program import audited
 
 FEBRUARY = ("2025-01", "2025-02", "2025-03")
 
@@ -19,13 +21,9 @@ def grades(elm: Supplied, *months: str) -> List[str]:
 
 
 @pytest.mark.parametrize("day, value, wanted", [
-    ("2025-01-31", 5000, ["disturbed", "disturbed", "measured"]),  # too high at the month's end
-    ("2025-01-31", 10, ["disturbed", "disturbed", "measured"]),  # too low
-    ("2025-01-30", 5000, ["disturbed", "disturbed", "measured"]),
-    ("2025-01-15", 5000, ["disturbed", "measured", "measured"]),
-    ("2025-02-01", 10, ["disturbed", "disturbed", "measured"]),
-    ("2025-02-02", 10, ["measured", "disturbed", "measured"]),
-    ("2025-02-28", 5000, ["measured", "disturbed", "disturbed"])])
+    ("2025-01-30", 5000, ["disturbed", "disturbed", "measured"]),  # too high before the month's end
+    ("2025-02-01", 10, ["disturbed", "disturbed", "measured"]),  # too low after it
+    ("2025-01-15", 5000, ["disturbed", "measured", "measured"])])
 def test_a_false_value_marks_both_its_steps(office: Office, elm: Supplied, day: str, value: int,
                                             wanted: List[str]) -> None:
     """Too high or too low, the months that it decides have no number, until it is struck; then they are right."""
@@ -36,17 +34,6 @@ def test_a_false_value_marks_both_its_steps(office: Office, elm: Supplied, day: 
     office.sql("SELECT strike(id, 'read wrong') FROM day_values WHERE value = %s", value)
     assert [elm.month(month)[0][2:] for month in FEBRUARY] == [
         (days * 10 * WH, "measured") for days in (31, 28, 31)]
-
-
-def test_more_than_the_meter_can_count(office: Office, elm: Supplied) -> None:
-    """A jump of more than the limit of the use; a fitting may have one of its own."""
-    meter = elm.meter(1, COLD, "A1")
-    elm.days(meter, "2024-12-20", 30, 10, 1, "m3")
-    elm.days(meter, "2025-01-19", 60, 200, 1, "m3")
-    assert grades(elm, "2025-01") == ["disturbed"]
-    office.sql("UPDATE fittings SET most = 20000000")
-    assert grades(elm, "2025-01") == ["measured"]
-    assert office.sql("SELECT is_held FROM month_use WHERE month = '2025-01-01'") == [(True,)]
 
 
 def test_a_number_is_provisional_until_the_next_step(office: Office, elm: Supplied, tmp_path: pathlib.Path) -> None:
@@ -64,18 +51,6 @@ def test_a_number_is_provisional_until_the_next_step(office: Office, elm: Suppli
     assert grades(elm, "2025-01") == ["provisional"]
     elm.values(meter, {"2025-02-02": 1390})
     assert grades(elm, "2025-01") == ["measured"]
-
-
-def test_what_a_person_read(office: Office, elm: Supplied, tmp_path: pathlib.Path) -> None:
-    meter = elm.meter(1, HEAT, "A1")
-    tenancy = elm.tenancy("A1", "2024-01-01", None)
-    elm.days(meter, "2024-12-25", 60, 1000, 10)
-    office.sql("SELECT put_value(%s, '2025-01-31', 1370, 'Wh', 'read at the meter')", meter)
-    assert elm.month("2025-01") == [("A1", 0, 310 * WH, "hand")]
-    written(office, tmp_path, "--pdf", "none")
-    text = sheet_of(office, tmp_path, tenancy).read_text(encoding="utf-8")
-    assert checked(text).cells["heat", "2025-01-01"].split()[:2] == ["0,3", "von"]
-    assert billed(office, "elm-1", "2025-01")[0]["grade"] == "hand"
 
 
 def test_a_turn(office: Office, elm: Supplied) -> None:
@@ -150,6 +125,21 @@ def test_a_restart_that_a_person_declares(office: Office, elm: Supplied) -> None
     office.sql(begun, None)
     assert elm.month("2025-01") == [("A1", 0, (1190 - 1060 + 175) * WH, "estimated")]
     assert "no meter" in refused(office, "SELECT restart('elm-1', '00000001.PAD.01.04', now(), 1, 0, 'm3', 'x')")
+
+
+def test_the_same_telegram_again_is_an_estimate(office: Office, elm: Supplied, tmp_path: pathlib.Path) -> None:
+    """Of a meter that stands still, and doesn't number its answers; also in the file of who moved in meanwhile."""
+    meter = elm.meter(1, COLD, "A1")
+    users = [elm.tenancy("A1", "2024-01-01", "2025-01-11"), elm.tenancy("A1", "2025-01-11", None)]
+    for day in range(45):
+        elm.reads(meter, at("2024-12-25T20:00") + datetime.timedelta(day), 7 + max(0, day - 25))
+    office.sql("UPDATE readings SET bodies = (SELECT bodies FROM readings WHERE serial = 1) WHERE serial <= 25")
+    assert office.run("close").status == 0
+    assert elm.month("2025-01")[1:] == [("A1", 1, 0, "estimated"), ("A1", 2, 12 * 10**6 + 166_666, "estimated")]
+    written(office, tmp_path, "--pdf", "none")
+    for user in users:
+        lines = sheet_of(office, tmp_path, user, form="audit").read_text(encoding="ascii").splitlines()
+        assert audited(lines).holds and sum(line.endswith(",estimated") for line in lines) == 2
 
 
 def test_a_number_is_held_until_a_person_says_why(office: Office, elm: Supplied, tmp_path: pathlib.Path) -> None:

@@ -1,4 +1,4 @@
-"""A month of whole houses: one of 2,000 flats, one without a reading, and sums that have no end in decimals."""
+"""A month of whole houses: one of 2,000 flats, and one without a reading."""
 
 import pathlib
 from typing import List
@@ -40,8 +40,8 @@ def test_a_house_of_2000_flats(office: Office, elm: Supplied, tmp_path: pathlib.
     assert len(rows) == FLATS and {row[3] for row in rows} == {"hand"}
     published(office)
     holds = tmp_path / "holds"  # (a program that judges as fast as the real one: each user's file is judged)
-    holds.write_text("#!/bin/sh\necho 'numbers 1, differ 0, readings 0, refused 0, by hand 1, estimated 0, struck 0,"
-                     " places 1'\n")
+    holds.write_text("#!/bin/sh\necho 'numbers 1, differ 0, rules 0, readings 0, refused 0, by hand 1, estimated 0,"
+                     " struck 0, places 1'\n")
     holds.chmod(0o755)
     assert office.run("sheets", "2025-01", "--out", str(tmp_path), "--pdf", "none", MBDC=str(holds)).status == 0
     text = page_of(tmp_path)
@@ -79,24 +79,6 @@ def test_a_month_without_a_value_keeps_its_unit(office: Office, elm: Supplied, t
     assert cells["allocator", "2025-01-01"].split() == UNREAD
     assert cells["allocator", "2024-12-01"].split() == ["620,0"]
     assert cells["warm water", "2024-12-01"].split() == ["31,00"]
-
-
-def test_what_has_no_end_in_decimals_adds_up(office: Office, elm: Supplied, tmp_path: pathlib.Path) -> None:
-    """Joules as kWh: three places of a third of something are 0.05 kWh, which is rounded up, on all pages."""
-    for number, joules in ((1, 48_000), (2, 48_000), (3, 84_000)):
-        elm.values(elm.meter(number, HEAT, "A1"), {"2024-12-31": 0, "2025-01-31": joules, "2025-02-01": joules}, "J")
-    tenancy = elm.tenancy("A1", "2024-01-01", None)
-    elm.month("2025-01")
-    written(office, tmp_path, "--pdf", "none")
-    assert read_sheet(office, tmp_path, tenancy).cells["heat", "2025-01-01"].split() == ["0,1"]
-    assert "0,1" in foot_of(page_of(tmp_path))
-
-
-def test_a_bill_rounds_half_up(office: Office, elm: Supplied) -> None:
-    """0.0045 kWh, which no binary fraction is."""
-    elm.values(elm.meter(1, HEAT, "A1"), {"2024-12-31": 0, "2025-01-31": 16_200, "2025-02-01": 16_200}, "J")
-    assert [(row["amount"], row["consumption"]) for row in billed(office, "elm-1", "2025-01")] == [
-        ("16200000", "0.005")]
 
 
 def test_a_link_cannot_be_guessed(office: Office, elm: Supplied) -> None:

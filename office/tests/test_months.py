@@ -6,6 +6,7 @@ import datetime
 from conftest import Office
 from supplied import COLD, HEAT, WATER, WH, Supplied, at
 from test_schema import refused
+from test_sheets import published
 
 
 def days_of(office: Office) -> object:
@@ -88,40 +89,14 @@ def test_an_exchange(office: Office, elm: Supplied) -> None:
     assert sources == ["stored", "removed", "fitted", "stored"]
 
 
-def test_two_meters_read_in_turns_are_unclear(office: Office, elm: Supplied) -> None:
-    """What fittings say is one exchange; the entries have more."""
+def test_a_meter_that_was_removed_counts_no_more(office: Office, elm: Supplied) -> None:
+    """Whatever it says later: what a person says of an exchange holds."""
     old = elm.meter(1, COLD, "A1")
     new = elm.exchange(old, 2, at("2025-01-10T12:00"), 9, 0, "m3")
-    elm.values(old, {"2024-12-30": 4, "2024-12-31": 5, "2025-01-20": 8}, "m3")  # read after it was removed
+    elm.values(old, {"2024-12-30": 4, "2024-12-31": 5, "2025-01-20": 8}, "m3")
     elm.values(new, {"2025-01-31": 7, "2025-02-01": 7}, "m3")
-    assert elm.month("2025-01") == [("A1", 0, None, "unclear")]
-    office.sql("SELECT strike(id, 'another meter''s') FROM day_values WHERE value = 8")
     assert elm.month("2025-01") == [("A1", 0, 11_000_000, "hand")]
-
-
-def test_zero_missing_and_leaps(office: Office, elm: Supplied) -> None:
-    still, dead, leaping = elm.meter(1, WATER, "A1"), elm.meter(2, WATER, "A2"), elm.meter(3, WATER, "A3")
-    elm.meter(4, WATER, "A4")
-    elm.days(still, "2024-12-25", 45, 3, 0, "m3")
-    elm.days(dead, "2024-12-25", 15, 3, 1, "m3")
-    elm.days(leaping, "2024-12-25", 15, 3, 1, "m3")
-    elm.days(leaping, "2025-01-09", 30, 80, 1, "m3")
-    assert elm.month("2025-01") == [("A1", 0, 0, "zero"), ("A2", 0, None, "missing"),
-                                    ("A3", 0, (31 + 62) * 1_000_000, "measured"), ("A4", 0, None, "missing")]
-    assert [row[0] for row in office.sql("SELECT is_held FROM month_use ORDER BY place")] == [False, False, True, False]
-
-
-def test_months_add_up_and_users_of_other_units(office: Office, elm: Supplied) -> None:
-    """The months of a quarter are those of its ends, also of a meter in joules after one in watt hours."""
-    meter = elm.meter(1, HEAT, "A1")
-    elm.values(meter, {"2024-12-30": 1, "2025-01-15": 4711, "2025-02-17": 5011, "2025-03-31": 6000})
-    rows = [elm.month(month)[0] for month in ("2025-01", "2025-02", "2025-03")]
-    begin = 1 * WH + 4710 * WH * 86400 // (16 * 86400)
-    assert sum(row[2] for row in rows) == 6000 * WH - begin
-    gj = elm.meter(5, HEAT, "B1")
-    elm.values(gj, {"2024-12-31": "1.0", "2025-01-31": "1.1", "2025-02-01": "1.1"}, "GJ")
-    assert elm.month("2025-01")[1] == ("B1", 0, 100_000_000_000, "measured")
-    assert abs(float(office.sql("SELECT kwh FROM month_kwh WHERE flat = 'B1'")[0][0]) - 27.7778) < 0.001
+    published(office)
 
 
 def test_a_meter_that_is_fitted_or_removed_in_a_month(office: Office, elm: Supplied) -> None:

@@ -4,10 +4,11 @@ import json
 import pathlib
 import re
 import shutil
+import subprocess
 from typing import Callable, Dict, List
 
 import pytest
-from conftest import FITS, OFFICE, Box, Office, Server
+from conftest import FITS, MBDC, OFFICE, Box, Office, Server
 from test_boxes import fitted, housed
 from test_schema import ORDER, refused
 
@@ -223,7 +224,7 @@ def test_a_lie_of_the_journal(office: Office, box: Box, lie: str) -> None:
 
 # ---- a new command of a box is a row of office/box_commands.py
 
-FORM = re.compile(r"^\* `n ([A-Z]+)((?: [a-z]+)*)`:", re.MULTILINE)  # an item of docs/COMMANDS.md
+FORM = re.compile(r"^  n ([A-Z]+)((?: [a-z]+)*)  ", re.MULTILINE)  # of a line that the program's help has
 CHANGED = "CHANGE 11111111.PAD.01.07 55555555.PAD.01.07 9"  # what a box knows as SWAP
 ROW = 'BOX_COMMANDS["CHANGE"] = BOX_COMMANDS["SWAP"]\n'
 
@@ -245,10 +246,10 @@ def migrated(newer: Office) -> str:
     return ended.printed
 
 
-def test_the_rows_are_the_commands_of_the_documentation() -> None:
-    page = (OFFICE.parent / "docs/COMMANDS.md").read_text(encoding="utf-8")
+def test_the_rows_are_the_commands_of_the_program() -> None:
+    said = subprocess.run([MBDC, "run", "--help"], capture_output=True, text=True, check=True).stdout
     rows = {verb: len(command.words) for verb, command in BOX_COMMANDS.items()}
-    assert {verb: len(words.split()) for verb, words in FORM.findall(page)} == {**rows, "CONFIRM": 1}
+    assert {verb: len(words.split()) for verb, words in FORM.findall(said)} == {**rows, "CONFIRM": 1}
 
 
 def test_a_new_command_is_a_row(office: Office, box: Box, newer: Office) -> None:

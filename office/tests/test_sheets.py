@@ -284,7 +284,8 @@ def test_a_sheet_has_its_file(office: Office, elm: Supplied, tmp_path: pathlib.P
         shown = {row[5].replace(".", ",") for row in rows if row[0] == "shown"}
         assert shown and all(number in text for number in shown)
         first = next(at for at, row in enumerate(rows) if row[0] == "place" and row[3] == "heat")
-        after = next(at for at, row in enumerate(rows) if at > first and row[0] in ("place", "totals"))
+        after = next(at for at, row in enumerate(rows) if at > first and (
+            row[0] in ("place", "totals") or row == ["window", "2"]))
         days = [datetime.date.fromisoformat(row[2]) for row in rows[first:after] if row[0] == "stored"]
         own = [day for day in days if (day >= moved.date()) == (tenancy == other)]
         # (the value at the end is both's)

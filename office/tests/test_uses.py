@@ -1,13 +1,18 @@
 """What meters count: device types, what a person decides, units, errors, and uses that are only rows."""
 
+import datetime
 import pathlib
 from typing import Dict, List, Optional
 
 from conftest import Box, Office
-from supplied import ALLOCATOR, COLD, HEAT, WATER, WH, Supplied, at
+from supplied import ALLOCATOR, COLD, HEAT, WATER, WH, Supplied, at, dated, header, record
 from test_boxes import housed
 from test_schema import refused
 from test_sheets import published, sheet_of
+
+import storing
+from database import Database
+from link import Reading
 
 NOON = ("alarms", "--at", "2025-02-01T12:00+00:00")
 
@@ -150,6 +155,28 @@ def test_a_day_in_error_has_no_value(office: Office, elm: Supplied) -> None:
     assert told(office, "error") == ["NEW error elm-1 00000001.PAD.01.04: A meter reports an error (flat A1):"
                                      " permanent error. With a permanent error its"
                                       " values don't count."] and not told(office, "no use")
+
+
+def test_a_telegram_of_another_day_does_not_count(office: Office, elm: Supplied) -> None:
+    """A meter whose clock is wrong, or that knows a later day than that of its reading: no audit takes its value."""
+    meter, moment = elm.meter(1, COLD, "A1"), at("2024-12-28T20:00")
+    database, readings = Database(office.name, 60), []
+    for number, days in enumerate([0] * 7 + [30, 0, -9] + [0] * 27):
+        read, own = (moment + datetime.timedelta(number + it) for it in (0, days))
+        date = [own.day | (own.year % 100 & 7) << 5, own.month | (own.year % 100 >> 3) << 4]
+        clock = bytes([0x04, 0x6D, own.minute, own.hour, *date])
+        due = dated("2025-02-20") + record("m3", 5, 1) if number == 20 else b""
+        readings.append(Reading(number + 1, "00000001.PAD.01.07", "A1", (read,), (
+            header("00000001.PAD.01.07", 0, number) + record("m3", 100 + number) + clock + due,)))
+    with database.transaction() as cursor:
+        storing.store_readings(cursor, elm.box, readings, storing.Window(None, moment + datetime.timedelta(60)))
+    database.close()
+    assert office.run("close").status == 0
+    assert office.sql("SELECT extract(day FROM day)::int, why FROM gaps ORDER BY day") == [
+        (4, "other date"), (6, "other date"), (17, "other date")]
+    assert office.sql("SELECT count(*) FROM day_values WHERE fitting = %s", meter) == [(34,)]
+    assert elm.month("2025-01") == [("A1", 0, 31_000_000, "measured")]
+    published(office)
 
 
 def test_18_digits(office: Office, elm: Supplied) -> None:

@@ -18,7 +18,7 @@ use mbdc_commands::words::{Engine, Form, Layout, Task};
 use mbdc_decode::decode_lines;
 use mbdc_decode::objects::json_lines;
 use mbdc_ending::{Ending, ProgramFault, STREAM};
-use mbdc_files::{Host, Output, back_up, format_image};
+use mbdc_files::{ERRORS, Host, Output, back_up, format_image, is_full};
 use mbdc_io::{Buffered, Bytes, Sink, Source, WriteSink};
 use mbdc_json::explain_lines;
 use mbdc_looks::Asked;
@@ -125,7 +125,7 @@ fn work<R: Files<File = File> + Print + Eprint + AllocGlobal, S: Source>(
 }
 
 // Runs the engine from the source to the sink.
-fn answer_of<R: Eprint + AllocGlobal, S: Source, W: Sink>(
+fn answer_of<R: Files<File = File> + Eprint + AllocGlobal, S: Source, W: Sink>(
     host: &Host<'_, R>,
     engine: Engine,
     reader: &mut S,
@@ -145,7 +145,7 @@ fn answer_of<R: Eprint + AllocGlobal, S: Source, W: Sink>(
 }
 
 // Fills a file of published numbers in, and says on standard error what differs.
-fn filled<R: Eprint + AllocGlobal, S: Source, W: Sink>(
+fn filled<R: Files<File = File> + Eprint + AllocGlobal, S: Source, W: Sink>(
     host: &Host<'_, R>,
     reader: &mut S,
     writer: &mut W,
@@ -163,7 +163,9 @@ fn filled<R: Eprint + AllocGlobal, S: Source, W: Sink>(
             *byte = if byte.is_ascii() { *byte } else { b'?' };
         }
     }
-    if let Ok(text) = str::from_utf8(text.as_slice()) {
+    if !is_full(host.rt, ERRORS)
+        && let Ok(text) = str::from_utf8(text.as_slice())
+    {
         let _ = host.rt.eprint(text);
     }
     Ok(!is_right)

@@ -1,6 +1,5 @@
 -- How reliable a number is (this product), from the best grade to the worst.
-use Rattle.std.specs.Prelude.{ℕ, Bool, true, false, nat_lt, if◌then◌else◌, List, [], ◌∷◌, codes, find, Option}
-use Rattle.std.specs.Str.{bytes_eq}
+use Rattle.std.specs.Prelude.{ℕ, Bool, nat_lt, if◌then◌else◌, List, codes}
 use Rattle.mbdc_audit.specs.declared.grade.Grade.{Grade}
 use Rattle.mbdc_audit.specs.declared.grade.Grade.TheVariants.{Measured, Hand, Provisional, Estimated}
 use Rattle.mbdc_audit.specs.declared.grade.Grade.TheVariants.{Unclear, Disturbed, Missing}
@@ -13,11 +12,6 @@ grade_name Estimated = codes "estimated"
 grade_name Unclear = codes "unclear"
 grade_name Disturbed = codes "disturbed"
 grade_name Missing = codes "missing"
-
--- the grade that a word names
-abbrev pub grade_named : List ℕ → Option Grade
-grade_named word = find (λ g. bytes_eq word (grade_name g))
-    (Measured ∷ Hand ∷ Provisional ∷ Estimated ∷ Unclear ∷ Disturbed ∷ Missing ∷ [])
 
 abbrev pub rank : Grade → ℕ
 rank Measured = 0
@@ -34,9 +28,3 @@ worst a b = if nat_lt (rank a) (rank b) then b else a
 -- the last three have no number
 abbrev pub has_number : Grade → Bool
 has_number g = nat_lt (rank g) (rank Unclear)
-
--- what may be compared with others
-abbrev pub is_reliable : Grade → Bool
-is_reliable Measured = true
-is_reliable Hand = true
-is_reliable _ = false

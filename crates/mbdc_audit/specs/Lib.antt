@@ -1,52 +1,56 @@
 -- the definitions that contracts cite
 
--- the faults of a file
+-- the house that a file spells
+pub mod House
+-- what a place consumed, and the mark of that number
+pub mod Amount
+-- which value telegrams give
+pub mod Evidence
+-- tests of dates
+pub mod Dates
+-- a sound house
+pub mod Sound
+-- what each number is
+pub mod Published
+-- which lines spell a house, and when a file is right
+pub mod File
+-- worked examples
+pub mod Worked
+-- the faults of lines
 pub mod Fault
--- what meters count, and the units of amounts
-pub mod Uses
 -- the fields of a line
 pub mod Field
--- what is declared
-pub mod Facts
--- exact numbers, and what is printed of them
-pub mod Exact
 -- decimals, and whole numbers of the smallest unit
 pub mod Smallest
--- days, and the moments at their ends
-pub mod Moment
--- the value that the telegrams of a readout give
-pub mod Evidence
+-- what meters count, and the units of amounts
+pub mod Uses
+-- exact numbers, and their rounding
+pub mod Exact
+-- units of numbers, and what is computed of fractions
+pub mod Number
 -- how reliable a number is
 pub mod Grade
--- how reliable a period of a window is
-pub mod Window
--- sums of shares
-pub mod Total
--- the exact values of numbers
-pub mod Number
--- what is printed of them
-pub mod Printed
--- which line may follow which
-pub mod Order
--- sums of parts by their holders
-pub mod Sums
--- a place, and what it consumed in a period
-pub mod Place
--- what is counted
-pub mod Counts
--- what holds of each number
-pub mod Sum
--- what is known after some lines
-pub mod State
--- what lines do that declare
-pub mod DeclaringLines
--- those that begin a place, a meter, a window, the totals
-pub mod PlaceLines
--- those that give values
-pub mod ValueLines
--- those of parts and of published numbers
-pub mod NumberLines
--- when a file is right
-pub mod File
--- how its lines are read
-pub mod Reading
+-- days, and the moments at their ends
+pub mod Moment
+-- what a line says
+pub mod Line
+-- what is printed
+pub mod Told
+-- the parts of a house as definitions have them
+pub mod View
+-- what the reader makes of a line
+pub mod Reader
+-- what a walk over a house finds
+pub mod Walk
+-- the values that count, as the code has them
+pub mod Kept
+-- what is summed of parts
+pub mod Totals
+-- whether what is published is what holds
+pub mod Judged
+-- values of a window beside each other
+pub mod Settled
+-- the values that decide in a window
+pub mod Curve
+-- numbers of places by a key
+pub mod Index

@@ -11,10 +11,6 @@ use Rattle.mbdc_audit.specs.declared.smallest.Spelled.{Spelled}
 abbrev pub end_of_values : ℕ
 end_of_values = 10 ^ 18
 
--- most digits of a ratio after the point
-abbrev pub most_ratio_decimals : ℕ
-most_ratio_decimals = 6
-
 abbrev pub is_digit : ℕ → Bool
 is_digit byte = nat_le 48 byte && nat_le byte 57
 
@@ -63,18 +59,14 @@ unfoldable pub decimal_in : ℕ → List ℕ → Option Spelled
 decimal_in most text = if is_whole_part (parts_of text).0
     then spelled_after most (digits_on 0 (parts_of text).0) (parts_of text).1 else None
 
--- ratios have at most nine digits before the point
-abbrev pub end_of_ratios : ℕ
-end_of_ratios = 10 ^ 15
-
--- a decimal of at most six decimals, times 10^6
+-- a decimal of at most nine digits before the point and six after it, times 10^6
 abbrev pub ratio_of : Spelled → Option ℕ
-ratio_of s = if nat_lt (s.digits * 10 ^ (6 - s.decimals)) end_of_ratios
+ratio_of s = if nat_lt (s.digits * 10 ^ (6 - s.decimals)) (10 ^ 15)
     then Some (s.digits * 10 ^ (6 - s.decimals)) else None
 
 -- the ratio that a text spells, times 10^6
 unfoldable pub ratio_in : List ℕ → Option ℕ
-ratio_in text = option_and_then ratio_of (decimal_in most_ratio_decimals text)
+ratio_in text = option_and_then ratio_of (decimal_in 6 text)
 
 -- a whole number of the smallest unit below 10^18
 abbrev pub fitting : ℕ → Option ℕ
@@ -88,14 +80,10 @@ scaled_down units power = if units % 10 ^ power == 0 then fitting (units / 10 ^ 
 abbrev pub of_spelled : Spelled → ℕ → Option ℕ
 of_spelled s size = scaled_down (s.digits * size) s.decimals
 
--- a number times a power of ten
-abbrev pub scaled_up : ℕ → ℕ → Option ℕ
-scaled_up units power = fitting (units * 10 ^ power)
-
 -- A magnitude of units of this size, times a power of ten. 38 of them fit 128 bits: what isn't 0 has more than 18 digits after a greater
 -- one, and is no whole number after it as a divisor.
 abbrev pub by_power : ℕ → ℤ → Option ℕ
-by_power units (pos power) = if nat_lt 38 power then None else scaled_up units power
+by_power units (pos power) = if nat_lt 38 power then None else fitting (units * 10 ^ power)
 by_power units (negsuc k) = if nat_lt 38 (k + 1) then None else scaled_down units (k + 1)
 
 abbrev pub of_magnitude : ℕ → ℤ → ℕ → Option ℕ

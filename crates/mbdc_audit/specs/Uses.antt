@@ -1,6 +1,6 @@
 -- What meters count (this product), and the units of amounts. Amounts are whole numbers of the smallest unit: millijoules, millilitres,
 -- and thousandths of a heat cost allocator's unit.
-use Rattle.std.specs.Prelude.{ℕ, Bool, true, false, List, [], ◌∷◌, codes, find, Option, Some, None, if◌then◌else◌}
+use Rattle.std.specs.Prelude.{ℕ, Bool, true, false, List, codes, Option, Some, None, if◌then◌else◌}
 use Rattle.std.specs.Str.{bytes_eq}
 use Rattle.dc_units.specs.declared.quantity.Quantity as listed_type
 use Rattle.dc_units.specs.declared.quantity.Quantity.TheVariants as listed
@@ -15,41 +15,13 @@ counted_named word = if bytes_eq word (codes "energy") then Some Energy
     else if bytes_eq word (codes "volume") then Some Volume
     else if bytes_eq word (codes "units") then Some Allocation else None
 
-abbrev pub is_counted : Counted → Counted → Bool
-is_counted Energy Energy = true
-is_counted Volume Volume = true
-is_counted Allocation Allocation = true
-is_counted _ _ = false
-
-abbrev pub unit_name : Unit → List ℕ
-unit_name Kwh = codes "kWh"
-unit_name CubicMetre = codes "m3"
-unit_name Allocated = codes "HCA"
-unit_name Count = codes "count"
-unit_name Smallest = codes "smallest"
-
-abbrev pub is_unit : Unit → Unit → Bool
-is_unit Kwh Kwh = true
-is_unit CubicMetre CubicMetre = true
-is_unit Allocated Allocated = true
-is_unit Count Count = true
-is_unit Smallest Smallest = true
-is_unit _ _ = false
-
 -- the unit that a word names
 abbrev pub unit_named : List ℕ → Option Unit
-unit_named word =
-    find (λ u. bytes_eq word (unit_name u)) (Kwh ∷ CubicMetre ∷ Allocated ∷ Count ∷ Smallest ∷ [])
-
--- the smallest units of a kilowatt hour, of a cubic metre, of an allocator's unit
-abbrev pub of_kwh : ℕ
-of_kwh = 3600000000
-
-abbrev pub of_cubic_metre : ℕ
-of_cubic_metre = 1000000
-
-abbrev pub of_allocated : ℕ
-of_allocated = 1000
+unit_named word = if bytes_eq word (codes "kWh") then Some Kwh
+    else if bytes_eq word (codes "m3") then Some CubicMetre
+    else if bytes_eq word (codes "HCA") then Some Allocated
+    else if bytes_eq word (codes "count") then Some Count
+    else if bytes_eq word (codes "smallest") then Some Smallest else None
 
 -- what a quantity of the table of units counts, and the smallest units of one of its units
 abbrev pub size_of : listed_type.Quantity → Option (Counted × ℕ)
@@ -64,10 +36,19 @@ size_of _ = None
 -- the same of the unit of a reading, by its word
 abbrev pub size_named : List ℕ → Option (Counted × ℕ)
 size_named word = if bytes_eq word (codes "Wh") then size_of listed.EnergyWattHour
-    else if bytes_eq word (codes "kWh") then Some (Energy, of_kwh)
+    else if bytes_eq word (codes "kWh") then Some (Energy, 3600000000)
     else if bytes_eq word (codes "MWh") then size_of listed.EnergyMegawattHour
     else if bytes_eq word (codes "J") then size_of listed.EnergyJoule
     else if bytes_eq word (codes "GJ") then size_of listed.EnergyGigajoule
     else if bytes_eq word (codes "m3") then size_of listed.Volume
     else if bytes_eq word (codes "HCA") then size_of listed.HeatCostAllocator
     else None
+
+-- units are the same
+abbrev pub is_unit : Unit → Unit → Bool
+is_unit Kwh Kwh = true
+is_unit CubicMetre CubicMetre = true
+is_unit Allocated Allocated = true
+is_unit Count Count = true
+is_unit Smallest Smallest = true
+is_unit a b = false

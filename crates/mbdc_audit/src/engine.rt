@@ -1,147 +1,138 @@
-//! The engine of `audit`: from a source's lines to what is printed.
+//! The engine of `audit`: reads a file into a house, and walks over it three times.
 
-ghost use Rattle.std.specs.Prelude.{◌≡◌, ◌≢◌, ◌≤◌, ◌<◌, ◌++◌, ◌∷◌, IfErr, IfOk, IfSome, IsErrOf};
-ghost use Rattle.std.specs.Prelude.{MatchOption, Ok, OnOk, false, length, true};
+ghost use Rattle.std.specs.Prelude.{◌≡◌, ◌<◌, ℕ, Bool, false, true, IfNone, IfOk, IfSome, IsErrOf, List, OnOk, length};
 ghost use Rattle.mbdc_io.specs.Failures.{HasRisen};
-ghost use Rattle.mbdc_io.specs.Lines.{lines_of, longest_input_line};
-ghost use Rattle.mbdc_audit.specs.Field.{fields_of};
-ghost use Rattle.mbdc_audit.specs.File.{IsRight, StepsAt};
-ghost use Rattle.mbdc_audit.specs.Reading.{Carries, IsRightLast, Lacks, LeadsLast};
+ghost use Rattle.mbdc_io.specs.Lines.{lines_of};
+ghost use Rattle.mbdc_audit.specs.File.{IsRight};
+ghost use Rattle.mbdc_audit.specs.Reader.{IsFault};
+ghost use Rattle.mbdc_audit.specs.View.{house_of};
+ghost use Rattle.mbdc_audit.specs.Walk.{IsAudited, is_clean};
 
-use crate::checking::Audit;
 use crate::fault::{AuditFault, Stop};
-use crate::teller::{put_closing, put_fault, put_filled};
-use mbdc_io::{CHUNK, FixedSink, IoFault, LONGEST, Sink, Source, TextFault, room};
-use memchr::memchr;
+use crate::house::House;
+use crate::numbers::Filler;
+use crate::reader::read_house;
+use crate::teller::Piece::{Number, Text};
+use crate::teller::{Counts, Teller, put_pieces};
+use mbdc_io::{CHUNK, FixedSink, IoFault, Sink, Source, TextFault, pair_of, room};
 use std::alloc::Allocator;
 
-// Splits off the first line of a text, if it is whole, and returns it with the rest.
-fn whole_line(text: &[u8]) -> Option<(&[u8], &[u8])>
-    ensures whole { MatchOption result (Lacks text.now) (λ parts.
-        Lacks parts.0.now × (text.now ≡ parts.0.now ++ 10 ∷ parts.1.now)) }
-    ensures shorter { IfSome result (λ parts. length parts.1.now < length text.now) }
+/// Most bytes of a file.
+pub const MOST_FILE: usize = 67_108_864;
+
+// Reads a file; none where it is longer than the limit.
+fn read_file<A: Allocator + Copy, R: Source>(
+    alloc: A,
+    reader: &mut R,
+) -> Result<Option<Vec<u8, A>>, TextFault>
+    ensures read { IsErrOf result TextFault.Read
+        → HasRisen (R.take_failures reader.old) (R.take_failures reader.new) }
+    ensures ok { OnOk result (R.take_failures reader.new ≡ R.take_failures reader.old) }
+    ensures file { IfOk result (λ f. IfSome f (λ v. IfSome (R.left reader.old) (λ input. v.items ≡ input))) }
+    ensures long { IfOk result (λ f. IfNone f (IfSome (R.left reader.old) (λ input. 67108864 < length input))) }
 {
-    match memchr(b'\n', text) {
-        Some(end) => {
-            let (line, rest) = text.split_at(end);
-            let (_, rest) = rest.split_at(1);
-            Some((line, rest))
+    let mut chunk = room(alloc, CHUNK)?;
+    let space = chunk.as_mut_slice();
+    let mut file: Vec<u8, A> = Vec::new(alloc);
+    'takes: while file.len() <= MOST_FILE {
+        let Ok(count) = reader.take(space) else {
+            return Err(TextFault::Read);
+        };
+        if count == 0 {
+            return Ok(Some(file));
         }
-        None => None,
+        let (given, _) = space.split_at(count);
+        if file.extend_from_slice(given).is_err() {
+            return Err(TextFault::NoMemory);
+        }
     }
+    Ok(None)
 }
 
-// Adds bytes to the line that isn't whole yet.
-fn add<A: Allocator + Copy>(
-    audit: &mut Audit<A>,
-    front: &mut Vec<u8, A>,
-    bytes: &[u8],
-) -> Result<(), Stop>
-    ensures same { audit.new ≡ audit.old }
-    ensures added { OnOk result (front.new.items ≡ front.old.items ++ bytes.now) }
-    ensures short { OnOk result (length front.new.items ≤ longest_input_line) }
-{
-    if front.len().saturating_add(bytes.len()) > LONGEST {
-        audit.line = audit.line.saturating_add(1);
-        return Err(Stop::Fault(AuditFault::Row));
+// Prints that a device type was allowed for a use, and why.
+fn put_allowed<'t, W: Sink>(
+    out: &mut W,
+    line: u64,
+    name: &'t [u8],
+    kind: &'t [u8],
+    why: &'t [u8],
+) -> Result<(), IoFault> {
+    put_pieces(
+        out,
+        &[
+            Text(b"AS line "),
+            Number(line),
+            Text(b": "),
+            Text(name),
+            Text(b" by "),
+            Text(kind),
+            Text(b": "),
+            Text(why),
+            Text(b"\n"),
+        ],
+    )
+}
+
+// Prints each device type that was allowed for a use.
+fn put_all_allowed<A: Allocator + Copy, W: Sink>(
+    out: &mut W,
+    house: &House<'_, A>,
+) -> Result<(), IoFault> {
+    'allowed: for allowed in &house.allowed {
+        let kind = pair_of(allowed.kind);
+        let name = house.used(allowed.used).name;
+        put_allowed(out, allowed.line, name, &kind, allowed.why)?;
     }
-    front.extend_from_slice(bytes)?;
     Ok(())
 }
 
-// Checks a line, which is whole, and writes it filled where that is asked for.
-fn end_line<A: Allocator + Copy, W: Sink, F: Sink>(
-    audit: &mut Audit<A>,
-    line: &[u8],
-    out: &mut W,
-    filled: &mut F,
-) -> Result<(), Stop>
-    ensures { OnOk result (StepsAt (fields_of line.now) audit.old audit.new) }
-{
-    audit.step(line, out)?;
-    let (may_ask, answer) = (audit.may_ask, audit.answer);
-    if may_ask {
-        put_filled(filled, line, &answer)?;
+impl<'s, W: Sink> Teller<'s, W> {
+    // Whether nothing was found so far.
+    fn is_clean(&self) -> bool
+        ensures { result ≡ is_clean self.now.counts }
+    {
+        let counts = self.counts;
+        counts.differ == 0 && counts.rules == 0 && counts.refused == 0
     }
-    Ok(())
-}
 
-// Checks the lines that end in these bytes.
-fn take<A: Allocator + Copy, W: Sink, F: Sink>(
-    audit: &mut Audit<A>,
-    front: &mut Vec<u8, A>,
-    bytes: &[u8],
-    out: &mut W,
-    filled: &mut F,
-) -> Result<(), Stop>
-    ensures { OnOk result (Carries bytes.now audit.old front.old.items audit.new
-        front.new.items) }
-{
-    let mut left = bytes;
-    'lines: while let Some((line, rest)) = whole_line(left) {
-        add(audit, front, line)?;
-        end_line(audit, front.as_slice(), out, filled)?;
-        front.clear();
-        left = rest;
+    // Walks over a house three times, and returns whether nothing was found.
+    fn walk<'a, A: Allocator + Copy, F: Sink>(
+        &mut self,
+        alloc: A,
+        house: &mut House<'a, A>,
+        filler: &mut Filler<'_, '_, F>,
+    ) -> Result<bool, Stop>
+        ensures right { (asks : Bool) (input : List ℕ) → IsAudited asks self.old.counts input (house_of house.old)
+            → IfOk result (λ holds. holds ≡ true → IsRight asks (lines_of input)) }
+    {
+        put_all_allowed(self.out, house)?;
+        self.read_values(alloc, house)?;
+        let is_read = self.is_clean();
+        self.check_house(alloc, house)?;
+        let is_sound = self.is_clean();
+        self.check_numbers(alloc, house, filler)?;
+        self.close(house.places.len() as u64)?;
+        Ok(is_read && is_sound && self.is_clean())
     }
-    add(audit, front, left)?;
-    Ok(())
-}
 
-// Checks the last line, where no line feed ends it.
-fn end_last<A: Allocator + Copy, W: Sink, F: Sink>(
-    audit: &mut Audit<A>,
-    front: &[u8],
-    out: &mut W,
-    filled: &mut F,
-) -> Result<(), Stop>
-    ensures { OnOk result (LeadsLast audit.old front.now audit.new) }
-{
-    if front.is_empty() {
-        return Ok(());
-    }
-    end_line(audit, front, out, filled)?;
-    Ok(())
-}
-
-// Checks what is left at the end of the file, and returns whether all is right.
-fn end<A: Allocator + Copy, W: Sink, F: Sink>(
-    audit: &mut Audit<A>,
-    front: &[u8],
-    out: &mut W,
-    filled: &mut F,
-) -> Result<bool, Stop>
-    ensures { IfOk result (λ holds. holds ≡ true → IsRightLast audit.old front.now) }
-{
-    end_last(audit, front, out, filled)?;
-    if !audit.is_whole() {
-        audit.line = audit.line.saturating_add(1);
-        return Err(Stop::Fault(AuditFault::End));
-    }
-    let (may_ask, counts) = (audit.may_ask, audit.counts);
-    if !may_ask {
-        put_closing(out, &counts, audit.here.place.number)?;
-    }
-    Ok(counts.are_right())
-}
-
-// What the check returns; of a line at fault it writes the fault.
-fn ended<W: Sink>(line: u64, done: Result<bool, Stop>, out: &mut W) -> Result<bool, TextFault>
-    ensures read { IfErr result (λ fault. fault ≢ TextFault.Read) }
-    ensures right { IfOk result (λ holds. holds ≡ true → done ≡ Ok true) }
-{
-    match done {
-        Ok(holds) => Ok(holds),
-        Err(Stop::NoMemory) => Err(TextFault::NoMemory),
-        Err(Stop::Write) => Err(TextFault::Write),
-        Err(Stop::Fault(fault)) => match put_fault(out, line, fault) {
-            Ok(()) => Ok(false),
-            Err(IoFault) => Err(TextFault::Write),
-        },
+    // What is returned where the audit was stopped; of a line at fault it prints the fault.
+    fn stopped(&mut self, line: u64, stop: Stop) -> Result<bool, TextFault>
+        ensures not_right { IfOk result (λ holds. holds ≡ false) }
+        ensures read { IsErrOf result TextFault.Read → ⊥ }
+        ensures fault { IfOk result (λ holds. IsFault stop) }
+    {
+        match stop {
+            Stop::NoMemory => Err(TextFault::NoMemory),
+            Stop::Fault(fault) => match self.put_fault(line, fault) {
+                Ok(()) => Ok(false),
+                Err(IoFault) => Err(TextFault::Write),
+            },
+            _ => Err(TextFault::Write),
+        }
     }
 }
 
-// Checks the file that is left in the reader, and writes it filled where that is asked for.
+// Checks a file, and writes it filled where that is asked for.
 fn check_file<A: Allocator + Copy, R: Source, W: Sink, F: Sink>(
     alloc: A,
     may_ask: bool,
@@ -152,32 +143,35 @@ fn check_file<A: Allocator + Copy, R: Source, W: Sink, F: Sink>(
     ensures read { IsErrOf result TextFault.Read
         → HasRisen (R.take_failures reader.old) (R.take_failures reader.new) }
     ensures ok { OnOk result (R.take_failures reader.new ≡ R.take_failures reader.old) }
-    ensures right { IfOk result (λ holds. holds ≡ true → IfSome (R.left reader.old) (λ input.
-        IsRight may_ask (lines_of input))) }
+    ensures right { IfOk result (λ holds. holds ≡ true
+        → IfSome (R.left reader.old) (λ input. IsRight may_ask (lines_of input))) }
 {
-    let mut chunk = room(alloc, CHUNK)?;
-    let space = chunk.as_mut_slice();
-    let mut audit = Audit::new(alloc, may_ask);
-    let mut front = Vec::new(alloc);
-    'takes: for _ in 0..u64::MAX {
-        let Ok(count) = reader.take(space) else {
-            return Err(TextFault::Read);
-        };
-        if count == 0 {
-            let done = end(&mut audit, front.as_slice(), writer, filled);
-            return ended(audit.line, done, writer);
-        }
-        let (given, _) = space.split_at(count);
-        if let Err(stop) = take(&mut audit, &mut front, given, writer, filled) {
-            return ended(audit.line, Err(stop), writer);
-        }
+    let mut teller = Teller {
+        out: writer,
+        counts: Counts::NONE,
+    };
+    let Some(file) = read_file(alloc, reader)? else {
+        return teller.stopped(1, Stop::Fault(AuditFault::TooLarge));
+    };
+    let file = file.as_slice();
+    let mut house = match read_house(alloc, file, may_ask) {
+        Ok(house) => house,
+        Err((line, stop)) => return teller.stopped(line, stop),
+    };
+    let mut filler = Filler {
+        may_ask,
+        out: filled,
+        file,
+        done: 0,
+    };
+    match teller.walk(alloc, &mut house, &mut filler) {
+        Ok(is_right) => Ok(is_right),
+        Err(stop) => teller.stopped(house.lines, stop),
     }
-    // No file has 2^64 bytes.
-    Ok(false)
 }
 
-/// Checks the file of published numbers that is left in the reader, and says which numbers aren't what the telegrams
-/// give. Returns whether all are.
+/// Checks the file of published numbers that is left in the reader, and prints what is wrong with it. Returns whether
+/// nothing is.
 ///
 /// # Errors
 /// [`TextFault::Read`] and [`TextFault::Write`] if the reader or the writer failed, [`TextFault::NoMemory`] if memory
@@ -201,7 +195,7 @@ pub fn audit<A: Allocator + Copy, R: Source, W: Sink>(
 }
 
 /// Writes the file that is left in the reader to `filled`, with what holds in the place of each `?`, and to `writer`
-/// which of the given numbers aren't what the telegrams give. Returns whether all are.
+/// what is wrong with the rest. Returns whether nothing is.
 ///
 /// # Errors
 /// As of [`audit`].

@@ -1,17 +1,19 @@
-//! Why a file is no file of published numbers.
+//! Why a file's lines spell no house, and what stops the audit.
 
 ghost use Rattle.std.specs.Prelude.{◌≡◌};
 ghost use Rattle.mbdc_audit.specs.Fault.{name_of, number_of};
+ghost use Rattle.mbdc_audit.specs.declared.fault.Stop.TheVariants.{Fault as OfFault, NoMemory, Write};
 
-use mbdc_io::{IoFault, NoMemory};
+use crate::evidence::Refusal;
+use mbdc_io::IoFault;
 use std::alloc::{AllocError, AllocFailed};
 use thiserror::Error;
 
-/// Why a line of the file is at fault (this product).
+/// Why a line spells nothing (this product). Numbers 4 and 5 were used until version 1.
 #[derive(Clone, Copy, Debug, Error)]
 pub enum AuditFault {
-    /// The first line isn't the header.
-    #[error("the first line isn't the header")]
+    /// The first line isn't the header of version 2.
+    #[error("the first line isn't the header of version 2")]
     Header,
     /// The line has no known word, or its fields aren't of their forms.
     #[error("the line's word or fields aren't of their forms")]
@@ -19,13 +21,7 @@ pub enum AuditFault {
     /// The line can't follow the one before it.
     #[error("the line can't follow the one before it")]
     Order,
-    /// The moment is before the last value's, or the meters' beginnings and ends aren't in order.
-    #[error("the moment is before the last value's, or the meters aren't in order")]
-    Moment,
-    /// The part isn't adjacent to the last one, the parts don't reach the end, or its user is of another flat.
-    #[error("the parts aren't adjacent, or don't reach the end")]
-    Part,
-    /// The unit isn't one of the use's, or the value is no whole number of the smallest unit.
+    /// The unit isn't one of the use's.
     #[error("the unit isn't one of the use's")]
     Unit,
     /// A fact isn't declared, or twice.
@@ -34,8 +30,8 @@ pub enum AuditFault {
     /// There are more than the limit.
     #[error("there are more than the limit")]
     TooMany,
-    /// A number has more than 18 digits, or what is computed on the way doesn't fit 128 bits.
-    #[error("a number is too large")]
+    /// What is computed of a number doesn't fit 128 bits, or the file is longer than the limit.
+    #[error("a number or the file is too large")]
     TooLarge,
     /// The last line isn't `end`.
     #[error("the last line isn't the end")]
@@ -43,76 +39,60 @@ pub enum AuditFault {
 }
 
 impl AuditFault {
-    /// The fault's number, from 1.
-    pub fn number(self) -> u8
-        ensures { result ≡ number_of self }
+    /// The fault's number, and the variant's name.
+    pub fn told(self) -> (u8, &'static str)
+        ensures number { result.0 ≡ number_of self }
+        ensures name { result.1.now ≡ name_of self }
     {
         match self {
-            AuditFault::Header => 1,
-            AuditFault::Row => 2,
-            AuditFault::Order => 3,
-            AuditFault::Moment => 4,
-            AuditFault::Part => 5,
-            AuditFault::Unit => 6,
-            AuditFault::Fact => 7,
-            AuditFault::TooMany => 8,
-            AuditFault::TooLarge => 9,
-            AuditFault::End => 10,
-        }
-    }
-
-    /// The variant's name.
-    pub fn name(self) -> &'static str
-        ensures { result.now ≡ name_of self }
-    {
-        match self {
-            AuditFault::Header => "Header",
-            AuditFault::Row => "Row",
-            AuditFault::Order => "Order",
-            AuditFault::Moment => "Moment",
-            AuditFault::Part => "Part",
-            AuditFault::Unit => "Unit",
-            AuditFault::Fact => "Fact",
-            AuditFault::TooMany => "TooMany",
-            AuditFault::TooLarge => "TooLarge",
-            AuditFault::End => "End",
+            AuditFault::Header => (1, "Header"),
+            AuditFault::Row => (2, "Row"),
+            AuditFault::Order => (3, "Order"),
+            AuditFault::Unit => (6, "Unit"),
+            AuditFault::Fact => (7, "Fact"),
+            AuditFault::TooMany => (8, "TooMany"),
+            AuditFault::TooLarge => (9, "TooLarge"),
+            AuditFault::End => (10, "End"),
         }
     }
 }
 
-/// What stops the check.
+/// What stops the audit, or the search for a value's evidence.
 #[derive(Clone, Copy)]
 pub(crate) enum Stop {
     Fault(AuditFault),
+    Refused(Refusal),
     NoMemory,
     Write,
 }
 
 impl From<AuditFault> for Stop {
+    ghost from_gives = { λ fault stop. stop ≡ OfFault fault };
+
     fn from(fault: AuditFault) -> Stop {
         Stop::Fault(fault)
     }
 }
 
-impl From<NoMemory> for Stop {
-    fn from(_refused: NoMemory) -> Stop {
-        Stop::NoMemory
-    }
-}
-
 impl From<AllocError> for Stop {
+    ghost from_gives = { λ _ stop. stop ≡ NoMemory };
+
     fn from(_refused: AllocError) -> Stop {
         Stop::NoMemory
     }
 }
 
 impl<T: Drop> From<AllocFailed<T>> for Stop {
+    ghost from_gives = { λ _ stop. stop ≡ NoMemory };
+
     fn from(_refused: AllocFailed<T>) -> Stop {
         Stop::NoMemory
     }
 }
 
 impl From<IoFault> for Stop {
+    ghost from_gives = { λ _ stop. stop ≡ Write };
+
     fn from(_failed: IoFault) -> Stop {
         Stop::Write
     }

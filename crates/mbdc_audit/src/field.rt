@@ -1,22 +1,19 @@
-//! The fields of a line.
+//! The fields of a line, and what they spell.
 
-ghost use Rattle.std.specs.Prelude.{◌≡◌, ◌∷◌, [], Some, IfOk, MatchOption, OnOk, option_map};
+ghost use Rattle.std.specs.Prelude.{◌≡◌, ◌↔◌, ◌∷◌, ℕ, All, IfSome, IsTrue, None, Option, Some, codes, if◌then◌else◌, option_map};
 ghost use Rattle.std.specs.Str.{bytes_eq};
-ghost use Rattle.mbdc_audit.specs.Field.{fields_of, how_in, left_fields, or_none, read_as};
-ghost use Rattle.mbdc_audit.specs.Field.{read_day_end};
-ghost use Rattle.mbdc_audit.specs.Grade.{grade_named};
-ghost use Rattle.mbdc_audit.specs.Printed.{or_asked};
-ghost use Rattle.mbdc_audit.specs.Smallest.{ratio_in, whole_in};
-ghost use Rattle.mbdc_audit.specs.Uses.{unit_named};
+ghost use Rattle.mbdc_audit.specs.Field.{fields_of, left_fields};
+ghost use Rattle.mbdc_audit.specs.Smallest.{decimal_in};
+ghost use Rattle.mbdc_audit.specs.declared.smallest.Spelled.{Spelled};
+ghost use Rattle.mbdc_audit.specs.Line.{IsBody, IsDayOf, IsMonth, IsNumberText, IsTypeOf, IsVibText, Reads, SaysAbove0, is_mark, is_of, may_have, spelled};
 
-use crate::fault::AuditFault;
-use crate::grade::Grade;
-use crate::moment::{day_in, end_of, offset_in};
-use crate::smallest::{ratio_in, whole_in};
-use crate::uses::Unit;
-use crate::window::How;
+use crate::moment::{day_number, offset_in};
+use crate::smallest::{MOST_VALUE_DECIMALS, Spelled, decimal_in, ratio_in, whole_in};
+use crate::uses::Counted;
+use dc_address::Identity;
+use dc_units::Date;
+use mbdc_io::decode_hex;
 use memchr::memchr;
-use std::marker::Model;
 
 /// Whether a field is this word.
 pub(crate) fn is_word(field: &[u8], word: &str) -> bool
@@ -25,18 +22,8 @@ pub(crate) fn is_word(field: &[u8], word: &str) -> bool
     field == word.as_bytes()
 }
 
-// What is in the place of a mark or a count that is asked for.
-const ASKED: &str = "?";
-
-/// The end of a day: its number, and the moment.
-#[derive(Clone, Copy)]
-pub(crate) struct DayEnd {
-    pub day: u64,
-    pub moment: u64,
-}
-
-// Splits off the first field of a text, and returns it with the rest, where there is one.
-fn first_field(text: &[u8]) -> (&[u8], Option<&[u8]>)
+/// Splits off the first field of a text, and returns it with the rest, where there is one.
+pub(crate) fn first_field(text: &[u8]) -> (&[u8], Option<&[u8]>)
     ensures { fields_of text.now
         ≡ result.0.now ∷ left_fields (option_map (λ s. s.now) result.1) }
 {
@@ -50,162 +37,267 @@ fn first_field(text: &[u8]) -> (&[u8], Option<&[u8]>)
     }
 }
 
-/// The fields of a line that are left.
-#[derive(Drop)]
-pub(crate) struct Fields<'a> {
-    left: Option<&'a [u8]>,
+/// The form of a field.
+#[derive(Clone, Copy)]
+pub enum Kind {
+    /// What is looked up.
+    Any,
+    /// `2`: the version.
+    Two,
+    /// `-`.
+    Dash,
+    /// `2026-10`.
+    Month,
+    /// The word of a use, the name of a flat, a reason.
+    Use,
+    Flat,
+    Why,
+    /// A whole number; or `-`.
+    Whole,
+    WholeOrNone,
+    /// A ratio; one above 0; such a one or `-`.
+    Ratio,
+    Positive,
+    PositiveOrNone,
+    /// A decimal.
+    Decimal,
+    /// A day and, in the next field, its offset.
+    Day,
+    Offset,
+    /// A meter, the block of the record that counts or `-`, a device type.
+    Identity,
+    Vib,
+    Type,
+    /// `energy`, `volume` or `units`.
+    Quantity,
+    /// `hand` or `estimated`.
+    How,
+    /// The bodies of telegrams: all fields that are left.
+    Bodies,
+    /// The text of a number; of the value of a run; what is beside it.
+    Text,
+    Exact,
+    Beside,
 }
 
-impl<'a> Model for Fields<'a> {
-    ghost use Rattle.std.specs.Prelude.{ℕ, List, option_map};
-    ghost use Rattle.mbdc_audit.specs.Field.{left_fields};
-
-    ghost Value = { List (List ℕ) };
-
-    ghost view = { λ f. left_fields (option_map (λ s. s.now) f.left) };
+// A number that a field spells.
+fn number(number: Option<u64>) -> Option<Option<Spelled>>
+    ensures { result ≡ option_map spelled number }
+{
+    Some(Some(Spelled {
+        digits: number?,
+        decimals: 0,
+    }))
 }
 
-impl<'a> Fields<'a> {
-    /// The fields of a line.
-    pub fn of(line: &'a [u8]) -> Fields<'a>
-        ensures { result ≡ fields_of line.now }
-    {
-        Fields { left: Some(line) }
+// The same, where it is above 0.
+fn above_0(ratio: Option<u64>) -> Option<Option<Spelled>>
+    ensures found { IfSome result (SaysAbove0 ratio) }
+    ensures only { (said : Option Spelled) → SaysAbove0 ratio said → result ≡ Some said }
+{
+    if ratio? == 0 {
+        return None;
     }
+    number(ratio)
+}
 
-    /// The text of the fields that are left.
-    pub fn rest(&self) -> &'a [u8] {
-        self.left.unwrap_or(&[])
+// Nothing, for a field that is of its form.
+fn nothing_if(is_of: bool) -> Option<Option<Spelled>>
+    ensures { result ≡ if is_of then Some None else None }
+{
+    if is_of { Some(None) } else { None }
+}
+
+// What a field spells, where a word spells nothing.
+fn unless(word: &str, field: &[u8], otherwise: Option<Option<Spelled>>) -> Option<Option<Spelled>>
+    ensures { result ≡ if bytes_eq field.now word.now then Some None else otherwise }
+{
+    if is_word(field, word) {
+        Some(None)
+    } else {
+        otherwise
     }
+}
 
-    /// The next field, if one is left.
-    pub fn next_if_any(&mut self) -> Option<&'a [u8]>
-        ensures { MatchOption result (self.old ≡ []) (λ f. self.old ≡ f.now ∷ self.new) }
-    {
-        let text = self.left?;
-        let (field, left) = first_field(text);
-        self.left = left;
-        Some(field)
+// A decimal of a value.
+fn decimal(field: &[u8]) -> Option<Option<Spelled>>
+    ensures { result ≡ option_map Some (decimal_in 9 field.now) }
+{
+    Some(Some(decimal_in(field, MOST_VALUE_DECIMALS)?))
+}
+
+// The number of a day.
+fn day_in(field: &[u8]) -> Option<u64>
+    ensures found { IfSome result (IsDayOf field.now) }
+    ensures only { (n : ℕ) → IsDayOf field.now n → result ≡ Some n }
+{
+    Some(u64::from(day_number(&Date::parse_text(field)?)?))
+}
+
+// A device type, in two capital hex digits.
+fn type_in(field: &[u8]) -> Option<u64>
+    ensures found { IfSome result (IsTypeOf field.now) }
+    ensures only { (n : ℕ) → IsTypeOf field.now n → result ≡ Some n }
+{
+    if field.len() != 2 || !is_body(field) {
+        return None;
     }
+    let mut byte = [0u8];
+    decode_hex(field, &mut byte)?;
+    Some(u64::from(byte[0]))
+}
 
-    /// The next field.
-    pub fn field(&mut self) -> Result<&'a [u8], AuditFault>
-        ensures { IfOk result (λ f. self.old ≡ f.now ∷ self.new) }
-    {
-        self.next_if_any().ok_or(AuditFault::Row)
+// Whether a value was put as an estimate.
+fn how_in(field: &[u8]) -> Option<u64>
+    ensures { result ≡ if bytes_eq field.now (codes "hand") then Some 0
+        else if bytes_eq field.now (codes "estimated") then Some 1 else None }
+{
+    if is_word(field, "hand") {
+        Some(0)
+    } else if is_word(field, "estimated") {
+        Some(1)
+    } else {
+        None
     }
+}
 
-    /// No field is left.
-    pub fn end(&self) -> Result<(), AuditFault>
-        ensures { OnOk result (self.now ≡ []) }
+impl Kind {
+    // Whether a field of letters may have this byte.
+    #[tactic(auto, unfolding(crate::specs::Line::may_have))]
+    fn may_have(self, byte: u8) -> bool
+        ensures { result ≡ may_have self byte }
     {
-        match self.left {
-            None => Ok(()),
-            Some(_) => Err(AuditFault::Row),
+        match self {
+            Kind::Use => byte.is_ascii_digit()
+                || byte.is_ascii_lowercase()
+                || byte == b' '
+                || byte == b'-',
+            Kind::Flat => {
+                byte.is_ascii_alphanumeric()
+                    || byte == b'.'
+                    || byte == b'/'
+                    || byte == b'_'
+                    || byte == b'-'
+            }
+            Kind::Why => b' ' <= byte && byte <= b'~',
+            _ => byte.is_ascii_digit() || (b'A' <= byte && byte <= b'F'),
         }
     }
 
-    /// A whole number.
-    pub fn number(&mut self) -> Result<u64, AuditFault>
-        ensures { IfOk result (λ n. read_as whole_in self.old ≡ Some (n, self.new)) }
+    // Whether a field has these letters: at least one, and at most so many.
+    fn is_of(self, field: &[u8], most: usize) -> bool
+        ensures { result ≡ is_of self most field.now }
     {
-        whole_in(self.field()?).ok_or(AuditFault::Row)
+        if field.is_empty() || field.len() > most {
+            return false;
+        }
+        field.iter().all(|byte| self.may_have(*byte))
     }
 
-    /// A whole number, or `-`.
-    pub fn number_or_none(&mut self) -> Result<Option<u64>, AuditFault>
-        ensures { IfOk result (λ n. read_as (or_none whole_in) self.old ≡ Some (n, self.new)) }
+    /// What a field spells: nothing, or a number with its decimals; `None` where it isn't of this form.
+    #[tactic(none)]
+    pub fn read(self, field: &[u8]) -> Option<Option<Spelled>>
+        ensures found { IfSome result (Reads self field.now) }
+        ensures only { (said : Option Spelled) → Reads self field.now said → result ≡ Some said }
     {
-        let field = self.field()?;
-        if is_word(field, "-") {
-            return Ok(None);
-        }
-        match whole_in(field) {
-            Some(number) => Ok(Some(number)),
-            None => Err(AuditFault::Row),
+        match self {
+            Kind::Any | Kind::Beside => Some(None),
+            Kind::Two => nothing_if(is_word(field, "2")),
+            Kind::Dash => nothing_if(is_word(field, "-")),
+            Kind::Month => nothing_if(is_month(field)),
+            Kind::Use => nothing_if(self.is_of(field, 32)),
+            Kind::Flat => nothing_if(self.is_of(field, 12)),
+            Kind::Why => nothing_if(self.is_of(field, 60)),
+            Kind::Vib => nothing_if(is_vib(field)),
+            Kind::Bodies => nothing_if(are_bodies(field)),
+            Kind::Identity => nothing_if(Identity::parse_text(field).is_ok()),
+            Kind::Quantity => nothing_if(Counted::named(field).is_some()),
+            Kind::Text => nothing_if(is_text(field)),
+            Kind::Whole => number(whole_in(field)),
+            Kind::WholeOrNone => unless("-", field, number(whole_in(field))),
+            Kind::Ratio => number(ratio_in(field)),
+            Kind::Positive => above_0(ratio_in(field)),
+            Kind::PositiveOrNone => unless("-", field, above_0(ratio_in(field))),
+            Kind::Decimal => decimal(field),
+            Kind::Exact => unless("?", field, decimal(field)),
+            Kind::Day => number(day_in(field)),
+            Kind::Offset => number(offset_in(field)),
+            Kind::Type => number(type_in(field)),
+            Kind::How => number(how_in(field)),
         }
     }
+}
 
-    /// A ratio, times 10^6.
-    pub fn ratio(&mut self) -> Result<u64, AuditFault>
-        ensures { IfOk result (λ n. read_as ratio_in self.old ≡ Some (n, self.new)) }
-    {
-        ratio_in(self.field()?).ok_or(AuditFault::Row)
+// Whether a label is a month, as `2026-10`.
+fn is_month(label: &[u8]) -> bool
+    ensures { IsTrue result ↔ IsMonth label.now }
+{
+    let mut day = *b"0000-00-01";
+    if label.len() != 7 {
+        return false;
     }
+    day[..7].copy_from_slice(label);
+    Date::parse_text(&day).is_some()
+}
 
-    /// A ratio, times 10^6, or `-`.
-    pub fn ratio_or_none(&mut self) -> Result<Option<u64>, AuditFault>
-        ensures { IfOk result (λ n. read_as (or_none ratio_in) self.old ≡ Some (n, self.new)) }
-    {
-        let field = self.field()?;
-        if is_word(field, "-") {
-            return Ok(None);
-        }
-        match ratio_in(field) {
-            Some(ratio) => Ok(Some(ratio)),
-            None => Err(AuditFault::Row),
-        }
+// Whether a field is some bytes, in two capital hex digits a byte.
+fn is_body(body: &[u8]) -> bool
+    ensures { IsTrue result ↔ IsBody body.now }
+{
+    if body.len() % 2 != 0 {
+        return false;
     }
+    Kind::Bodies.is_of(body, body.len())
+}
 
-    /// The unit of a number.
-    pub fn unit(&mut self) -> Result<Unit, AuditFault>
-        ensures { IfOk result (λ u. read_as unit_named self.old ≡ Some (u, self.new)) }
-    {
-        Unit::named(self.field()?).ok_or(AuditFault::Row)
+// Whether a field is a hyphen, or a body of at most eleven bytes.
+fn is_vib(field: &[u8]) -> bool
+    ensures { IsTrue result ↔ IsVibText field.now }
+{
+    if is_word(field, "-") {
+        return true;
     }
-
-    /// Who put a value.
-    pub fn how(&mut self) -> Result<How, AuditFault>
-        ensures { IfOk result (λ h. read_as how_in self.old ≡ Some (h, self.new)) }
-    {
-        let field = self.field()?;
-        if is_word(field, "hand") {
-            Ok(How::Hand)
-        } else if is_word(field, "estimated") {
-            Ok(How::Estimated)
-        } else {
-            Err(AuditFault::Row)
-        }
+    if field.len() > 22 {
+        return false;
     }
+    is_body(field)
+}
 
-    /// A day and an offset: the end of the day.
-    #[tactic(auto, unfolding(crate::specs::Field::read_day_end))]
-    pub fn day_end(&mut self) -> Result<DayEnd, AuditFault>
-        ensures { IfOk result (λ e. read_day_end self.old ≡ Some (e, self.new)) }
-    {
-        let day = day_in(self.field()?).ok_or(AuditFault::Row)?;
-        let offset = offset_in(self.field()?).ok_or(AuditFault::Row)?;
-        let moment = end_of(day, offset).ok_or(AuditFault::Row)?;
-        Ok(DayEnd { day, moment })
+// Whether each of fields is a body.
+#[tactic(none)]
+fn are_bodies(fields: &[u8]) -> bool
+    ensures { IsTrue result ↔ All IsBody (fields_of fields.now) }
+{
+    let (mut body, mut rest) = first_field(fields);
+    'bodies: while is_body(body) {
+        let Some(left) = rest else {
+            return true;
+        };
+        (body, rest) = first_field(left);
     }
+    false
+}
 
-    /// A mark; none where it is asked for.
-    pub fn mark(&mut self, may_ask: bool) -> Result<Option<Grade>, AuditFault>
-        ensures { IfOk result (λ g. read_as (or_asked may_ask grade_named) self.old
-            ≡ Some (g, self.new)) }
-    {
-        let field = self.field()?;
-        if may_ask && is_word(field, ASKED) {
-            return Ok(None);
-        }
-        match Grade::named(field) {
-            Some(grade) => Ok(Some(grade)),
-            None => Err(AuditFault::Row),
-        }
+// Whether a text is `-`, or `?` with zeros for the decimals.
+fn is_mark(text: &[u8]) -> bool
+    ensures { result ≡ is_mark text.now }
+{
+    is_word(text, "-")
+        || is_word(text, "?")
+        || is_word(text, "?.0")
+        || is_word(text, "?.00")
+        || is_word(text, "?.000")
+}
+
+// Whether a text is such a mark, or a decimal of at most three decimals, with or without a sign.
+fn is_text(text: &[u8]) -> bool
+    ensures { IsTrue result ↔ IsNumberText text.now }
+{
+    if is_mark(text) || decimal_in(text, 3).is_some() {
+        return true;
     }
-
-    /// A count; none where it is asked for.
-    pub fn count(&mut self, may_ask: bool) -> Result<Option<u64>, AuditFault>
-        ensures { IfOk result (λ n. read_as (or_asked may_ask whole_in) self.old
-            ≡ Some (n, self.new)) }
-    {
-        let field = self.field()?;
-        if may_ask && is_word(field, ASKED) {
-            return Ok(None);
-        }
-        match whole_in(field) {
-            Some(number) => Ok(Some(number)),
-            None => Err(AuditFault::Row),
-        }
+    match text {
+        [b'-', digits @ ..] => decimal_in(digits, 3).is_some(),
+        _ => false,
     }
 }

@@ -1,11 +1,7 @@
 //! How reliable a number is.
 
-ghost use Rattle.std.specs.Prelude.{◌≡◌, find};
-ghost use Rattle.std.specs.Str.{bytes_eq};
-ghost use Rattle.mbdc_audit.specs.Grade.{grade_name, grade_named, has_number, is_reliable};
-ghost use Rattle.mbdc_audit.specs.Grade.{rank, worst};
-
-use crate::field::is_word;
+ghost use Rattle.std.specs.Prelude.{◌≡◌};
+ghost use Rattle.mbdc_audit.specs.Grade.{grade_name, rank, worst};
 
 /// How reliable a number is, from the best to the worst.
 #[derive(Clone, Copy)]
@@ -25,44 +21,23 @@ pub enum Grade {
     Missing,
 }
 
-const GRADES: [Grade; 7] = [
-    Grade::Measured,
-    Grade::Hand,
-    Grade::Provisional,
-    Grade::Estimated,
-    Grade::Unclear,
-    Grade::Disturbed,
-    Grade::Missing,
-];
+/// The first grade in the order without a number.
+pub const UNCLEAR: u8 = 4;
 
 impl Grade {
-    /// The word for it.
-    pub fn name(self) -> &'static str
-        ensures { result.now ≡ grade_name self }
+    /// The word for it, and its place in the order.
+    pub fn told(self) -> (&'static str, u8)
+        ensures name { result.0.now ≡ grade_name self }
+        ensures rank { result.1 ≡ rank self }
     {
         match self {
-            Grade::Measured => "measured",
-            Grade::Hand => "hand",
-            Grade::Provisional => "provisional",
-            Grade::Estimated => "estimated",
-            Grade::Unclear => "unclear",
-            Grade::Disturbed => "disturbed",
-            Grade::Missing => "missing",
-        }
-    }
-
-    /// Its place in the order.
-    pub fn rank(self) -> u8
-        ensures { result ≡ rank self }
-    {
-        match self {
-            Grade::Measured => 0,
-            Grade::Hand => 1,
-            Grade::Provisional => 2,
-            Grade::Estimated => 3,
-            Grade::Unclear => 4,
-            Grade::Disturbed => 5,
-            Grade::Missing => 6,
+            Grade::Measured => ("measured", 0),
+            Grade::Hand => ("hand", 1),
+            Grade::Provisional => ("provisional", 2),
+            Grade::Estimated => ("estimated", 3),
+            Grade::Unclear => ("unclear", 4),
+            Grade::Disturbed => ("disturbed", 5),
+            Grade::Missing => ("missing", 6),
         }
     }
 
@@ -70,41 +45,10 @@ impl Grade {
     pub fn worst(self, other: Grade) -> Grade
         ensures { result ≡ worst self other }
     {
-        if self.rank() < other.rank() {
+        if self.told().1 < other.told().1 {
             other
         } else {
             self
         }
     }
-
-    /// Whether there is a number.
-    pub fn has_number(self) -> bool
-        ensures { result ≡ has_number self }
-    {
-        self.rank() < Grade::Unclear.rank()
-    }
-
-    /// Whether it is reliable enough to be compared with others.
-    pub fn is_reliable(self) -> bool
-        ensures { result ≡ is_reliable self }
-    {
-        matches!(self, Grade::Measured | Grade::Hand)
-    }
-
-    /// The grade that a word names.
-    pub fn named(word: &[u8]) -> Option<Grade>
-        ensures { result ≡ grade_named word.now }
-    {
-        grade_in(word, &GRADES)
-    }
-}
-
-// The first of these grades that a word names.
-fn grade_in(word: &[u8], grades: &[Grade]) -> Option<Grade>
-    ensures { result ≡ find (λ g. bytes_eq word.now (grade_name g)) grades.now }
-{
-    grades
-        .iter()
-        .copied()
-        .find(|grade| is_word(word, grade.name()))
 }

@@ -1,18 +1,17 @@
 //! Decimals as lines spell them, and whole numbers of the smallest unit.
 
-ghost use Rattle.std.specs.Prelude.{◌≡◌, ◌<◌, ◌≤◌, ◌^◌, ◌*◌, IfSome, length, option_map};
+ghost use Rattle.std.specs.Prelude.{◌≡◌, ◌<◌, ◌≤◌, ◌^◌, ◌*◌, IfSome, option_map, pos, ℕ};
 ghost use Rattle.std.specs.List.{position};
-ghost use Rattle.std.specs.Option.{SomeIff};
 ghost use Rattle.mbdc_audit.specs.Smallest.{decimal_in, digits_on, end_of_values, fitting};
 ghost use Rattle.mbdc_audit.specs.Smallest.{is_whole_part};
-ghost use Rattle.mbdc_audit.specs.Smallest.{is_point, of_decimal, of_magnitude, of_spelled, parts_of};
-ghost use Rattle.mbdc_audit.specs.Smallest.{ratio_in, ratio_of, scaled_down, scaled_up};
-ghost use Rattle.mbdc_audit.specs.Smallest.{spelled_after, whole_in};
+ghost use Rattle.mbdc_audit.specs.Smallest.{is_point, of_decimal, of_spelled, parts_of};
+ghost use Rattle.mbdc_audit.specs.Smallest.{ratio_in, scaled_down};
+ghost use Rattle.mbdc_audit.specs.Smallest.{whole_in};
 
 use dc_units::Decimal;
 
-// Values and numbers have at most 18 digits.
-const END_OF_VALUES: u64 = 1_000_000_000_000_000_000;
+/// Values and numbers have at most 18 digits.
+pub const END_OF_VALUES: u64 = 1_000_000_000_000_000_000;
 
 /// Most decimals of a value.
 pub const MOST_VALUE_DECIMALS: usize = 9;
@@ -30,7 +29,7 @@ const MOST_POWER: u32 = 38;
 pub const OF_RATIO: u64 = 1_000_000;
 
 /// A decimal: its digits as a number, and how many of them are after the point.
-#[derive(Clone, Copy)]
+#[derive(Clone, Copy, PartialEq, Eq)]
 pub struct Spelled {
     pub digits: u64,
     pub decimals: u32,
@@ -67,7 +66,8 @@ pub fn whole_in(text: &[u8]) -> Option<u64>
     }
 }
 
-fn first_point(text: &[u8]) -> Option<usize>
+/// The place of the first point.
+pub fn first_point(text: &[u8]) -> Option<usize>
     ensures { result ≡ position is_point text.now }
 {
     text.iter().position(|byte| *byte == b'.')
@@ -99,15 +99,19 @@ fn is_whole_part(whole: &[u8]) -> bool
     }
 }
 
-// The decimal with these digits before the point, and those after it.
-fn spelled_after(most: usize, before: Option<u64>, after: Option<&[u8]>) -> Option<Spelled>
-    requires most { most ≤ 9 }
-    requires before { IfSome before (λ n. n < end_of_values) }
-    ensures value { result ≡ spelled_after most before (option_map (λ s. s.now) after.entry) }
+/// The decimal that a text spells, with at most this many decimals; without a point or with digits on both sides of it.
+#[tactic(auto, unfolding(crate::specs::Smallest::decimal_in))]
+pub fn decimal_in(text: &[u8], most: usize) -> Option<Spelled>
+    requires { most ≤ 9 }
+    ensures value { result ≡ decimal_in most text.now }
     ensures few { IfSome result (λ s. s.decimals ≤ most) }
     ensures small { IfSome result (λ s. s.digits < end_of_values) }
 {
-    let before = before?;
+    let (whole, after) = parts_of(text);
+    if !is_whole_part(whole) {
+        return None;
+    }
+    let before = digits_on(0, whole)?;
     let Some(after) = after else {
         return Some(Spelled {
             digits: before,
@@ -123,26 +127,12 @@ fn spelled_after(most: usize, before: Option<u64>, after: Option<&[u8]>) -> Opti
     })
 }
 
-/// The decimal that a text spells, with at most this many decimals; without a point or with digits on both sides of it.
-#[tactic(auto, unfolding(crate::specs::Smallest::decimal_in))]
-pub fn decimal_in(text: &[u8], most: usize) -> Option<Spelled>
-    requires { most ≤ 9 }
-    ensures value { result ≡ decimal_in most text.now }
-    ensures few { IfSome result (λ s. s.decimals ≤ most) }
-    ensures small { IfSome result (λ s. s.digits < end_of_values) }
+/// The ratio that a text spells, times 10^6: at most nine digits before the point, and six after it.
+#[tactic(auto, unfolding(crate::specs::Smallest::ratio_in))]
+pub fn ratio_in(text: &[u8]) -> Option<u64>
+    ensures { result ≡ ratio_in text.now }
 {
-    let (whole, after) = parts_of(text);
-    if !is_whole_part(whole) {
-        return None;
-    }
-    spelled_after(most, digits_on(0, whole), after)
-}
-
-// A decimal of at most six decimals, times 10^6.
-fn ratio_of(spelled: Spelled) -> Option<u64>
-    requires { spelled.decimals ≤ 6 }
-    ensures { result ≡ ratio_of spelled }
-{
+    let spelled = decimal_in(text, MOST_RATIO_DECIMALS)?;
     let scale = power_of_ten(6 - spelled.decimals);
     let ratio = u128::from(spelled.digits).checked_mul(scale)?;
     if ratio < END_OF_RATIOS {
@@ -150,14 +140,6 @@ fn ratio_of(spelled: Spelled) -> Option<u64>
     } else {
         None
     }
-}
-
-/// The ratio that a text spells, times 10^6: at most nine digits before the point, and six after it.
-#[tactic(auto, unfolding(crate::specs::Smallest::ratio_in))]
-pub fn ratio_in(text: &[u8]) -> Option<u64>
-    ensures { result ≡ ratio_in text.now }
-{
-    ratio_of(decimal_in(text, MOST_RATIO_DECIMALS)?)
 }
 
 // A number of smallest units below 10^18.
@@ -171,9 +153,9 @@ fn fitting(units: u128) -> Option<u64>
     }
 }
 
-// A power of ten.
+/// A power of ten.
 #[tactic(auto, using(crate::proofs::Powers::power_some, crate::proofs::Powers::power_fits))]
-fn power_of_ten(power: u32) -> u128
+pub fn power_of_ten(power: u32) -> u128
     requires { power ≤ 38 }
     ensures value { result ≡ 10 ^ power }
     ensures some { 0 < result }
@@ -194,17 +176,6 @@ fn scaled_down(units: u128, power: u32) -> Option<u64>
     }
 }
 
-// A number times a power of ten.
-fn scaled_up(units: u128, power: u32) -> Option<u64>
-    requires { power ≤ 38 }
-    ensures { result ≡ scaled_up units power }
-{
-    match units.checked_mul(power_of_ten(power)) {
-        Some(scaled) => fitting(scaled),
-        None => None,
-    }
-}
-
 /// A spelled value of units of this size as a whole number of the smallest unit below 10^18.
 pub fn of_spelled(spelled: Spelled, size: u64) -> Option<u64>
     requires { spelled.decimals ≤ 9 }
@@ -216,30 +187,25 @@ pub fn of_spelled(spelled: Spelled, size: u64) -> Option<u64>
     )
 }
 
-// A magnitude of units of this size, times a power of ten.
-fn of_magnitude(n: u64, exponent: i8, size: u64) -> Option<u64>
-    ensures { result ≡ of_magnitude n exponent size }
-{
-    if n == 0 {
-        return Some(0);
-    }
-    let units = u128::from(n) * u128::from(size);
-    let power = u32::from(exponent.unsigned_abs());
-    if power > MOST_POWER {
-        None
-    } else if exponent < 0 {
-        scaled_down(units, power)
-    } else {
-        scaled_up(units, power)
-    }
-}
-
 /// A decimal of units of this size as a whole number of the smallest unit of at least 0 and below 10^18.
 pub fn of_decimal(decimal: Decimal, size: u64) -> Option<u64>
-    ensures { result ≡ of_decimal decimal size }
+    ensures value { result ≡ of_decimal decimal size }
+    ensures digits { (n : ℕ) → decimal.mantissa ≡ pos n → n < 2 ^ 64 }
 {
     if decimal.mantissa < 0 {
         return None;
     }
-    of_magnitude(decimal.mantissa.unsigned_abs(), decimal.exponent, size)
+    let n = decimal.mantissa.unsigned_abs();
+    if n == 0 {
+        return Some(0);
+    }
+    let units = u128::from(n) * u128::from(size);
+    let power = u32::from(decimal.exponent.unsigned_abs());
+    if power > MOST_POWER {
+        None
+    } else if decimal.exponent < 0 {
+        scaled_down(units, power)
+    } else {
+        fitting(units.checked_mul(power_of_ten(power))?)
+    }
 }

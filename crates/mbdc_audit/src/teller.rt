@@ -1,57 +1,21 @@
-//! What is printed: numbers that differ, values without evidence, the closing line, a line at fault.
+//! What is printed: each finding on a line, and the closing line.
 
-ghost use Rattle.std.specs.Prelude.{◌≡◌, IsTrue};
-ghost use Rattle.mbdc_audit.specs.Counts.{count_number, no_counts, put_counted};
+ghost use Rattle.mbdc_io.specs.Written.{Wrote};
+ghost use Rattle.mbdc_audit.specs.Told.{piece_text, pieces_text};
+ghost use Rattle.std.specs.Prelude.{◌≡◌, false, IsTrue, OnOk};
+ghost use Rattle.mbdc_audit.specs.Walk.{Checks, is_clean};
 
 use crate::evidence::Refusal;
 use crate::fault::AuditFault;
-use crate::field::Fields;
-use crate::printed::{Beside, Printed, put_printed};
-use crate::window::How;
-use mbdc_io::{IoFault, Sink, put_fault_line, put_number, put_number_word};
-
-/// Whose a number is.
-#[derive(Clone, Copy)]
-pub enum Whose<'a> {
-    Place(u64),
-    User(u64),
-    Flat(&'a [u8]),
-    House,
-}
-
-/// What a number is of: `what` is nothing for an amount.
-#[derive(Clone, Copy)]
-pub struct Subject<'a> {
-    pub what: &'static str,
-    pub whose: Whose<'a>,
-}
-
-impl<'a> Subject<'a> {
-    /// An amount.
-    pub fn amount(whose: Whose<'a>) -> Subject<'a> {
-        Subject { what: "", whose }
-    }
-
-    /// What is computed of a user.
-    pub fn of_user(what: &'static str, user: u64) -> Subject<'a> {
-        let whose = Whose::User(user);
-        Subject { what, whose }
-    }
-}
-
-/// What holds of the last fields of a line: of as many bytes at its end.
-#[derive(Clone, Copy)]
-pub(crate) struct Answer {
-    pub tail: usize,
-    pub number: Printed,
-    pub beside: Beside,
-}
+use crate::teller::Piece::{Number, Text};
+use mbdc_io::{IoFault, Sink, put_number};
 
 /// What was counted.
 #[derive(Clone, Copy)]
 pub(crate) struct Counts {
     pub numbers: u64,
     pub differ: u64,
+    pub rules: u64,
     pub readings: u64,
     pub refused: u64,
     pub by_hand: u64,
@@ -60,198 +24,157 @@ pub(crate) struct Counts {
 }
 
 impl Counts {
-    pub fn new() -> Self
-        ensures { result ≡ no_counts }
-    {
-        Counts {
-            numbers: 0,
-            differ: 0,
-            readings: 0,
-            refused: 0,
-            by_hand: 0,
-            estimated: 0,
-            struck: 0,
-        }
-    }
-
-    /// Counts a value that a person or an estimate put.
-    pub fn add_put(&mut self, how: How)
-        ensures { self.new ≡ put_counted how self.old }
-    {
-        match how {
-            How::Hand => self.by_hand = self.by_hand.saturating_add(1),
-            How::Estimated => self.estimated = self.estimated.saturating_add(1),
-        }
-    }
-
-    /// Counts a published number, which is right or differs.
-    pub fn add_number(&mut self, is_right: bool)
-        ensures { self.new ≡ count_number is_right self.old }
-    {
-        self.numbers = self.numbers.saturating_add(1);
-        if !is_right {
-            self.differ = self.differ.saturating_add(1);
-        }
-    }
-
-    /// Whether each number is what was published, and each value has evidence.
-    pub fn are_right(&self) -> bool
-        ensures { IsTrue result → (self.now.differ ≡ 0) × (self.now.refused ≡ 0) }
-    {
-        self.differ == 0 && self.refused == 0
-    }
-}
-
-// Writes what a number is of.
-fn put_subject<W: Sink>(out: &mut W, subject: &Subject<'_>, word: &[u8]) -> Result<(), IoFault> {
-    if !subject.what.is_empty() {
-        out.put(subject.what.as_bytes())?;
-        out.put(b" of ")?;
-    }
-    match &subject.whose {
-        Whose::Place(number) => {
-            out.put(b"place ")?;
-            put_number(out, *number)?;
-        }
-        Whose::User(number) => {
-            out.put(b"user ")?;
-            put_number(out, *number)?;
-        }
-        Whose::Flat(name) => {
-            out.put(b"flat ")?;
-            out.put(name)?;
-        }
-        Whose::House => out.put(b"house")?,
-    }
-    out.put(b" ")?;
-    out.put(word)
-}
-
-// Writes the number of a line after a word.
-fn put_at<W: Sink>(out: &mut W, word: &[u8], line: u64) -> Result<(), IoFault> {
-    out.put(word)?;
-    out.put(b" line ")?;
-    put_number(out, line)?;
-    out.put(b": ")
-}
-
-/// Writes that a number isn't what was published; of the value of a reading with its unit.
-pub(crate) fn put_differs<W: Sink>(
-    out: &mut W,
-    line: u64,
-    subject: &Subject<'_>,
-    word: &[u8],
-    tail: &[u8],
-    answer: &Answer,
-    unit: &[u8],
-) -> Result<(), IoFault> {
-    put_at(out, b"DIFFERS", line)?;
-    put_subject(out, subject, word)?;
-    out.put(b": published")?;
-    // With spaces in the place of commas.
-    let mut fields = Fields::of(tail);
-    'fields: while let Some(field) = fields.next_if_any() {
-        out.put(b" ")?;
-        out.put(field)?;
-    }
-    out.put(b", computed ")?;
-    put_printed(out, answer.number)?;
-    match answer.beside {
-        Beside::Nothing => {
-            if !unit.is_empty() {
-                out.put(b" ")?;
-                out.put(unit)?;
-            }
-        }
-        Beside::Mark(grade) => {
-            out.put(b" ")?;
-            out.put(grade.name().as_bytes())?;
-        }
-        Beside::Counts(without, count) => {
-            put_number_word(out, without)?;
-            put_number_word(out, count)?;
-        }
-    }
-    out.put(b"\n")
-}
-
-// Writes the field at a place from the number on, as it holds.
-fn put_held<W: Sink>(out: &mut W, answer: &Answer, place: usize) -> Result<(), IoFault> {
-    if place == 0 {
-        return put_printed(out, answer.number);
-    }
-    match answer.beside {
-        Beside::Nothing => Ok(()),
-        Beside::Mark(grade) => out.put(grade.name().as_bytes()),
-        Beside::Counts(without, count) => put_number(out, if place == 1 { without } else { count }),
-    }
-}
-
-/// Writes a line, with what holds in the place of what is asked for.
-pub(crate) fn put_filled<W: Sink>(
-    out: &mut W,
-    line: &[u8],
-    answer: &Option<Answer>,
-) -> Result<(), IoFault> {
-    let Some(answer) = answer else {
-        out.put(line)?;
-        return out.put(b"\n");
+    /// Nothing.
+    pub const NONE: Counts = Counts {
+        numbers: 0,
+        differ: 0,
+        rules: 0,
+        readings: 0,
+        refused: 0,
+        by_hand: 0,
+        estimated: 0,
+        struck: 0,
     };
-    let (front, tail) = line.split_at(line.len().saturating_sub(answer.tail));
-    out.put(front)?;
-    let mut fields = Fields::of(tail);
-    'fields: for place in 0..3 {
-        let Some(given) = fields.next_if_any() else {
-            break;
-        };
-        if place > 0 {
-            out.put(b",")?;
-        }
-        match given {
-            [b'?', ..] => put_held(out, answer, place)?,
-            _ => out.put(given)?,
+}
+
+/// A piece of a text.
+#[derive(Clone, Copy)]
+pub enum Piece<'a> {
+    Text(&'a [u8]),
+    /// A number in decimal.
+    Number(u64),
+}
+
+/// Prints findings, and counts.
+#[derive(Drop)]
+pub(crate) struct Teller<'s, W: Sink> {
+    pub out: &'s mut W,
+    pub counts: Counts,
+}
+
+// Writes a piece.
+fn put_piece<W: Sink>(out: &mut W, piece: &Piece<'_>) -> Result<(), IoFault>
+    ensures { Wrote W.Sink result out.old out.new (piece_text piece.now) }
+{
+    match piece {
+        Text(text) => out.put(text),
+        Number(number) => put_number(out, *number),
+    }
+}
+
+/// Writes pieces, one after the other.
+pub(crate) fn put_pieces<W: Sink>(out: &mut W, pieces: &[Piece<'_>]) -> Result<(), IoFault>
+    ensures { Wrote W.Sink result out.old out.new (pieces_text pieces.now) }
+{
+    match pieces {
+        [] => Ok(()),
+        [piece, rest @ ..] => {
+            put_piece(out, piece)?;
+            put_pieces(out, rest)
         }
     }
-    out.put(b"\n")
 }
 
-/// Writes that telegrams give no value, and why.
-pub(crate) fn put_no_evidence<W: Sink>(
-    out: &mut W,
-    line: u64,
-    refusal: Refusal,
-) -> Result<(), IoFault> {
-    put_at(out, b"NO EVIDENCE", line)?;
-    out.put(refusal.text().as_bytes())?;
-    out.put(b"\n")
-}
+impl<'s, W: Sink> Teller<'s, W> {
+    /// Prints that a line breaks a rule, and how.
+    pub fn rule(&mut self, line: u64, name: &str, words: &[Piece<'_>]) -> Result<(), IoFault>
+        ensures { OnOk result (is_clean self.new.counts ≡ false) }
+    {
+        self.counts.rules = self.counts.rules.saturating_add(1);
+        put_pieces(
+            self.out,
+            &[
+                Text(b"RULE line "),
+                Number(line),
+                Text(b" "),
+                Text(name.as_bytes()),
+                Text(b": "),
+            ],
+        )?;
+        put_pieces(self.out, words)?;
+        self.out.put(b"\n")
+    }
 
-// Writes a word and a count.
-fn put_count<W: Sink>(out: &mut W, word: &[u8], count: u64) -> Result<(), IoFault> {
-    out.put(word)?;
-    put_number(out, count)
-}
+    /// Prints that a line breaks a rule where it does.
+    pub fn unless(
+        &mut self,
+        holds: bool,
+        line: u64,
+        name: &str,
+        words: &[Piece<'_>],
+    ) -> Result<(), IoFault>
+        ensures { Checks result self.old.counts self.new.counts (IsTrue holds) }
+    {
+        if holds {
+            return Ok(());
+        }
+        self.rule(line, name, words)
+    }
 
-/// Writes the closing line.
-pub(crate) fn put_closing<W: Sink>(
-    out: &mut W,
-    counts: &Counts,
-    places: u64,
-) -> Result<(), IoFault> {
-    put_count(out, b"numbers ", counts.numbers)?;
-    put_count(out, b", differ ", counts.differ)?;
-    put_count(out, b", readings ", counts.readings)?;
-    put_count(out, b", refused ", counts.refused)?;
-    put_count(out, b", by hand ", counts.by_hand)?;
-    put_count(out, b", estimated ", counts.estimated)?;
-    put_count(out, b", struck ", counts.struck)?;
-    put_count(out, b", places ", places)?;
-    out.put(b"\n")
-}
+    /// Prints that a value has no evidence, and why.
+    pub fn refuse(&mut self, line: u64, why: Refusal) -> Result<(), IoFault>
+        ensures { OnOk result (is_clean self.new.counts ≡ false) }
+    {
+        self.counts.refused = self.counts.refused.saturating_add(1);
+        put_pieces(
+            self.out,
+            &[
+                Text(b"NO EVIDENCE line "),
+                Number(line),
+                Text(b": "),
+                Text(why.as_bytes()),
+                Text(b"\n"),
+            ],
+        )
+    }
 
-/// Writes the number and the fault of a line.
-pub(crate) fn put_fault<W: Sink>(out: &mut W, line: u64, fault: AuditFault) -> Result<(), IoFault> {
-    out.put(b"LINE ")?;
-    put_number(out, line)?;
-    put_fault_line(out, b" FAULT", fault.number(), fault.name())
+    /// Prints the closing line.
+    pub fn close(&mut self, places: u64) -> Result<(), IoFault>
+        ensures { self.new.counts ≡ self.old.counts }
+    {
+        let counts = self.counts;
+        put_pieces(
+            self.out,
+            &[
+                Text(b"numbers "),
+                Number(counts.numbers),
+                Text(b", differ "),
+                Number(counts.differ),
+                Text(b", rules "),
+                Number(counts.rules),
+                Text(b", readings "),
+                Number(counts.readings),
+                Text(b", refused "),
+                Number(counts.refused),
+                Text(b", by hand "),
+                Number(counts.by_hand),
+                Text(b", estimated "),
+                Number(counts.estimated),
+                Text(b", struck "),
+                Number(counts.struck),
+                Text(b", places "),
+                Number(places),
+                Text(b"\n"),
+            ],
+        )
+    }
+
+    /// Prints the number and the fault of a line.
+    pub fn put_fault(&mut self, line: u64, fault: AuditFault) -> Result<(), IoFault>
+        ensures { self.new.counts ≡ self.old.counts }
+    {
+        let (number, name) = fault.told();
+        put_pieces(
+            self.out,
+            &[
+                Text(b"LINE "),
+                Number(line),
+                Text(b" FAULT "),
+                Number(u64::from(number)),
+                Text(b" "),
+                Text(name.as_bytes()),
+                Text(b"\n"),
+            ],
+        )
+    }
 }

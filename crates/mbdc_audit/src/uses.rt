@@ -1,15 +1,17 @@
 //! What meters count, and the units of amounts.
 
-ghost use Rattle.std.specs.Prelude.{◌≡◌, ◌<◌, ◌≤◌, IfSome, find};
-ghost use Rattle.std.specs.Str.{bytes_eq};
-ghost use Rattle.mbdc_audit.specs.Uses.{counted_named, is_counted, is_unit, size_named, size_of};
-ghost use Rattle.mbdc_audit.specs.Uses.{unit_name, unit_named};
+ghost use Rattle.std.specs.Prelude.{◌≡◌, ◌<◌, ◌≤◌, ◌↔◌, IfSome, IsTrue};
+ghost use Rattle.mbdc_audit.specs.Sound.{IsType};
+ghost use Rattle.mbdc_audit.specs.Uses.{counted_named, size_named, size_of};
+ghost use Rattle.mbdc_audit.specs.Uses.{is_unit, unit_named};
+ghost use Rattle.mbdc_audit.specs.View.{run_of};
 
+use crate::curve::Run;
 use crate::field::is_word;
 use dc_units::Quantity;
 
 /// What a meter counts.
-#[derive(Clone, Copy)]
+#[derive(Clone, Copy, PartialEq, Eq)]
 pub enum Counted {
     Energy,
     Volume,
@@ -39,14 +41,6 @@ pub const OF_CUBIC_METRE: u64 = 1_000_000;
 /// Smallest units of an allocator's unit.
 pub const OF_ALLOCATED: u64 = 1_000;
 
-const UNITS: [Unit; 5] = [
-    Unit::Kwh,
-    Unit::CubicMetre,
-    Unit::Allocated,
-    Unit::Count,
-    Unit::Smallest,
-];
-
 impl Counted {
     /// The quantity that a word names.
     pub fn named(word: &[u8]) -> Option<Counted>
@@ -62,35 +56,10 @@ impl Counted {
             None
         }
     }
-
-    /// Whether the two are the same.
-    pub fn is(self, other: Counted) -> bool
-        ensures { result ≡ is_counted self other }
-    {
-        matches!(
-            (self, other),
-            (Counted::Energy, Counted::Energy)
-                | (Counted::Volume, Counted::Volume)
-                | (Counted::Allocation, Counted::Allocation)
-        )
-    }
 }
 
 impl Unit {
-    /// The word for it.
-    pub fn name(self) -> &'static str
-        ensures { result.now ≡ unit_name self }
-    {
-        match self {
-            Unit::Kwh => "kWh",
-            Unit::CubicMetre => "m3",
-            Unit::Allocated => "HCA",
-            Unit::Count => "count",
-            Unit::Smallest => "smallest",
-        }
-    }
-
-    /// Whether the two are the same.
+    /// Whether it is another one.
     pub fn is(self, other: Unit) -> bool
         ensures { result ≡ is_unit self other }
     {
@@ -108,18 +77,20 @@ impl Unit {
     pub fn named(word: &[u8]) -> Option<Unit>
         ensures { result ≡ unit_named word.now }
     {
-        unit_among(word, &UNITS)
+        if is_word(word, "kWh") {
+            Some(Unit::Kwh)
+        } else if is_word(word, "m3") {
+            Some(Unit::CubicMetre)
+        } else if is_word(word, "HCA") {
+            Some(Unit::Allocated)
+        } else if is_word(word, "count") {
+            Some(Unit::Count)
+        } else if is_word(word, "smallest") {
+            Some(Unit::Smallest)
+        } else {
+            None
+        }
     }
-}
-
-// The first of these units that a word names.
-fn unit_among(word: &[u8], units: &[Unit]) -> Option<Unit>
-    ensures { result ≡ find (λ u. bytes_eq word.now (unit_name u)) units.now }
-{
-    units
-        .iter()
-        .copied()
-        .find(|unit| is_word(word, unit.name()))
 }
 
 /// What a quantity of the table of units counts, and the smallest units of one of its units.
@@ -159,5 +130,23 @@ pub fn size_named(word: &[u8]) -> Option<(Counted, u64)>
         size_of(Quantity::HeatCostAllocator)
     } else {
         None
+    }
+}
+
+/// Whether a device type (EN 13757-7) counts a use, by its word. A meter of heat and cooling counts cooling where its VIB
+/// is named.
+pub fn is_type(name: &[u8], run: &Run<'_>) -> bool
+    ensures { IsTrue result ↔ IsType name.now (run_of run.now) }
+{
+    match run.identity.kind {
+        0x04 | 0x0C => is_word(name, "heat"),
+        0x0D => is_word(name, "heat") || (is_word(name, "cooling") && !run.vib.is_empty()),
+        0x0A | 0x0B => is_word(name, "cooling"),
+        0x06 | 0x15 => is_word(name, "warm water"),
+        0x07 | 0x16 => is_word(name, "cold water"),
+        0x02 => is_word(name, "electricity"),
+        0x03 => is_word(name, "gas"),
+        0x08 => is_word(name, "allocator"),
+        _ => false,
     }
 }

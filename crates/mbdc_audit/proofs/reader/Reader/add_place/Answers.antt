@@ -1,0 +1,27 @@
+use Rattle.std.proofs.Common.{◌≡◌, ◌+◌, ◌++◌, ◌∷◌, [], ℕ, List, length, map, sym, ap, subst, ◌∙◌}
+use Rattle.std.proofs.lemmas.List.{length-map, map_push}
+use Rattle.mbdc_audit.specs.House.{Place, Run, Window}
+use Rattle.mbdc_audit.specs.File.{Adds, first_named}
+use Rattle.mbdc_audit.specs.View.{house_of, place_of, run_of, window_of}
+use Rattle.mbdc_audit.proofs.Added.{adds_place}
+use Rattle.mbdc_audit.proofs.Tests.{below_by, same_by}
+use Rattle.mbdc_audit.proofs.reader.Reader.add_place.Goals as goal
+
+pub returns-clause-ok : goal.returns-clause-ok
+returns-clause-ok g c =
+    let h = house_of c.args.self.now.house in
+    let l = c.args.line.now in
+    let v = c.args.self.now.house.places in
+    let p : Place = record { flat = c.field.result.now; used = c.in_ok-used.field-0; weight = c.number-2.result; runs = []; windows = [] } in
+    let long : c.len-count.result ≡ length h.places = c.len-count.ensures ∙ (v.ok.0 ∙ sym (length-map v.items place_of)) in
+    let next : c.number.result ≡ c.len-count.result + 1 = same_by c.number.result (c.len-count.result + 1) c.in_ok-only_if.ensures.ok in
+    let bare : place_of (record { line = c.args.self.now.house.lines; flat = c.field.result; used = c.in_ok-used.field-0; weight = c.number-2.result; runs = c.new.result; windows = c.new-2.result }) ≡ p =
+    ap (λ (rs : List Run). record p { runs = rs; windows = map window_of c.new-2.result.items }) (ap (map run_of) c.new.ensures.items)
+    ∙ ap (λ (ws : List Window). record p { windows = ws }) (ap (map window_of) c.new-2.ensures.items) in
+    let pushed : map place_of c.push.new.self.items ≡ h.places ++ p ∷ [] =
+    ap (map place_of) c.in_ok-push.ensures.items ∙ (map_push place_of v.items _ ∙ ap (λ (q : Place). h.places ++ q ∷ []) bare) in
+    subst (λ (ps : List Place). Adds h l (record h { places = ps })) (sym pushed)
+    (adds_place h l c.field.result.now c.in_ok-used.field-0 c.number-2.result c.requires
+    (sym c.number.ensures ∙ (next ∙ ap (λ (n : ℕ). n + 1) long)) (sym c.field.ensures)
+    (ap (first_named h) (sym c.field-2.ensures) ∙ c.in_ok-used.ensures.ok) (sym c.number-2.ensures)
+    (below_by c.len-count.result (length h.places) 16384 c.in_ok-only_if-2.ensures.ok long))

@@ -1,0 +1,36 @@
+use Rattle.std.proofs.Common.{◌∙◌, ℕ, ap, sym, inl}
+use Rattle.std.proofs.lemmas.Bool.{false≢true}
+use Rattle.mbdc_audit.specs.Line.{may_follow}
+use Rattle.mbdc_audit.specs.View.{house_of}
+use Rattle.mbdc_audit.proofs.OneLine.{one_line, same_adds}
+use Rattle.mbdc_audit.proofs.Quiet.{quiet}
+use Rattle.mbdc_audit.proofs.Table.{first_stage, header_line, one_stage}
+use Rattle.mbdc_audit.proofs.reader.Reader.step.Goals.{else-not-self-via-then-not-self+else-is_asked, else-not-self-via-else-not-self}
+use Rattle.mbdc_audit.proofs.reader.Reader.step.Goals as goal
+
+pub returns-then-not-is_header-clause-err : goal.returns-then-not-is_header-clause-err
+returns-then-not-is_header-clause-err g c = λ fault. inl (λ stage house f.
+    let first = first_stage f.line.stage c.args.self.now.stage c.if-self-eq-BEGUN.true f.follows in
+    false≢true (c.if-not-is_header.ensures ∙ header_line c.args.text.now f.line f.is first))
+
+pub returns-in-Err-clause-err : goal.returns-in-Err-clause-err
+returns-in-Err-clause-err g c = λ fault. inl (λ stage house f. c.in-Err.ensures.only f.line f.is)
+
+pub returns-then-not-may_follow-clause-err : goal.returns-then-not-may_follow-clause-err
+returns-then-not-may_follow-clause-err g c = λ fault. inl (λ stage house f.
+    let same = one_stage c.args.text.now f.line c.in-Ok.line f.is c.in-Ok.ensures.found in
+    false≢true (c.if-not-may_follow.ensures ∙ (ap (λ (n : ℕ). may_follow n c.args.self.now.stage) (sym same) ∙ f.follows)))
+
+pub returns-in-Err-add-clause-err : goal.returns-in-Err-add-clause-err
+returns-in-Err-add-clause-err g c = λ fault. inl (λ stage house f.
+    c.in-Err-add.ensures.err fault house (same_adds (house_of c.args.self.now.house) house f.line c.in-Ok.line
+    (one_line c.args.text.now f.line c.in-Ok.line f.is c.in-Ok.ensures.found) f.adds))
+
+pub returns-in-Ok-add-clause-asks : goal.returns-in-Ok-add-clause-asks
+returns-in-Ok-add-clause-asks g c = λ may old.
+    quiet (house_of c.args.self.now.house) (house_of c.add.new.self.house) c.args.text.now c.in-Ok.line c.in-Ok.ensures.found
+    (elim c.else-not-self.branch [
+      | else-not-self-via-then-not-self+else-is_asked w ↦ sym w.is_asked.ensures ∙ w.if-is_asked.false
+      | else-not-self-via-else-not-self w ↦ absurd (false≢true (sym may ∙ w.if-not-self.false))
+    ])
+    c.in-Ok-add.ensures.ok old

@@ -1,0 +1,43 @@
+use Rattle.std.proofs.Common.{◌≡◌, ◌∷◌, ◌++◌, ◌∙◌, ℕ, List, [], map, refl, ap, sym, subst, arith}
+use Rattle.std.proofs.lemmas.List.{append-nil}
+use Rattle.mbdc_audit.specs.File.{Steps, empty}
+use Rattle.mbdc_audit.specs.House.{House}
+use Rattle.mbdc_io.specs.Lines.{lines_of}
+use Rattle.mbdc_audit.specs.Walk.{IsQuiet}
+use Rattle.mbdc_audit.specs.View.{allowed_of, house_of, number_of, place_of, span_of, use_of, user_of}
+use Rattle.mbdc_audit.proofs.Steps.{next_lines, one_step}
+use Rattle.mbdc_audit.proofs.Quiet.{quiet_empty}
+use Rattle.mbdc_audit.proofs.ReadAs.{begun, no_lines, none_left, read_as}
+use Rattle.mbdc_audit.proofs.reader.read_house.Goals as goal
+
+pub lines-init : goal.lines-init
+lines-init g c =
+    let is = begun _ _ _ _ _ _ _ (ap (map use_of) c.new.ensures.items) (ap (map allowed_of) c.new-2.ensures.items)
+    (ap (map span_of) c.new-3.ensures.items) c.new-4.ensures.items (ap (map user_of) c.new-5.ensures.items)
+    (ap (map place_of) c.new-6.ensures.items) (ap (map number_of) c.new-7.ensures.items) in
+    ([], refl, (refl, is), omega arith, refl, λ may. subst IsQuiet (sym is) quiet_empty)
+
+pub lines-preserved : goal.lines-preserved
+lines-preserved g c =
+    let inv = c.lines.invariant in
+    let shorter = c.first_line.ensures.shorter in (
+      inv.0 ++ c.first_line.result.0.now ∷ [],
+      next_lines _ inv.0 (lines_of c.first_line.result.1.now) c.first_line.result.0.now _ inv.1 c.first_line.ensures.lines,
+      one_step 0 empty inv.0 c.lines.reader.stage (house_of c.lines.reader.house) c.first_line.result.0.now _ _ inv.2 c.in-Ok.ensures.ok,
+      omega (arith, inv.3, shorter),
+      c.in-Ok.ensures.kept ∙ inv.4,
+      (λ may. c.in-Ok.ensures.asks (inv.4 ∙ may) (inv.5 may)),
+    )
+
+all_read : (input : List ℕ) (before : List (List ℕ)) (left : List ℕ) → lines_of input ≡ before ++ lines_of left → left ≡ [] → lines_of input ≡ before
+all_read input before left is none =
+    is ∙ (ap (λ (bytes : List ℕ). before ++ lines_of bytes) none ∙ (ap (λ (ls : List (List ℕ)). before ++ ls) no_lines ∙ append-nil before))
+
+pub returns-clause-ok : goal.returns-clause-ok
+returns-clause-ok g c =
+    let inv = c.lines.invariant in
+    let h : House = house_of c.lines.reader.house in
+    let all = all_read c.args.file.now inv.0 c.lines.left.now inv.1 (none_left c.lines.left.now c.is_empty.ensures c.lines-test.false) in
+    let steps : Steps 0 empty (lines_of c.args.file.now) c.lines.reader.stage h =
+    subst (λ (ls : List (List ℕ)). Steps 0 empty ls c.lines.reader.stage h) (sym all) inv.2 in
+    read_as c.args.file.now c.lines.reader.stage h (c.is_fed.ensures.0 c.if-not-is_fed.false) c.if-reader-ne-ENDED.false steps

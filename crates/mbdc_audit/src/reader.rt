@@ -1,0 +1,798 @@
+//! Reads lines into a house.
+
+ghost use Rattle.std.specs.Prelude.{◌≡◌, ◌≤◌, ◌<◌, ◌+◌, ◌-◌, ◌⊎◌, ◌↔◌, ◌==◌, ◌&&◌, ◌||◌, ℕ, true, false};
+ghost use Rattle.std.specs.Prelude.{All, IfErr, IfOk, IsSome, IsTrue, None, Some, is_some, length, slice_get};
+ghost use Rattle.std.specs.List.{list_any};
+ghost use Rattle.std.specs.Str.{bytes_eq};
+ghost use Rattle.dc_address.specs.Text.{text_of};
+ghost use Rattle.dc_address.specs.declared.identity.Identity as identity_type;
+ghost use Rattle.mbdc_audit.specs.declared.house.Fact as fact_type;
+ghost use Rattle.mbdc_audit.specs.declared.uses.Counted as counted_type;
+ghost use Rattle.mbdc_audit.specs.declared.uses.Unit.{Unit};
+ghost use Rattle.mbdc_audit.specs.File.{IsFact, span_place, text_at, use_of};
+ghost use Rattle.mbdc_audit.specs.House.{Number as SaidNumber};
+ghost use Rattle.mbdc_audit.specs.Amount.{last_of};
+ghost use Rattle.mbdc_audit.specs.Line.{IsBounded, IsLine};
+ghost use Rattle.mbdc_audit.specs.Published.{Has, IsUnit, IsWho, MayAsk, declared, is_energy, of_factor, of_word};
+ghost use Rattle.mbdc_audit.specs.Published.{quantity};
+ghost use Rattle.mbdc_audit.specs.Reader.{AddsNothing, CantFollow, IsAsked, IsFault, IsMade, IsRead, IsTextOf};
+ghost use Rattle.mbdc_audit.specs.File.{Adds, Follows};
+ghost use Rattle.mbdc_audit.specs.Reader.{is_fact, is_of_house, is_value, use_place};
+ghost use Rattle.mbdc_audit.specs.File.{first_named, is_of_place};
+ghost use Rattle.mbdc_audit.specs.Reader.{IsOther, IsUnitOf};
+ghost use Rattle.mbdc_audit.specs.File.{IsMeant};
+ghost use Rattle.mbdc_audit.specs.Sound.{IsDeclared};
+ghost use Rattle.mbdc_audit.specs.Uses.{size_named, unit_named};
+ghost use Rattle.mbdc_audit.specs.Walk.{IsQuiet};
+ghost use Rattle.mbdc_audit.specs.View.{beside_count, house_of, key_of, number_of, place_of, run_of};
+
+use crate::curve::{Amount, Run};
+use crate::fault::{AuditFault, Stop};
+use crate::house::{
+    Allowed, Declared, Fact, House, Number, Part, Place, Span, Struck, Use, User, Value, Window,
+};
+use crate::line::{
+    BEGUN, ENDED, Line, Word, is_asked, is_fed, is_header, is_number_of, is_of_place, may_follow,
+    use_place,
+};
+use crate::number::scale_in;
+use crate::uses::{Counted, Unit, size_named};
+use crate::values::{field, value_of, vib};
+use dc_address::Identity;
+use mbdc_io::{LONGEST, first_line};
+use std::alloc::Allocator;
+
+// Limits of a file.
+const MOST_SPANS: usize = 4;
+
+const MOST_USES: usize = 64;
+
+const MOST_USERS: usize = 4_096;
+
+const MOST_PLACES: usize = 16_384;
+
+const MOST_METERS: usize = 16;
+
+const MOST_VALUES: usize = 2_048;
+
+const MOST_PARTS: usize = 64;
+
+// Whether a line may follow, or why not.
+fn only_if(may: bool, fault: AuditFault) -> Result<(), AuditFault>
+    ensures ok { IfOk result (λ u. may ≡ true) }
+    ensures err { IfErr result (λ f. (may ≡ false) × (f ≡ fault)) }
+{
+    if may { Ok(()) } else { Err(fault) }
+}
+
+/// Reads a file: the lines so far as a house.
+#[derive(Drop)]
+pub(crate) struct Reader<'a, A: Allocator + Copy> {
+    alloc: A,
+    may_ask: bool,
+    stage: u8,
+    pub house: House<'a, A>,
+}
+
+/// The house that a file spells.
+///
+/// # Errors
+/// The first line that spells nothing, and why.
+pub(crate) fn read_house<'a, A: Allocator + Copy>(
+    alloc: A,
+    file: &'a [u8],
+    may_ask: bool,
+) -> Result<House<'a, A>, (u64, Stop)>
+    ensures ok { IfOk result (λ h. IsRead file.now (house_of h)) }
+    ensures asks { may_ask ≡ false → IfOk result (λ h. IsQuiet (house_of h)) }
+{
+    let mut reader = Reader {
+        alloc,
+        may_ask,
+        stage: BEGUN,
+        house: House {
+            lines: 0,
+            label: &[],
+            uses: Vec::new(alloc),
+            allowed: Vec::new(alloc),
+            spans: Vec::new(alloc),
+            facts: Vec::new(alloc),
+            users: Vec::new(alloc),
+            places: Vec::new(alloc),
+            numbers: Vec::new(alloc),
+        },
+    };
+    let mut left = file;
+    'lines: while !left.is_empty() {
+        let (line, rest) = first_line(left);
+        let at = file.len() - left.len();
+        reader.house.lines = reader.house.lines.saturating_add(1);
+        match reader.step(line, at) {
+            Ok(()) => left = rest,
+            Err(stop) => return Err((reader.house.lines, stop)),
+        }
+    }
+    let line = reader.house.lines.saturating_add(1);
+    if reader.stage != ENDED {
+        return Err((line, Stop::Fault(AuditFault::End)));
+    }
+    // The last line ends with a feed, too.
+    if !is_fed(file) {
+        return Err((line, Stop::Fault(AuditFault::End)));
+    }
+    Ok(reader.house)
+}
+
+impl<'a, A: Allocator + Copy> Reader<'a, A> {
+    // Reads a line, which begins at a place of the file.
+    fn step(&mut self, text: &'a [u8], at: usize) -> Result<(), Stop>
+        ensures ok { IfOk result (λ u. Follows self.old.stage text.now (house_of self.old.house)
+            self.new.stage (house_of self.new.house)) }
+        ensures err { IfErr result (λ s. IsFault s → CantFollow self.old.stage text.now (house_of self.old.house)
+            ⊎ ((self.old.may_ask ≡ false) × IsAsked text.now)) }
+        ensures asks { self.old.may_ask ≡ false → IfOk result (λ u. IsQuiet (house_of self.old.house)
+            → IsQuiet (house_of self.new.house)) }
+        ensures kept { self.new.may_ask ≡ self.old.may_ask }
+    {
+        if text.len() > LONGEST {
+            return Err(Stop::Fault(AuditFault::End));
+        }
+        if self.stage == ENDED {
+            return Err(Stop::Fault(AuditFault::End));
+        }
+        if self.stage == BEGUN && !is_header(text) {
+            return Err(Stop::Fault(AuditFault::Header));
+        }
+        let line = match Line::read(text) {
+            Ok(line) => line,
+            Err(fault) => return Err(Stop::Fault(fault)),
+        };
+        if !self.may_ask && is_asked(&line) {
+            return Err(Stop::Fault(AuditFault::Row));
+        }
+        if !may_follow(line.stage, self.stage) {
+            return Err(Stop::Fault(AuditFault::Order));
+        }
+        self.stage = line.stage;
+        match self.add(&line, text, at) {
+            Ok(()) => Ok(()),
+            Err(stop) => Err(stop),
+        }
+    }
+
+    // Adds what a line says, which begins at a place of the file.
+    fn add(&mut self, line: &Line<'a>, text: &'a [u8], at: usize) -> Result<(), Stop>
+        requires line { IsLine text.now line.now }
+        requires bounded { IsBounded line.now.word line.now }
+        ensures ok { IfOk result (λ u. Adds (house_of self.old.house) line.now (house_of self.new.house)) }
+        ensures err { IfErr result (λ s. IsFault s → AddsNothing (house_of self.old.house) line.now) }
+        ensures kept { (self.new.stage ≡ self.old.stage) × (self.new.may_ask ≡ self.old.may_ask) }
+    {
+        match line.word {
+            Word::Audit => {
+                self.add_label(line);
+                Ok(())
+            }
+            Word::Use => self.add_use(line),
+            Word::As => self.add_allowed(line),
+            Word::Span => self.add_span(line),
+            Word::Factor | Word::Emissions | Word::Degrees | Word::Price | Word::Average => {
+                self.add_fact(line)
+            }
+            Word::User => self.add_user(line),
+            Word::Place => self.add_place(line),
+            Word::Meter => self.add_meter(line),
+            Word::Window => self.open(line),
+            Word::Part => self.add_part(line),
+            Word::Totals => Ok(()),
+            Word::End => Ok(()),
+            Word::Read
+            | Word::Stored
+            | Word::Ended
+            | Word::Zero
+            | Word::Hand
+            | Word::Estimated
+            | Word::First
+            | Word::Last
+            | Word::Struck => self.add_value(line),
+            Word::Shown
+            | Word::Value
+            | Word::OfUser
+            | Word::OfFlat
+            | Word::OfHouse
+            | Word::Mean
+            | Word::Change
+            | Word::Weather
+            | Word::Carbon
+            | Word::Cost => self.add_number(line, text, at),
+        }
+    }
+
+    fn add_label(&mut self, line: &Line<'a>)
+        requires { line.now.word ≡ Word.Audit }
+        ensures adds { Adds (house_of self.old.house) line.now (house_of self.new.house) }
+        ensures kept { (self.new.stage ≡ self.old.stage) × (self.new.may_ask ≡ self.old.may_ask) }
+    {
+        self.house.label = field(line, 1);
+    }
+
+    // The place of a use's word.
+    fn used(&self, name: &[u8]) -> Result<u64, AuditFault>
+        ensures ok { IfOk result (λ n. first_named (house_of self.now.house) name.now ≡ Some n) }
+        ensures err { IfErr result (λ f. first_named (house_of self.now.house) name.now ≡ None) }
+    {
+        match self.house.use_named(name) {
+            Some(place) => Ok(place as u64),
+            None => Err(AuditFault::Fact),
+        }
+    }
+
+    // The place of a span by its number.
+    fn span(&self, number: u64) -> Result<u64, AuditFault>
+        ensures ok { IfOk result (λ n. (number ≡ n + 1) × (n < length self.now.house.spans.items)) }
+        ensures err { IfErr result (λ f. (number ≡ 0) ⊎ (length self.now.house.spans.items < number)) }
+    {
+        let is_there = 0 < number && number <= self.house.spans.len() as u64;
+        only_if(is_there, AuditFault::Fact)?;
+        Ok(number - 1)
+    }
+
+    // What the meters of a use count.
+    fn counts(&self, used: u64) -> Option<Counted>
+        ensures { result ≡ quantity (house_of self.now.house) used }
+    {
+        match self.house.uses.get(used as usize) {
+            Some(it) => Some(it.counts),
+            None => None,
+        }
+    }
+
+    // The unit of a number of a use, which is one of the use's.
+    fn unit(&self, used: u64, unit: &[u8]) -> Result<Unit, AuditFault>
+        ensures ok { IfOk result (λ u. (unit_named unit.now ≡ Some u) × IsUnit (house_of self.now.house) used u) }
+        ensures err { IfErr result (λ f. (u : Unit) → unit_named unit.now ≡ Some u →
+            IsUnit (house_of self.now.house) used u → ⊥) }
+    {
+        let unit = Unit::named(unit).ok_or(AuditFault::Unit)?;
+        let counts = self.counts(used).ok_or(AuditFault::Unit)?;
+        match scale_in(counts, unit) {
+            Some(_) => Ok(unit),
+            None => Err(AuditFault::Unit),
+        }
+    }
+
+    // The size of a reading's unit, which counts what the use does.
+    fn size(&self, used: u64, unit: &[u8]) -> Result<u64, AuditFault>
+        ensures ok { IfOk result (λ n. (q : counted_type.Counted) × (quantity (house_of self.now.house) used ≡ Some q)
+            × (size_named unit.now ≡ Some (q, n))) }
+        ensures err { IfErr result (λ f. (q : counted_type.Counted) (n : ℕ)
+            → quantity (house_of self.now.house) used ≡ Some q → size_named unit.now ≡ Some (q, n) → ⊥) }
+    {
+        let (counted, size) = size_named(unit).ok_or(AuditFault::Unit)?;
+        let counts = self.counts(used).ok_or(AuditFault::Unit)?;
+        only_if(counted == counts, AuditFault::Unit)?;
+        Ok(size)
+    }
+
+    fn add_use(&mut self, line: &Line<'a>) -> Result<(), Stop>
+        requires { line.now.word ≡ Word.Use }
+        ensures ok { IfOk result (λ u. Adds (house_of self.old.house) line.now (house_of self.new.house)) }
+        ensures err { IfErr result (λ s. IsFault s → AddsNothing (house_of self.old.house) line.now) }
+        ensures kept { (self.new.stage ≡ self.old.stage) × (self.new.may_ask ≡ self.old.may_ask) }
+    {
+        let name = field(line, 0);
+        only_if(self.used(name).is_err(), AuditFault::Fact)?;
+        only_if(self.house.uses.len() < MOST_USES, AuditFault::TooMany)?;
+        let counts = Counted::named(field(line, 1)).ok_or(AuditFault::Row)?;
+        self.house.uses.push(Use { name, counts })?;
+        Ok(())
+    }
+
+    fn add_allowed(&mut self, line: &Line<'a>) -> Result<(), Stop>
+        requires word { line.now.word ≡ Word.As }
+        requires bounded { IsBounded line.now.word line.now }
+        ensures ok { IfOk result (λ u. Adds (house_of self.old.house) line.now (house_of self.new.house)) }
+        ensures err { IfErr result (λ s. IsFault s → AddsNothing (house_of self.old.house) line.now) }
+        ensures kept { (self.new.stage ≡ self.old.stage) × (self.new.may_ask ≡ self.old.may_ask) }
+    {
+        let allowed = Allowed {
+            line: self.house.lines,
+            used: self.used(field(line, 0))?,
+            kind: line.number(1) as u8,
+            why: field(line, 2),
+        };
+        let is_there = self.is_allowed(allowed.used, allowed.kind);
+        only_if(!is_there, AuditFault::Fact)?;
+        self.house.allowed.push(allowed)?;
+        Ok(())
+    }
+
+    // Whether a device type is declared of a use.
+    fn is_allowed(&self, used: u64, kind: u8) -> bool
+        ensures { result ≡ list_any (λ a. (a.used == used) && (a.kind == kind)) self.now.house.allowed.items }
+    {
+        self.house
+            .allowed
+            .iter()
+            .any(|other| other.used == used && other.kind == kind)
+    }
+
+    fn add_span(&mut self, line: &Line<'a>) -> Result<(), Stop>
+        requires word { line.now.word ≡ Word.Span }
+        requires bounded { IsBounded line.now.word line.now }
+        ensures ok { IfOk result (λ u. Adds (house_of self.old.house) line.now (house_of self.new.house)) }
+        ensures err { IfErr result (λ s. IsFault s → AddsNothing (house_of self.old.house) line.now) }
+        ensures kept { (self.new.stage ≡ self.old.stage) × (self.new.may_ask ≡ self.old.may_ask) }
+    {
+        let count = self.house.spans.len();
+        only_if(line.number(0) == count as u64 + 1, AuditFault::Order)?;
+        only_if(count < MOST_SPANS, AuditFault::TooMany)?;
+        let span = Span {
+            line: self.house.lines,
+            from: line.day_end(1),
+            to: line.day_end(3),
+        };
+        self.house.spans.push(span)?;
+        Ok(())
+    }
+
+    fn add_fact(&mut self, line: &Line<'a>) -> Result<(), Stop>
+        requires { is_fact line.now.word ≡ true }
+        ensures ok { IfOk result (λ u. Adds (house_of self.old.house) line.now (house_of self.new.house)) }
+        ensures err { IfErr result (λ s. IsFault s → AddsNothing (house_of self.old.house) line.now) }
+        ensures kept { (self.new.stage ≡ self.old.stage) × (self.new.may_ask ≡ self.old.may_ask) }
+    {
+        let fact = self.fact(line)?;
+        let at = span_place(fact);
+        let (span, ratio) = (self.span(line.number(at))?, line.number(at + 1));
+        only_if(!self.has(fact, span), AuditFault::Fact)?;
+        self.house.facts.push(Declared { fact, span, ratio })?;
+        Ok(())
+    }
+
+    // What a line declares of a span.
+    fn fact(&self, line: &Line<'a>) -> Result<Fact, AuditFault>
+        requires { is_fact line.now.word ≡ true }
+        ensures ok { IfOk result (λ f. IsFact (house_of self.now.house) f line.now
+            × ((used : ℕ) → use_of f ≡ Some used → IsMeant (house_of self.now.house) used)) }
+        ensures err { IfErr result (λ f. (f : fact_type.Fact) → IsFact (house_of self.now.house) f line.now
+            → ((used : ℕ) → use_of f ≡ Some used → IsMeant (house_of self.now.house) used) → ⊥) }
+    {
+        if matches!(line.word, Word::Degrees) {
+            return Ok(Fact::Degrees);
+        }
+        let used = self.used(field(line, 0))?;
+        match line.word {
+            Word::Factor => Ok(Fact::Factor(used)),
+            Word::Emissions => Ok(Fact::Emissions(used)),
+            Word::Price => Ok(Fact::Price(used, self.unit(used, field(line, 1))?)),
+            _ => Ok(Fact::Average(used, self.unit(used, field(line, 1))?)),
+        }
+    }
+
+    fn add_user(&mut self, line: &Line<'a>) -> Result<(), Stop>
+        requires { line.now.word ≡ Word.User }
+        ensures ok { IfOk result (λ u. Adds (house_of self.old.house) line.now (house_of self.new.house)) }
+        ensures err { IfErr result (λ s. IsFault s → AddsNothing (house_of self.old.house) line.now) }
+        ensures kept { (self.new.stage ≡ self.old.stage) × (self.new.may_ask ≡ self.old.may_ask) }
+    {
+        let number = line.number(0);
+        only_if(self.is_next_user(number), AuditFault::Order)?;
+        only_if(self.house.users.len() < MOST_USERS, AuditFault::TooMany)?;
+        let user = User {
+            line: self.house.lines,
+            number,
+            flat: field(line, 1),
+            area: line.maybe(2),
+        };
+        self.house.users.push(user)?;
+        Ok(())
+    }
+
+    // Whether a user's number is above the last one's.
+    fn is_next_user(&self, number: u64) -> bool
+        ensures { IsTrue result ↔ All (λ u. u.number < number) (last_of (house_of self.now.house).users) }
+    {
+        match self.house.users.last() {
+            Some(last) => last.number < number,
+            None => true,
+        }
+    }
+
+    fn add_place(&mut self, line: &Line<'a>) -> Result<(), Stop>
+        requires { line.now.word ≡ Word.Place }
+        ensures ok { IfOk result (λ u. Adds (house_of self.old.house) line.now (house_of self.new.house)) }
+        ensures err { IfErr result (λ s. IsFault s → AddsNothing (house_of self.old.house) line.now) }
+        ensures kept { (self.new.stage ≡ self.old.stage) × (self.new.may_ask ≡ self.old.may_ask) }
+    {
+        let count = self.house.places.len();
+        only_if(line.number(0) == count as u64 + 1, AuditFault::Order)?;
+        only_if(count < MOST_PLACES, AuditFault::TooMany)?;
+        let place = Place {
+            line: self.house.lines,
+            flat: field(line, 1),
+            used: self.used(field(line, 2))?,
+            weight: line.number(3),
+            runs: Vec::new(self.alloc),
+            windows: Vec::new(self.alloc),
+        };
+        self.house.places.push(place)?;
+        Ok(())
+    }
+
+    fn add_meter(&mut self, line: &Line<'a>) -> Result<(), Stop>
+        requires word { line.now.word ≡ Word.Meter }
+        requires identity { (i : identity_type.Identity) × (i.version < 256) × (i.kind < 256)
+            × (text_at 1 line.now ≡ text_of i) }
+        ensures ok { IfOk result (λ u. Adds (house_of self.old.house) line.now (house_of self.new.house)) }
+        ensures err { IfErr result (λ s. IsFault s → AddsNothing (house_of self.old.house) line.now) }
+        ensures kept { (self.new.stage ≡ self.old.stage) × (self.new.may_ask ≡ self.old.may_ask) }
+    {
+        let Ok(identity) = Identity::parse_text(field(line, 1)) else {
+            return Err(Stop::Fault(AuditFault::Row));
+        };
+        let run = Run {
+            line: self.house.lines,
+            identity,
+            begin: line.number(2),
+            end: line.maybe(3),
+            most: line.number(4),
+            size: line.number(5),
+            vib: vib(field(line, 6)),
+        };
+        let place = self.house.places.last_mut().ok_or(AuditFault::Order)?;
+        only_if(
+            line.number(0) == place.runs.len() as u64 + 1,
+            AuditFault::Order,
+        )?;
+        only_if(place.runs.len() < MOST_METERS, AuditFault::TooMany)?;
+        place.runs.push(run)?;
+        Ok(())
+    }
+
+    // Opens the window of a span; their numbers rise.
+    fn open(&mut self, line: &Line<'a>) -> Result<(), Stop>
+        requires { line.now.word ≡ Word.Window }
+        ensures ok { IfOk result (λ u. Adds (house_of self.old.house) line.now (house_of self.new.house)) }
+        ensures err { IfErr result (λ s. IsFault s → AddsNothing (house_of self.old.house) line.now) }
+        ensures kept { (self.new.stage ≡ self.old.stage) × (self.new.may_ask ≡ self.old.may_ask) }
+    {
+        let window = Window {
+            line: self.house.lines,
+            span: self.span(line.number(0))?,
+            values: Vec::new(self.alloc),
+            struck: Vec::new(self.alloc),
+            parts: Vec::new(self.alloc),
+            numbers: Vec::new(self.alloc),
+        };
+        let place = self.house.places.last_mut().ok_or(AuditFault::Order)?;
+        only_if(is_next_window(place, window.span), AuditFault::Order)?;
+        place.windows.push(window)?;
+        Ok(())
+    }
+
+    fn add_value(&mut self, line: &Line<'a>) -> Result<(), Stop>
+        requires bounded { IsBounded line.now.word line.now }
+        requires word { (line.now.word ≡ Word.Struck) ⊎ (is_value line.now.word ≡ true) }
+        ensures ok { IfOk result (λ u. Adds (house_of self.old.house) line.now (house_of self.new.house)) }
+        ensures err { IfErr result (λ s. IsFault s → AddsNothing (house_of self.old.house) line.now) }
+        ensures kept { (self.new.stage ≡ self.old.stage) × (self.new.may_ask ≡ self.old.may_ask) }
+    {
+        let at = self.house.lines;
+        let number = line.number(0);
+        let place = self.house.places.last_mut().ok_or(AuditFault::Order)?;
+        let meter = run_at(place, number)?;
+        let window = place.windows.last_mut().ok_or(AuditFault::Order)?;
+        match line.word {
+            Word::Struck => {
+                let struck = Struck {
+                    run: number - 1,
+                    moment: line.number(1),
+                    why: field(line, 2),
+                };
+                window.struck.push(struck)?;
+                Ok(())
+            }
+            _ => {
+                only_if(window.values.len() < MOST_VALUES, AuditFault::TooMany)?;
+                let value = value_of(line, &meter)?;
+                window.values.push(Value { line: at, ..value })?;
+                Ok(())
+            }
+        }
+    }
+
+    fn add_part(&mut self, line: &Line<'a>) -> Result<(), Stop>
+        requires { line.now.word ≡ Word.Part }
+        ensures ok { IfOk result (λ u. Adds (house_of self.old.house) line.now (house_of self.new.house)) }
+        ensures err { IfErr result (λ s. IsFault s → AddsNothing (house_of self.old.house) line.now) }
+        ensures kept { (self.new.stage ≡ self.old.stage) × (self.new.may_ask ≡ self.old.may_ask) }
+    {
+        let part = Part {
+            line: self.house.lines,
+            from: line.number(1),
+            to: line.number(2),
+            user: line.maybe(3),
+            amount: Amount::NONE,
+        };
+        let is_declared = self.is_declared(part.user);
+        let number = line.number(0);
+        let place = self.house.places.last_mut().ok_or(AuditFault::Order)?;
+        let window = place.windows.last_mut().ok_or(AuditFault::Order)?;
+        only_if(is_number_of(number, window.span), AuditFault::Order)?;
+        only_if(window.parts.len() < MOST_PARTS, AuditFault::TooMany)?;
+        only_if(is_declared, AuditFault::Fact)?;
+        window.parts.push(part)?;
+        Ok(())
+    }
+
+    // Whether a user is declared, if there is one.
+    fn is_declared(&self, user: Option<u64>) -> bool
+        ensures { IsTrue result ↔ IsDeclared (house_of self.now.house) user }
+    {
+        match user {
+            Some(user) => self.house.user(user).is_some(),
+            None => true,
+        }
+    }
+
+    // Whether what a number needs in a span is declared: the use's factor, and one more fact.
+    fn check_facts(&self, number: &Number<'_>, span: u64) -> Result<(), AuditFault>
+        ensures ok { IfOk result (λ u. Has (house_of self.now.house) (key_of number.now) span) }
+        ensures err { IfErr result (λ f. Has (house_of self.now.house) (key_of number.now) span → ⊥) }
+    {
+        only_if(span < self.house.spans.len() as u64, AuditFault::Fact)?;
+        self.check_factor(number, span)?;
+        self.check_fact(number, span)
+    }
+
+    // Whether the factor of a number in kilowatt hours is declared, where it isn't of energy.
+    fn check_factor(&self, number: &Number<'_>, span: u64) -> Result<(), AuditFault>
+        ensures ok { IfOk result (λ u. All (λ f. IsSome (declared (house_of self.now.house) f span))
+            (of_factor (house_of self.now.house) number.now.used number.now.unit)) }
+        ensures err { IfErr result (λ f. All (λ f. IsSome (declared (house_of self.now.house) f span))
+            (of_factor (house_of self.now.house) number.now.used number.now.unit) → ⊥) }
+    {
+        if !Unit::Kwh.is(number.unit) || self.is_energy(number.used) {
+            return Ok(());
+        }
+        only_if(self.has(Fact::Factor(number.used), span), AuditFault::Fact)
+    }
+
+    // Whether the fact that a number's word needs is declared.
+    fn check_fact(&self, number: &Number<'_>, span: u64) -> Result<(), AuditFault>
+        ensures ok { IfOk result (λ u. All (λ f. IsSome (declared (house_of self.now.house) f span))
+            (of_word number.now.word (key_of number.now))) }
+        ensures err { IfErr result (λ f. All (λ f. IsSome (declared (house_of self.now.house) f span))
+            (of_word number.now.word (key_of number.now)) → ⊥) }
+    {
+        let fact = match number.word {
+            Word::Weather => Fact::Degrees,
+            Word::Carbon => Fact::Emissions(number.used),
+            Word::Cost => Fact::Price(number.used, number.unit),
+            _ => return Ok(()),
+        };
+        only_if(self.has(fact, span), AuditFault::Fact)
+    }
+
+    // Whether a fact is declared of a span.
+    fn has(&self, fact: Fact, span: u64) -> bool
+        ensures { result ≡ is_some (declared (house_of self.now.house) fact span) }
+    {
+        self.house.declared(fact, span).is_some()
+    }
+
+    // Whether meters of a use count energy.
+    fn is_energy(&self, used: u64) -> bool
+        ensures { result ≡ is_energy (quantity (house_of self.now.house) used) }
+    {
+        matches!(self.counts(used), Some(Counted::Energy))
+    }
+
+    // A number without what it is of: its text, and what is beside it.
+    fn said(&self, line: &Line<'a>, text: &'a [u8], at: usize) -> Number<'a>
+        requires { line.now.text + beside_count line.now.word < 7 }
+        ensures { IsTextOf line.now (number_of result) }
+    {
+        let (asked, _) = text.split_at(line.asked.min(text.len()));
+        Number {
+            line: self.house.lines,
+            word: line.word,
+            span: 0,
+            other: 0,
+            user: 0,
+            flat: &[],
+            used: 0,
+            unit: Unit::Smallest,
+            from: 0,
+            to: 0,
+            size: 1,
+            asked,
+            said: [
+                field(line, line.text),
+                field(line, line.text + 1),
+                field(line, line.text + 2),
+            ],
+            at: at.saturating_add(line.asked).saturating_add(1),
+        }
+    }
+
+    // A number of the open place.
+    fn number_of_place(&self, line: &Line<'a>, said: Number<'a>) -> Result<Number<'a>, AuditFault>
+        requires word { is_of_place line.now.word ≡ true }
+        requires text { IsTextOf line.now (number_of said) }
+        ensures ok { IfOk result (λ n. IsMade (house_of self.now.house) line.now (number_of n)) }
+        ensures err { IfErr result (λ f. (n : SaidNumber) → IsMade (house_of self.now.house) line.now n → ⊥) }
+    {
+        let place = self.house.places.last().ok_or(AuditFault::Order)?;
+        let window = place.windows.last().ok_or(AuditFault::Order)?;
+        let number = Number {
+            span: window.span,
+            used: place.used,
+            ..said
+        };
+        match line.word {
+            Word::Value => Ok(Number {
+                size: self.size(number.used, field(line, 3))?,
+                from: line.number(0),
+                to: line.number(1),
+                ..number
+            }),
+            _ => {
+                let number = Number {
+                    unit: self.unit(number.used, field(line, 3))?,
+                    from: line.number(1),
+                    to: line.number(2),
+                    ..number
+                };
+                let span = self.span(line.number(0))?;
+                self.check_facts(&number, span)?;
+                only_if(span == number.span, AuditFault::Order)?;
+                Ok(number)
+            }
+        }
+    }
+
+    // A number of the house: its use stands before the unit, and the user or the flat before the use.
+    fn number_of_house(&self, line: &Line<'a>, said: Number<'a>) -> Result<Number<'a>, AuditFault>
+        requires word { is_of_house line.now.word ≡ true }
+        requires text { IsTextOf line.now (number_of said) }
+        ensures ok { IfOk result (λ n. IsMade (house_of self.now.house) line.now (number_of n)) }
+        ensures err { IfErr result (λ f. (n : SaidNumber) → IsMade (house_of self.now.house) line.now n → ⊥) }
+    {
+        let at = use_place(line.word);
+        let used = self.used(field(line, at))?;
+        let number = Number {
+            unit: self.unit_of(line, used)?,
+            span: self.span(line.number(0))?,
+            other: self.other(line)?,
+            user: line.number(at - 1),
+            flat: field(line, at - 1),
+            used,
+            from: line.number(0),
+            to: line.number(1),
+            ..said
+        };
+        self.check_number(&number)?;
+        Ok(number)
+    }
+
+    // The unit of a number of the house.
+    fn unit_of(&self, line: &Line<'a>, used: u64) -> Result<Unit, AuditFault>
+        ensures ok { IfOk result (λ u. IsUnitOf line.now.word (house_of self.now.house) used u line.now) }
+        ensures err { IfErr result (λ f. (u : Unit)
+            → IsUnitOf line.now.word (house_of self.now.house) used u line.now → ⊥) }
+    {
+        match line.word {
+            Word::Weather | Word::Carbon => Ok(Unit::Kwh),
+            word => self.unit(used, field(line, use_place(word) + 1)),
+        }
+    }
+
+    // The other span of a number that has two.
+    fn other(&self, line: &Line<'a>) -> Result<u64, AuditFault>
+        ensures ok { IfOk result (λ n. IsOther line.now.word (house_of self.now.house) n line.now) }
+        ensures err { IfErr result (λ f. (n : ℕ) → IsOther line.now.word (house_of self.now.house) n line.now → ⊥) }
+    {
+        match line.word {
+            Word::Change | Word::Weather => self.span(line.number(1)),
+            _ => Ok(0),
+        }
+    }
+
+    // Whether what a number of the house is of is declared, but for its unit.
+    fn check_number(&self, number: &Number<'_>) -> Result<(), AuditFault>
+        requires word { is_of_house number.now.word ≡ true }
+        ensures ok { IfOk result (λ u. IsUnit (house_of self.now.house) number.now.used number.now.unit
+            → MayAsk (house_of self.now.house) (key_of number.now)) }
+        ensures err { IfErr result (λ f. MayAsk (house_of self.now.house) (key_of number.now) → ⊥) }
+    {
+        self.check_facts(number, number.span)?;
+        if matches!(number.word, Word::Change | Word::Weather) {
+            self.check_facts(number, number.other)?;
+        }
+        only_if(self.has_holder(number), AuditFault::Fact)
+    }
+
+    // Whether who a number of the house is of is declared.
+    fn has_holder(&self, number: &Number<'_>) -> bool
+        requires word { is_of_house number.now.word ≡ true }
+        ensures { IsTrue result ↔ IsWho number.now.word (house_of self.now.house) (key_of number.now) }
+    {
+        match number.word {
+            Word::OfHouse => true,
+            Word::OfFlat => self.is_lived(number.flat) || self.is_placed(number.flat),
+            _ => self.house.user(number.user).is_some(),
+        }
+    }
+
+    // Whether a user has a flat.
+    fn is_lived(&self, flat: &[u8]) -> bool
+        ensures { result ≡ list_any (λ u. bytes_eq u.flat.now flat.now) self.now.house.users.items }
+    {
+        self.house.users.iter().any(|user| user.flat == flat)
+    }
+
+    // Whether a place is of a flat.
+    fn is_placed(&self, flat: &[u8]) -> bool
+        ensures { result ≡ list_any (λ p. bytes_eq p.flat.now flat.now) self.now.house.places.items }
+    {
+        self.house.places.iter().any(|place| place.flat == flat)
+    }
+
+    fn add_number(&mut self, line: &Line<'a>, text: &'a [u8], at: usize) -> Result<(), Stop>
+        requires word { (is_of_place line.now.word || is_of_house line.now.word) ≡ true }
+        requires text { line.now.text + beside_count line.now.word < 7 }
+        ensures ok { IfOk result (λ u. Adds (house_of self.old.house) line.now (house_of self.new.house)) }
+        ensures err { IfErr result (λ s. IsFault s → AddsNothing (house_of self.old.house) line.now) }
+        ensures kept { (self.new.stage ≡ self.old.stage) × (self.new.may_ask ≡ self.old.may_ask) }
+    {
+        let said = self.said(line, text, at);
+        if !is_of_place(line.word) {
+            let number = self.number_of_house(line, said)?;
+            self.house.numbers.push(number)?;
+            return Ok(());
+        }
+        let number = self.number_of_place(line, said)?;
+        let place = self.house.places.last_mut().ok_or(AuditFault::Order)?;
+        let window = place.windows.last_mut().ok_or(AuditFault::Order)?;
+        window.numbers.push(number)?;
+        Ok(())
+    }
+}
+
+// Where a fact's span stands in its line.
+fn span_place(fact: Fact) -> usize
+    ensures place { result ≡ span_place fact }
+    ensures within { result ≤ 2 }
+{
+    match fact {
+        Fact::Price(_, _) | Fact::Average(_, _) => 2,
+        _ => 1,
+    }
+}
+
+// The run of a place by its number, which counts from 1.
+fn run_at<'a, A: Allocator + Copy>(place: &Place<'a, A>, number: u64) -> Result<Run<'a>, AuditFault>
+    ensures ok { IfOk result (λ r. (0 < number)
+        × (slice_get (place_of place.now).runs (number - 1) ≡ Some (run_of r))) }
+    ensures err { IfErr result (λ f. (number ≡ 0) ⊎ (length (place_of place.now).runs < number)) }
+{
+    if number == 0 {
+        return Err(AuditFault::Order);
+    }
+    match place.runs.get(number as usize - 1) {
+        Some(run) => Ok(*run),
+        None => Err(AuditFault::Order),
+    }
+}
+
+// Whether a window's span is after the last one's.
+fn is_next_window<A: Allocator + Copy>(place: &Place<'_, A>, span: u64) -> bool
+    ensures { IsTrue result ↔ All (λ w. w.span < span) (last_of (place_of place.now).windows) }
+{
+    match place.windows.last() {
+        Some(last) => last.span < span,
+        None => true,
+    }
+}
