@@ -3,7 +3,6 @@
 import os
 import random
 import socket
-import threading
 from collections.abc import Callable
 
 import pytest
@@ -117,7 +116,3 @@ def test_pieces_of_a_stall_are_the_frame_or_its_beginning(seed: int) -> None:
     rng = random.Random(seed)
     pieces = faults.stalls(rng, RESET, b"answer")
     assert b"answer".startswith(b"".join(piece or b"" for _, piece in pieces))
-
-
-def test_threads_end_with_the_program(bus: Bus) -> None:
-    assert all(thread.daemon for thread in threading.enumerate() if isinstance(thread, Gateway))
