@@ -406,9 +406,9 @@ def at_random(rng: random.Random, lines: List[str]) -> Optional[List[str]]:
     """One to three lines lost, doubled, moved, or with another field."""
     rows = [line.split(",") for line in lines]
     for _ in range(rng.choice((1, 1, 2, 3))):
-        n, kind = rng.randrange(len(rows)), rng.randrange(10)
+        n, kind = rng.choice([k for k, row in enumerate(rows) if row]), rng.randrange(10)  # (an edit may empty a line)
         at = rng.randrange(len(rows[n]))
-        like = [row for row in rows if row[0] == rows[n][0] and len(row) > at]
+        like = [row for row in rows if row[:1] == rows[n][:1] and len(row) > at]
         if kind == 0 and len(rows) > 1:
             del rows[n]
         elif kind == 1:
