@@ -100,8 +100,9 @@ def readings_in(program: Program, image: str = "house.image") -> int:
 def a_poll_into_a_replaced_image_stops(program: Program, folder: pathlib.Path) -> None:
     """Another file gets the image's name, or none has it, or a copy is written over it: no reading is told that is in no file
     with a name, and the copy stays as it is."""
+    count = 100  # a poll of a few is over before the file is another one
     for how in ("renamed", "removed", "overwritten"):
-        link = bus_of(program, folder, 5)
+        link = bus_of(program, folder, count)
         copy = (folder / "house.image").read_bytes()
         with program.start("poll", "house.image", "--line", link, stdout=subprocess.PIPE) as polling:
             assert polling.stdout and polling.stderr
@@ -116,7 +117,7 @@ def a_poll_into_a_replaced_image_stops(program: Program, folder: pathlib.Path) -
             rest, line = polling.stdout.read(), polling.stderr.read()
         wants(first.startswith(b"READ"), f"the first line is {first!r}")
         wants(polling.returncode == 3 and b"mbdc: disk: 1 Device" in line, f"status {polling.returncode}, {line!r}")
-        wants(rest.count(b"READ") < 4, f"all was told to be read: {rest!r}")
+        wants(rest.count(b"READ") < count - 1, f"all was told to be read: {rest!r}")
         wants(how == "removed" or (folder / "house.image").read_bytes() == copy, f"{how}: the copy was written")
         (folder / "house.image").unlink(missing_ok=True)
 
