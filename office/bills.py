@@ -173,8 +173,7 @@ def accepted(cursor: Cursor, house: str, days: DateRange) -> Optional[List[Row]]
 
 
 def compared(cursor: Cursor, house: str, audit: Optional[int], found: List[Row]) -> List[Row]:
-    """These rows. Raises NotComputed where one has a number that the bill's audit file doesn't have, as long as that is
-    kept."""
+    """These rows. Raises NotComputed where one has a number that the bill's audit file, if it is kept, doesn't have."""
     lines, zone = file_of(cursor, audit), zoneinfo.ZoneInfo(value_of(cursor, ZONE, house))
     wrong = None if lines is None else Facts(lines, lambda it: local(int(it), zone)).lacks(
         it for row in found for it in numbers_of(row))

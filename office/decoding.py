@@ -47,8 +47,7 @@ class Point(NamedTuple):
 
     @property
     def value(self) -> Optional[decimal.Decimal]:
-        """The number, exact; None of a date, of flags, where there is none, and of a count that is a REAL: no audit takes
-        one."""
+        """The number, exact; None where there is none, of a date, flags, and a REAL count, which no audit takes."""
         is_real = not self.is_point and self.quantity in COUNTED and self.unit in UNITS
         is_number = self.unit != FLAGS and not is_real and NUMBER.fullmatch(self.shown)
         return decimal.Decimal(self.shown) if is_number else None

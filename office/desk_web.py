@@ -96,8 +96,7 @@ def cells(*values: object) -> List[Cell]:
 
 
 class Desk(NamedTuple):
-    """A request: the transaction in which it runs, who it is of, the words, and of a list what is looked for, and from
-    which row on."""
+    """A request: its transaction, who it is of, the words, and of a list what is looked for, and from which row on."""
     cursor: Cursor
     viewer: Viewer
     words: Catalogue

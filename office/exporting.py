@@ -25,9 +25,10 @@ FORMAT = "audit,2"  # what a file begins with
 
 
 class Printed(NamedTuple):
-    """A number as it is printed, with a point; `-` where there is none; and its mark."""
+    """A number as it is printed, with a point; `-` where there is none; its mark; and its line in a sheet's file."""
     text: str
     mark: str
+    line: str = ""
 
     @property
     def is_number(self) -> bool:
@@ -81,6 +82,7 @@ SHOWN_UNITS = {of_file: unit for unit, of_file in AUDIT_UNITS.items()}
 NOW = "1"  # the span of the file's month
 # marks of what is said beside amounts
 BESIDE = {"mean": "average", "change": "change", "carbon": "carbon", "weather": "weather", "cost": "cost"}
+FACTS = ("factor", "co2", "price", "average")
 DECLARED = "declared"  # the mark of what no audit computes
 Spans = Dict[datetime.date, int]
 
@@ -171,6 +173,7 @@ class Reader:
         self.facts: Dict[Tuple[str, ...], str] = {}  # what is declared, by its other fields
         self.parts: Dict[Tuple[str, str], str] = {}  # the user of each
         self.place: Tuple[str, str, int] = ("", "", 0)
+        self.at = ""  # the place's number in the file
 
     def read(self, lines: List[str]) -> List[Published]:
         """What the lines publish, each key once."""
@@ -179,28 +182,28 @@ class Reader:
             take: Optional[Callable[..., None]] = getattr(self, f"take_{kind}", None)
             if kind in BESIDE:
                 self.take_beside(kind, *fields)
-            elif kind in ("price", "average"):
+            elif kind in FACTS:
                 self.facts[(kind, *fields[:-1])] = fields[-1]
             elif take is not None:
                 take(*fields)
         return list(self.found.values())
 
-    def put(self, user: str, key: Key, text: str, mark: str) -> None:
-        """A number of a user, or of nobody."""
+    def put(self, user: str, key: Key, text: str, mark: str, _: str = "") -> None:
+        """A number of a user, or of nobody, and the key of its line."""
         tenancy = None if user == NONE else int(user)
         self.found.setdefault((tenancy, key), (tenancy, key, text, mark))
 
-    def put_of(self, user: str, use: str, what: str, text: str, mark: str, unit: str = "") -> None:
+    def put_of(self, user: str, use: str, what: str, text: str, mark: str, line: str, unit: str = "") -> None:
         """A number of a user, if there is one."""
         if text != NONE:
-            self.put(user, use_key(self.flats[user], use, what, unit), text, mark)
+            self.put(user, use_key(self.flats[user], use, what, unit), text, mark, line)
 
-    def take_beside(self, kind: str, _: str, *fields: str) -> None:
+    def take_beside(self, kind: str, span: str, *fields: str) -> None:
         then, user, use = (self.months[fields[0]], *fields[1:3]) if kind in ("change", "weather") else ("", *fields[:2])
         what = {"mean": "average", "change": f"change {then}", "carbon": "co2"}.get(kind, kind)
         is_declared = kind == "mean" and ("average", use, fields[2], NOW) in self.facts
         self.put_of(user, use, what, fields[-1], DECLARED if is_declared else BESIDE[kind],
-                    SHOWN_UNITS[fields[2]] if kind == "mean" else "")
+                    ",".join((kind, span, *fields[:-1])), SHOWN_UNITS[fields[2]] if kind == "mean" else "")
 
     def take_span(self, span: str, day: str, *_: str) -> None:
         self.months[span] = f"{(datetime.date.fromisoformat(day) + DAY):%Y-%m}"
@@ -208,28 +211,30 @@ class Reader:
     def take_user(self, user: str, flat: str, _: str) -> None:
         self.flats[user] = flat
 
-    def take_factor(self, use: str, span: str, factor: str) -> None:
-        self.facts["factor", use, "kWh", span] = factor
-
-    def take_place(self, _: str, flat: str, use: str, __: str) -> None:
+    def take_place(self, at: str, flat: str, use: str, _: str) -> None:
         number, self.runs = next(self.places)
-        self.place, self.parts = (flat, use, number), {}
+        self.at, self.place, self.parts = at, (flat, use, number), {}
 
     def take_part(self, _: str, begins: str, ends: str, user: str) -> None:
         self.parts[begins, ends] = user
 
-    def take_shown(self, _: str, begins: str, ends: str, unit: str, text: str, mark: str) -> None:
+    def take_shown(self, span: str, begins: str, ends: str, unit: str, text: str, mark: str) -> None:
         flat, use, number = self.place
         self.put(self.parts.get((begins, ends), NONE),
-                 Key("place", flat, use, number, f"{begins} {ends}", SHOWN_UNITS.get(unit, unit)), text, mark)
+                 Key("place", flat, use, number, f"{begins} {ends}", SHOWN_UNITS.get(unit, unit)), text, mark,
+                 f"shown,{self.at},{span},{begins},{ends},{unit}")
 
     def take_value(self, run: str, moment: str, text: str, _: str) -> None:
         self.put(NONE, reading_key(self.runs[int(run) - 1], int(moment)), text, "reading")
 
     def take_of_user(self, span: str, user: str, use: str, of_file: str, text: str, mark: str) -> None:
-        self.put(user, use_key(self.flats[user], use, f"month {self.months[span]}", SHOWN_UNITS[of_file]), text, mark)
-        for what in ("factor", "price") if span == NOW else ():
-            self.put_of(user, use, what, self.facts.get((what, use, of_file, span), NONE), DECLARED)
+        self.put(user, use_key(self.flats[user], use, f"month {self.months[span]}", SHOWN_UNITS[of_file]), text, mark,
+                 f"of_user,{span},{user},{use},{of_file}")
+        if span == NOW:
+            for what, *fields in (("price", of_file), *((("factor",), ("co2",)) if of_file == "kWh" else ())):
+                fact = (what, use, *fields, span)
+                self.put_of(user, use, "emission" if what == "co2" else what, self.facts.get(fact, NONE), DECLARED,
+                            ",".join(fact))
 
     def take_of_flat(self, _: str, flat: str, use: str, __: str, text: str, mark: str) -> None:
         self.put(NONE, Key("flat", flat, use), text, mark)
@@ -267,11 +272,11 @@ class Facts(Reader):
         self.read(lines)
         self.nobodys = {it[1:] for it in self.all}
 
-    def put(self, user: str, key: Key, text: str, mark: str) -> None:
+    def put(self, user: str, key: Key, text: str, mark: str, _: str = "") -> None:
         self.all.add((None if user == NONE else int(user), key, text, mark))
 
-    def take_place(self, _: str, flat: str, use: str, __: str) -> None:
-        self.place, self.parts = (flat, use, 0), {}
+    def take_place(self, at: str, flat: str, use: str, _: str) -> None:
+        self.at, self.place, self.parts = at, (flat, use, 0), {}
 
     def take_meter(self, run: str, identity: str, *_: str) -> None:
         self.meters[run] = identity
@@ -291,6 +296,35 @@ class Facts(Reader):
                      if it not in self.all and (it[0] is not None or it[1:] not in self.nobodys)), None)
 
 
+class Own(Facts):
+    """The numbers of a sheet's own file by the sheet's keys, each with the key of its line."""
+
+    def __init__(self, sheet: Sheet, lines: List[str]) -> None:
+        places = [(use.use, place) for use in sheet.uses for place in use.places]
+        self.numbers: Numbers = {}
+        self.user, self.left = str(sheet.user.id), grouped((use, place.number) for use, place in places)
+        self.of_runs = {(it.meter, str(it.moment), printed_reading(it.shown, it.unit)): it.run
+                        for _, place in places for it in place.readings if it.run is not None}
+        super().__init__(lines)
+
+    def put(self, user: str, key: Key, text: str, mark: str, line: str = "") -> None:
+        self.numbers.setdefault(key, Printed(text, mark, line))
+
+    def take_part(self, span: str, begins: str, ends: str, user: str) -> None:
+        super().take_part(span, begins, ends, user)
+        flat, use, number = self.place
+        if span == NOW and user == self.user and not number:
+            self.place = (flat, use, (self.left.get(use) or [0]).pop(0))  # in their order
+
+    def take_value(self, run: str, moment: str, text: str, unit: str) -> None:
+        found = self.of_runs.get((self.meters[run], moment, (text, unit)))
+        if found is not None:
+            self.put(NONE, reading_key(found, int(moment)), text, "value", f"value,{self.at},{run},{moment},{unit}")
+
+    def take_as(self, use: str, kind: str, why: str) -> None:
+        self.numbers[Key("as", use=use, unit=kind)] = Printed(why, "as", f"as,{use},{kind}")
+
+
 def file_of(cursor: Cursor, audit: Optional[int]) -> Optional[List[str]]:
     """The lines of an audit's file; None once it was dropped."""
     file = value_of(cursor, FILE, audit)
@@ -307,8 +341,7 @@ def unknown(cursor: Cursor, audit: int, numbers: List[Published]) -> Optional[st
 
 
 def published_of(cursor: Cursor, houses: List[str], month: datetime.date) -> Tuple[Dict[str, Printable], List[str]]:
-    """What may be printed of a month of these houses, and which have a number that isn't in its audit file.
-    Nothing of a house without an audit."""
+    """What may be printed of a month of those houses that have an audit, and which have a number that it lacks."""
     found, refused = {}, []
     for house, audit, says in rows_of(cursor, AUDITS, houses, month):
         of_audits = grouped((of, (tenancy, Key(*key), text, mark)) for of, tenancy, *key, text, mark in rows_of(

@@ -314,8 +314,7 @@ def differences(out: Mapping[Any, Number], now: Mapping[Any, Number],
 
 
 def by_period(found: Sequence[Tuple[Any, ...]]) -> Dict[Any, Number]:
-    """Amount and grade of each place's month and of each user's part, by place, begin and end.
-    (Who was forgotten has none.)"""
+    """Amount and grade of each place's month and of each known user's part, by place, begin and end."""
     return {(place, begins, ends): (amount, grade) for place, part, begins, ends, tenancy, amount, grade in found
             if part == 0 or tenancy is not None}
 

@@ -119,8 +119,7 @@ Of = NamedTuple("Of", [("house", str), ("month", Optional[Any]), ("days", Option
 
 
 def publish(cursor: Cursor, of: Of, file: File) -> Optional[str]:
-    """Has a file filled and judged. Where it is accepted it is stored with its numbers; else returns why it isn't, and
-    nothing is. Raises NotComputed."""
+    """Has a file filled and judged; stores it and its numbers, or returns why it isn't accepted. Raises NotComputed."""
     try:
         made = filled(file.lines)
     except AtFault as fault:

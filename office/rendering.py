@@ -9,14 +9,15 @@ import importlib.util
 import itertools
 import os
 import pathlib
+import re
 from typing import Any, Callable, Iterator, List, NamedTuple, Optional, Tuple
 
 import jinja2
-import markupsafe
+from markupsafe import Markup
 
 from catalogue import Catalogue
 from database import Cursor, plain, rows_of
-from exporting import DECLARED, Numbers, Printable, Printed, is_whole, month_key, place_key, use_key
+from exporting import DECLARED, NONE, Numbers, Own, Printable, Printed, is_whole, month_key, place_key, use_key
 from periods import DAY, later_month, next_month
 from program import Key
 from sheet_data import MARKED, MONTHS, Number, Sheet, Use
@@ -28,9 +29,9 @@ PLACES = 13
 QUIET = 4  # modules around a code
 
 
-# A month: its name below the bar, its value (None: no value), and the value as the reader writes it.
+# A month: its name below the bar, its value (None: no value), and the value as the reader writes it, with attributes.
 Bar = NamedTuple("Bar", [("label", str), ("year", str), ("value", Optional[decimal.Decimal]), ("shown", str),
-    ("is_estimated", bool), ("is_january", bool)])
+    ("is_estimated", bool), ("is_january", bool), ("of", Markup)])
 
 
 # A bar as it is drawn.
@@ -76,7 +77,27 @@ def path_of(y: int, line: List[bool]) -> str:
     return "".join(f"M{run[0][0]} {y}h{len(run)}v1h-{len(run)}z" for run in runs if run[0][1])
 
 LONGEST_GAP = datetime.timedelta(hours=48)  # between the readings around an end of what counts as measured
-Sentences = Iterator[Tuple[Use, str]]
+Sentences = Iterator[Tuple[Use, Markup]]
+
+
+def element(text: object, of: Markup) -> Markup:
+    """A text with attributes by which `mbdc audit --sheet` reads a page."""
+    return Markup("<span{}>{}</span>").format(of, text)
+
+
+def fixed(kind: str, text: object) -> Markup:
+    """What isn't in the file: a date, an identity, the file's hash."""
+    return element(text, Markup(' data-fixed="{}"').format(kind))
+
+
+def wrote(text: object) -> Markup:
+    """What people wrote."""
+    return Markup('<bdi><address data-fixed="contact">{}</address></bdi>').format(shown(text))
+
+
+def name_of(use: str, words: Catalogue) -> object:
+    """The name of a use, which people may have given it."""
+    return wrote(words.use(use)) if any(letter.isdecimal() for letter in use) else words.use(use)
 
 
 class Said(NamedTuple):
@@ -85,48 +106,70 @@ class Said(NamedTuple):
     words: Catalogue
     numbers: Numbers
 
+    def sentence(self, word: str, **values: object) -> Markup:
+        return Markup(self.words.word(word)).format(**values)
+
+    def number(self, key: Key) -> Optional[Markup]:
+        """A number as it is printed."""
+        printed = printed_in(self.numbers, self.words)(key)
+        return None if printed is None or printed.text == NONE else element(printed.text, printed.of)
+
     def known(self, what: str) -> Sentences:
         """The uses that have such a number, as it is printed."""
         for use in self.sheet.uses:
-            printed = self.numbers.get(use_key(self.sheet.user.flat, use.use, what))
-            if printed is not None and printed.is_number:
-                yield use, self.words.printed(printed.text)
+            found = self.number(use_key(self.sheet.user.flat, use.use, what))
+            if found is not None:
+                yield use, found
 
     def changes(self) -> Sentences:
         """Of each use and month that it is compared with: how much less or more it is, in per cent."""
         for use in self.sheet.uses:
             sentences = []
             for month in (later_month(self.sheet.month, -12), later_month(self.sheet.month, -1)):
-                printed = self.numbers.get(use_key(self.sheet.user.flat, use.use, f"change {month:%Y-%m}"))
-                if printed is not None and printed.is_number:
-                    percent, then = printed.text.lstrip("-"), self.words.month(month)
-                    word = "as_much" if percent == "0" else "less" if printed.text != percent else "more"
-                    sentences.append(self.words.word(word, percent=self.words.printed(percent), then=then))
+                key = use_key(self.sheet.user.flat, use.use, f"change {month:%Y-%m}")
+                percent, then = self.number(key), fixed("date", self.words.month(month))
+                if percent is not None:
+                    text = self.numbers[key].text
+                    word = "as_much" if text == "0" else "less" if text.startswith("-") else "more"
+                    sentences.append(self.sentence(word, percent=percent, then=then))
             if sentences:
-                yield use, ", ".join(sentences)
+                yield use, Markup(", ").join(sentences)
 
     def weather(self) -> Sentences:
         """Of each use for heating: what the month of last year would have been in this month's weather."""
-        then = self.words.month(later_month(self.sheet.month, -12))
+        then = fixed("date", self.words.month(later_month(self.sheet.month, -12)))
         for use, amount in self.known("weather"):
-            yield use, self.words.word("weather", then=then, amount=amount, unit=self.words.word(use.unit))
+            yield use, self.sentence("weather", then=then, amount=amount, unit=self.words.word(use.unit))
 
     def carbon(self) -> Sentences:
         """The emissions of a user's own consumption, in kg."""
-        yield from ((use, self.words.word("own_co2", amount=amount)) for use, amount in self.known("co2"))
+        yield from ((use, self.sentence("own_co2", amount=amount)) for use, amount in self.known("co2"))
 
     def costs(self) -> Sentences:
         """What the month's consumption costs, by the exact amount, without fixed costs."""
         prices = {use.use: price for use, price in self.known("price")}
         for use, amount in self.known("cost"):
-            yield use, self.words.word("cost", amount=amount, price=prices[use.use], unit=self.words.word(use.unit))
+            yield use, self.sentence("cost", amount=amount, price=prices[use.use], unit=self.words.word(use.unit))
 
     def factors(self) -> Sentences:
         """By which factor an amount is in kWh."""
         for use, kwh in self.known("factor"):
             source = self.sheet.facts.factors[use.use]
             unit = self.words.word("unit_of_allocators" if use.quantity == "allocation" else "m³")
-            yield use, self.words.word("factor", unit=unit, kwh=kwh) + (f" ({source})" if source else "")
+            said = self.sentence("factor", unit=unit, kwh=kwh)
+            yield use, said + Markup(" ") + wrote(f"({source})") if source else said
+
+    def emission(self) -> Optional[Markup]:
+        """The grams a kWh: by the file, or as they are known."""
+        known = self.sheet.user.co2_g_per_kwh
+        return next((found for _, found in self.known("emission")), None if known is None else wrote(
+            self.words.exact(known)))
+
+    def decided(self) -> Sentences:
+        """Of each use why a meter counts it, where its device type doesn't say so."""
+        uses = {use.use: use for use in self.sheet.uses}
+        for key in (key for key in self.numbers if key.kind == "as" and key.use in uses):
+            yield uses[key.use], self.sentence("decided", use=name_of(key.use, self.words), why=self.number(key))
 
     def estimates(self) -> Sentences:
         """How each estimated number of the month was made."""
@@ -135,44 +178,42 @@ class Said(NamedTuple):
             if printed is None or printed.mark != "estimated":
                 continue
             hows = [self.sheet.facts.hows[it.id] for it in place.readings if it.id in self.sheet.facts.hows]
-            gaps = [(self.words.moment(one.at), self.words.moment(other.at))
+            gaps = [[fixed("date", self.words.moment(it.at)) for it in (one, other)]
                     for one, other in zip(place.readings, place.readings[1:])
                     if one.meter == other.meter and other.at - one.at > LONGEST_GAP
                     and any(one.at <= end <= other.at for end in (place.amount.begins, place.amount.ends))]
-            yield from ((use, self.words.word("estimated_by", how=self.words.use(how))) for how in dict.fromkeys(hows))
-            yield from ((use, self.words.word("estimated_between", since=since, until=until)) for since, until in gaps
+            yield from ((use, self.sentence("estimated_by", how=self.words.use(how))) for how in dict.fromkeys(hows))
+            yield from ((use, self.sentence("estimated_between", since=since, until=until)) for since, until in gaps
                         if not hows)
 
-    def corrected(self) -> str:
+    def corrected(self) -> Markup:
         """What a version that isn't the first one says at its beginning; nothing of a first one."""
         it, words = self.sheet.facts.correction, self.words
-        parts: List[str] = []
+        parts: List[Markup] = []
         if it is None:
-            return ""
+            return Markup()
         for use in self.sheet.uses:
             key = month_key(self.sheet.user.flat, use, self.sheet.month)
             now, before = self.numbers.get(key), self.sheet.facts.before.get((self.sheet.user.id, key))
             if now is not None and before is not None and words.printed(now.text) != words.printed(before):
-                parts.append(words.word("corrected_use", use=words.use(use.use), now=words.printed(now.text),
-                                        unit=words.word(use.unit), before=words.printed(before)))
-        day, changes = words.long_day(it.at), " ".join(parts)
-        return words.word("corrected", day=day, version=it.version, changes=changes, why=it.why)
+                parts.append(self.sentence("corrected_use", use=name_of(use.use, words), now=self.number(key) or NONE,
+                                           unit=words.word(use.unit), before=wrote(words.printed(before))))
+        return self.sentence("corrected", day=fixed("date", words.long_day(it.at)), version=wrote(it.version),
+                             changes=Markup(" ").join(parts), why=wrote(it.why))
 
-
-def days_in(number: Number, month: datetime.date) -> Tuple[int, int]:
-    """The days of a number, and those of its month."""
-    length = (number.ends - number.begins + datetime.timedelta(hours=12)).days
-    return max(length, 1), (next_month(month) - month).days
 
 TEMPLATES = pathlib.Path(__file__).resolve().parent / "templates"
 LONGEST = 300  # characters of what people wrote
 SOURCES = {"telegrams": "readings", "put": "by hand", "estimates": "estimated"}  # of the audit's last line, by its word
 ESTIMATED = "estimated"
-SAID = ("changes", "weather", "carbon", "costs", "estimates", "factors")
+SAID = ("changes", "weather", "carbon", "costs", "estimates", "factors", "decided")
+STYLES = ("page.css", "dark.css")  # which add no text to a page
+PAPER = (*STYLES, "paper.css")
+COUNTS = re.compile(r" \([^()]*\)")  # which a sheet doesn't say: they are in no file
 
 
-# A sheet's audit file, which lies beside it, and the last line that the audit says of it.
-Evidence = NamedTuple("Evidence", [("name", str), ("sha256", str), ("says", str)])
+# A sheet's audit file, which lies beside it, its lines, and the last line that the audit says of it.
+Evidence = NamedTuple("Evidence", [("name", str), ("sha256", str), ("lines", List[str]), ("says", str)])
 
 
 @functools.lru_cache(maxsize=None)
@@ -182,9 +223,9 @@ def environment() -> jinja2.Environment:
 
 
 @functools.lru_cache(maxsize=None)
-def style(*files: str) -> markupsafe.Markup:
+def style(*files: str) -> Markup:
     """The one text that isn't escaped: the repository's own style."""
-    return markupsafe.Markup("".join((TEMPLATES / it).read_text(encoding="utf-8") for it in files))
+    return Markup("".join((TEMPLATES / it).read_text(encoding="utf-8") for it in files))
 
 
 def shown(text: object) -> str:
@@ -192,39 +233,54 @@ def shown(text: object) -> str:
     return plain(text, LONGEST)
 
 
-def html_of(name: str, words: Catalogue, styles: Tuple[str, ...] = ("page.css", "dark.css"), **values: Any) -> str:
+def html_of(name: str, words: Catalogue, styles: Tuple[str, ...] = PAPER, **values: Any) -> str:
     template = environment().get_template(name)
     return str(template.render(words=words, style=style(*styles), plain=shown, marked=MARKED, **values))
 
 
-def printed_in(numbers: Numbers, words: Catalogue) -> Callable[..., Optional[Printed]]:
-    """What a page's macro prints of a key: the number as the reader writes it, and its mark. It has no other source."""
-    def number(key: Any, *parts: Any) -> Optional[Printed]:
-        found = numbers.get(Key(key, *parts) if parts else key)
-        return None if found is None else found._replace(text=words.printed(found.text))
+# A number as the reader writes it, its mark, and the attributes of its element.
+Shown = NamedTuple("Shown", [("text", str), ("mark", str), ("of", Markup)])
+
+
+def printed_in(numbers: Numbers, words: Catalogue) -> Callable[..., Optional[Shown]]:
+    """What a page's macro prints of a key. It has no other source."""
+    def number(key: Any, *parts: Any) -> Optional[Shown]:
+        key = Key(key, *parts) if parts else key
+        found = numbers.get(key)
+        return None if found is None else Shown(words.printed(found.text), found.mark, attributes(found, key))
     return number
+
+
+def attributes(it: Printed, key: Key) -> Markup:
+    """Which line of the sheet's file has a number; of an earlier month, which is copied, the month."""
+    if it.line:
+        return Markup(' data-key="{}" data-text="{}" data-mark="{}"').format(it.line, it.text, it.mark)
+    return Markup(' data-fixed="{}"').format(key.period) if key.kind == "month" and it.is_number else Markup()
 
 
 def sheet_html(sheet: Sheet, published: Printable, options: Any, evidence: Optional[Evidence],
                is_paper: bool = False) -> str:
     """A sheet; on paper with a code that leads to it on the web.
     options: the words `decoder`, `auditor` and `link` of office/sheets."""
-    user, words, numbers = sheet.user, Catalogue(sheet.user.language, sheet.user.zone), published.of(sheet.user.id)
+    user, words, known = sheet.user, Catalogue(sheet.user.language, sheet.user.zone), published.of(sheet.user.id)
+    numbers: Numbers = {**known, **(Own(sheet, evidence.lines).numbers if evidence else {})}
     months = [use.months[sheet.month] for use in sheet.uses]
-    number, flat, said = printed_in(numbers, words), user.flat, Said(sheet, words, numbers)
-    means = {use.use: number(use_key(flat, use.use, "average", use.unit)) for use in sheet.uses}
+    number, flat, sentences = printed_in(numbers, words), user.flat, Said(sheet, words, numbers)
+    means = {use.use: use_key(flat, use.use, "average", use.unit) for use in sheet.uses}
     estimated = [number(month_key(flat, use, sheet.month)) for use in sheet.uses]
     link = f"{options.link}/{user.token}/{sheet.month:%Y-%m}.html" if is_paper and options.link else ""
     return html_of(
-        "sheet.html", words, sheet=sheet, user=user, months=compared(sheet.month), audit=published.audit, number=number,
-        audited=audited_of(published.audit, evidence.says if evidence else published.says, words),
-        of_month=lambda use, month: number(month_key(flat, use, month)), average=lambda use: means[use.use],
-        is_average_declared=any(it is not None and it.mark == DECLARED for it in means.values()),
+        "sheet.html", words, PAPER if is_paper else STYLES, sheet=sheet, user=user, months=compared(sheet.month),
+        audit=published.audit, number=number,
+        audited=COUNTS.sub("", audited_of(published.audit, evidence.says if evidence else published.says, words)),
+        of_month=lambda use, month: number(month_key(flat, use, month)), average=lambda use: number(means[use.use]),
+        is_average_declared=any(key in known and known[key].mark == DECLARED for key in means.values()),
         of_place=lambda use, place: number(place_key(flat, use, place)), evidence=evidence, auditor=options.auditor,
         begins=min(month.begins for month in months), ends=max(month.ends for month in months),
         charts=charts_of(sheet, numbers, words), last_of=lambda month: (next_month(month) - DAY),
-        is_estimated=any(it is not None and it.mark == ESTIMATED for it in estimated), corrected=said.corrected(),
-        said={name: list(getattr(said, name)()) for name in SAID},
+        is_estimated=any(it is not None and it.mark == ESTIMATED for it in estimated),
+        corrected=sentences.corrected(), said={name: list(getattr(sentences, name)()) for name in SAID},
+        emission=sentences.emission(), wrote=wrote, fixed=fixed, name_of=lambda use: name_of(use, words),
         part=lambda month, of: part_of(month, of, words), decoder=options.decoder, is_paper=is_paper,
         code=code_of(link) if link else None)
 
@@ -241,8 +297,8 @@ def audited_of(audit: Optional[int], says: str, words: Catalogue) -> str:
 
 def replaced_html(text: str, words: Catalogue, version: int) -> str:
     """A sheet that another version has replaced: as it was, with a banner."""
-    banner = markupsafe.escape(words.word("replaced", version=version))
-    return text.replace('<main id="main">', f'<p class="banner">{banner}</p>\n<main id="main">', 1)
+    banner = Markup(words.word("replaced")).format(version=wrote(version))
+    return text.replace("<main ", f'<div class="banner">{banner}</div>\n<main ', 1)
 
 
 def compared(month: datetime.date) -> List[datetime.date]:
@@ -254,13 +310,12 @@ def part_of(number: Number, month: datetime.date, words: Catalogue) -> str:
     """Of a number that isn't of the whole month: which days it is of."""
     if is_whole(number, month, words.zone):
         return ""
-    days, of_all = days_in(number, month)
-    return words.word("part_of", days=days, all=of_all, period=words.period(number.begins, number.ends))
+    return words.word("part_of", period=words.period(number.begins, number.ends))
 
 
 def charts_of(sheet: Sheet, numbers: Numbers, words: Catalogue) -> List[Tuple[Use, Chart]]:
     """The charts of the uses that have one."""
-    return [(use, chart_of([bar_of(numbers.get(month_key(sheet.user.flat, use, month)), month, words)
+    return [(use, chart_of([bar_of(numbers, month_key(sheet.user.flat, use, month), month, words)
                             for month in charted(use, sheet.month)])) for use in sheet.uses if use.is_charted]
 
 
@@ -270,11 +325,13 @@ def charted(use: Use, last: datetime.date) -> List[datetime.date]:
     return [month for month in months if month >= min(use.months)]
 
 
-def bar_of(printed: Optional[Printed], month: datetime.date, words: Catalogue) -> Bar:
+def bar_of(numbers: Numbers, key: Key, month: datetime.date, words: Catalogue) -> Bar:
+    printed = numbers.get(key)
     value = decimal.Decimal(printed.text) if printed is not None and printed.is_number else None
-    said = words.word("none") if printed is None or value is None else words.printed(printed.text)
+    text = words.word("none") if printed is None or value is None else words.printed(printed.text)
     is_estimated = printed is not None and printed.mark == ESTIMATED
-    return Bar(words.short_month(month), str(month.year), value, said, is_estimated, month.month == 1)
+    return Bar(words.short_month(month), str(month.year), value, text, is_estimated, month.month == 1,
+               Markup() if printed is None else attributes(printed, key))
 
 
 def refuse(url: str) -> Any:

@@ -109,8 +109,7 @@ class Fitting:
         self.restarts: List[Restart] = []
 
     def all_values(self) -> List[Value]:
-        """Its values in its time in order, with the first and the last one. An estimate counts as long as no reading
-        follows it."""
+        """Its values in its time in order, with the first and the last one; an estimate until a reading follows it."""
         values = [*self.first, *sorted((it for it in self.values if self.begins <= it.at and (
             self.ends is None or it.at <= self.ends)), key=lambda value: value.at), *self.last]
         known = [value.at for value in values if value.source != ESTIMATED]
@@ -228,8 +227,7 @@ def tenancies_of(cursor: Cursor, houses: List[str], first: datetime.date, after:
 
 
 def needed(moments: Iterable[Moment], told: Iterable[Moment], begins: Moment, ends: Moment) -> Tuple[Moment, Moment]:
-    """The first and the last moment of the values that decide the consumption and the marks of a period.
-    told: the moments of telegrams' values."""
+    """The first and last moment of the values that decide a period's consumption and marks. told: of telegrams'."""
     firsts, lasts = [begins], [ends]
     for distinct in (sorted(set(moments)), sorted(set(told))):
         firsts += distinct[:bisect.bisect_right(distinct, begins)][-BEFORE:]

@@ -59,6 +59,11 @@ class Ended:
     status: int
     printed: str
 
+    def ok(self, status: int = 0) -> str:
+        """What it printed, of one that had to end so."""
+        assert self.status == status, self.printed
+        return self.printed
+
 
 class Office:
     """The office's programs over one database, and the boxes that they reach."""
@@ -162,6 +167,15 @@ def telegram(litres: int, status: int = 0, due: str = "", number: str = "1234567
     return (header + bytes.fromhex("0C13") + bytes.fromhex(f"{litres:08}")[::-1] + bytes.fromhex(stored)).hex().upper()
 
 
+def sendmail(folder: pathlib.Path) -> str:
+    """A program that keeps each mail, and refuses those to `refused`."""
+    program = folder / "sendmail"
+    program.write_text(f"#!/bin/sh\ncat > {folder}/mail.$$\nif grep -q 'To: refused@' {folder}/mail.$$; then echo 'no"
+                       " such user' >&2; exit 67; fi\n", encoding="ascii")
+    program.chmod(0o755)
+    return str(program)
+
+
 @pytest.fixture(scope="session")
 def server() -> Iterator[Server]:
     """Not in pytest's folder, which the next pytest closes to the server's user."""
@@ -198,6 +212,5 @@ FITS = ["FIT 11111111.PAD.01.07 1 1 A1", "FIT 22222222.PAD.01.07 1 2 A2"]
 def box(office: Office) -> Box:
     """A box with two meters."""
     made = office.box("house-1")
-    ended = office.order("house-1", *FITS)
-    assert ended.status == 0, ended.printed
+    office.order("house-1", *FITS).ok()
     return made

@@ -32,16 +32,14 @@ def test_a_box_gets_its_house(office: Office, box: Box) -> None:
 
 
 def test_orders(office: Office, box: Box) -> None:
-    """FIT begins a fitting, OUT ends it, MOVE does both, and after SWAP the place is the same; as the collector's
-    role."""
+    """As a collector: FIT begins a fitting, OUT ends it, MOVE does both, and after SWAP the place is the same."""
     housed(office)
     office.sql("ALTER ROLE office SET role = 'collector'")
     try:
         for line in (f"FIT {FIRST_HEAT} 1 3 A1", f"SWAP {FIRST_HEAT} {SECOND_HEAT} 4", "MOVE 11111111.PAD.01.07 B7",
                      "OUT 22222222.PAD.01.07", "FIT 55555555.PAD.01.07 1 9 A2", "FIT 66666666.PAD.01.07 1 8 A2",
                      "FIT 77777777.PAD.01.0E 1 7 A2"):
-            ended = office.order("house-1", line)
-            assert ended.status == 0, ended.printed
+            office.order("house-1", line).ok()
     finally:
         office.sql("ALTER ROLE office RESET role")
     # a bus system has no place
@@ -95,8 +93,7 @@ def test_a_restored_copy_of_the_image(office: Office, box: Box) -> None:
     box.hears(2)
     assert office.collect().status == 0
     assert office.run("replace-box", "house-1", "house-1-b").status == 0
-    ended = office.collect()
-    assert ended.status == 0 and "house-1-b: 0 readings" in ended.printed, ended.printed
+    assert "house-1-b: 0 readings" in office.collect().ok()
     assert len(fitted(office)) == 2
 
 

@@ -15,9 +15,7 @@ WAITS = "SELECT count(*) > 0 FROM pg_stat_activity WHERE wait_event_type = 'Lock
 
 
 def closed(office: Office, *words: str, status: int = 0, **environment: str) -> List[str]:
-    ended = office.run("close", *words, **environment)
-    assert ended.status == status, ended.printed
-    return ended.printed.splitlines()
+    return office.run("close", *words, **environment).ok(status).splitlines()
 
 
 def months(office: Office) -> List[Tuple[Any, ...]]:
@@ -25,8 +23,7 @@ def months(office: Office) -> List[Tuple[Any, ...]]:
 
 
 def test_late_readings_come_to_be_values(office: Office, elm: Supplied) -> None:
-    """A month without a value gets its number when the readings come, whenever that is; and an alarm says that they
-    were late."""
+    """A month gets its number when the readings come, whenever that is; and an alarm says that they were late."""
     meter = elm.meter(1, HEAT, "A1")
     elm.reads(meter, at("2024-12-31T18:00"), 1000)
     elm.reads(meter, at("2025-02-05T06:00"), 1350)

@@ -1,6 +1,5 @@
 """office/collect: each reading once, each box's failure its own, and records from the decoder's JSON objects."""
 
-import decimal
 import os
 import pathlib
 import signal
@@ -21,9 +20,7 @@ import visit
 
 def test_readings_are_stored_once_and_confirmed(office: Office, box: Box) -> None:
     box.hears(250)
-    ended = office.collect()
-    assert ended.status == 0, ended.printed
-    assert "house-1: 250 readings, confirmed up to 250" in ended.printed
+    assert "house-1: 250 readings, confirmed up to 250" in office.collect().ok()
     assert office.sql("SELECT count(*), min(serial), max(serial) FROM readings") == [(250, 1, 250)]
     assert office.sql("SELECT count(*) FROM points WHERE value = 0.25") == [(1,)]
     assert box.confirmed() == 250 and box.run("OFFICE WINDOW 251 1") == ["END 0"]
@@ -35,8 +32,7 @@ def test_readings_are_stored_once_and_confirmed(office: Office, box: Box) -> Non
 def test_lost_and_torn_answers(office: Office, box: Box) -> None:
     box.hears(3)
     box.faults("refuse", "torn", "", "lost")
-    ended = office.collect("--tries", "6")
-    assert ended.status == 0, ended.printed
+    office.collect("--tries", "6").ok()
     assert box.numbers()[2:] == [(3, "CONFIRM 3")]
 
 
@@ -64,8 +60,7 @@ def test_each_box_fails_for_itself(office: Office, box: Box) -> None:
 def test_without_a_decoder(office: Office, box: Box) -> None:
     box.hears(2)
     other = office.box("house-2")
-    ended = office.collect(MBDC="/nowhere/mbdc")
-    assert ended.status == 1 and "house-2: 0 readings" in ended.printed and other.last() == 0
+    assert "house-2: 0 readings" in office.collect(MBDC="/nowhere/mbdc").ok(1) and other.last() == 0
     assert office.sql("SELECT fault LIKE 'FAILED: no decoder%%' FROM boxes WHERE name = 'house-1'") == [(True,)]
     assert box.confirmed() == 0
     assert office.collect().status == 0 and box.confirmed() == 2
@@ -114,8 +109,7 @@ def test_a_box_that_comes_to_no_end(office: Office, box: Box) -> None:
     """Its process is killed at the deadline, also a stopped one."""
     box.hears(2)
     office.sql("INSERT INTO boxes (name, command) VALUES ('sleeps', 'sleep 100')")
-    ended = office.collect("--longest", "1", "sleeps")
-    assert ended.status == 1 and "sleeps: FAILED: no end within 1 s" in ended.printed
+    assert "sleeps: FAILED: no end within 1 s" in office.collect("--longest", "1", "sleeps").ok(1)
     process = started(office, "--workers", "1", "--longest", "8", "sleeps", "house-1")
     while not (found := workers_of(process)):
         assert process.poll() is None
@@ -199,8 +193,7 @@ def test_a_box_that_was_formatted_anew(office: Office, box: Box) -> None:
     new = Box(office.folder, "house-1")
     new.says(*(f"{number} {line}" for number, line in enumerate(FITS, 1)))
     new.hears(2, first=7)
-    ended = office.collect()
-    assert ended.status == 1 and "STOPPED: the box's last order is 2, the database's 3" in ended.printed
+    assert "STOPPED: the box's last order is 2, the database's 3" in office.collect().ok(1)
     assert office.sql("SELECT count(*) FROM readings") == [(3,)] and new.confirmed() == 0
 
 
@@ -271,23 +264,15 @@ ENERGY: Dict[str, Any] = {"storage": 0, "tariff": 0, "subunit": 0, "function": "
                           "value": "1480", "unit": "Wh"}
 
 
-def test_an_energy_without_error_is_the_meters_value() -> None:
-    point = decoding.point_of_object(ENERGY)
-    assert (point.vib, point.value, point.unit, point.is_point) == ("04", decimal.Decimal(1480), "Wh", True)
-
-
-def test_a_value_of_the_first_extension_keeps_it() -> None:
-    point = decoding.point_of_object({**ENERGY, "vib": "FB8000", "unit": "MWh"})
-    assert (point.vib, point.is_point) == ("FB00", True)
-
-
-def test_other_qualifiers_quantities_and_errors_do_not_count() -> None:
-    others: List[Dict[str, Any]] = [{"qualifiers": ["no error", "at phase L1"]}, {"qualifiers": ["backward flow only"]},
-                                    {"quantity": "power"}, {"value": None}, {"reading": "plain", "qualifiers": []}]
-    for other in others:
-        point = decoding.point_of_object({**ENERGY, **other})
-        assert (point.vib, point.is_point) == ("8400", False)
-    assert point.value is None  # of a REAL
+@pytest.mark.parametrize("other, vib, value", [
+    ({}, "04", 1480), ({"vib": "FB8000", "unit": "MWh"}, "FB00", 1480),  # the first extension stays
+    ({"qualifiers": ["no error", "at phase L1"]}, "", 1480), ({"qualifiers": ["backward flow only"]}, "", 1480),
+    ({"quantity": "power"}, "", 1480), ({"value": None}, "", None),
+    ({"reading": "plain", "qualifiers": []}, "", None)])  # a REAL
+def test_an_energy_without_error_is_the_meters_value(other: Dict[str, Any], vib: str, value: Any) -> None:
+    """And with other qualifiers, quantities and errors it isn't."""
+    point = decoding.point_of_object({**ENERGY, **other})
+    assert (point.vib, point.value, point.is_point) == (vib or "8400", value, bool(vib))
 
 
 def test_a_stored_energy_without_error_has_its_due_date() -> None:

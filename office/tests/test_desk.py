@@ -1,5 +1,4 @@
-"""The manager's page: items by cause, what each role may do, forms, and lists that are taken as a whole or not at
-all."""
+"""The manager's page: items by cause, what each role may do, forms, and lists, which are taken whole or not at all."""
 
 import datetime
 import json
@@ -9,7 +8,7 @@ from typing import Any, Dict, Iterator, List, Tuple
 
 import psycopg2
 import pytest
-from conftest import Office
+from conftest import Office, sendmail
 from catalogue import Catalogue as Words
 from catalogue import texts
 from desk_items import ACTIONS, body, brief
@@ -60,8 +59,7 @@ def items(office: Office) -> List[Tuple[Any, ...]]:
 
 
 def test_a_cause_is_one_item(office: Office, elm: Supplied) -> None:
-    """A false value takes the numbers of two months, and a dead box those of all its meters: each is one item, with its
-    sheets."""
+    """A false value takes two months' numbers, a dead box those of all its meters: each is an item with its sheets."""
     false, quiet = elm.meter(1, HEAT, "A1"), elm.meter(2, COLD, "A1")
     elm.tenancy("A1", "2024-01-01", None)
     elm.days(false, "2024-12-25", 40, 1_000_000, 10_000)
@@ -125,8 +123,7 @@ def test_a_cause_over_all_houses_is_one_item(office: Office, desk: Desk, tmp_pat
 
 
 def test_a_trouble_is_mended_on_the_page(office: Office, elm: Supplied, desk: Desk) -> None:
-    """The false reading is marked and struck with a reason; the log has who, what and why; the next run ends the
-    item."""
+    """The false reading is marked and struck; the log has who, what and why; the next run ends the item."""
     false = elm.meter(1, COLD, "A1", since=at("2024-12-25"))
     elm.tenancy("A1", "2024-01-01", None)
     elm.days(false, "2024-12-24", 41, 99, 1, "m3")
@@ -237,8 +234,7 @@ def test_lists_are_taken_as_a_whole_or_not(office: Office, elm: Supplied, desk: 
                      "user;oak-2;A1;01.03.2024;;A. Weber;de;link;weber@example.org\nuser;oak-2;A1;01.09.2024;;B."
                      " Smith;en;paper;\n"
                      "meter;elm-1;12345678.PAD.01.07;1;9;A1\n".encode("cp1252"))
-    ended = office.run("import", str(file))
-    assert ended.status == 0 and "6 lines would be taken" in ended.printed
+    assert "6 lines would be taken" in office.run("import", str(file)).ok()
     assert office.sql("SELECT count(*) FROM houses") == [(1,)]
     assert office.run("import", str(file), "--apply", "--why", "taken over").status == 0
     assert office.sql("SELECT person, days::text, wants, mail FROM tenancies ORDER BY id") == [
@@ -299,11 +295,8 @@ def test_an_exchange_before_and_after_the_box_knows_it(office: Office, elm: Supp
 def test_the_mail_has_the_same_items(office: Office, elm: Supplied, tmp_path: pathlib.Path) -> None:
     office.sql("UPDATE boxes SET collected_at = '2025-01-01', made_at = '2024-01-01'")
     office.run(*NOON)
-    mail = tmp_path / "sendmail"
-    mail.write_text(f"#!/bin/sh\ncat > {tmp_path}/mail\n", encoding="ascii")
-    mail.chmod(0o755)
-    assert office.run("desk", "--mail", "a@example.org", "--sendmail", str(mail), "--language", "en").status == 0
-    text = (tmp_path / "mail").read_text()
+    office.run("desk", "--mail", "a@example.org", "--sendmail", sendmail(tmp_path), "--language", "en").ok()
+    text = next(tmp_path.glob("mail.*")).read_text()
     assert "Subject: Meters: 2 items, 0 sheets wait" in text and "elm-1: Box doesn't answer" in text
     assert "text/html" in text
     assert office.run("desk", "--mail", "a@example.org", "--sendmail", "/bin/false").status == 3

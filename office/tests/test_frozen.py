@@ -6,6 +6,7 @@ import io
 import pathlib
 from typing import Any, List, Tuple
 
+import pytest
 from conftest import Office
 from supplied import ALLOCATOR, HEAT, WH, Supplied, at
 from test_schema import refused
@@ -18,31 +19,33 @@ DECEMBER = "2024-12-30"
 
 def released(office: Office, out: pathlib.Path, month: str) -> None:
     published(office, month)
-    ended = office.run("sheets", month, "--out", str(out), "--pdf", "none", "--release")
-    assert ended.status == 0, ended.printed
+    office.run("sheets", month, "--out", str(out), "--pdf", "none", "--release").ok()
 
 
 def closed(office: Office, *months: str) -> str:
     """Closes, with these months to be computed again."""
     office.sql("INSERT INTO to_compute SELECT 'elm-1', m FROM unnest(%s::date[]) m",
                [f"{month}-01" for month in months])
-    ended = office.run("close")
-    assert ended.status == 0, ended.printed
-    return ended.printed
+    return office.run("close").ok()
 
 
 def rows(office: Office) -> List[Tuple[Any, ...]]:
     return office.sql(ROWS)
 
 
-def test_what_is_out_is_frozen(office: Office, elm: Supplied, tmp_path: pathlib.Path) -> None:
-    """The rows, the values behind them, and every number as it was printed."""
-    meter = elm.meter(1, HEAT, "A1")
-    tenancy = elm.tenancy("A1", "2024-01-01", None)
+@pytest.fixture
+def january(office: Office, elm: Supplied, tmp_path: pathlib.Path) -> Tuple[int, int]:
+    """January is out, with 10 kWh a day: the meter and its user."""
+    meter, tenancy = elm.meter(1, HEAT, "A1"), elm.tenancy("A1", "2024-01-01", None)
     elm.days(meter, DECEMBER, 60, 1_000_000, 10_000)
     elm.month("2025-01")
     released(office, tmp_path, "2025-01")
-    before = rows(office)
+    return meter, tenancy
+
+
+def test_what_is_out_is_frozen(office: Office, january: Tuple[int, int], tmp_path: pathlib.Path) -> None:
+    """The rows, the values behind them, and every number as it was printed."""
+    tenancy, before = january[1], rows(office)
     assert before[0][3:6] == (1, 310_000 * WH, "measured")
     for query in ("UPDATE month_use SET amount = 1", "DELETE FROM month_use", "UPDATE month_use SET grade = 'hand'",
                   "UPDATE month_use SET out_at = NULL", "UPDATE frozen_values SET entries = '{}'",
@@ -58,17 +61,11 @@ def test_what_is_out_is_frozen(office: Office, elm: Supplied, tmp_path: pathlib.
     assert office.sql("SELECT count(*) FROM published WHERE kind = 'month' AND period = '2025-01'") == [(1,)]
 
 
-def test_another_number_is_another_version(office: Office, elm: Supplied, tmp_path: pathlib.Path) -> None:
+def test_another_number_is_another_version(office: Office, january: Tuple[int, int], tmp_path: pathlib.Path) -> None:
     """A value is struck after the month is out: it stays, somebody is asked, and a version with a reason comes out."""
-    meter = elm.meter(1, HEAT, "A1")
-    tenancy = elm.tenancy("A1", "2024-01-01", None)
-    elm.days(meter, DECEMBER, 60, 1_000_000, 10_000)
-    elm.month("2025-01")
-    released(office, tmp_path, "2025-01")
-    before = rows(office)
+    (meter, tenancy), before = january, rows(office)
     office.sql("SELECT put_value(%s, '2025-01-31', 1325000, 'Wh', 'read at the meter')", meter)
-    closed = office.run("close")
-    assert closed.status == 0 and "2025-01: 1 places: 1 hand" in closed.printed and rows(office) == before
+    assert "2025-01: 1 places: 1 hand" in office.run("close").ok() and rows(office) == before
     printed = office.run("alarms").printed
     said = [line for line in printed.splitlines() if "NEW changed" in line]
     assert said == ["NEW changed elm-1 2025-01: A month that went out would be another now: elm-1/A1/heat/1: 310.0 kWh"
@@ -89,13 +86,9 @@ def test_another_number_is_another_version(office: Office, elm: Supplied, tmp_pa
     assert office.run("correct", "elm-1", "2025-02", "--why", "x").status == 4
 
 
-def test_a_month_may_be_left(office: Office, elm: Supplied, tmp_path: pathlib.Path) -> None:
+def test_a_month_may_be_left(office: Office, january: Tuple[int, int]) -> None:
     """Until it would be another one again."""
-    meter = elm.meter(1, HEAT, "A1")
-    elm.tenancy("A1", "2024-01-01", None)
-    elm.days(meter, DECEMBER, 60, 1_000_000, 10_000)
-    elm.month("2025-01")
-    released(office, tmp_path, "2025-01")
+    meter, _ = january
     assert office.run("correct", "elm-1", "2025-01", "--leave", "--why", "x").status == 4
     office.sql("SELECT put_value(%s, '2025-01-31', 1319000, 'Wh', 'read')", meter)
     assert office.run("close").status == 0
@@ -130,13 +123,16 @@ def computed_again(entries: List[int], begins: int, ends: int) -> int:
     return values[ends] - values[begins]
 
 
+def moved(elm: Supplied) -> int:
+    """Days of 2021 with a move in February; who goes."""
+    elm.days(elm.meter(1, HEAT, "A1", since=at("2020-01-01T00:00")), "2020-12-29", 130, 1_000_000, 10_000)
+    elm.tenancy("A1", "2021-02-11", None, "B. Smith")
+    return elm.tenancy("A1", "2020-01-01", "2021-02-11", "S. Secret")
+
+
 def test_neither_retain_nor_forget_changes_a_number(office: Office, elm: Supplied, tmp_path: pathlib.Path) -> None:
-    """Three months are out, with a move in the second; the days and the user go, a cron goes on, and the numbers
-    stay."""
-    meter = elm.meter(1, HEAT, "A1", since=at("2020-01-01T00:00"))
-    elm.days(meter, "2020-12-29", 130, 1_000_000, 10_000)
-    one = elm.tenancy("A1", "2020-01-01", "2021-02-11", "S. Secret")
-    elm.tenancy("A1", "2021-02-11", None)
+    """Of three months that are out, with a move in the second, the days and the user go, and the numbers stay."""
+    one = moved(elm)
     elm.months("2021-01", "2021-02", "2021-03")
     assert office.run("forget", str(one)).status == 3
     for month in ("2021-01", "2021-02", "2021-03"):
@@ -144,8 +140,7 @@ def test_neither_retain_nor_forget_changes_a_number(office: Office, elm: Supplie
     before = rows(office)
     assert len(before) == 5
     frozen = office.sql("SELECT entries FROM frozen_values WHERE month = '2021-01-01'")[0][0]
-    forgotten = office.run("forget", str(one))
-    assert forgotten.status == 0, forgotten.printed
+    office.run("forget", str(one)).ok()
     closed(office, "2021-01", "2021-02", "2021-03")
     assert office.run("close", "--month", "2021-01").status == 0
     assert rows(office) == before and office.sql("SELECT count(*) FROM changes") == [(0,)]
@@ -154,17 +149,14 @@ def test_neither_retain_nor_forget_changes_a_number(office: Office, elm: Supplie
     assert office.run("retain").status == 0
     assert office.sql("SELECT count(*) FROM frozen_values WHERE month < '2022-01-01'") == [(0,)]
     assert rows(office) == before
-    refusal = office.run("close", "--month", "2021-01")
-    assert refusal.status == 2 and "were dropped" in refusal.printed
+    assert "were dropped" in office.run("close", "--month", "2021-01").ok(2)
     assert "2021" not in closed(office, "2021-01", "2021-02", "2021-03")
     assert rows(office) == before and office.sql("SELECT count(*) FROM changes") == [(0,)]
 
 
 def bill(office: Office, *words: str, status: int = 0) -> str:
     assert office.run("publish", "elm-1", words[0], "--bill").status in (0, 2)
-    ended = office.run("bill", "elm-1", *words)
-    assert ended.status == status, ended.printed
-    return ended.printed
+    return office.run("bill", "elm-1", *words).ok(status)
 
 
 def cells(printed: str, *names: str) -> List[Tuple[str, ...]]:
@@ -215,17 +207,13 @@ def test_a_bill_that_is_out(office: Office, elm: Supplied) -> None:
 
 def test_neither_retain_nor_forget_changes_a_bill(office: Office, elm: Supplied, tmp_path: pathlib.Path) -> None:
     """The user's name goes, the days go, and the numbers stay as they were printed."""
-    meter = elm.meter(1, HEAT, "A1", since=at("2020-01-01T00:00"))
-    elm.days(meter, "2020-12-29", 130, 1_000_000, 10_000)
-    one = elm.tenancy("A1", "2020-01-01", "2021-02-11", "S. Secret")
-    elm.tenancy("A1", "2021-02-11", None, "B. Smith")
+    one = moved(elm)
     before = bill(office, "2021-01-01..2021-03-31", "--release")
     for month in ("2021-01", "2021-02", "2021-03"):
         elm.month(month)
         released(office, tmp_path, month)
     office.sql("SELECT correct_bill('elm-1', '[2021-01-01,2021-04-01)', 'x')")
-    open_bill = office.run("forget", str(one))
-    assert open_bill.status == 3 and "the bill 2021-01-01..2021-03-31 of tenancy" in open_bill.printed
+    assert "the bill 2021-01-01..2021-03-31 of tenancy" in office.run("forget", str(one)).ok(3)
     bill(office, "2021-01-01..2021-03-31", "--release")
     assert office.run("forget", str(one)).status == 0
     closed(office, "2021-01", "2021-02", "2021-03")

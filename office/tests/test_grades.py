@@ -172,8 +172,7 @@ def test_a_provisional_number_is_not_released(office: Office, elm: Supplied, tmp
     assert elm.month("2025-01") == [("A1", 0, 310 * WH, "provisional")]
     published(office)
     words = ("sheets", "2025-01", "--out", str(tmp_path), "--pdf", "none", "--release")
-    ended = office.run(*words)
-    assert ended.status == 5 and "2025-01 waits for readings after its end: elm-1" in ended.printed
+    assert "2025-01 waits for readings after its end: elm-1" in office.run(*words).ok(5)
     assert office.sql("SELECT ready_houses('2025-01-01')") == []
     assert "waits for readings" in refused(office, "SELECT release_month('elm-1', '2025-01-01')")
     assert not (tmp_path / "sheets").exists() and sheet_of(office, tmp_path, tenancy).exists()

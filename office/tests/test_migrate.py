@@ -97,8 +97,7 @@ def shape(office: Office) -> Set[Tuple[Any, ...]]:
 
 
 def test_a_filled_database_of_0_2_0(older: Office, office: Office) -> None:
-    """It comes to what a new one is; what went out before there were audits stays, and what goes out since has its
-    audit."""
+    """It comes to what a new one is; what went out before there were audits stays, and what goes out since has one."""
     ended = older.run("migrate")
     assert ended == Ended(0, "look: flat A1 of elm had the address x,all@b, which is none\n" + "".join(
         f"version {path.stem.lstrip('0')}\n" for path in sorted((OFFICE / "schema").glob("0*.sql"))))
@@ -143,8 +142,7 @@ def test_a_migration_that_fails_leaves_the_version_before_it(older: Office) -> N
 @pytest.mark.parametrize("version", (FIRST - 1, LAST + 1))
 def test_a_version_that_is_not_known(office: Office, version: int) -> None:
     office.sql("UPDATE schema_versions SET version = %s", version)
-    ended = office.run("migrate")
-    assert ended.status == 5 and f"the database has version {version}" in ended.printed
+    assert f"the database has version {version}" in office.run("migrate").ok(5)
 
 
 # ---- a dump
@@ -193,6 +191,5 @@ def test_a_dump_is_restored(server: Server, office: Office, box: Box, tmp_path: 
     assert again.sql(values) == office.sql(values) != []
     box.hears(2)
     assert again.order("house-1", MOVED).status == 0
-    ended = again.collect("house-1")
-    assert ended.status == 0, ended.printed
+    again.collect("house-1").ok()
     assert box.numbers()[-1] == (6, "CONFIRM 5")

@@ -1,5 +1,4 @@
-"""office/close: the values of days, and the consumption of months with its grades. office/estimate: what no meter
-gave."""
+"""office/close: values of days, and consumption of months with its grades. office/estimate: what no meter gave."""
 
 import datetime
 
@@ -19,10 +18,9 @@ def test_a_day_has_the_stored_value_or_the_last_reading(office: Office, elm: Sup
     elm.reads(meter, at("2025-01-30T06:00"), 1000)
     elm.reads(meter, at("2025-01-30T18:00"), 1010)
     elm.reads(meter, at("2025-02-01T06:00"), 1040, ("2025-01-31", 1030))
-    ended = office.run("close")
-    assert ended.status == 0, ended.printed
-    assert ended.printed.startswith("5 days of meters in 1 houses, 3 values written\n")
-    assert "2025-01: 1 places: 1 missing\n2025-02: 1 places: 1 missing\n" in ended.printed
+    printed = office.run("close").ok()
+    assert printed.startswith("5 days of meters in 1 houses, 3 values written\n")
+    assert "2025-01: 1 places: 1 missing\n2025-02: 1 places: 1 missing\n" in printed
     assert days_of(office) == [("2025-01-30", 1010.0, "read"), ("2025-01-31", 1030.0, "stored"),
                                ("2025-02-01", 1040.0, "read")]
     assert office.sql("SELECT at FROM day_values WHERE day = '2025-01-31'") == [(at("2025-02-01T00:00"),)]
@@ -118,8 +116,7 @@ def test_words(office: Office, elm: Supplied) -> None:
         assert ended.status == 2 and said in ended.printed, ended.printed
     assert office.run("close", "--month", "2025-01", "--house", "nowhere").status == 2
     elm.days(elm.meter(1, HEAT, "A1"), "2024-12-25", 45, 1000, 10)
-    failed = office.run("close", "--month", "2025-01", MBDC="/bin/false")
-    assert failed.status == 3 and "audit ended with status 1" in failed.printed
+    assert "audit ended with status 1" in office.run("close", "--month", "2025-01", MBDC="/bin/false").ok(3)
     assert office.sql("SELECT count(*) FROM month_use") == [(0,)]
 
 

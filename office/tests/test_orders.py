@@ -23,17 +23,14 @@ def test_orders_are_done_once(office: Office, box: Box) -> None:
         (1, "done", "office"), (2, "done", "office")]
     box.faults("", "lost")
     assert office.order("--key", "a", "house-1", MOVED).status == 0
-    again = office.order("--key", "a", "house-1", MOVED)
-    assert again.status == 0 and f"house-1 3 {MOVED}: OK 3" in again.printed
+    assert f"house-1 3 {MOVED}: OK 3" in office.order("--key", "a", "house-1", MOVED).ok()
     assert box.numbers()[2:] == [(3, MOVED)]
-    other = office.order("--key", "a", "house-1", THIRD)
-    assert other.status == 5 and "that of another order" in other.printed
+    assert "that of another order" in office.order("--key", "a", "house-1", THIRD).ok(5)
 
 
 def test_an_order_for_a_box_that_isnt_reached(office: Office, box: Box) -> None:
     box.faults(*["refuse"] * 3)
-    ended = office.order("--tries", "2", "house-1", MOVED)
-    assert ended.status == 6 and "not answered yet" in ended.printed
+    assert "not answered yet" in office.order("--tries", "2", "house-1", MOVED).ok(6)
     assert office.collect("--tries", "2").status == 0
     assert box.numbers()[2:] == [(3, MOVED)]
 
@@ -47,16 +44,14 @@ def test_later(office: Office, box: Box) -> None:
 
 
 def test_a_refused_number_is_used_again(office: Office, box: Box) -> None:
-    ended = office.order("house-1", FITS[0], MOVED)
-    assert ended.status == 3 and f"house-1 3 {FITS[0]}: ERR KNOWN" in ended.printed
+    assert f"house-1 3 {FITS[0]}: ERR KNOWN" in office.order("house-1", FITS[0], MOVED).ok(3)
     assert box.numbers()[2:] == [(3, MOVED)]
 
 
 def full(office: Office, box: Box) -> None:
     """The box had no room for a third meter; then it has, and a copy of the order that was on its way arrives."""
     box.faults("", "full")
-    ended = office.order("--key", "third", "house-1", THIRD)
-    assert ended.status == 3 and "ERR FULL" in ended.printed
+    assert "ERR FULL" in office.order("--key", "third", "house-1", THIRD).ok(3)
 
 
 def test_a_refused_order_that_is_done_late(office: Office, box: Box) -> None:
@@ -81,8 +76,7 @@ def test_a_refused_order_that_takes_the_number_of_a_pending_one(office: Office, 
     full(office, box)
     pending(office, box, FOURTH)
     assert box.says(f"3 {THIRD}") == ["OK 3"]
-    again = office.order("--key", "next", "house-1", FOURTH)
-    assert again.status == 0, again.printed
+    office.order("--key", "next", "house-1", FOURTH).ok()
     assert box.numbers()[2:] == [(3, THIRD), (4, FOURTH)]
     assert office.sql("SELECT key, number, state::text FROM orders WHERE id > 2 ORDER BY number") == [
         ("third.1", 3, "done"), ("next.1", 4, "done")]
@@ -94,8 +88,7 @@ def test_a_refused_order_that_takes_the_number_of_a_confirm(office: Office, box:
     box.faults("", "refuse")
     assert office.collect("--tries", "1").status == 1
     assert box.says(f"3 {THIRD}") == ["OK 3"]
-    ended = office.collect()
-    assert ended.status == 0, ended.printed
+    office.collect().ok()
     assert box.numbers()[2:] == [(3, THIRD), (4, "CONFIRM 2")]
     assert office.sql("SELECT count(*) FROM readings") == [(2,)]
 
@@ -105,8 +98,7 @@ def test_a_number_that_nobody_gave(office: Office, box: Box) -> None:
     full(office, box)
     assert box.says(f"3 {FOURTH}") == ["OK 3"] and box.says(f"4 {THIRD}") == ["OK 4"]
     box.journal.unlink()
-    ended = office.order("house-1", MOVED)
-    assert ended.status == 5 and "the box's last order is 4, the database's 2" in ended.printed
+    assert "the box's last order is 4, the database's 2" in office.order("house-1", MOVED).ok(5)
     assert box.last() == 4
 
 
@@ -120,8 +112,7 @@ def test_the_cure_after_an_older_dump_ends_what_was_queued(office: Office, box: 
     office.sql("UPDATE boxes SET number = %s, confirmed = %s", *dumped)
     office.sql("UPDATE meters SET flat = 'A1' WHERE flat = 'C1'")
     box.journal.unlink()
-    ended = office.collect()
-    assert ended.status == 1 and "STOPPED: the box's last order is 4, the database's 2" in ended.printed
+    assert "STOPPED: the box's last order is 4, the database's 2" in office.collect().ok(1)
     listed = office.sql("SELECT t.box, t.line, t.answer FROM boxes b, take_as_it_is(b.name) t"
                         " WHERE b.fault LIKE 'STOPPED: the box''s last order is %%'")
     assert listed == [("house-1", MOVED, "given up")]
@@ -144,8 +135,7 @@ def test_a_swap_at_the_box(office: Office, box: Box) -> None:
     assert office.collect().status == 0
     assert box.says(f"4 {SWAPPED}", "5 MOVE 22222222.PAD.01.07 B2") == ["OK 4", "OK 5"]
     box.hears(3)
-    ended = office.collect()
-    assert ended.status == 0 and "3 readings, confirmed up to 5" in ended.printed, ended.printed
+    assert "3 readings, confirmed up to 5" in office.collect().ok()
     assert office.sql("SELECT identity, line, address, flat FROM meters ORDER BY identity") == [
         ("22222222.PAD.01.07", 1, "2", "B2"), ("55555555.PAD.01.07", 1, "S", "A1")]
     assert ("A1", "cold water", 1, "55555555", True) in fitted(office)
@@ -167,8 +157,7 @@ def test_a_pending_order_was_done_and_another_one_after_it(office: Office, box: 
     box.faults("", "lost")
     assert office.order("--tries", "1", "--key", "next", "house-1", THIRD).status == 6
     assert box.says(f"4 {SWAPPED}") == ["OK 4"]
-    again = office.order("--key", "next", "house-1", THIRD)
-    assert again.status == 0 and f"3 {THIRD}: OK 3" in again.printed
+    assert f"3 {THIRD}: OK 3" in office.order("--key", "next", "house-1", THIRD).ok()
     assert office.collect().status == 0 and box.last() == 4
 
 
@@ -216,8 +205,7 @@ def test_a_lie_of_the_journal(office: Office, box: Box, lie: str) -> None:
     box.journal.write_text("".join(json.dumps(row, separators=(",", ":")) + "\n" for row in LIES[lie](rows)),
                            encoding="ascii")
     before = [office.sql(f"SELECT * FROM {table} ORDER BY 1, 2") for table in ("orders", "meters")]
-    ended = office.collect("--tries", "1")
-    assert ended.status == 1 and STOP in ended.printed, ended.printed
+    assert STOP in office.collect("--tries", "1").ok(1)
     assert before == [office.sql(f"SELECT * FROM {table} ORDER BY 1, 2") for table in ("orders", "meters")]
     assert box.last() == 4
 
@@ -241,9 +229,7 @@ def newer(office: Office, box: Box, server: Server, tmp_path: pathlib.Path) -> O
 
 
 def migrated(newer: Office) -> str:
-    ended = newer.run("migrate")
-    assert ended.status == 0, ended.printed
-    return ended.printed
+    return newer.run("migrate").ok()
 
 
 def test_the_rows_are_the_commands_of_the_program() -> None:
@@ -254,15 +240,12 @@ def test_the_rows_are_the_commands_of_the_program() -> None:
 
 def test_a_new_command_is_a_row(office: Office, box: Box, newer: Office) -> None:
     """Order, the database and the register take it."""
-    asked = office.order("house-1", CHANGED)
-    assert asked.status == 2 and "no order" in asked.printed
+    assert "no order" in office.order("house-1", CHANGED).ok(2)
     assert "is_a_command" in refused(office, ORDER, CHANGED)
-    early = newer.order("--tries", "1", "house-1", CHANGED)
-    assert early.status == 4 and "is_a_command" in early.printed
+    assert "is_a_command" in newer.order("--tries", "1", "house-1", CHANGED).ok(4)
     assert migrated(newer) == "command CHANGE\n"
     assert migrated(newer) == ""
-    done = newer.order("house-1", CHANGED)
-    assert done.status == 0, done.printed
+    newer.order("house-1", CHANGED).ok()
     assert box.numbers()[2:] == [(3, CHANGED.replace("CHANGE", "SWAP"))]
     assert office.sql("SELECT address FROM meters ORDER BY identity") == [("2",), ("9",)]
     assert "is_a_command" in refused(office, ORDER, f"{CHANGED} 9")
@@ -273,9 +256,7 @@ def test_an_order_that_an_older_office_doesnt_know(office: Office, box: Box, new
     """It stops at that box, and the newer one goes on."""
     migrated(newer)
     office.sql(ORDER, CHANGED)
-    stopped = office.collect()
-    assert stopped.status == 1 and f"STOPPED: order 3 {CHANGED} is none that this office knows" in stopped.printed
-    again = newer.collect()
-    assert again.status == 0, again.printed
+    assert f"STOPPED: order 3 {CHANGED} is none that this office knows" in office.collect().ok(1)
+    newer.collect().ok()
     assert box.numbers()[2:] == [(3, CHANGED.replace("CHANGE", "SWAP"))]
     assert office.sql("SELECT address FROM meters ORDER BY identity") == [("2",), ("9",)]

@@ -1,6 +1,6 @@
-"""What the package lays: services that may do little beside their work, their mails, settings, and the example of a web
-server."""
+"""What the package lays: services that may do little beside their work, mails, settings, and a web server's example."""
 
+import contextlib
 import os
 import pathlib
 import re
@@ -123,13 +123,8 @@ def test_a_sheet_is_served_for_its_reader_alone(tmp_path: pathlib.Path) -> None:
 def fetched(url: str) -> Dict[str, str]:
     """The headers of a page, once the server listens."""
     for _ in range(100):
-        try:
+        with contextlib.suppress(ConnectionRefusedError, urllib.error.URLError):
             with urllib.request.urlopen(url, timeout=5) as answer:
                 return dict(answer.headers)
-        except ConnectionRefusedError:
-            pass
-        except urllib.error.URLError as fault:
-            if not isinstance(fault.reason, ConnectionRefusedError):
-                raise
         threading.Event().wait(0.1)
-    raise AssertionError("no web server")
+    raise AssertionError("no web server, or no page")

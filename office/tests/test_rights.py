@@ -115,8 +115,7 @@ def test_each_login_is_refused(server: Server, packaged: str, who: Tuple[str, st
 
 
 def test_each_login_does_its_work(server: Server, office: Office, tmp_path: pathlib.Path) -> None:
-    """From readings to a sheet that is sent: close, month, estimate and alarms; publish, sheets, bill, correct,
-    work."""
+    """From readings to a sheet that is sent: close, month, estimate, alarms; publish, sheets, bill, correct, work."""
     as_postgres(server, "-f", LOGINS)
     elm = Supplied(office)
     meter, other = elm.meter(1, HEAT, "A1"), elm.meter(2, HEAT, "A2")

@@ -77,19 +77,12 @@ def test_open_orders_are_found_by_their_index(office: Office, box: Box) -> None:
     query = "SELECT id FROM orders WHERE box = 'house-1' AND state IN ('pending', 'queued') ORDER BY id LIMIT 1"
     plan = "\n".join(row[0] for row in office.sql(f"EXPLAIN {query}"))
     assert "using open_orders" in plan, plan
-    taken = []
-    for _ in range(20):
-        begun = time.monotonic()
-        office.sql(query)
-        taken.append(time.monotonic() - begun)
-    assert min(taken) < 0.001, taken
 
 
 def test_due_dates_energy_and_status(office: Office, box: Box) -> None:
     for number, status in ((1, 4), (2, 0x0C)):
         box.tells(("11111111.PAD.01.07", MOMENT + number, [telegram(7, status, DUE)]))
-    ended = office.collect()
-    assert ended.status == 0, ended.printed
+    office.collect().ok()
     assert office.sql("SELECT due, flat, value = 0.001, serial FROM due_values") == [
         (datetime.date(2024, 12, 31), "A1", True, 1)]  # and not of the meter in error
     assert office.sql("SELECT says FROM meter_states WHERE identity LIKE '1%'") == [("power low, permanent error",)]
@@ -121,8 +114,7 @@ def test_stale_boxes_and_watch(office: Office, box: Box) -> None:
     """A box that was never reached, one that failed, one without meters; and that no collection came to its end."""
     office.box("empty")
     office.sql("INSERT INTO boxes (name, command, made_at) VALUES ('never', 'false', now() - interval '3 days')")
-    watched = office.run("watch")
-    assert watched.status == 1 and "collector: no collection of all boxes ended" in watched.printed
+    assert "collector: no collection of all boxes ended" in office.run("watch").ok(1)
     assert office.collect("--tries", "1").status == 1
     assert office.sql("SELECT box, why FROM stale_boxes ORDER BY box") == [
         ("empty", "no meters"), ("never", "never collected")]
@@ -134,8 +126,7 @@ def test_stale_boxes_and_watch(office: Office, box: Box) -> None:
     assert office.collect().status == 0
     assert office.run("watch") == office.run("watch", "--hours", "1") and office.run("watch").status == 0
     office.sql("UPDATE collections SET ended_at = ended_at - interval '27 hours'")
-    watched = office.run("watch")
-    assert watched.status == 1 and watched.printed.startswith("collector: no collection of all boxes ended in 26")
+    assert office.run("watch").ok(1).startswith("collector: no collection of all boxes ended in 26")
 
 
 def test_orders_that_wait_are_watched(office: Office, box: Box) -> None:
@@ -143,5 +134,4 @@ def test_orders_that_wait_are_watched(office: Office, box: Box) -> None:
     office.sql(ORDER, FITS[0])
     assert office.run("watch").status == 0
     office.sql("UPDATE orders SET made_at = made_at - interval '2 days' WHERE key = 'k'")
-    watched = office.run("watch")
-    assert watched.status == 1 and f"order: house-1 {FITS[0]} queued" in watched.printed
+    assert f"order: house-1 {FITS[0]} queued" in office.run("watch").ok(1)

@@ -1,12 +1,12 @@
-"""office/work and office/send: a month goes out by mail and as a print run, what fails is told, and a corrected sheet
-says so."""
+"""office/work and office/send: a month goes out by mail and in print, what fails is told, a corrected sheet says so."""
 
 import pathlib
 import re
 import subprocess
 
 import pytest
-from conftest import Office
+from conftest import Office, sendmail
+from page_check import faults
 from supplied import HEAT, Supplied
 from test_schema import refused
 from test_sheets import HOSTILE, checked, sheet_of
@@ -32,19 +32,8 @@ def sent(office: Office) -> str:
     return "; ".join(row[0] for row in rows)
 
 
-def sendmail(folder: pathlib.Path) -> str:
-    """A program that keeps each mail, and refuses those to `refused`."""
-    program = folder / "sendmail"
-    program.write_text(f"#!/bin/sh\ncat > {folder}/mail.$$\nif grep -q 'To: refused@' {folder}/mail.$$; then echo 'no"
-                       " such user' >&2; exit 67; fi\n", encoding="ascii")
-    program.chmod(0o755)
-    return str(program)
-
-
 def worked(office: Office, out: pathlib.Path, mail: str, status: int = 0) -> str:
-    ended = office.run("work", "--out", str(out), *LINK, "--sendmail", mail)
-    assert ended.status == status, ended.printed
-    return ended.printed
+    return office.run("work", "--out", str(out), *LINK, "--sendmail", mail).ok(status)
 
 
 def test_a_month_goes_out(office: Office, elm: Supplied, tmp_path: pathlib.Path) -> None:
@@ -100,13 +89,14 @@ def test_a_corrected_sheet_says_what_changed_and_why(office: Office, elm: Suppli
     worked(office, out, program)
     text = sheet_of(office, out, tenancy).read_text(encoding="utf-8")
     page = checked(text)
-    banner = re.search(r'<p class="banner">(.*?)</p>', text)
-    assert banner and "(version 2)" in banner[1] and "Heating: 315.0 kWh, before 310.0 kWh." in banner[1]
-    assert "&lt;script&gt;" in banner[1]
-    assert "Corrected consumption information January 2025" in text
+    banner = re.sub("<[^>]*>", "", re.findall(r'<div class="banner">(.*?)</div>', text)[0])
+    assert "(version 2)" in banner and "Heating: 315.0 kWh, before 310.0 kWh." in banner
+    assert "&lt;script&gt;" in banner and "Corrected consumption information" in page.seen
     assert page.cells["heat", "2025-01-01"].split()[0] == "315.0"
-    old = sheet_of(office, out, tenancy, "2025-01.1").read_text(encoding="utf-8")
-    assert '<p class="banner">Replaced by version 2.</p>' in old
+    old_path = sheet_of(office, out, tenancy, "2025-01.1")
+    old = old_path.read_text(encoding="utf-8")
+    assert 'Replaced by version <bdi><address data-fixed="contact">2</address></bdi>.</div>' in old
+    assert not faults(old, old_path.with_suffix(".audit").read_text(encoding="ascii").splitlines())
     assert checked(old).cells["heat", "2025-01-01"].split() == ["310.0"]
     assert sent(office) == "A1 2 sent weber@example.org"
     assert "Corrected consumption information January 2025" in max(tmp_path.glob("mail.*"),

@@ -63,8 +63,7 @@ def heard(box: Box, *stamps: float) -> None:
 
 
 def test_a_collection_notes_a_wrong_clock(office: Office, box: Box) -> None:
-    """The readings count at a moment that may be, what the box said stays, and the alarm ends with the next
-    collection."""
+    """The readings count at a moment that may be, what the box said stays; the next collection ends the alarm."""
     now = time.time()
     heard(box, now - 90_000)
     assert office.collect().status == 0

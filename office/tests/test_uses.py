@@ -5,6 +5,7 @@ import pathlib
 from typing import Dict, List, Optional
 
 from conftest import Box, Office
+from page_check import faults
 from supplied import ALLOCATOR, COLD, HEAT, WATER, WH, Supplied, at, dated, header, record
 from test_boxes import housed
 from test_schema import refused
@@ -50,8 +51,10 @@ def test_a_use_is_a_row(office: Office, elm: Supplied, tmp_path: pathlib.Path) -
     assert office.run(*NOON).status in (0, 1)
     published(office)
     assert office.run("sheets", "2025-01", "--out", str(tmp_path), "--pdf", "none").status == 0
-    text = sheet_of(office, tmp_path, office.sql("SELECT id FROM tenancies")[0][0]).read_text(encoding="utf-8")
-    assert "rain water" in text and "31,00" in text
+    page, file = (sheet_of(office, tmp_path, office.sql("SELECT id FROM tenancies")[0][0], form=form).read_text(
+        encoding="utf-8") for form in ("html", "audit"))
+    assert "rain water" in page and "31,00" in page and not faults(page, file.splitlines())
+    assert 'data-key="as,rain water,E7" data-text="decided in the office" data-mark="as"' in page
     published(office, "2025-01", "--bill")
     assert ",rain water,1," in office.run("bill", "elm-1", "2025-01").printed
     lines = b"".join(bytes(row[0]) for row in office.sql("SELECT file FROM audits")).decode().splitlines()
@@ -112,8 +115,7 @@ def second(office: Office, vib: str, value: int) -> None:
 
 
 def test_heat_and_cooling(office: Office, elm: Supplied) -> None:
-    """With one register it is heat; with two there is no value until a person names the record of each of two
-    places."""
+    """With one register it is heat; with two there is no value until a person names the record of each place."""
     meter = elm.meter(1, "0D", "A1")
     elm.reads(meter, at("2025-01-30T06:00"), 1000, unit="Wh")
     elm.reads(meter, at("2025-01-31T06:00"), 1010, unit="Wh")
