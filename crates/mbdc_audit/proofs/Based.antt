@@ -20,12 +20,9 @@ use Rattle.mbdc_audit.specs.declared.house.Place as place_type
 use Rattle.mbdc_audit.specs.declared.house.User as user_type
 use Rattle.mbdc_audit.specs.declared.numbers.Basis.{Basis}
 use Rattle.mbdc_audit.specs.declared.numbers.Total.{Total}
-use Rattle.mbdc_audit.specs.Totals.{basis_more, basis_of, basis_on, basis_with, has_area, no_total, total_of}
+use Rattle.mbdc_audit.specs.Totals.{IsBasis, basis_more, basis_of, basis_on, basis_with, has_area, no_total, total_of}
 use Rattle.mbdc_audit.specs.Grade.{rank, worst as worse}
 use Rattle.mbdc_audit.specs.Published.{amount_or_0, flat}
-
-abbrev pub IsOne : {A : Type 0} → List (place_type.Place A) → List user_type.User → Basis → Type 0
-IsOne places users b = b ≡ basis_of b.span b.used places users
 
 -- ---- bases that are known
 
@@ -41,7 +38,7 @@ right true b e = e
 right false b e = absurd cc
 
 found_one : {A : Type 0} (places : List (place_type.Place A)) (users : List user_type.User) (span used : ℕ) (x b : Basis) (later : Option Basis) (t : Bool)
-    → ((x.span == span) && (x.used == used)) ≡ t → IsOne places users x → (later ≡ Some b → b ≡ basis_of span used places users)
+    → ((x.span == span) && (x.used == used)) ≡ t → IsBasis places users x → (later ≡ Some b → b ≡ basis_of span used places users)
     → (if t then Some x else later) ≡ Some b → b ≡ basis_of span used places users
 found_one places users span used x b later true e one more is =
     let same : x ≡ b = cc in
@@ -51,7 +48,7 @@ found_one places users span used x b later true e one more is =
 found_one places users span used x b later false e one more is = more is
 
 pub found : {A : Type 0} (places : List (place_type.Place A)) (users : List user_type.User) (span used : ℕ) (bases : List Basis) (b : Basis)
-    → All (IsOne places users) bases → find (λ b. (b.span == span) && (b.used == used)) bases ≡ Some b → b ≡ basis_of span used places users
+    → All (IsBasis places users) bases → find (λ b. (b.span == span) && (b.used == used)) bases ≡ Some b → b ≡ basis_of span used places users
 found places users span used [] b all is = absurd cc
 found places users span used (x ∷ bases) b all is = found_one places users span used x b (find (λ b. (b.span == span) && (b.used == used)) bases)
     ((x.span == span) && (x.used == used)) refl (all 0 x (omega arith))
@@ -93,7 +90,7 @@ kept_on places b (u ∷ users) =
     (more.0 ∙ one.0, more.1 ∙ one.1)
 
 pub is_one : {A : Type 0} (places : List (place_type.Place A)) (users : List user_type.User) (span used : ℕ) (b : Basis)
-    → b ≡ basis_of span used places users → IsOne places users b
+    → b ≡ basis_of span used places users → IsBasis places users b
 is_one places users span used b is =
     let same = kept_on places (record { span = span; used = used; sum = no_total; areas = 0; count = 0 }) users in
     let at : b.span ≡ span = ap (λ (b : Basis). b.span) is ∙ same.0 in

@@ -33,7 +33,8 @@ IsFine n decimals (Some x) = (n.text ≡ codes "-") ⊎ Suffice n.key.word n.key
 
 -- the last value of a run, from 1, at a moment that has evidence
 abbrev pub found_at : ℕ → ℕ → Option ℕ → value_type.Value → Option ℕ
-found_at run moment before v = if (v.run + 1 == run) && ((v.moment == moment) && is_some (of_result v.found)) then of_result v.found else before
+found_at run moment before v = if (v.run + 1 == run) && ((v.moment == moment) && is_some (of_result v.found))
+    then of_result v.found else before
 
 -- a value is no earlier than another one
 abbrev pub After : Value → Value → Type 0

@@ -1,5 +1,6 @@
 -- The values of a window that count, as the code has them (this product).
-use Rattle.std.specs.Prelude.{◌≡◌, ◌^◌, ℕ, ◌==◌, ◌&&◌, ◌||◌, Bool, true, false, not, if◌then◌else◌, List, [], ◌∷◌, filter, drop, zip, nat_lt, Option, None, Some}
+use Rattle.std.specs.Prelude.{◌≡◌, ◌^◌, ℕ, ◌==◌, ◌&&◌, ◌||◌, Bool, true, false, not, if◌then◌else◌, List, [], ◌∷◌}
+use Rattle.std.specs.Prelude.{filter, drop, zip, nat_lt, Option, None, Some}
 use Rattle.std.specs.List.{list_any}
 use Rattle.mbdc_audit.specs.Amount.{amount, grade, is_exchange, is_guess, is_put, is_until, no_text, told}
 use Rattle.mbdc_audit.specs.Grade.{has_number}

@@ -1,7 +1,8 @@
 -- The exact value of each published number, its text and its mark (this product).
 use Rattle.std.specs.Prelude.{◌≡◌, ◌≤◌, ◌<◌, ℕ, ◌+◌, ◌-◌, ◌*◌, ◌==◌, ◌&&◌, ◌⊎◌, neg_ℤ, pos, ⊤, IsTrue}
 use Rattle.std.specs.Prelude.{Bool, true, false, nat_lt, nat_le, if◌then◌else◌, codes}
-use Rattle.std.specs.Prelude.{List, [], ◌∷◌, ◌++◌, length, filter, map, flat_map, sum_by, Option, None, Some, is_some, option_map, IsSome, Any}
+use Rattle.std.specs.Prelude.{List, [], ◌∷◌, ◌++◌, length, filter, map, flat_map, sum_by, Option, None, Some, is_some}
+use Rattle.std.specs.Prelude.{option_map, IsSome, Any}
 use Rattle.std.specs.Prelude.{All, Contains, slice_get, find, decimal}
 use Rattle.std.specs.List.{list_all, list_any}
 use Rattle.std.specs.Option.{option_and_then}

@@ -1,6 +1,7 @@
 -- What is summed of the parts of a house as the code has them: shares, places, comparable flats (this product).
 use Rattle.std.specs.Prelude.{◌≡◌, ℕ, ◌+◌, ◌-◌, ◌*◌, ◌==◌, ◌&&◌, Bool, true, false, not, nat_lt, nat_le, if◌then◌else◌}
-use Rattle.std.specs.Prelude.{List, [], ◌∷◌, length, decimal, Option, None, Some, is_some, option_map, option_to_list, slice_get, filter, flat_map, fold, All}
+use Rattle.std.specs.Prelude.{List, [], ◌∷◌, length, decimal, Option, None, Some, is_some, option_map, option_to_list}
+use Rattle.std.specs.Prelude.{slice_get, filter, flat_map, fold, All}
 use Rattle.std.specs.List.{list_all, list_any}
 use Rattle.std.specs.Str.{bytes_eq}
 use Rattle.mbdc_audit.specs.declared.house.Part as part_type
@@ -34,7 +35,13 @@ share_in who name (x ∷ parts) = if is_held_part who name x then Some (joined x
 abbrev pub total_with : Total → ℕ → Option (ℕ × Grade) → Total
 total_with t weight None = t
 total_with t weight (Some s) = if nat_lt (rank s.1) 4
-    then record { plain = t.plain + s.0; weighted = t.weighted + s.0 * weight; grade = worse t.grade s.1; count = t.count + 1; without = t.without }
+    then record {
+      plain = t.plain + s.0;
+      weighted = t.weighted + s.0 * weight;
+      grade = worse t.grade s.1;
+      count = t.count + 1;
+      without = t.without;
+    }
     else record { plain = t.plain; weighted = t.weighted; grade = worse t.grade s.1; count = t.count + 1; without = t.without + 1 }
 
 -- a sum with a window more, and with a place more
@@ -95,7 +102,15 @@ basis_on places b (u ∷ users) = basis_on places (basis_more places b u users) 
 
 -- WHAT COMPARABLE FLATS CONSUMED of a use in a span
 abbrev pub basis_of : {A : Type 0} → ℕ → ℕ → List (place_type.Place A) → List user_type.User → Basis
-basis_of span used places users = basis_on places (record { span = span; used = used; sum = no_total; areas = 0; count = 0 }) users
+basis_of span used places users =
+    basis_on places (record { span = span; used = used; sum = no_total; areas = 0; count = 0 }) users
+
+-- each of these is that of its use and span
+abbrev pub IsBasis : {A : Type 0} → List (place_type.Place A) → List user_type.User → Basis → Type 0
+IsBasis places users b = b ≡ basis_of b.span b.used places users
+
+abbrev pub AreBases : {A : Type 0} → List (place_type.Place A) → List user_type.User → List Basis → Type 0
+AreBases places users bases = All (IsBasis places users) bases
 
 -- ---- the whole of a span
 
@@ -118,5 +133,6 @@ is_filled user name used span s p = if has_own name used span p
 
 -- the mark of a holder's sum; of the house how many places have no number, and how many there are
 abbrev pub beside_sum : House → Holder → ℕ → ℕ → List (List ℕ)
-beside_sum h house span used = decimal (length (opened h span used) - length (numbered h span used)) ∷ decimal (length (opened h span used)) ∷ []
+beside_sum h house span used =
+    decimal (length (opened h span used) - length (numbered h span used)) ∷ decimal (length (opened h span used)) ∷ []
 beside_sum h who span used = grade_name (worst (shares h who span used)) ∷ []

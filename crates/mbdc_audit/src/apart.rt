@@ -1,7 +1,9 @@
-//! Whether places are apart from those before them: no meter is at two places at one time, and a flat has one user at a time.
+//! Whether places are apart from those before them: no meter is at two places at one time, and a flat has one user at a
+//! time.
 
 ghost use Rattle.std.specs.Prelude.{◌≡◌, ◌↔◌, [], All, IsTrue, List, OnOk, map};
-ghost use Rattle.mbdc_audit.specs.Sound.{AreTwo, Fitted as SaidFitted, IsOnce, IsOneTenancy, Lived as SaidLived, fitted_of, lived_of};
+ghost use Rattle.mbdc_audit.specs.Sound.{AreTwo, Fitted as SaidFitted, IsOnce, IsOneTenancy, Lived as SaidLived};
+ghost use Rattle.mbdc_audit.specs.Sound.{fitted_of, lived_of};
 ghost use Rattle.mbdc_audit.specs.View.{part_of, place_of};
 ghost use Rattle.mbdc_audit.specs.Walk.{Checks, IsAdded, IsMet, Meets, fit, key_lived, key_of, live};
 
@@ -146,7 +148,8 @@ impl<'s, W: Sink> Teller<'s, W> {
         number: u64,
     ) -> Result<(), Stop>
         ensures { OnOk result ((xs : List SaidLived) → IsMet key_lived live met.old xs
-            → Meets key_lived live IsOneTenancy self.old.counts self.new.counts met.new xs (lived_of (place_of place.now))) }
+            → Meets key_lived live IsOneTenancy self.old.counts self.new.counts met.new xs
+            (lived_of (place_of place.now))) }
     {
         'windows: for window in &place.windows {
             self.check_users_of(met, place.flat, number, &window.parts)?;

@@ -1,13 +1,15 @@
 //! The second walk, first half: the value that the telegrams of a line give.
 
-ghost use Rattle.std.specs.Prelude.{◌≡◌, ◌↔◌, ◌≤◌, ◌&&◌, ◌==◌, ◌++◌, ℕ, IfErr, IfOk, IfSome, IsOk, List, OnOk, Some, filter, length, map, take};
+ghost use Rattle.std.specs.Prelude.{◌≡◌, ◌↔◌, ◌≤◌, ◌&&◌, ◌==◌, ◌++◌, ℕ, IfErr, IfOk, IfSome, IsOk, List, OnOk, Some};
+ghost use Rattle.std.specs.Prelude.{filter, length, map, take};
 ghost use Rattle.std.specs.List.{list_all};
 ghost use Rattle.std.specs.Str.{bytes_eq};
 ghost use Rattle.dc_records.specs.Record.{view};
 ghost use Rattle.dc_records.specs.Telegram.{Parsed, parsed};
 ghost use Rattle.dc_units.specs.Point.{seen_of};
 ghost use Rattle.mbdc_audit.specs.Dates.{days, days_in, is_once, may_be_own, may_be_stored};
-ghost use Rattle.mbdc_audit.specs.Evidence.{AreDatedOnce, AreOf, Gives, IsAmount, IsIt, IsOf, Tell, bare, bytes_in, code_of, date_in_record, is_flow, is_main, is_meant, list_of, main};
+ghost use Rattle.mbdc_audit.specs.Evidence.{AreDatedOnce, AreOf, Gives, IsAmount, IsIt, IsOf, Tell, bare, bytes_in};
+ghost use Rattle.mbdc_audit.specs.Evidence.{code_of, date_in_record, is_flow, is_main, is_meant, list_of, main};
 ghost use Rattle.mbdc_audit.specs.Field.{fields_of};
 ghost use Rattle.mbdc_audit.specs.View.{run_of};
 ghost use Rattle.mbdc_audit.specs.Walk.{IsRefused, MayBe, day_meant};
@@ -146,8 +148,8 @@ fn records_of<'b, A: Allocator + Copy>(
     bodies: &'b [Vec<u8, A>],
     run: &Run<'_>,
 ) -> Result<Vec<Record<'b>, A>, Stop>
-    ensures ok { IfOk result (λ all. (telegrams : List Parsed) × AreOf run.now.identity (map (λ b. b.items) bodies.now) telegrams
-        × (map view all.items ≡ main telegrams)) }
+    ensures ok { IfOk result (λ all. (telegrams : List Parsed)
+        × AreOf run.now.identity (map (λ b. b.items) bodies.now) telegrams × (map view all.items ≡ main telegrams)) }
     ensures one { IfOk result (λ all. (telegrams : List Parsed)
         → AreOf run.now.identity (map (λ b. b.items) bodies.now) telegrams → main telegrams ≡ map view all.items) }
     ensures only { IfErr result (λ s. IsRefused s → (telegrams : List Parsed)
@@ -386,7 +388,8 @@ fn count_of(
     meant: Meant,
 ) -> Option<u64>
     ensures ok { IfSome result (IsIt named.now counted (day_meant meant) (map view records.now) (view «record».now)) }
-    ensures only { (amount : ℕ) → IsIt named.now counted (day_meant meant) (map view records.now) (view «record».now) amount
+    ensures only { (amount : ℕ)
+        → IsIt named.now counted (day_meant meant) (map view records.now) (view «record».now) amount
         → result ≡ Some amount }
 {
     if !is_meant(records, record, meant) {
@@ -437,7 +440,8 @@ pub(crate) fn value_of<A: Allocator + Copy>(
     ensures ok { IfOk result (λ n. Tell (run_of run.now) counted bodies.now (day_meant meant) (MayBe meant) n) }
     ensures one { IfOk result (λ n. (m : ℕ)
         → Tell (run_of run.now) counted bodies.now (day_meant meant) (MayBe meant) m → m ≡ n) }
-    ensures only { IfErr result (λ s. IsRefused s → (n : ℕ) → Tell (run_of run.now) counted bodies.now (day_meant meant) (MayBe meant) n → ⊥) }
+    ensures only { IfErr result (λ s. IsRefused s → (n : ℕ)
+        → Tell (run_of run.now) counted bodies.now (day_meant meant) (MayBe meant) n → ⊥) }
 {
     let named = bytes(alloc, run.vib)?;
     let bodies = decoded(alloc, bodies)?;

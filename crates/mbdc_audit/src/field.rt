@@ -1,11 +1,13 @@
 //! The fields of a line, and what they spell.
 
-ghost use Rattle.std.specs.Prelude.{◌≡◌, ◌↔◌, ◌∷◌, ℕ, All, IfSome, IsTrue, None, Option, Some, codes, if◌then◌else◌, option_map};
+ghost use Rattle.std.specs.Prelude.{◌≡◌, ◌↔◌, ◌∷◌, ℕ, All, IfSome, IsTrue, None, Option, Some, codes, if◌then◌else◌};
+ghost use Rattle.std.specs.Prelude.{option_map};
 ghost use Rattle.std.specs.Str.{bytes_eq};
 ghost use Rattle.mbdc_audit.specs.Field.{fields_of, left_fields};
 ghost use Rattle.mbdc_audit.specs.Smallest.{decimal_in};
 ghost use Rattle.mbdc_audit.specs.declared.smallest.Spelled.{Spelled};
-ghost use Rattle.mbdc_audit.specs.Line.{IsBody, IsDayOf, IsMonth, IsNumberText, IsTypeOf, IsVibText, Reads, SaysAbove0, is_mark, is_of, may_have, spelled};
+ghost use Rattle.mbdc_audit.specs.Line.{IsBody, IsDayOf, IsMonth, IsNumberText, IsTypeOf, IsVibText, Reads, SaysAbove0};
+ghost use Rattle.mbdc_audit.specs.Line.{is_mark, is_of, may_have, spelled};
 
 use crate::moment::{day_number, offset_in};
 use crate::smallest::{MOST_VALUE_DECIMALS, Spelled, decimal_in, ratio_in, whole_in};
@@ -184,7 +186,7 @@ impl Kind {
         }
     }
 
-    // Whether a field has these letters: at least one, and at most so many.
+    // Whether a field has these letters: at least one, at most that number.
     fn is_of(self, field: &[u8], most: usize) -> bool
         ensures { result ≡ is_of self most field.now }
     {

@@ -97,9 +97,9 @@ pub struct Typed<'a> {
     pub unit: &'a [u8],
 }
 
-/// A value of a run, by its line's word: what is stored or ended at the end of a day, the bodies of telegrams as the line
-/// has them (hex digits, with commas between them), or what was put; what it is, or why it has no evidence, once that was
-/// looked for; whether the same telegrams came before.
+/// A value of a run, by its line's word: what is stored or ended at the end of a day, the bodies of telegrams as the
+/// line has them (hex digits, with commas between them), or what was put; what it is, or why it has no evidence, once
+/// that was looked for; whether the same telegrams came before.
 #[derive(Clone, Copy)]
 pub struct Value<'a> {
     pub line: u64,
@@ -131,8 +131,8 @@ pub struct Part {
     pub amount: Amount,
 }
 
-/// A published number: its word, what it is of, where the word needs it, and its text with what is beside it. `from` and
-/// `to` are a period, or a run and a moment; `asked` is the line before its text, which begins at a place of the file.
+/// A published number: its word, what it is of, where the word needs it, and its text with what is beside it. `from`
+/// and `to` are a period, or a run and a moment; `asked` is the line before its text, and that begins at the byte `at`.
 #[derive(Clone, Copy)]
 pub struct Number<'a> {
     pub line: u64,
@@ -232,8 +232,10 @@ impl<'a, A: Allocator + Copy> House<'a, A> {
 impl<'a, A: Allocator + Copy> Place<'a, A> {
     /// When a place has a time in a span: the later one of both beginnings, and the earlier one of both ends.
     pub fn reach(&self, span: &Span<'_>) -> (u64, u64)
-        ensures from { result.0 ≡ begin_at (option_map run_of (slice_get self.now.runs.items 0)) (at (span_of span.now).from) }
-        ensures to { result.1 ≡ end_at (option_map run_of (slice_get self.now.runs.items (length self.now.runs.items - 1)))
+        ensures from { result.0 ≡ begin_at (option_map run_of (slice_get self.now.runs.items 0))
+            (at (span_of span.now).from) }
+        ensures to { result.1
+            ≡ end_at (option_map run_of (slice_get self.now.runs.items (length self.now.runs.items - 1)))
             (at (span_of span.now).to) }
     {
         let from = span.from.moment();

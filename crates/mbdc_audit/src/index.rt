@@ -32,7 +32,8 @@ impl<A: Allocator + Copy> Index<A> {
 
     /// Adds a number to those of a key.
     pub fn add(&mut self, key: u64, number: u64) -> Result<(), Stop>
-        ensures { OnOk result ((k : ℕ) → at self.new k ≡ (if k == key then at self.old k ++ number ∷ [] else at self.old k)) }
+        ensures { OnOk result ((k : ℕ)
+            → at self.new k ≡ (if k == key then at self.old k ++ number ∷ [] else at self.old k)) }
     {
         let none = Vec::new(self.alloc);
         self.numbers.entry(key)?.or_insert(none).push(number)?;

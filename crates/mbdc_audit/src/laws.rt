@@ -1,6 +1,7 @@
 //! Theorems about the definition of a right file.
 
-ghost use Rattle.std.specs.Prelude.{◌≡◌, ◌<◌, ◌≤◌, ◌∷◌, ◌++◌, ℕ, false, true, Some, All, List, Option, length, map, slice_index_or};
+ghost use Rattle.std.specs.Prelude.{◌≡◌, ◌<◌, ◌≤◌, ◌∷◌, ◌++◌, ℕ, false, true, Some, All, List, Option};
+ghost use Rattle.std.specs.Prelude.{length, map, slice_index_or};
 ghost use Rattle.mbdc_consumption.specs.declared.entry.Entry.{Entry};
 ghost use Rattle.mbdc_consumption.specs.Order.{IsInOrder};
 ghost use Rattle.mbdc_consumption.specs.Period.{added, consumption, sum_of};
@@ -16,10 +17,11 @@ ghost use Rattle.mbdc_audit.specs.Sound.{AreApart, Fitted, IsHouse, IsWindow, Ti
 ghost use Rattle.mbdc_audit.specs.declared.uses.Counted.{Counted};
 ghost use Rattle.mbdc_audit.specs.declared.grade.Grade.TheVariants.{Measured, Hand, Estimated, Disturbed};
 
-/// What amounts rest on. A number with the mark `measured` follows from telegrams: two files with the same telegrams that
-/// both mark it so have the same amount, whatever values people and estimates put. The records of telegrams determine one
-/// amount. The amounts of adjacent parts add up to that of the whole period, two adjacent periods to their union, and two
-/// windows with the same deciding values at their common end to the amount of the joined list of entries.
+/// What amounts rest on. A number with the mark `measured` follows from telegrams: two files with the same telegrams
+/// that both mark it so have the same amount, whatever values people and estimates put. The records of telegrams
+/// determine one amount. The amounts of adjacent parts add up to that of the whole period, two adjacent periods to
+/// their union, and two windows with the same deciding values at their common end to the amount of the joined list of
+/// entries.
 pub fn amounts_are_of_telegrams()
     ensures alone { (runs : List Run) (values : List Value) (from to : ℕ) →
         mark runs values from to ≡ Measured →
@@ -45,8 +47,8 @@ pub fn amounts_are_of_telegrams()
         added (consumption one from middle) (consumption other middle to) ≡ consumption all from to }
 {}
 
-/// In a sound house two runs of one use with the same identity don't overlap in time; and the parts of a window, if each
-/// has a number, sum to the amount of the place in its span.
+/// In a sound house two runs of one use with the same identity don't overlap in time. The parts of a window sum to the
+/// amount of the place in its span, if each of them has a number.
 pub fn a_sound_house_adds_up()
     ensures once { (h : House) → IsHouse h → (i j : ℕ) (d : Fitted) → i < j → j < length (fitted h) →
         (slice_index_or (fitted h) i d).used ≡ (slice_index_or (fitted h) j d).used →
@@ -73,7 +75,8 @@ pub fn a_right_file_says_each_mark()
 {}
 
 /// Worked examples. 9.31 m3 are `measured`, also with a value by hand in between. A value by hand that looks like a
-/// rollover gives 1,009.31 m3, marked `hand`; without a SIZE it disturbs. A repeated telegram that decides is an estimate.
+/// rollover gives 1,009.31 m3, marked `hand`; without a SIZE it disturbs. A repeated telegram that decides is an
+/// estimate.
 pub fn worked_examples()
     ensures amount { (i : Identity) →
         amount (meter i 0) (with_middle 416500000 (telegram 2)) october november ≡ Some 9310000 }

@@ -1,6 +1,7 @@
 //! What a line says: one row a word.
 
-ghost use Rattle.std.specs.Prelude.{◌≡◌, ◌<◌, ◌≤◌, ◌+◌, ◌^◌, ◌⊎◌, ◌↔◌, ◌++◌, ◌∷◌, [], ℕ, IfErr, IfOk, IsTrue, List, Option, find, length, map, option_map, position};
+ghost use Rattle.std.specs.Prelude.{◌≡◌, ◌<◌, ◌≤◌, ◌+◌, ◌^◌, ◌⊎◌, ◌↔◌, ◌++◌, ◌∷◌, [], ℕ, IfErr, IfOk, IsTrue, List};
+ghost use Rattle.std.specs.Prelude.{Option, find, length, map, option_map, position};
 ghost use Rattle.std.specs.List.{list_any};
 ghost use Rattle.std.specs.Str.{bytes_eq};
 ghost use Rattle.mbdc_audit.specs.File.{is_of_place};
@@ -8,7 +9,8 @@ ghost use Rattle.mbdc_audit.specs.Reader.{use_place};
 ghost use Rattle.mbdc_audit.specs.Field.{fields_of, left_fields};
 ghost use Rattle.mbdc_audit.specs.declared.line.Line.{Line};
 ghost use Rattle.mbdc_audit.specs.declared.smallest.Spelled.{Spelled};
-ghost use Rattle.mbdc_audit.specs.Line.{AreBlank, AreRead, Fields, IsBounded, IsLine, field_of, has_mark, is_asked, is_header, may_follow, maybe_at, number_at, rest_of, rule_of, rules};
+ghost use Rattle.mbdc_audit.specs.Line.{AreBlank, AreRead, Fields, IsBounded, IsLine, field_of, has_mark, is_asked};
+ghost use Rattle.mbdc_audit.specs.Line.{is_header, may_follow, maybe_at, number_at, rest_of, rule_of, rules};
 
 use crate::fault::AuditFault;
 use crate::field::Kind::{
@@ -281,7 +283,8 @@ impl<'a> Line<'a> {
         ensures found { IfOk result (λ u. AreRead kinds.now (left_fields (option_map (λ s. s.now) rest.entry))
             (map (λ f. f.now) self.new.fields) self.new.numbers) }
         ensures places { IfOk result (λ u. (length self.new.fields ≡ 7) × (length self.new.numbers ≡ 7)) }
-        ensures kept { (self.new.word ≡ self.old.word) × (self.new.stage ≡ self.old.stage) × (self.new.text ≡ self.old.text) }
+        ensures kept { (self.new.word ≡ self.old.word) × (self.new.stage ≡ self.old.stage)
+            × (self.new.text ≡ self.old.text) }
         ensures only { IfErr result (λ f. (fields : Fields) (numbers : List (Option Spelled))
             → AreRead kinds.now (left_fields (option_map (λ s. s.now) rest.entry)) fields numbers → ⊥) }
     {

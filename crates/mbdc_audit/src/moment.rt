@@ -1,7 +1,8 @@
 //! Days, and the moments at their ends.
 
-ghost use Rattle.std.specs.Prelude.{◌≡◌};
-ghost use Rattle.mbdc_audit.specs.Moment.{date_in, end_of, minutes_in, number_of_day};
+ghost use Rattle.std.specs.Prelude.{◌≡◌, ◌↔◌, ◌+◌, IsTrue, Some};
+ghost use Rattle.dc_units.specs.Date.{Day};
+ghost use Rattle.mbdc_audit.specs.Moment.{date_in, end_of, minutes_in, number_of, number_of_day};
 
 use crate::smallest::whole_in;
 use dc_units::{Date, Value};
@@ -16,13 +17,14 @@ const SECONDS_OF_HOUR: u64 = 3_600;
 // The number of 1 January 1970, where 1 March of the year 0 has the number 1.
 const EPOCH: u64 = 719_469;
 
-/// UTC's offset: minutes ahead of a week behind it.
+/// The offset of UTC itself: an offset counts minutes from a week behind UTC, so that none is negative.
 pub const WEEK: u16 = 10_080;
 
 // Most minutes that a field spells.
 const END_OF_MINUTES: u64 = 10_000;
 
-/// The end of a day: its number since 1970, its minutes ahead of a week behind UTC, and both fields as they are spelled.
+/// The end of a day: its number since 1970, its minutes ahead of a week behind UTC, and both fields as they are
+/// spelled.
 #[derive(Clone, Copy)]
 pub struct DayEnd<'a> {
     pub day: u32,
@@ -43,6 +45,19 @@ pub fn day_number(date: &Date) -> Option<u32>
     let leap_days = (year / 4 + year / 400).saturating_sub(year / 100);
     let days = 365 * year + leap_days + (153 * month + 2) / 5 + u64::from(date.day());
     Some(days.checked_sub(EPOCH)? as u32)
+}
+
+/// Whether a date is the day after this one.
+pub fn is_after(date: Option<Date>, day: u32) -> bool
+    ensures { IsTrue result ↔ ((d : Day) × (date ≡ Some d) × (number_of d ≡ day + 1)) }
+{
+    let Some(date) = date else {
+        return false;
+    };
+    match day_number(&date) {
+        Some(number) => u64::from(number) == u64::from(day) + 1,
+        None => false,
+    }
 }
 
 /// The offset that a field spells: minutes, with `-` before them where they are behind UTC.

@@ -1,4 +1,4 @@
-//! The third walk: each published number is what is defined, with its mark; or what holds in its place.
+//! The third walk: whether each published number and its mark are the defined ones.
 
 ghost use Rattle.std.specs.Prelude.{◌≡◌, ◌↔◌, ◌<◌, ◌≤◌, ◌+◌, ◌∷◌, ◌==◌, ◌||◌, ℕ, [], true, false, min, decimal, All};
 ghost use Rattle.std.specs.Prelude.{AllPairs, Contains, IfErr, IfOk, IsTrue, None, OnOk, Some, codes, fold, map};
@@ -41,10 +41,10 @@ use std::alloc::Allocator;
 // Most decimals of a number.
 const MOST_DECIMALS: usize = 3;
 
-// From here on a number needs no decimals.
+// The least number that needs no decimals.
 const HUNDRED: u128 = 100;
 
-/// Whose parts: a user's, a flat's, the house's.
+/// Whose parts a number sums: a user's, a flat's or the whole house's.
 #[derive(Clone, Copy)]
 pub enum Holder<'a> {
     User(u64),
@@ -85,7 +85,7 @@ pub enum Beside {
 pub(crate) type Holds = (Option<Exact>, Beside);
 
 impl<'a, A: Allocator + Copy> House<'a, A> {
-    // What a place consumed in a period.
+    // The amount that a place consumed in a period, and its mark.
     fn shown(
         &self,
         alloc: A,
@@ -140,7 +140,7 @@ fn is_cut<A: Allocator + Copy>(place: &Place<'_, A>, window: &Window<'_, A>, mom
     by_part || by_run
 }
 
-// Whether a period is one, from a part's begin at the earliest to a part's end.
+// Whether a period has time, and lies between the begin and the end of the parts.
 fn is_within(first: &Part, last: &Part, number: &Number<'_>) -> bool
     ensures { IsTrue result ↔ ((number.now.from < number.now.to)
         × (first.now.from ≤ number.now.from) × (number.now.to ≤ last.now.to)) }
@@ -173,7 +173,7 @@ fn is_period<A: Allocator + Copy>(
     is_within(first, last, number)
 }
 
-// Whether so many decimals suffice for a number.
+// Whether a number of decimals suffices for a number.
 fn suffice(number: &Number<'_>, decimals: usize, exact: &Exact) -> bool
     ensures { decimals ≤ 3 → (IsTrue result ↔ Suffice number.now.word number.now.unit (Some exact.now) decimals) }
 {
@@ -362,7 +362,7 @@ fn is_held<A: Allocator + Copy>(number: &Number<'_>, held: &[Vec<u8, A>]) -> boo
     is_text && are_beside
 }
 
-/// Where what holds goes: nowhere, or into the file in the place of each `?`.
+/// Writes the filled file: each `?` is replaced by the defined text.
 #[derive(Drop)]
 pub(crate) struct Filler<'f, 'a, F: Sink> {
     pub may_ask: bool,
@@ -446,7 +446,7 @@ fn put_differs<W: Sink, A: Allocator + Copy>(
 }
 
 impl<'s, W: Sink> Teller<'s, W> {
-    // Counts a number, says where it isn't what was published, and fills it in.
+    // Counts a number, prints it where it differs, and fills it in.
     fn end_number<A: Allocator + Copy, F: Sink>(
         &mut self,
         number: &Number<'_>,
@@ -466,7 +466,7 @@ impl<'s, W: Sink> Teller<'s, W> {
         Ok(())
     }
 
-    // The text of what holds with so many decimals; says where they are too few.
+    // The text of what holds with these decimals; prints where they are too few.
     fn judge_decimals(
         &mut self,
         number: &Number<'_>,
@@ -492,7 +492,7 @@ impl<'s, W: Sink> Teller<'s, W> {
         Ok(Some(text))
     }
 
-    // Says where a number isn't what holds, or has too few decimals.
+    // Checks a number against what holds, and prints where it differs or has too few decimals.
     fn judge<A: Allocator + Copy, F: Sink>(
         &mut self,
         alloc: A,
@@ -511,7 +511,7 @@ impl<'s, W: Sink> Teller<'s, W> {
         self.end_number(number, held.as_slice(), is_right, filler)
     }
 
-    // Says where the value of a run isn't that of the window: the last of several at a moment.
+    // Checks a number that shows a run's value: the last one of the window at that moment.
     fn judge_value<A: Allocator + Copy, F: Sink>(
         &mut self,
         alloc: A,
@@ -535,7 +535,7 @@ impl<'s, W: Sink> Teller<'s, W> {
         self.end_number(number, held.as_slice(), is_right, filler)
     }
 
-    // What a place consumed in a period: whether it may be asked, and is what is defined.
+    // Checks a number of what a place consumed in a period: its period, and its text and mark.
     fn judge_shown<'a, A: Allocator + Copy, F: Sink>(
         &mut self,
         alloc: A,
@@ -564,7 +564,7 @@ impl<'s, W: Sink> Teller<'s, W> {
         self.judge(alloc, number, holds, filler)
     }
 
-    // A number of a window: whether it is what is defined.
+    // Checks a number of a window.
     fn judge_number<'a, A: Allocator + Copy, F: Sink>(
         &mut self,
         alloc: A,
@@ -588,7 +588,7 @@ impl<'s, W: Sink> Teller<'s, W> {
         }
     }
 
-    // The numbers of a window: which aren't what is defined.
+    // Checks the numbers of a window.
     fn judge_window<'a, A: Allocator + Copy, F: Sink>(
         &mut self,
         alloc: A,
@@ -611,7 +611,7 @@ impl<'s, W: Sink> Teller<'s, W> {
         Ok(())
     }
 
-    // The numbers of a place's windows: which aren't what is defined.
+    // Checks the numbers of a place's windows.
     fn judge_place<'a, A: Allocator + Copy, F: Sink>(
         &mut self,
         alloc: A,
@@ -630,7 +630,7 @@ impl<'s, W: Sink> Teller<'s, W> {
         Ok(())
     }
 
-    // The numbers of a house's places: which aren't what is defined.
+    // Checks the numbers of a house's places.
     fn judge_places<'a, A: Allocator + Copy, F: Sink>(
         &mut self,
         alloc: A,
@@ -648,7 +648,7 @@ impl<'s, W: Sink> Teller<'s, W> {
         Ok(())
     }
 
-    // The numbers of the house itself: which aren't what is defined.
+    // Checks the sums, and what is computed from them.
     fn judge_sums<'a, A: Allocator + Copy, F: Sink>(
         &mut self,
         alloc: A,
@@ -668,7 +668,7 @@ impl<'s, W: Sink> Teller<'s, W> {
         Ok(())
     }
 
-    /// The numbers of a house: which aren't what is defined.
+    /// Checks the numbers of a house, and prints those that differ.
     pub fn check_numbers<'a, A: Allocator + Copy, F: Sink>(
         &mut self,
         alloc: A,

@@ -11,7 +11,8 @@ ghost use Rattle.mbdc_audit.specs.Settled.{AreCounted, AreKnown, AreSettled, IsR
 ghost use Rattle.mbdc_audit.specs.Sound.{Falls, IfAnew, IsRead, IsReadPlace, told_of};
 ghost use Rattle.mbdc_audit.specs.View.{found_of as found_list, house_of, known_in, part_of, place_of, run_of};
 ghost use Rattle.mbdc_audit.specs.View.{seen_value, source_of, spelled_in, struck_of, use_of, window_of};
-ghost use Rattle.mbdc_audit.specs.Walk.{AreGraded, AreJudged, Checks, IsJudged, IsOneValue, IsRefused, IsSmall, RestsOn};
+ghost use Rattle.mbdc_audit.specs.Walk.{AreGraded, AreJudged, Checks, IsJudged, IsOneValue, IsRefused, IsSmall};
+ghost use Rattle.mbdc_audit.specs.Walk.{RestsOn};
 ghost use Rattle.mbdc_audit.specs.File.{bare_house, bare_place, bare_window};
 ghost use Rattle.mbdc_audit.specs.Walk.{is_clean, is_found, is_read, is_repeat, shown_by};
 
@@ -103,7 +104,8 @@ fn last_shown(values: &[Value<'_>], run: u64) -> Option<u64>
 
 // What a telegram of a run shows after a moment, if it has evidence.
 fn shown_after(value: &Value<'_>, run: u64, moment: u64) -> Option<u64>
-    ensures { list_of result ≡ map (λ v. v.amount) (filter (λ x. nat_lt moment x.moment) (told_of run (found_list value.now))) }
+    ensures { list_of result
+        ≡ map (λ v. v.amount) (filter (λ x. nat_lt moment x.moment) (told_of run (found_list value.now))) }
 {
     if value.moment <= moment {
         return None;
@@ -308,7 +310,8 @@ impl<'s, W: Sink> Teller<'s, W> {
         struck: &[Struck<'_>],
         value: &Value<'_>,
     ) -> Result<(), Stop>
-        ensures { Checks result self.old.counts self.new.counts (IsOneValue values.now (map struck_of struck.now) value.now) }
+        ensures { Checks result self.old.counts self.new.counts
+            (IsOneValue values.now (map struck_of struck.now) value.now) }
     {
         let is_struck = struck.iter().any(|struck| struck.run == value.run
             && struck.moment == value.moment);
@@ -469,8 +472,8 @@ impl<'s, W: Sink> Teller<'s, W> {
         Ok(())
     }
 
-    /// Finds the values of a house that have evidence, and the amounts of all parts; says which have none, and what else
-    /// is wrong with them.
+    /// Finds the values of a house that have evidence, and the amounts of all parts; says which have none, and what
+    /// else is wrong with them.
     pub fn read_values<'a, A: Allocator + Copy>(
         &mut self,
         alloc: A,

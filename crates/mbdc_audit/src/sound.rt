@@ -1,17 +1,17 @@
 //! The first walk: whether the file spells a sound house. Each check prints what breaks its rule.
 
-ghost use Rattle.std.specs.Prelude.{◌≡◌, ◌↔◌, ◌⊎◌, ◌<◌, ◌≤◌, ◌+◌, ◌-◌, ◌%◌, ◌==◌, ◌∷◌, [], All, AllPairs, Any, Contains, IfOk, IfSome, IsSome, IsTrue, OnOk};
+ghost use Rattle.std.specs.Prelude.{◌≡◌, ◌↔◌, ◌⊎◌, ◌<◌, ◌≤◌, ◌+◌, ◌-◌, ◌%◌, ◌==◌, ◌∷◌, [], All, AllPairs, Any};
+ghost use Rattle.std.specs.Prelude.{Contains, IfOk, IfSome, IsSome, IsTrue, OnOk};
 ghost use Rattle.std.specs.Prelude.{ℕ, Some, filter, flat_map, length, map, option_to_list, slice_get};
 ghost use Rattle.std.specs.BTreeMap.{get};
 ghost use Rattle.std.specs.Ordering.{nat_cmp};
-ghost use Rattle.dc_units.specs.Date.{Day};
-ghost use Rattle.mbdc_audit.specs.Moment.{number_of};
 ghost use Rattle.mbdc_audit.specs.declared.uses.Counted.TheVariants.{Allocation};
 ghost use Rattle.mbdc_audit.specs.Amount.{deciding};
 ghost use Rattle.mbdc_audit.specs.File.{all_numbers};
 ghost use Rattle.mbdc_audit.specs.House.{Span as SaidSpan, Value as SaidValue, at};
-ghost use Rattle.mbdc_audit.specs.Sound.{AreAlike, AreNear, AreOneCurve, AreParts, AreRuns, AreSpans, AreTimed, IfAnew, IsAllowed, IsLabel};
-ghost use Rattle.mbdc_audit.specs.Sound.{IsAnew, IsBuilt, IsHouse, IsOfEnd, IsOnce, IsOneCurve, IsOneTenancy, IsOver, IsPlace, IsReadPlace};
+ghost use Rattle.mbdc_audit.specs.Sound.{AreAlike, AreNear, AreOneCurve, AreParts, AreRuns, AreSpans, AreTimed};
+ghost use Rattle.mbdc_audit.specs.Sound.{IfAnew, IsAllowed, IsAnew, IsBuilt, IsHouse, IsLabel, IsOfEnd, IsOnce};
+ghost use Rattle.mbdc_audit.specs.Sound.{IsOneCurve, IsOneTenancy, IsOver, IsPlace, IsReadPlace};
 ghost use Rattle.mbdc_audit.specs.Sound.{IsSpanned, IsSpannedBy, IsTimed, IsType, IsUntil, IsUserOf, IsWindow};
 ghost use Rattle.mbdc_audit.specs.Sound.{ends_in, ends_of, ends_of_place, ends_of_spans, fitted, from, lived, to};
 ghost use Rattle.mbdc_audit.specs.View.{end_of, house_of, place_of, run_of, seen_value, source_of, span_of, window_of};
@@ -23,7 +23,7 @@ use crate::curve::{Curve, Run};
 use crate::fault::Stop;
 use crate::house::{Allowed, House, Part, Place, Span, User, Value, Window};
 use crate::line::Word;
-use crate::moment::{DayEnd, WEEK, day_number};
+use crate::moment::{DayEnd, WEEK, is_after};
 use crate::smallest::OF_RATIO;
 use crate::teller::Piece::{Number, Text};
 use crate::teller::Teller;
@@ -44,19 +44,6 @@ pub(crate) fn is_one_meter(one: &Run<'_>, other: &Run<'_>) -> bool
     ensures { IsTrue result ↔ (one.now.identity ≡ other.now.identity) }
 {
     one.identity == other.identity
-}
-
-// Whether a date is the day after this one.
-fn is_after(date: Option<Date>, day: u32) -> bool
-    ensures { IsTrue result ↔ ((d : Day) × (date ≡ Some d) × (number_of d ≡ day + 1)) }
-{
-    let Some(date) = date else {
-        return false;
-    };
-    match day_number(&date) {
-        Some(number) => u64::from(number) == u64::from(day) + 1,
-        None => false,
-    }
 }
 
 // Whether a label is the month of the day after this one.
@@ -102,16 +89,17 @@ fn is_labelled(label: &[u8], spans: &[Span<'_>]) -> bool
     spans.iter().any(|span| is_month(label, spans, span))
 }
 
-// Whether a span is none of those before it.
+// Whether a span differs from those before it.
 fn is_new(before: &[Span<'_>], from: u64, to: u64) -> bool
     ensures { IsTrue result ↔ All (λ a. (at (span_of a).from ≡ from) × (at (span_of a).to ≡ to) → ⊥) before.now }
 {
     before.iter().all(|other| other.from.moment() != from || other.to.moment() != to)
 }
 
-// Whether a span has time, and is none of those before it.
+// Whether a span has time, and differs from those before it.
 fn is_span(before: &[Span<'_>], from: u64, to: u64) -> bool
-    ensures { IsTrue result ↔ ((from < to) × All (λ a. (at (span_of a).from ≡ from) × (at (span_of a).to ≡ to) → ⊥) before.now) }
+    ensures { IsTrue result ↔ ((from < to)
+        × All (λ a. (at (span_of a).from ≡ from) × (at (span_of a).to ≡ to) → ⊥) before.now) }
 {
     from < to && is_new(before, from, to)
 }
@@ -229,7 +217,8 @@ fn is_near(one: &DayEnd<'_>, other: &DayEnd<'_>) -> bool
 
 // Whether it is so near to an end of a span.
 fn is_near_to(end: &DayEnd<'_>, span: &Span<'_>) -> bool
-    ensures { IsTrue result ↔ (AreNear (end_of end.now) (span_of span.now).from ⊎ AreNear (end_of end.now) (span_of span.now).to) }
+    ensures { IsTrue result ↔ (AreNear (end_of end.now) (span_of span.now).from
+        ⊎ AreNear (end_of end.now) (span_of span.now).to) }
 {
     is_near(end, &span.from) || is_near(end, &span.to)
 }
@@ -291,7 +280,8 @@ fn is_restart(runs: &[Run<'_>], value: &Value<'_>) -> bool
 
 // Whether a value is no earlier than the one before it, and of no earlier run at its moment.
 fn is_next(before: &[Value<'_>], value: &Value<'_>) -> bool
-    ensures { IsTrue result ↔ IfSome (slice_get before.now (length before.now - 1)) (λ last. AreInOrder last value.now) }
+    ensures { IsTrue result ↔ IfSome (slice_get before.now (length before.now - 1))
+        (λ last. AreInOrder last value.now) }
 {
     let Some(last) = before.last() else {
         return true;
@@ -343,7 +333,8 @@ fn is_weighed(counts: Counted, weight: u64) -> bool
 
 // Whether there is a place, and a number is asked of a house.
 fn is_asked<A: Allocator + Copy>(house: &House<'_, A>) -> bool
-    ensures { IsTrue result ↔ ((0 < length (house_of house.now).places) × (0 < length (all_numbers (house_of house.now)))) }
+    ensures { IsTrue result ↔ ((0 < length (house_of house.now).places)
+        × (0 < length (all_numbers (house_of house.now)))) }
 {
     let (places, numbers) = (house.places.as_slice(), house.numbers.as_slice());
     if places.is_empty() {
@@ -372,7 +363,7 @@ impl<'s, W: Sink> Teller<'s, W> {
         Ok(())
     }
 
-    // A day has one offset in a file.
+    // Checks that a day has one offset in the file.
     fn check_offset<'a, A: Allocator + Copy>(
         &mut self,
         line: u64,
@@ -389,7 +380,7 @@ impl<'s, W: Sink> Teller<'s, W> {
         Ok(())
     }
 
-    // Spans have time, and none is there twice; the label is the month in which one that ends last begins.
+    // Checks that spans have time, that none is there twice, and that the label is the month of the last one.
     fn check_spans<'a, A: Allocator + Copy>(
         &mut self,
         house: &House<'a, A>,
@@ -407,7 +398,7 @@ impl<'s, W: Sink> Teller<'s, W> {
         Ok(())
     }
 
-    // A span has time, and isn't one of those before it.
+    // Checks that a span has time, and differs from those before it.
     fn check_span<'a, A: Allocator + Copy>(
         &mut self,
         before: &[Span<'a>],
@@ -427,7 +418,7 @@ impl<'s, W: Sink> Teller<'s, W> {
         Ok(())
     }
 
-    // A flat has one area.
+    // Checks that the users of a flat state one area.
     fn check_users(&mut self, users: &[User<'_>]) -> Result<(), Stop>
         ensures { Checks result self.old.counts self.new.counts
             (AllPairs (λ a b. a.flat.now ≡ b.flat.now → a.area ≡ b.area) users.now) }
@@ -443,7 +434,7 @@ impl<'s, W: Sink> Teller<'s, W> {
         Ok(())
     }
 
-    // Each place by itself and with those before it.
+    // Checks each place by itself and with those before it.
     fn check_places<'a, A: Allocator + Copy>(
         &mut self,
         alloc: A,
@@ -454,7 +445,8 @@ impl<'s, W: Sink> Teller<'s, W> {
             → All (λ p. All (λ w. AreFound w.values.items) p.windows.items) house.now.places.items
             → OnOk result (Walks self.old.counts (get nat_cmp offsets.old) self.new.counts (get nat_cmp offsets.new)
             (flat_map ends_of_place h.places)
-            (All (λ p. IsPlace h p × IsOneCurve h p) h.places × AllPairs IsOnce (fitted h) × AllPairs IsOneTenancy (lived h))) }
+            (All (λ p. IsPlace h p × IsOneCurve h p) h.places
+            × AllPairs IsOnce (fitted h) × AllPairs IsOneTenancy (lived h))) }
     {
         let (mut meters, mut parts) = (Met::new(alloc), Met::new(alloc));
         let places = house.places.as_slice();
@@ -467,7 +459,7 @@ impl<'s, W: Sink> Teller<'s, W> {
         Ok(())
     }
 
-    // A place by itself: its weight, its runs, and its windows.
+    // Checks a place by itself: its weight, its runs, and its windows.
     fn check_place<'a, A: Allocator + Copy>(
         &mut self,
         house: &House<'a, A>,
@@ -496,7 +488,7 @@ impl<'s, W: Sink> Teller<'s, W> {
         Ok(())
     }
 
-    // The runs of a place.
+    // Checks the runs of a place.
     fn check_runs<'a, A: Allocator + Copy>(
         &mut self,
         house: &House<'a, A>,
@@ -513,7 +505,7 @@ impl<'s, W: Sink> Teller<'s, W> {
         Ok(())
     }
 
-    // A run has time, after those before it, and is of a type that counts the use.
+    // Checks that a run has time, begins after the one before it has ended, and is of a type that counts the use.
     fn check_run<'a, A: Allocator + Copy>(
         &mut self,
         house: &House<'a, A>,
@@ -537,7 +529,7 @@ impl<'s, W: Sink> Teller<'s, W> {
         )
     }
 
-    // Prints that a device type doesn't count a use.
+    // Prints that a device type doesn't count a use, unless it does.
     fn unless_counted<'t>(
         &mut self,
         holds: bool,
@@ -551,7 +543,7 @@ impl<'s, W: Sink> Teller<'s, W> {
         self.unless(holds, line, "Type", &words)
     }
 
-    // A place has one window for each span in which it has a time.
+    // Checks that a place has one window for each span that its time overlaps.
     fn check_spanned<'a, A: Allocator + Copy>(
         &mut self,
         house: &House<'a, A>,
@@ -578,7 +570,7 @@ impl<'s, W: Sink> Teller<'s, W> {
         Ok(())
     }
 
-    // The values and the parts of a window.
+    // Checks the values and the parts of a window.
     fn check_opened<'a, A: Allocator + Copy>(
         &mut self,
         house: &House<'a, A>,
@@ -586,8 +578,8 @@ impl<'s, W: Sink> Teller<'s, W> {
         window: &Window<'a, A>,
         offsets: &mut BTreeMap<u64, u16, A>,
     ) -> Result<(), Stop>
-        ensures { let h = house_of house.now in let p = place_of place.now in let w = window_of window.now in (s : SaidSpan)
-            → slice_get h.spans w.span ≡ Some s → All (λ v. IsSome (slice_get p.runs v.run)) w.values
+        ensures { let h = house_of house.now in let p = place_of place.now in let w = window_of window.now in
+            (s : SaidSpan) → slice_get h.spans w.span ≡ Some s → All (λ v. IsSome (slice_get p.runs v.run)) w.values
             → OnOk result (Walks self.old.counts (get nat_cmp offsets.old) self.new.counts (get nat_cmp offsets.new)
             (ends_of w) (IsWindow h p w s)) }
     {
@@ -599,7 +591,7 @@ impl<'s, W: Sink> Teller<'s, W> {
         self.check_parts(house, place, window, place.reach(span))
     }
 
-    // The values of a window, each by itself and after the one before it.
+    // Checks the values of a window, each by itself and with the one before it.
     fn check_values<'a, A: Allocator + Copy>(
         &mut self,
         runs: &[Run<'a>],
@@ -621,7 +613,7 @@ impl<'s, W: Sink> Teller<'s, W> {
         Ok(())
     }
 
-    // The offset of a value is its day's, and near to its span's.
+    // Checks that a value's offset is its day's, and near to its span's.
     fn check_day<'a, A: Allocator + Copy>(
         &mut self,
         line: u64,
@@ -642,7 +634,7 @@ impl<'s, W: Sink> Teller<'s, W> {
         Ok(())
     }
 
-    // A value lies in its run's time, and where its word says so at its end or after a restart.
+    // Checks that a value lies within its run's time; `last` and `ended` at its end, `zero` after a restart.
     fn check_value(&mut self, runs: &[Run<'_>], value: &Value<'_>) -> Result<(), IoFault>
         ensures { IsSome (slice_get (map run_of runs.now) value.now.run) → Checks result self.old.counts self.new.counts
             (IsTimed (map run_of runs.now) (seen_value value.now)) }
@@ -658,7 +650,7 @@ impl<'s, W: Sink> Teller<'s, W> {
         self.unless(is_restart(runs, value), value.line, "Restart", &words)
     }
 
-    // The parts of a window tile its time, and are of users of its flat.
+    // Checks that the parts of a window tile its time, and are of users of its flat.
     fn check_parts<'a, A: Allocator + Copy>(
         &mut self,
         house: &House<'a, A>,
@@ -681,7 +673,7 @@ impl<'s, W: Sink> Teller<'s, W> {
         Ok(())
     }
 
-    // A part begins where the one before it ended, ends within the time, and is of a user of the flat.
+    // Checks that a part begins where the one before it ended, ends within the time, and is of a user of the flat.
     fn check_part<'a, A: Allocator + Copy>(
         &mut self,
         house: &House<'a, A>,
@@ -689,8 +681,9 @@ impl<'s, W: Sink> Teller<'s, W> {
         part: &Part,
         time: (u64, u64),
     ) -> Result<(), IoFault>
-        ensures { Checks result self.old.counts self.new.counts ((part.now.from ≡ time.0) × (part.now.from < part.now.to)
-            × (part.now.to ≤ time.1) × IsUserOf (house_of house.now) flat.now part.now.user) }
+        ensures { Checks result self.old.counts self.new.counts ((part.now.from ≡ time.0)
+            × (part.now.from < part.now.to) × (part.now.to ≤ time.1)
+            × IsUserOf (house_of house.now) flat.now part.now.user) }
     {
         let words = [Text(b"not adjacent, or beyond the span or the place's time")];
         self.unless(is_adjacent(part, time.0, time.1), part.line, "Part", &words)?;
@@ -704,14 +697,15 @@ impl<'s, W: Sink> Teller<'s, W> {
         )
     }
 
-    // The values that decide a common end of two windows are the same.
+    // Checks that the values that decide a common end of two windows are the same.
     fn check_ends<'a, A: Allocator + Copy>(
         &mut self,
         alloc: A,
         house: &House<'a, A>,
         place: &Place<'a, A>,
     ) -> Result<(), Stop>
-        ensures { All (λ w. AreFound w.values.items) place.now.windows.items → Checks result self.old.counts self.new.counts
+        ensures { All (λ w. AreFound w.values.items) place.now.windows.items
+            → Checks result self.old.counts self.new.counts
             (IsOneCurve (house_of house.now) (place_of place.now)) }
     {
         let windows = place.windows.as_slice();
@@ -722,7 +716,7 @@ impl<'s, W: Sink> Teller<'s, W> {
         Ok(())
     }
 
-    // The same of a window and those before it.
+    // Checks a window against those before it.
     fn check_common<'a, A: Allocator + Copy>(
         &mut self,
         made: (A, &[Run<'a>]),
@@ -741,7 +735,7 @@ impl<'s, W: Sink> Teller<'s, W> {
         Ok(())
     }
 
-    // The same of two windows. Their spans have the later begin and the earlier end in common.
+    // Checks two windows against each other. Their spans have the later begin and the earlier end in common.
     fn check_two<'a, A: Allocator + Copy>(
         &mut self,
         house: &House<'a, A>,
@@ -771,7 +765,7 @@ impl<'s, W: Sink> Teller<'s, W> {
         self.check_end(one, other, to)
     }
 
-    // The same at a moment.
+    // Checks two windows at a moment.
     fn check_end<'a, A: Allocator + Copy>(
         &mut self,
         one: (&Window<'a, A>, &Curve<'_, 'a, A>),
@@ -780,7 +774,8 @@ impl<'s, W: Sink> Teller<'s, W> {
     ) -> Result<(), IoFault>
         ensures { IsCurve one.entry.0.now one.entry.1.now → IsCurve other.entry.0.now other.entry.1.now
             → Checks result self.old.counts self.new.counts
-            (AreAlike (deciding moment (window_of other.entry.0.now).values) (deciding moment (window_of one.entry.0.now).values)) }
+            (AreAlike (deciding moment (window_of other.entry.0.now).values)
+            (deciding moment (window_of one.entry.0.now).values)) }
     {
         let words = [
             Text(b"other values at the common end "),

@@ -1,15 +1,18 @@
 //! The sums of holders' parts, and what is computed of them.
 
-ghost use Rattle.std.specs.Prelude.{◌≡◌, ◌≢◌, ℕ, ◌==◌, ◌&&◌, ◌<◌, ◌≤◌, ◌+◌, ◌^◌, ◌⊎◌, All, IfErr, IfOk, OnOk, Some, find, fold, is_some};
+ghost use Rattle.std.specs.Prelude.{◌≡◌, ◌≢◌, ℕ, ◌==◌, ◌&&◌, ◌<◌, ◌≤◌, ◌+◌, ◌^◌, ◌⊎◌, IfErr, IfOk, OnOk};
+ghost use Rattle.std.specs.Prelude.{All, Some, find, fold, is_some};
 ghost use Rattle.std.specs.List.{list_all, list_any};
 ghost use Rattle.std.specs.Str.{bytes_eq};
 ghost use Rattle.mbdc_audit.specs.declared.line.Word.TheVariants as word;
 ghost use Rattle.mbdc_audit.specs.Grade.{worst};
 ghost use Rattle.mbdc_audit.specs.Index.{flat_key};
 ghost use Rattle.mbdc_audit.specs.Number.{in_unit};
-ghost use Rattle.mbdc_audit.specs.Published.{amount_or_0, beside, by_ratio, declared, flat, has_whole, holds, is_part_user, number as exact_of, sum_of_user, user};
+ghost use Rattle.mbdc_audit.specs.Published.{amount_or_0, beside, by_ratio, declared, flat, has_whole, holds};
+ghost use Rattle.mbdc_audit.specs.Published.{is_part_user, number as exact_of, sum_of_user, user};
 ghost use Rattle.mbdc_audit.specs.Sound.{IsHouse};
-ghost use Rattle.mbdc_audit.specs.Totals.{HasNoPart, IsIndex, basis_more, basis_of, basis_with, beside_sum, has_own, is_filled, is_known, is_window_own, joined};
+ghost use Rattle.mbdc_audit.specs.Totals.{AreBases, HasNoPart, IsIndex, basis_more, basis_of, basis_with, beside_sum};
+ghost use Rattle.mbdc_audit.specs.Totals.{has_own, is_filled, is_known, is_window_own, joined};
 ghost use Rattle.mbdc_audit.specs.Totals.{no_total, place_sum, share_in, total_of, total_with};
 ghost use Rattle.mbdc_audit.specs.View.{house_of, key_of, span_of};
 ghost use Rattle.mbdc_audit.specs.Walk.{AreGradedAll, holder_of, is_held_part, scale_in, sum_by_holder, texts_beside};
@@ -43,8 +46,13 @@ impl Total {
 
     // The sum with an amount more, its size times a weight, and a mark.
     fn and(&self, plain: u128, weighted: u128, grade: Grade) -> Result<Total, AuditFault>
-        ensures ok { IfOk result (λ t. t ≡ record self.now { plain = self.now.plain + plain; weighted = self.now.weighted + weighted; grade = worst self.now.grade grade }) }
-        ensures err { IfErr result (λ f. (2 ^ 128 ≤ self.now.plain + plain) ⊎ (2 ^ 128 ≤ self.now.weighted + weighted)) }
+        ensures ok { IfOk result (λ t. t ≡ record self.now {
+          plain = self.now.plain + plain;
+          weighted = self.now.weighted + weighted;
+          grade = worst self.now.grade grade;
+        }) }
+        ensures err { IfErr result (λ f.
+            (2 ^ 128 ≤ self.now.plain + plain) ⊎ (2 ^ 128 ≤ self.now.weighted + weighted)) }
     {
         Ok(Total {
             plain: self.plain.checked_add(plain).ok_or(AuditFault::TooLarge)?,
@@ -246,7 +254,8 @@ impl<'a, A: Allocator + Copy> House<'a, A> {
         used: u64,
         unit: Unit,
     ) -> Result<Exact, AuditFault>
-        ensures { IfOk result (λ x. Some x ≡ in_unit sums (scale_in (house_of self.now) used unit) (declared (house_of self.now) (Fact.Factor used) span)) }
+        ensures { IfOk result (λ x. Some x ≡ in_unit sums (scale_in (house_of self.now) used unit)
+            (declared (house_of self.now) (Fact.Factor used) span)) }
     {
         let factor = self.declared(Fact::Factor(used), span);
         let Some(found) = self.uses.get(used as usize) else {
@@ -304,7 +313,8 @@ impl<'h, 'a, A: Allocator + Copy> Sums<'h, 'a, A> {
 
     // The sum of a holder's parts of a use in a span, of all places.
     fn total_of_all(&self, holder: Holder<'_>, span: u64, used: u64) -> Result<Total, AuditFault>
-        ensures { IfOk result (λ t. t ≡ fold (place_sum (holder_of holder.entry) span used) no_total self.now.house.now.places.items) }
+        ensures { IfOk result (λ t.
+            t ≡ fold (place_sum (holder_of holder.entry) span used) no_total self.now.house.now.places.items) }
     {
         let mut total = Total::NONE;
         'places: for place in &self.house.places {
@@ -339,8 +349,11 @@ impl<'h, 'a, A: Allocator + Copy> Sums<'h, 'a, A> {
         span: u64,
         number: &Number<'_>,
     ) -> Result<(Option<Exact>, Total), AuditFault>
-        ensures total { IsHouse (house_of self.now.house.now) → IfOk result (λ s. s.1 ≡ total_of (holder_of holder.entry) span number.now.used self.now.house.now.places.items) }
-        ensures sum { IsHouse (house_of self.now.house.now) → AreGradedAll self.now.house.now.places.items → IfOk result (λ s. s.0 ≡ sum_by_holder (house_of self.now.house.now) (holder_of holder.entry) span number.now.used number.now.unit) }
+        ensures total { IsHouse (house_of self.now.house.now) → IfOk result (λ s.
+            s.1 ≡ total_of (holder_of holder.entry) span number.now.used self.now.house.now.places.items) }
+        ensures sum { IsHouse (house_of self.now.house.now) → AreGradedAll self.now.house.now.places.items
+            → IfOk result (λ s. s.0 ≡ sum_by_holder (house_of self.now.house.now) (holder_of holder.entry)
+            span number.now.used number.now.unit) }
     {
         let total = self.total(holder, span, number.used)?;
         if !total.is_known(holder) {
@@ -353,7 +366,7 @@ impl<'h, 'a, A: Allocator + Copy> Sums<'h, 'a, A> {
         ))
     }
 
-    // Whether a flat has a place of a number's use with a window of a span, and each of these has a time that covers it,
+    // Whether a flat has a place of a number's use with a window of a span, and the time of each of these covers it,
     // and parts that are all the number's user's.
     fn is_filled(&self, flat: &[u8], number: &Number<'_>, span: u64, within: &Span<'a>) -> bool
         ensures { let places = self.now.house.now.places.items in let used = number.now.used in
@@ -387,7 +400,9 @@ impl<'h, 'a, A: Allocator + Copy> Sums<'h, 'a, A> {
 
     // A basis with a user's flat more, if the flat's sum is measured, or by hand.
     fn with_flat(&self, basis: &Basis, user: &User<'a>) -> Result<Basis, AuditFault>
-        ensures { IfOk result (λ b. b ≡ basis_with basis.now (total_of (flat user.now.flat.now) basis.now.span basis.now.used self.now.house.now.places.items) (amount_or_0 user.now.area)) }
+        ensures { IfOk result (λ b. b ≡ basis_with basis.now
+            (total_of (flat user.now.flat.now) basis.now.span basis.now.used self.now.house.now.places.items)
+            (amount_or_0 user.now.area)) }
     {
         let total = self.total(Holder::Flat(user.flat), basis.span, basis.used)?;
         if total.grade.told().1 > HAND {
@@ -420,7 +435,8 @@ impl<'h, 'a, A: Allocator + Copy> Sums<'h, 'a, A> {
 
     // What the flats that may be compared consumed: those with an area whose sum is measured, or by hand.
     fn basis(&self, span: u64, used: u64) -> Result<Basis, AuditFault>
-        ensures { IfOk result (λ b. b ≡ basis_of span used self.now.house.now.places.items self.now.house.now.users.items) }
+        ensures { IfOk result (λ b.
+            b ≡ basis_of span used self.now.house.now.places.items self.now.house.now.users.items) }
     {
         let mut basis = Basis {
             span,
@@ -437,9 +453,11 @@ impl<'h, 'a, A: Allocator + Copy> Sums<'h, 'a, A> {
 
     // What comparable flats consumed, of those that are known or anew.
     fn basis_in(&self, span: u64, used: u64, bases: &mut Vec<Basis, A>) -> Result<Basis, Stop>
-        requires { All (λ b. b ≡ basis_of b.span b.used self.now.house.now.places.items self.now.house.now.users.items) bases.old.items }
-        ensures bases { OnOk result (All (λ b. b ≡ basis_of b.span b.used self.now.house.now.places.items self.now.house.now.users.items) bases.new.items) }
-        ensures found { IfOk result (λ b. b ≡ basis_of span used self.now.house.now.places.items self.now.house.now.users.items) }
+        requires { AreBases self.now.house.now.places.items self.now.house.now.users.items bases.old.items }
+        ensures bases { OnOk result
+            (AreBases self.now.house.now.places.items self.now.house.now.users.items bases.new.items) }
+        ensures found { IfOk result (λ b.
+            b ≡ basis_of span used self.now.house.now.places.items self.now.house.now.users.items) }
     {
         if let Some(basis) = basis_at(span, used, bases.as_slice()) {
             return Ok(basis);
@@ -451,9 +469,11 @@ impl<'h, 'a, A: Allocator + Copy> Sums<'h, 'a, A> {
 
     // A user's share by area: of a declared average, or of what comparable flats consumed.
     fn mean(&self, number: &Number<'_>, bases: &mut Vec<Basis, A>) -> Result<Option<Exact>, Stop>
-        requires { All (λ b. b ≡ basis_of b.span b.used self.now.house.now.places.items self.now.house.now.users.items) bases.old.items }
-        ensures bases { OnOk result (All (λ b. b ≡ basis_of b.span b.used self.now.house.now.places.items self.now.house.now.users.items) bases.new.items) }
-        ensures found { AreGradedAll self.now.house.now.places.items → IfOk result (λ x. x ≡ holds word.Mean (house_of self.now.house.now) (key_of number.now)) }
+        requires { AreBases self.now.house.now.places.items self.now.house.now.users.items bases.old.items }
+        ensures bases { OnOk result
+            (AreBases self.now.house.now.places.items self.now.house.now.users.items bases.new.items) }
+        ensures found { AreGradedAll self.now.house.now.places.items
+            → IfOk result (λ x. x ≡ holds word.Mean (house_of self.now.house.now) (key_of number.now)) }
     {
         let (span, used) = (number.span, number.used);
         let Some(user) = self.house.user(number.user) else {
@@ -480,14 +500,16 @@ impl<'h, 'a, A: Allocator + Copy> Sums<'h, 'a, A> {
 
     // A user's sum in a span.
     fn of_user(&self, number: &Number<'_>, span: u64) -> Result<Option<Exact>, AuditFault>
-        ensures { IsHouse (house_of self.now.house.now) → AreGradedAll self.now.house.now.places.items → IfOk result (λ x. x ≡ sum_of_user (house_of self.now.house.now) (key_of number.now) span) }
+        ensures { IsHouse (house_of self.now.house.now) → AreGradedAll self.now.house.now.places.items
+            → IfOk result (λ x. x ≡ sum_of_user (house_of self.now.house.now) (key_of number.now) span) }
     {
         Ok(self.sum(Holder::User(number.user), span, number)?.0)
     }
 
     // The change from another span to this one.
     fn change(&self, number: &Number<'_>) -> Result<Option<Exact>, AuditFault>
-        ensures { IsHouse (house_of self.now.house.now) → AreGradedAll self.now.house.now.places.items → IfOk result (λ x. x ≡ holds word.Change (house_of self.now.house.now) (key_of number.now)) }
+        ensures { IsHouse (house_of self.now.house.now) → AreGradedAll self.now.house.now.places.items
+            → IfOk result (λ x. x ≡ holds word.Change (house_of self.now.house.now) (key_of number.now)) }
     {
         if !self.has_whole(number.span, number) || !self.has_whole(number.other, number) {
             return Ok(None);
@@ -503,7 +525,8 @@ impl<'h, 'a, A: Allocator + Copy> Sums<'h, 'a, A> {
 
     // What the weather makes of another span's number.
     fn weather(&self, number: &Number<'_>) -> Result<Option<Exact>, AuditFault>
-        ensures { IsHouse (house_of self.now.house.now) → AreGradedAll self.now.house.now.places.items → IfOk result (λ x. x ≡ holds word.Weather (house_of self.now.house.now) (key_of number.now)) }
+        ensures { IsHouse (house_of self.now.house.now) → AreGradedAll self.now.house.now.places.items
+            → IfOk result (λ x. x ≡ holds word.Weather (house_of self.now.house.now) (key_of number.now)) }
     {
         if !self.has_whole(number.span, number) || !self.has_whole(number.other, number) {
             return Ok(None);
@@ -525,7 +548,7 @@ impl<'h, 'a, A: Allocator + Copy> Sums<'h, 'a, A> {
         Ok(Some(times(there, degrees, u128::from(before))?))
     }
 
-    // A user's sum times a ratio of the span, of so many parts.
+    // A user's sum times a ratio of the span, in parts of a hundred or a thousand.
     fn priced(
         &self,
         number: &Number<'_>,
@@ -533,7 +556,9 @@ impl<'h, 'a, A: Allocator + Copy> Sums<'h, 'a, A> {
         parts: u64,
     ) -> Result<Option<Exact>, AuditFault>
         requires { 0 < parts }
-        ensures { IsHouse (house_of self.now.house.now) → AreGradedAll self.now.house.now.places.items → IfOk result (λ x. x ≡ by_ratio (declared (house_of self.now.house.now) fact number.now.span) (Some parts) 1000000
+        ensures { IsHouse (house_of self.now.house.now) → AreGradedAll self.now.house.now.places.items
+            → IfOk result (λ x. x ≡ by_ratio
+            (declared (house_of self.now.house.now) fact number.now.span) (Some parts) 1000000
             (sum_of_user (house_of self.now.house.now) (key_of number.now) number.now.span)) }
     {
         let ratio = self
@@ -548,9 +573,12 @@ impl<'h, 'a, A: Allocator + Copy> Sums<'h, 'a, A> {
 
     // What holds of a holder's sum, with what is beside it.
     fn summed(&self, holder: Holder<'_>, number: &Number<'_>) -> Result<Holds, AuditFault>
-        ensures exact { IsHouse (house_of self.now.house.now) → AreGradedAll self.now.house.now.places.items → IfOk result (λ x. x.0 ≡ sum_by_holder (house_of self.now.house.now) (holder_of holder.entry) number.now.span number.now.used number.now.unit) }
+        ensures exact { IsHouse (house_of self.now.house.now) → AreGradedAll self.now.house.now.places.items
+            → IfOk result (λ x. x.0 ≡ sum_by_holder (house_of self.now.house.now) (holder_of holder.entry)
+            number.now.span number.now.used number.now.unit) }
         ensures beside { IsHouse (house_of self.now.house.now) → AreGradedAll self.now.house.now.places.items
-            → IfOk result (λ x. texts_beside x.1 ≡ beside_sum (house_of self.now.house.now) (holder_of holder.entry) number.now.span number.now.used) }
+            → IfOk result (λ x. texts_beside x.1 ≡ beside_sum (house_of self.now.house.now)
+            (holder_of holder.entry) number.now.span number.now.used) }
     {
         let (exact, total) = self.sum(holder, number.span, number)?;
         let beside = match holder {
@@ -562,9 +590,11 @@ impl<'h, 'a, A: Allocator + Copy> Sums<'h, 'a, A> {
 
     // What holds of a number of the house.
     pub fn holds(&self, number: &Number<'_>, bases: &mut Vec<Basis, A>) -> Result<Holds, Stop>
-        requires { All (λ b. b ≡ basis_of b.span b.used self.now.house.now.places.items self.now.house.now.users.items) bases.old.items }
-        ensures bases { OnOk result (All (λ b. b ≡ basis_of b.span b.used self.now.house.now.places.items self.now.house.now.users.items) bases.new.items) }
-        ensures found { IsHouse (house_of self.now.house.now) → AreGradedAll self.now.house.now.places.items → IfOk result (λ x. x.0 ≡ exact_of (house_of self.now.house.now) (key_of number.now)) }
+        requires { AreBases self.now.house.now.places.items self.now.house.now.users.items bases.old.items }
+        ensures bases { OnOk result
+            (AreBases self.now.house.now.places.items self.now.house.now.users.items bases.new.items) }
+        ensures found { IsHouse (house_of self.now.house.now) → AreGradedAll self.now.house.now.places.items
+            → IfOk result (λ x. x.0 ≡ exact_of (house_of self.now.house.now) (key_of number.now)) }
         ensures beside { IsHouse (house_of self.now.house.now) → AreGradedAll self.now.house.now.places.items
             → IfOk result (λ x. texts_beside x.1 ≡ beside (house_of self.now.house.now) (key_of number.now)) }
     {

@@ -133,8 +133,8 @@ pub fn size_named(word: &[u8]) -> Option<(Counted, u64)>
     }
 }
 
-/// Whether a device type (EN 13757-7) counts a use, by its word. A meter of heat and cooling counts cooling where its VIB
-/// is named.
+/// Whether a device type (EN 13757-7) counts a use, by its word. A meter of heat and cooling counts cooling where its
+/// VIB is named.
 pub fn is_type(name: &[u8], run: &Run<'_>) -> bool
     ensures { IsTrue result ↔ IsType name.now (run_of run.now) }
 {
