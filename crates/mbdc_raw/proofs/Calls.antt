@@ -2,7 +2,7 @@
 use Rattle.std.proofs.Common.{◌≡◌, ◌⊎◌, inl, inr, ℕ, ◌<◌, Bool, true, false, List, Option, Some, None, Result, Ok, Err, IfSome, IfNone, ap, sym, ◌∙◌, subst, arith, if◌then◌else◌}
 use Rattle.std.specs.Prelude.{IfOk}
 use Rattle.std.proofs.lemmas.Bool.{false≢true}
-use Rattle.mbdc_raw.specs.Heard.{Answers, Hearing}
+use Rattle.mbdc_raw.specs.Heard.{Answers, Hearing, ends_early}
 use Rattle.mbdc_raw.specs.Turn.{is_copy, may_go}
 use Rattle.mbdc_raw.specs.Line.{Gives, GivesOne, LineGives, Skips, judged, left_by, left_of}
 use Rattle.mbdc_raw.specs.declared.line.Held.{Held}
@@ -26,19 +26,20 @@ module _ {W : Type 0} (wire : WireGhosts W) where
       (less_by old.lost old.held (wire.waits_left new.wire) (wire.waits_left old.wire) runs less))
 
   -- on a quiet line a request doesn't wait
-  pub less_waiting : (state : State) (last request : List ℕ) (many : Bool) (P : Type 0) (less : Type 0) → may_go state last request many ≡ false → (state ≡ Quiet) ⊎ less → (less → P) → P
-  less_waiting state last request many P less not (inl quiet) then' = absurd (false≢true (sym not ∙ ap (λ (s : State). may_go s last request many) quiet))
-  less_waiting state last request many P less not (inr is) then' = then' is
+  pub less_waiting : (state : State) (repeats : ℕ) (last request : List ℕ) (many : Bool) (P : Type 0) (less : Type 0) → may_go state repeats last request many ≡ false → (state ≡ Quiet) ⊎ less → (less → P) → P
+  less_waiting state repeats last request many P less not (inl quiet) then' = absurd (false≢true (sym not ∙ ap (λ (s : State). may_go s repeats last request many) quiet))
+  less_waiting state repeats last request many P less not (inr is) then' = then' is
 
-  pub gives_one_of : (old between : Line W) (answer : List ℕ) (w : W) (h : Hearing) (new : Line W) → Skips wire old between → Answers wire.hears between.wire between.hearing answer w h → is_copy between.last answer ≡ false
-      → new ≡ judged answer (record between { wire = w; hearing = h }) → GivesOne wire old answer new
-  gives_one_of old between answer w h new skips heard plain kept = record {
+  pub gives_one_of : (early : Bool) (old between : Line W) (answer : List ℕ) (w : W) (h : Hearing) (new : Line W) → Skips wire old between
+      → (is : Answers wire.hears between.wire between.hearing answer w h) × (early ≡ ends_early is.end) → is_copy between.last answer ≡ false
+      → new ≡ judged early answer (record between { wire = w; hearing = h }) → GivesOne wire old answer new
+  gives_one_of early old between answer w h new skips heard plain kept = subst (λ (l : Line W). GivesOne wire old answer l) (sym kept) (record {
     between = between;
     skips = skips;
-    heard = subst (λ (l : Line W). Answers wire.hears between.wire between.hearing answer l.wire l.hearing) (sym kept) heard;
+    heard = heard.0;
     plain = plain;
-    kept = kept ∙ ap (λ (l : Line W). judged answer (record between { wire = l.wire; hearing = l.hearing })) (sym kept);
-  }
+    kept = ap (λ (e : Bool). judged e answer (record between { wire = w; hearing = h })) heard.1;
+  })
 
   -- a call in which the wire didn't fail
   pub gives_of : (old new : Line W) (taken : Option (List ℕ)) → old.lost ≡ false → new.lost ≡ old.lost → IfSome taken (λ answer. Gives wire old answer new) → IfSome taken (λ answer. LineGives wire old answer new)

@@ -3,7 +3,7 @@ use Rattle.std.proofs.Common.{◌≡◌, ℕ, ◌+◌, ◌-◌, ◌^◌, ◌≤�
 use Rattle.std.specs.declared.time.Instant.{Instant}
 use Rattle.std.proofs.lemmas.Bool.{false≢true}
 use Rattle.mbdc_raw.specs.Life.{Lives, heard, opened, rests, sent, wait_of}
-use Rattle.mbdc_raw.specs.PollWire.{Holds, IsDeserted, WireHears, WireReopens, at_gap, at_silence, begins, bytes_came, ends, goes_on, is_as_before, is_open, most_waited, none_came, not_yet}
+use Rattle.mbdc_raw.specs.PollWire.{Holds, IsDeserted, WireHears, WireReopens, at_gap, at_silence, begins, bytes_came, ends, goes_on, is_as_before, is_open, most_waited, none_came, not_yet, when_late}
 use Rattle.mbdc_raw.specs.Wire.{Sound, bytes_in, bytes_of, silence}
 use Rattle.mbdc_raw.specs.declared.poll_wire.PollWire.{PollWire}
 
@@ -30,6 +30,10 @@ module _ {R W C : Type 0} (contents : W → Option (List ℕ)) (remaining : R �
       no_byte refl (ap (λ (w : PollWire R W C). w.came) same ∙ ap (λ (w : PollWire R W C). w.came) so ∙ ap (λ (w : PollWire R W C). w.came) is)
       (omega (arith, ap (λ (w : PollWire R W C). w.waited) same, ap (λ (w : PollWire R W C). w.waited) so, ap (λ (w : PollWire R W C). w.waited) is))
   came_by old sound new (none_came between held past is holds (at_gap same)) =
+      let so = held_as between held _ holds in
+      no_byte refl (ap (λ (w : PollWire R W C). w.came) same ∙ ap (λ (w : PollWire R W C). w.came) so ∙ ap (λ (w : PollWire R W C). w.came) is)
+      (omega (arith, ap (λ (w : PollWire R W C). w.waited) same, ap (λ (w : PollWire R W C). w.waited) so, ap (λ (w : PollWire R W C). w.waited) is))
+  came_by old sound new (none_came between held past is holds (when_late late same)) =
       let so = held_as between held _ holds in
       no_byte refl (ap (λ (w : PollWire R W C). w.came) same ∙ ap (λ (w : PollWire R W C). w.came) so ∙ ap (λ (w : PollWire R W C). w.came) is)
       (omega (arith, ap (λ (w : PollWire R W C). w.waited) same, ap (λ (w : PollWire R W C). w.waited) so, ap (λ (w : PollWire R W C). w.waited) is))

@@ -9,8 +9,8 @@ use Rattle.dc_linkframe.specs.declared.needs.Need.{Need}
 use Rattle.dc_linkframe.specs.declared.needs.Need.TheVariants.{More, Whole, Bad}
 use Rattle.dc_linkframe.specs.Need.{need_of, up_to}
 use Rattle.mbdc_bus.specs.Limits.{most_answer}
-use Rattle.mbdc_raw.specs.Wire.{Sound, AreHeard, piece, gap, silence, pieces}
-use Rattle.mbdc_raw.specs.Heard.{Answers, Ends, Hearing, HasByte, Lasts, Waits, answer_of, and_bytes, heard_of, front_by, is_over, missing_of, missing_by, is_whole, is_silent, has_gap}
+use Rattle.mbdc_raw.specs.Wire.{Sound, AreHeard, piece, gap, overdue, silence, pieces}
+use Rattle.mbdc_raw.specs.Heard.{Answers, Ends, Hearing, HasByte, Lasts, Waits, answer_of, and_bytes, heard_of, front_by, is_over, missing_of, missing_by, is_whole, is_silent, has_gap, is_late, ends_early}
 
 -- ---- the bytes
 
@@ -96,39 +96,51 @@ module _ {W : Type 0} (hears : W → Sound → W → Type 0) where
         ∙ ap (λ (xs : List ℕ). record before { bytes = xs }) (append_assoc before.bytes (concat so.bursts) given ∙ ap (λ (xs : List ℕ). before.bytes ++ xs) (sym (concat_push so.bursts given)));
   }
 
-  -- it ends: over, silent, or with a gap
+  -- it ends: over, silent, with a gap, or overdue
+  abbrev pub Ended : W → Hearing → List ℕ → W → Hearing → Bool → Type 0
+  Ended old before answer new after early = (is : Answers hears old before answer new after) × (early ≡ ends_early is.end)
+
   far_ends : (old now new : W) (before hearing after : Hearing) (answer : List ℕ) (end : List Sound) (so : SoFar old before now hearing) → answer ≡ answer_of hearing → heard_of answer ≡ answer
-      → after ≡ record hearing { bytes = [] } → Ends answer end → AreHeard hears old (pieces so.bursts ++ end) new → Answers hears old before answer new after
-  far_ends old now new before hearing after answer end so heard exact kept ends gave = record {
-    bursts = so.bursts;
-    each = so.each;
-    end = end;
-    gave = gave;
-    heard = heard ∙ ap answer_of so.kept;
-    exact = exact;
-    ends = ends;
-    kept = kept ∙ ap (λ (h : Hearing). record h { bytes = [] }) so.kept;
-  }
+      → after ≡ record hearing { bytes = [] } → Ends answer end → AreHeard hears old (pieces so.bursts ++ end) new → Ended old before answer new after (ends_early end)
+  far_ends old now new before hearing after answer end so heard exact kept ends gave = (
+    record {
+      bursts = so.bursts;
+      each = so.each;
+      end = end;
+      gave = gave;
+      heard = heard ∙ ap answer_of so.kept;
+      exact = exact;
+      ends = ends;
+      kept = kept ∙ ap (λ (h : Hearing). record h { bytes = [] }) so.kept;
+    },
+    refl,
+  )
 
   pub far_over : (old new : W) (before hearing after : Hearing) (answer : List ℕ) → SoFar old before new hearing → answer ≡ answer_of hearing → heard_of answer ≡ answer → after ≡ record hearing { bytes = [] }
-      → missing_of (answer_of hearing) ≡ 0 → Answers hears old before answer new after
+      → missing_of (answer_of hearing) ≡ 0 → Ended old before answer new after false
   far_over old new before hearing after answer so heard exact kept none =
       far_ends old new new before hearing after answer [] so heard exact kept (is_whole (is_over_at answer (ap missing_of heard ∙ none)))
       (subst (λ (xs : List Sound). AreHeard hears old xs new) (sym (append-nil (pieces so.bursts))) so.gave)
 
   pub far_silent : (old now new : W) (before hearing after : Hearing) (answer : List ℕ) → SoFar old before now hearing → answer ≡ answer_of hearing → heard_of answer ≡ answer → after ≡ record hearing { bytes = [] }
-      → 0 < missing_of (answer_of hearing) → hears now silence new → Answers hears old before answer new after
+      → 0 < missing_of (answer_of hearing) → hears now silence new → Ended old before answer new after false
   far_silent old now new before hearing after answer so heard exact kept some gave =
       far_ends old now new before hearing after answer (silence ∷ []) so heard exact kept
       (is_silent (not_over_at answer (subst (λ (xs : List ℕ). 0 < missing_of xs) (sym heard) some)))
       (heard_one old now new (pieces so.bursts) silence so.gave gave)
 
   pub far_gap : (old now new : W) (before hearing after : Hearing) (answer : List ℕ) → SoFar old before now hearing → answer ≡ answer_of hearing → heard_of answer ≡ answer → after ≡ record hearing { bytes = [] }
-      → 0 < missing_of (answer_of hearing) → 0 < length (answer_of hearing) → hears now gap new → Answers hears old before answer new after
+      → 0 < missing_of (answer_of hearing) → 0 < length (answer_of hearing) → hears now gap new → Ended old before answer new after false
   far_gap old now new before hearing after answer so heard exact kept some begun gave =
       far_ends old now new before hearing after answer (gap ∷ []) so heard exact kept
       (has_gap (not_over_at answer (subst (λ (xs : List ℕ). 0 < missing_of xs) (sym heard) some)) (subst (λ (xs : List ℕ). 0 < length xs) (sym heard) begun))
       (heard_one old now new (pieces so.bursts) gap so.gave gave)
+
+  pub far_late : (old now new : W) (before hearing after : Hearing) (answer : List ℕ) → SoFar old before now hearing → answer ≡ answer_of hearing → heard_of answer ≡ answer → after ≡ record hearing { bytes = [] }
+      → answer_of hearing ≡ [] → hears now overdue new → Ended old before answer new after true
+  far_late old now new before hearing after answer so heard exact kept none gave =
+      far_ends old now new before hearing after answer (overdue ∷ []) so heard exact kept (is_late (heard ∙ none))
+      (heard_one old now new (pieces so.bursts) overdue so.gave gave)
 
   pub far_waits : (old now new : W) (before hearing : Hearing) (last : Sound) → SoFar old before now hearing → 0 < missing_of (answer_of hearing) → Lasts (answer_of hearing) last → hears now last new → Waits hears old before new hearing
   far_waits old now new before hearing last so some lasts gave = record {

@@ -11,7 +11,7 @@ use Rattle.mbdc_bus.specs.Limits.{most_answer}
 use Rattle.mbdc_raw.specs.declared.line.Line.{Line}
 use Rattle.mbdc_raw.specs.declared.wire.Wire.{Ghosts as WireGhosts}
 use Rattle.mbdc_raw.specs.Wire.{Sound, AreHeard, bytes_in, bytes_of, pieces}
-use Rattle.mbdc_raw.specs.Heard.{Answers, ComesFrom, Ends, Heard, Hearing, IsByte, IsFrame, Lasts, Waits, answer_of, begins, past_echo, heard_of, front_by, is_over, missing_of, missing_by, is_whole, is_silent, has_gap, still, still_none}
+use Rattle.mbdc_raw.specs.Heard.{Answers, ComesFrom, Ends, Heard, Hearing, IsByte, IsFrame, Lasts, Waits, answer_of, begins, past_echo, heard_of, front_by, is_over, missing_of, missing_by, is_whole, is_silent, has_gap, is_late, still, still_none, still_some}
 use Rattle.mbdc_raw.specs.Line.{Gives, GivesOver, Skips, a_copy, gives_all, gives_nothing, gives_now, gives_one, gives_then, gives_up, no_copy, one_answer, two_copies, waits_all, waits_held, waits_nothing, waits_one}
 use Rattle.mbdc_raw.specs.Turn.{is_copy}
 use Rattle.mbdc_raw.specs.declared.state.Kind.TheVariants.{One, All as Whole_window, Nobody}
@@ -165,10 +165,12 @@ end_bytes : (answer : List ℕ) (end : List Sound) → Ends answer end → bytes
 end_bytes answer end (is_whole over) = refl
 end_bytes answer end (is_silent over) = refl
 end_bytes answer end (has_gap over some) = refl
+end_bytes answer end (is_late none) = refl
 
 last_bytes : (answer : List ℕ) (last : Sound) → Lasts answer last → bytes_in (last ∷ []) ≡ []
 last_bytes answer last still = refl
 last_bytes answer last (still_none none) = refl
+last_bytes answer last (still_some some) = refl
 
 bursts_then : (bursts : List (List ℕ)) (end : List Sound) → bytes_in end ≡ [] → bytes_in (pieces bursts ++ end) ≡ concat bursts
 bursts_then bursts end none =

@@ -8,7 +8,7 @@ use Rattle.dc_linkframe.specs.declared.needs.Need.TheVariants.{More, Whole, Bad}
 use Rattle.dc_linkframe.specs.Need.{need_of}
 use Rattle.mbdc_bus.specs.Limits.{most_answer}
 use Rattle.mbdc_raw.specs.Turn.{late_by, state_by}
-use Rattle.mbdc_raw.specs.Wire.{Sound, nothing, gap, silence, pieces, bytes_in, AreHeard}
+use Rattle.mbdc_raw.specs.Wire.{Sound, piece, nothing, gap, overdue, silence, pieces, bytes_in, AreHeard}
 use Rattle.mbdc_raw.specs.declared.state.State.{State}
 
 -- ---- the bytes
@@ -83,16 +83,30 @@ and_bytes hearing bursts = record hearing { bytes = hearing.bytes ++ concat burs
 abbrev pub HasByte : List ℕ → Type 0
 HasByte burst = 0 < length burst
 
--- how an answer ends: it is over, silence follows it, or a gap follows its first byte
+-- how an answer ends: it is over, silence follows it, a gap follows its first byte, or it is overdue
 pub data Ends (answer : List ℕ) : List Sound → Type 0 where
   is_whole : is_over answer ≡ true → Ends answer []
   is_silent : is_over answer ≡ false → Ends answer (silence ∷ [])
   has_gap : is_over answer ≡ false → 0 < length answer → Ends answer (gap ∷ [])
+  is_late : answer ≡ [] → Ends answer (overdue ∷ [])
 
--- why it isn't complete yet: nothing more came, or a gap came before its first byte
+-- whether it ended since it is overdue
+abbrev pub is_overdue : Sound → Bool
+is_overdue (piece bytes) = false
+is_overdue nothing = false
+is_overdue gap = false
+is_overdue overdue = true
+is_overdue silence = false
+
+abbrev pub ends_early : List Sound → Bool
+ends_early [] = false
+ends_early (sound ∷ more) = is_overdue sound
+
+-- why it isn't complete yet: nothing more came, a gap came before its first byte, or it is begun and overdue
 pub data Lasts (answer : List ℕ) : Sound → Type 0 where
   still : Lasts answer nothing
   still_none : answer ≡ [] → Lasts answer gap
+  still_some : 0 < length answer → Lasts answer overdue
 
 -- AN ANSWER WAS RECEIVED by a wire that gave these bytes in this step: no byte is missing and none
 -- is added.
@@ -138,6 +152,7 @@ late_with (sound ∷ more) state late = late_with more (state_by sound state) (l
 pub data IsDrained (bursts : List (List ℕ)) : Bool → List Sound → Type 0 where
   not_yet : IsDrained bursts false (nothing ∷ [])
   at_gap : IsDrained bursts false (gap ∷ [])
+  when_late : IsDrained bursts false (overdue ∷ [])
   at_silence : IsDrained bursts false (silence ∷ [])
   never_quiet : length bursts ≡ most_pieces → IsDrained bursts true []
 
@@ -156,6 +171,7 @@ pub record Drains {W : Type 0} (hears : W → Sound → W → Type 0) (old : W) 
 pub data IsGathered (bursts : List (List ℕ)) : Option Bool → List Sound → Type 0 where
   may_go_on : IsGathered bursts None (nothing ∷ [])
   goes_on : IsGathered bursts None (gap ∷ [])
+  may_be_late : IsGathered bursts None (overdue ∷ [])
   is_quiet : IsGathered bursts (Some true) (silence ∷ [])
   is_loud : length bursts ≡ most_pieces → IsGathered bursts (Some false) []
 

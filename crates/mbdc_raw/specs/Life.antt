@@ -1,7 +1,7 @@
 -- A life of a wire over a reader and a writer: what was heard on it, and how long requests waited in vain (this product).
 use Rattle.std.specs.Prelude.{◌≡◌, ℕ, ◌+◌, List, [], ◌∷◌, Bool, Option, if◌then◌else◌}
 use Rattle.mbdc_raw.specs.PollWire.{WireHears, WireReopens, WireSends}
-use Rattle.mbdc_raw.specs.Wire.{Sound, piece, nothing, gap, silence}
+use Rattle.mbdc_raw.specs.Wire.{Sound, piece, nothing, gap, overdue, silence}
 use Rattle.mbdc_raw.specs.declared.poll_wire.PollWire.{PollWire}
 use Rattle.mbdc_raw.specs.declared.wire.Asking.{Asking}
 
@@ -10,6 +10,7 @@ abbrev pub wait_of : {R W C : Type 0} → PollWire R W C → Sound → ℕ
 wait_of wire (piece bytes) = 0
 wait_of wire nothing = 0
 wait_of wire gap = 0
+wait_of wire overdue = 0
 wait_of wire silence = if wire.asks then wire.limit else 0
 
 -- THIS WAS HEARD on a wire, one after the other, between requests that went out, and they waited so

@@ -4,9 +4,9 @@ use Rattle.std.specs.Prelude.{Option, Some, None, bytes_eq, if◌then◌else◌}
 use Rattle.mbdc_io.specs.Failures.{HasRisen}
 use Rattle.dc_linkframe.specs.Reading.{frame_of}
 use Rattle.mbdc_raw.specs.Looks.{most_looks}
-use Rattle.mbdc_raw.specs.Heard.{Answers, Drains, Gathers, Waits, past_echo}
+use Rattle.mbdc_raw.specs.Heard.{Answers, Drains, Gathers, Waits, ends_early, past_echo}
 use Rattle.mbdc_raw.specs.Turn.{is_answer, is_copy, is_wrong, kind_of, last_behind, last_waited}
-use Rattle.mbdc_raw.specs.Turn.{may_go, one_more, quiet_by, state_taken}
+use Rattle.mbdc_raw.specs.Turn.{may_go, one_more, quiet_by, repeats_of, repeats_out, state_taken}
 use Rattle.mbdc_raw.specs.declared.line.Gone.{Gone}
 use Rattle.mbdc_raw.specs.declared.line.Gone.TheVariants.{Out, Waits as WaitsOn, Loud}
 use Rattle.mbdc_raw.specs.declared.line.Held.{Held}
@@ -51,15 +51,18 @@ out_of request many line wire = record line {
   held = None;
   last = last_behind line.state line.last;
   copied = false;
+  repeats = repeats_out line.state line.repeats;
 }
 
 -- once what had arrived was dropped, the request went out if it may; else it waits on
 pub data Goes {W : Type 0} (wire : WireGhosts W) (request : List ℕ) (many : Bool) (line : Line W)
     : Gone → Line W → Type 0 where
-  goes_out : {new : Line W} (w : W) → may_go line.state line.hearing.request request many ≡ true
-      → wire.sends line.wire request (record { many = many; late = line.late }) w
+  goes_out : {new : Line W} (w : W)
+      → may_go line.state line.repeats line.hearing.request request many ≡ true
+      → wire.sends line.wire request
+      (record { many = many; late = line.late; repeats = repeats_of line.state line.repeats }) w
       → new ≡ out_of request many line w → Goes wire request many line Out new
-  waits_on : {new : Line W} → may_go line.state line.hearing.request request many ≡ false → new ≡ line
+  waits_on : {new : Line W} → may_go line.state line.repeats line.hearing.request request many ≡ false → new ≡ line
       → Goes wire request many line WaitsOn new
   too_loud : {new : Line W} → new ≡ line → Goes wire request many line Loud new
 
@@ -95,9 +98,9 @@ pub record LineSends {W : Type 0} (wire : WireGhosts W) (many : Bool) (old : Lin
 
 -- ---- the answer of one meter
 
-abbrev pub judged : {W : Type 0} → List ℕ → Line W → Line W
-judged answer line = record line {
-  state = state_taken (length answer == 0)
+abbrev pub judged : {W : Type 0} → (early : Bool) → List ℕ → Line W → Line W
+judged early answer line = record line {
+  state = state_taken early (length answer == 0)
       (is_answer (frame_of line.hearing.request) (frame_of answer)) line.copied;
   last = if is_answer (frame_of line.hearing.request) (frame_of answer)
       then Some answer else line.last;
@@ -120,7 +123,7 @@ pub record GivesOne {W : Type 0} (wire : WireGhosts W) (old : Line W) (answer : 
   pub skips : Skips wire old between
   pub heard : Answers wire.hears between.wire between.hearing answer new.wire new.hearing
   pub plain : is_copy between.last answer ≡ false
-  pub kept : new ≡ judged answer (record between { wire = new.wire; hearing = new.hearing })
+  pub kept : new ≡ judged (ends_early heard.end) answer (record between { wire = new.wire; hearing = new.hearing })
 
 -- two copies came at once: the request is given up, and the line stays busy
 pub record GivesUp {W : Type 0} (wire : WireGhosts W) (old new : Line W) : Type 0 where

@@ -1,5 +1,5 @@
 -- How long a line is listened to (EN 13757-2: a meter begins its answer within 330 bits and 50 ms), in microseconds.
-use Rattle.std.specs.Prelude.{ℕ, ◌+◌, ◌-◌, ◌*◌, ◌/◌, ◌^◌, min, max, nat_le, Bool}
+use Rattle.std.specs.Prelude.{ℕ, ◌+◌, ◌-◌, ◌*◌, ◌/◌, ◌^◌, min, max, nat_le, nat_lt, Bool}
 use Rattle.std.specs.Prelude.{not, ◌==◌, ◌&&◌, List, [], ◌∷◌, length, Option, Some, None, if◌then◌else◌}
 use Rattle.std.specs.Prelude.{true, false}
 use Rattle.dc_linkframe.specs.Frame.{FrameSeen}
@@ -47,6 +47,19 @@ reset_wait (Some delay) last None least_byte patience =
 reset_wait (Some delay) last (Some byte) least_byte patience =
     min (min patience (min (sooner least_byte delay + answering_rest) most_count))
     (min (answering byte + sooner least_byte last) most_count)
+
+-- THE REPEAT of a request that is acknowledged waits 1 s, or 50 ms longer than the slowest acknowledgement took; where
+-- none came yet, and where that isn't less than the patience, it waits for that
+abbrev pub least_wait : ℕ
+least_wait = 1_000_000
+
+abbrev pub less_than : ℕ → ℕ → Option ℕ
+less_than patience wait = if nat_lt wait patience then Some wait else None
+
+abbrev pub repeat_wait : Option ℕ → ℕ → Option ℕ
+repeat_wait None patience = None
+repeat_wait (Some delay) patience =
+    less_than patience (max least_wait (min (delay + answering_rest) most_count))
 
 -- THE WINDOW in which one of several meters may begin its answer: as long as a meter may take, and
 -- the longest delay; until both are known, the patience

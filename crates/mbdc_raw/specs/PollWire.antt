@@ -1,14 +1,14 @@
 -- What a wire over a reader and a writer does to both, and how long it waits (this product).
-use Rattle.std.specs.Prelude.{◌≡◌, ℕ, ◌+◌, ◌-◌, ◌*◌, ◌^◌, ◌≤◌, min, Bool, true, false, List, [], Option}
-use Rattle.std.specs.Prelude.{◌&&◌, ◌==◌, is_some, length, if◌then◌else◌}
+use Rattle.std.specs.Prelude.{◌≡◌, ℕ, ◌+◌, ◌-◌, ◌*◌, ◌^◌, ◌≤◌, ◌<◌, min, Bool, true, false, not, List, [], Option}
+use Rattle.std.specs.Prelude.{◌&&◌, ◌==◌, nat_lt, Some, None, is_some, length, if◌then◌else◌}
 use Rattle.std.specs.Io.KnownBytes.{Appends}
 use Rattle.std.specs.Time.{instant_nanos}
 use Rattle.std.specs.declared.time.Instant.{Instant}
 use Rattle.dc_linkframe.specs.Reading.{frame_of}
 use Rattle.mbdc_raw.specs.Noise.{IsPast}
-use Rattle.mbdc_raw.specs.Pace.{awaits_ack, patience_after, reset_wait, window_of}
+use Rattle.mbdc_raw.specs.Pace.{awaits_ack, patience_after, repeat_wait, reset_wait, window_of}
 use Rattle.mbdc_raw.specs.Turn.{is_reset, wants_ack}
-use Rattle.mbdc_raw.specs.Wire.{Sound, nothing, gap, silence, bytes_of}
+use Rattle.mbdc_raw.specs.Wire.{Sound, nothing, gap, overdue, silence, bytes_of}
 use Rattle.mbdc_raw.specs.declared.pace.Pace.{Pace}
 use Rattle.mbdc_raw.specs.declared.poll_wire.PollWire.{PollWire}
 use Rattle.mbdc_raw.specs.declared.poll_wire.Until.{Until}
@@ -46,14 +46,27 @@ limit_by false true true pace patience = window_of pace.delay pace.byte patience
 limit_by false true false pace patience = patience
 limit_by false false acks pace patience = patience
 
--- The bytes were written, and nothing was read. The patience is that of so many late bytes.
+-- THE ANSWER IS OVERDUE where one meter may acknowledge the request, nothing was late on the line, and it was repeated
+-- less than twice; so the third time it waits for the patience
+abbrev pub most_repeats : ℕ
+most_repeats = 2
+
+abbrev pub soon_by : Asking → Pace → ℕ → Option ℕ
+soon_by asking pace patience =
+    if not asking.many && (asking.late == 0 && (nat_lt asking.repeats most_repeats && pace.acks))
+    then repeat_wait pace.delay patience else None
+
+-- The bytes were written, and nothing was read. The patience is that of so many late bytes. An early repeat has its time
+-- from the first request on: an acknowledgement may be that of any of them.
 pub record WireSends {R W C : Type 0} (contents : W → Option (List ℕ)) (old : PollWire R W C)
     (bytes : List ℕ) (asking : Asking) (new : PollWire R W C) : Type 0 where
   pub written : Appends (contents old.writer) (contents new.writer) bytes
   pub reader : new.reader ≡ old.reader
   pub stated : new.stated ≡ old.stated
   pub patience : new.patience ≡ patience_after asking.late old.stated
-  pub since : new.since ≡ new.asked
+  pub since : asking.repeats ≡ 0 → new.since ≡ new.asked
+  pub asked : 0 < asking.repeats → new.asked ≡ old.asked
+  pub soon : new.soon ≡ soon_by asking new.pace new.patience
   pub begun : new.begun ≡ false
   pub ahead : new.ahead ≡ old.ahead
   pub awaits : new.pace.acks ≡ awaits_ack (frame_of bytes)
@@ -80,6 +93,7 @@ pub record IsHeard {R W C : Type 0} (old new : PollWire R W C) : Type 0 where
   pub patience : new.patience ≡ old.patience
   pub asked : new.asked ≡ old.asked
   pub since : new.since ≡ old.at
+  pub soon : new.soon ≡ None
   pub ahead : new.ahead ≡ old.ahead
   pub awaits : new.pace.acks ≡ false
   pub came : new.came ≡ true
@@ -100,15 +114,30 @@ pub record IsDeserted {R W C : Type 0} (old : PollWire R W C) (at : Instant) : T
   pub over : Ends old at
   pub long : most_waited ≤ waited_then old
 
--- Nothing came: silence is returned once the time-out is over, and then the patience begins anew.
+-- an answer is overdue
+pub record IsLate {R W C : Type 0} (wire : PollWire R W C) : Type 0 where
+  pub wait : ℕ
+  pub is : wire.soon ≡ Some wait
+  pub over : HasPassed wait wire.since wire.at
+
+-- Nothing came: silence is returned once the time-out is over, and then the patience begins anew. An answer is overdue
+-- once, and then awaited no more.
 pub data IsStill {R W C : Type 0} (old : PollWire R W C) : Sound → PollWire R W C → Type 0 where
   not_yet : {new : PollWire R W C} → new ≡ record old { waits = new.waits } → IsStill old nothing new
   at_gap : {new : PollWire R W C} → new ≡ record old { waits = new.waits; begun = false }
       → IsStill old gap new
+  when_late : {new : PollWire R W C} → IsLate old
+      → new ≡ record old {
+        waits = new.waits;
+        soon = None;
+        pace = record old.pace { acks = false };
+      }
+      → IsStill old overdue new
   at_silence : {new : PollWire R W C} → Ends old old.at
       → new ≡ record old {
         since = old.at;
         begun = false;
+        soon = None;
         asks = false;
         waited = waited_then old;
         noise = 0;
@@ -155,6 +184,7 @@ pub data WireReopens {R W C : Type 0} (old : PollWire R W C) : Bool → PollWire
     writer = new.writer;
     since = new.since;
     begun = false;
+    soon = None;
     ahead = [];
     asks = false;
     noise = 0;

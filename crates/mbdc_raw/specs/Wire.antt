@@ -1,20 +1,23 @@
 -- The sounds of a wire, one after the other (this product).
 use Rattle.std.specs.Prelude.{◌≡◌, ℕ, ◌≤◌, ◌<◌, List, [], ◌∷◌, ◌++◌, map, take}
 use Rattle.mbdc_raw.specs.declared.wire.Came.{Came}
-use Rattle.mbdc_raw.specs.declared.wire.Came.TheVariants.{Bytes, Nothing, Gap, Silence}
+use Rattle.mbdc_raw.specs.declared.wire.Came.TheVariants.{Bytes, Nothing, Gap, Overdue, Silence}
 
--- Some bytes; nothing yet; a gap: nothing since the last byte for as long as ends an answer;
--- silence: nothing for the whole time-out, since the request, the last byte or the last silence.
+-- Some bytes; nothing yet; a gap: nothing since the last byte for as long as ends an answer; overdue: nothing since the
+-- request for as long as its repeat waits; silence: nothing for the whole time-out, since the request, the last byte or
+-- the last silence.
 pub data Sound : Type 0 where
   piece : List ℕ → Sound
   nothing : Sound
   gap : Sound
+  overdue : Sound
   silence : Sound
 
 abbrev pub bytes_of : Sound → List ℕ
 bytes_of (piece bytes) = bytes
 bytes_of nothing = []
 bytes_of gap = []
+bytes_of overdue = []
 bytes_of silence = []
 
 -- the bytes that came
@@ -38,6 +41,7 @@ abbrev pub sound_of : Came → List ℕ → Sound
 sound_of (Bytes count) room = piece (take count room)
 sound_of Nothing room = nothing
 sound_of Gap room = gap
+sound_of Overdue room = overdue
 sound_of Silence room = silence
 
 -- at least one byte came, and all of them fit
@@ -45,6 +49,7 @@ abbrev pub FitsRoom : Came → ℕ → Type 0
 FitsRoom (Bytes count) room = (0 < count) × (count ≤ room)
 FitsRoom Nothing room = Unit {0}
 FitsRoom Gap room = Unit {0}
+FitsRoom Overdue room = Unit {0}
 FitsRoom Silence room = Unit {0}
 
 -- the number of waits left: smaller after nothing or a gap, and never larger
@@ -52,4 +57,5 @@ abbrev pub Wanes : Came → ℕ → ℕ → Type 0
 Wanes (Bytes count) before now = now ≤ before
 Wanes Nothing before now = now < before
 Wanes Gap before now = now < before
+Wanes Overdue before now = now < before
 Wanes Silence before now = now ≤ before

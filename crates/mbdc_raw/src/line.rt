@@ -16,7 +16,7 @@ use crate::hearing::Hearing;
 use crate::listening::{drain, gather, hear, without_echo};
 use crate::state::{
     Kind, State, copy_of, is_answer, is_copy, is_wrong, kind_of, last_behind, last_waited, may_go,
-    quiet_by,
+    quiet_by, repeats_of, repeats_out,
 };
 use crate::wire::{Asking, Wire};
 use dc_linkframe::FrameBuf;
@@ -66,6 +66,8 @@ pub struct Line<W: Wire + Drop> {
     pub copied: bool,
     /// Number of times that bytes came late, or a frame of the wrong kind.
     pub late: u64,
+    /// Number of early repeats of a request of which acknowledgements may be under way.
+    pub repeats: u8,
 }
 
 impl<W: Wire + Drop> Line<W> {
@@ -82,6 +84,7 @@ impl<W: Wire + Drop> Line<W> {
           last = None;
           copied = false;
           late = 0;
+          repeats = 0;
         } }
     {
         Line {
@@ -95,6 +98,7 @@ impl<W: Wire + Drop> Line<W> {
             last: None,
             copied: false,
             late: 0,
+            repeats: 0,
         }
     }
 
@@ -186,14 +190,22 @@ impl<W: Wire + Drop> Line<W> {
         if loud {
             return Ok(Gone::Loud);
         }
-        if !may_go(self.state, self.hearing.request(), request, many) {
+        if !may_go(
+            self.state,
+            self.repeats,
+            self.hearing.request(),
+            request,
+            many,
+        ) {
             return Ok(Gone::Waits);
         }
         let asking = Asking {
             many,
             late: self.late,
+            repeats: repeats_of(self.state, self.repeats),
         };
         self.wire.send(request.as_slice(), asking)?;
+        self.repeats = repeats_out(self.state, self.repeats);
         self.last = last_behind(self.state, self.last.take());
         self.state = State::Busy;
         self.kind = kind_of(request, many);
@@ -234,7 +246,7 @@ impl<W: Wire + Drop> Line<W> {
     }
 
     // Takes the answer of one meter; copies of the last one are dropped. Where two come at once,
-    // the request is given up: silence on a busy line.
+    // the request is given up: silence on a busy line. So is a request whose answer is overdue.
     fn take_one(&mut self) -> Result<Option<AnswerBuf>, IoFault>
         requires { self.old.held ≡ None }
         ensures gives { IfOk result (λ taken. IfSome taken (λ answer.
@@ -249,17 +261,18 @@ impl<W: Wire + Drop> Line<W> {
         ensures lost { self.new.lost ≡ self.old.lost }
         ensures held { self.new.held ≡ None }
     {
-        let heard = hear(&mut self.wire, &mut self.hearing)?;
+        let mut early = false;
+        let heard = hear(&mut self.wire, &mut self.hearing, &mut early)?;
         let first = match heard {
             None => return Ok(None),
             Some(first) => first,
         };
         if !is_copy(&self.last, &first) {
-            self.judge(&first);
+            self.judge(&first, early);
             return Ok(Some(first));
         }
         self.copied = true;
-        let then = hear(&mut self.wire, &mut self.hearing)?;
+        let then = hear(&mut self.wire, &mut self.hearing, &mut early)?;
         let answer = match then {
             None => return Ok(None),
             Some(answer) => answer,
@@ -267,13 +280,13 @@ impl<W: Wire + Drop> Line<W> {
         if is_copy(&self.last, &answer) {
             return Ok(Some(AnswerBuf::new()));
         }
-        self.judge(&answer);
+        self.judge(&answer, early);
         Ok(Some(answer))
     }
 
-    // Judges what was taken as the answer.
-    fn judge(&mut self, answer: &AnswerBuf)
-        ensures { self.new ≡ judged answer.now self.old }
+    // Judges what was taken as the answer, and whether it is one that is overdue.
+    fn judge(&mut self, answer: &AnswerBuf, early: bool)
+        ensures { self.new ≡ judged early answer.now self.old }
     {
         let request = self.hearing.request();
         let is_answered = is_answer(request.as_slice(), answer.as_slice());
@@ -284,7 +297,7 @@ impl<W: Wire + Drop> Line<W> {
             self.last = Some(copy_of(answer.as_slice()));
         }
         self.state = if answer.as_slice().is_empty() {
-            State::Quiet
+            if early { State::Overdue } else { State::Quiet }
         } else if is_answered && !self.copied {
             State::Answered
         } else {

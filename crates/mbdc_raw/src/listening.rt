@@ -2,7 +2,7 @@
 
 ghost use Rattle.std.specs.Prelude.{◌≡◌, ◌≤◌, ◌<◌, ◌⊎◌, false, IfOk, OnOk, OnErr, IfSome, IfNone};
 ghost use Rattle.mbdc_io.specs.Failures.{HasRisen};
-ghost use Rattle.mbdc_raw.specs.Heard.{Answers, Drains, Gathers, Waits, past_echo};
+ghost use Rattle.mbdc_raw.specs.Heard.{Answers, Drains, Gathers, Waits, ends_early, past_echo};
 ghost use Rattle.mbdc_raw.specs.Turn.{late_at};
 ghost use Rattle.mbdc_raw.specs.declared.state.State.TheVariants.{Busy, Quiet};
 
@@ -36,6 +36,7 @@ pub fn drain<W: Wire>(wire: &mut W, state: &mut State, late: &mut u64) -> Result
             }
             Came::Nothing => return Ok(false),
             Came::Gap => return Ok(false),
+            Came::Overdue => return Ok(false),
             Came::Silence => {
                 *state = State::Quiet;
                 return Ok(false);
@@ -53,7 +54,7 @@ fn hear_late(state: &mut State, late: &mut u64)
 {
     match state {
         State::Quiet | State::Listened => *late = late.saturating_add(1),
-        State::Answered | State::Busy => {}
+        State::Answered | State::Overdue | State::Busy => {}
     }
     *state = State::Busy;
 }
@@ -79,6 +80,7 @@ pub fn gather<W: Wire>(wire: &mut W, all: &mut AnswerBuf) -> Result<Option<bool>
             }
             Came::Nothing => return Ok(None),
             Came::Gap => return Ok(None),
+            Came::Overdue => return Ok(None),
             Came::Silence => return Ok(Some(true)),
         }
         count += 1;
@@ -86,10 +88,16 @@ pub fn gather<W: Wire>(wire: &mut W, all: &mut AnswerBuf) -> Result<Option<bool>
     Ok(Some(false))
 }
 
-/// Takes what has arrived so far, and returns the answer once it is complete.
-pub fn hear<W: Wire>(wire: &mut W, hearing: &mut Hearing) -> Result<Option<AnswerBuf>, IoFault>
+/// Takes what has arrived so far, and returns the answer once it is complete, and whether it is the silence of one that
+/// is overdue.
+pub fn hear<W: Wire>(
+    wire: &mut W,
+    hearing: &mut Hearing,
+    early: &mut bool,
+) -> Result<Option<AnswerBuf>, IoFault>
     ensures heard { IfOk result (λ heard. IfSome heard (λ answer.
-        Answers W.hears wire.old hearing.old answer wire.new hearing.new)) }
+        (is : Answers W.hears wire.old hearing.old answer wire.new hearing.new)
+        × (early.new ≡ ends_early is.end))) }
     ensures waits { IfOk result (λ heard. IfNone heard
         (Waits W.hears wire.old hearing.old wire.new hearing.new)) }
     ensures fewer { IfOk result (λ heard. IfNone heard
@@ -100,6 +108,7 @@ pub fn hear<W: Wire>(wire: &mut W, hearing: &mut Hearing) -> Result<Option<Answe
 {
     let mut room = [0; MOST_ANSWER];
     let mut count = hearing.wanted();
+    *early = false;
     'pieces: while count > 0 {
         let (part, _) = room.split_at_mut(count);
         match wire.hear(part)? {
@@ -114,6 +123,13 @@ pub fn hear<W: Wire>(wire: &mut W, hearing: &mut Hearing) -> Result<Option<Answe
                 } else {
                     Ok(None)
                 };
+            }
+            Came::Overdue => {
+                if hearing.has_begun() {
+                    return Ok(None);
+                }
+                *early = true;
+                return Ok(Some(hearing.take()));
             }
             Came::Silence => return Ok(Some(hearing.take())),
         }

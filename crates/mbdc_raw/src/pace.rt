@@ -1,7 +1,7 @@
 //! How long a bus line takes to answer, as its own answers have shown.
 
 ghost use Rattle.std.specs.Prelude.{◌≡◌, None, false};
-ghost use Rattle.mbdc_raw.specs.Pace.{pace_begun, pace_with, pause_of, reset_wait, window_of, answering};
+ghost use Rattle.mbdc_raw.specs.Pace.{pace_begun, pace_with, pause_of, repeat_wait, reset_wait, window_of, answering};
 ghost use Rattle.mbdc_raw.specs.Pace.{awaits_ack, sooner};
 ghost use Rattle.dc_linkframe.specs.Reading.{frame_of};
 
@@ -25,6 +25,9 @@ const ACKNOWLEDGED: u8 = 0xE5;
 
 // Number of bytes that a selection has more than a short frame.
 const LONGER: u64 = 12;
+
+// How long the repeat of a request waits at least, in microseconds.
+const LEAST_WAIT: u64 = 1_000_000;
 
 // The shortest pause after which nothing more comes of several answers, in microseconds and in bytes.
 const PAUSE: u64 = 120_000;
@@ -144,6 +147,15 @@ impl Pace {
     {
         let byte = self.least_byte.unwrap_or(0);
         spent.saturating_sub(byte.saturating_mul(LONGER))
+    }
+
+    /// How long a request that is acknowledged waits until its repeat: 1 s, or 50 ms longer than the slowest
+    /// acknowledgement took; `None` before the first, and where that isn't less than the patience.
+    pub fn repeat_wait(&self, patience: u64) -> Option<u64>
+        ensures { result ≡ repeat_wait self.now.delay patience }
+    {
+        let wait = LEAST_WAIT.max(self.delay?.saturating_add(ANSWERING_REST));
+        if wait < patience { Some(wait) } else { None }
     }
 
     /// How long one of several meters may take to begin its answer; the patience, until an

@@ -5,7 +5,7 @@ ghost use Rattle.mbdc_io.specs.Failures.{HasRisen};
 ghost use Rattle.mbdc_raw.specs.Looks.{waits_of};
 ghost use Rattle.mbdc_raw.specs.Pace.{patience_after};
 ghost use Rattle.mbdc_raw.specs.PollWire.{Ends, IsHeard, IsStill, WireHears, WireSends, limit_by, takes_all};
-ghost use Rattle.mbdc_raw.specs.PollWire.{Holds, IsDeserted, WireReopens, until_by, waited_then};
+ghost use Rattle.mbdc_raw.specs.PollWire.{Holds, IsDeserted, IsLate, WireReopens, soon_by, until_by, waited_then};
 ghost use Rattle.mbdc_raw.specs.Turn.{is_reset, wants_ack};
 ghost use Rattle.dc_linkframe.specs.Reading.{frame_of};
 ghost use Rattle.mbdc_raw.specs.declared.poll_wire.Until.TheVariants.{Still};
@@ -40,6 +40,9 @@ const LONGEST_ANSWER: u64 = 15_000_000;
 const LONGEST_PATIENCE: u64 = 16_000_000;
 
 const MOST_DOUBLINGS: u64 = 14;
+
+// The number of early repeats of a request after which it waits for the patience.
+const MOST_REPEATS: u8 = 2;
 
 // Maximum number of times that nothing may come after a request, before the wire itself waits for
 // the rest of its time-out.
@@ -88,7 +91,8 @@ pub enum Until {
 ///
 /// After a request the time-out is the patience. After the reset of all selected meters it is as long as an
 /// acknowledgement takes, by the [`Pace`] of the line, once there was one; after a request that several meters may
-/// answer, as long as one of them may take to begin. Bytes that begin no frame are dropped where no answer has begun
+/// answer, as long as one of them may take to begin. Where one meter may acknowledge a request, the answer is overdue
+/// sooner than that, so that it is repeated, up to twice. Bytes that begin no frame are dropped where no answer has begun
 /// and only one meter may answer, and time goes on as if they hadn't come. A frame begins with 68 L L 68 and a fifth
 /// byte, as a whole short frame, or with an acknowledgement that is awaited: first bytes are held back for a gap, to
 /// see whether that follows. A line on which bytes keep coming for ten patiences, or 15 s where that is longer, without
@@ -112,6 +116,8 @@ pub struct PollWire<R: Read + AsRawFd + Drop, W: Write + Link + Drop, C: Clock +
     at: Instant,
     // Whether a byte came since, and no gap after it was returned.
     begun: bool,
+    // How long after the request its answer is overdue, until a byte came.
+    soon: Option<u64>,
     // Bytes that were read, and the time at which the first of them was, where they may begin a frame.
     ahead: AnswerBuf,
     held: Instant,
@@ -159,6 +165,7 @@ impl<R: Read + AsRawFd + Drop, W: Write + Link + Drop, C: Clock + Drop> PollWire
             since,
             at: since,
             begun: false,
+            soon: None,
             ahead: AnswerBuf::new(),
             held: since,
             pace: Pace::new(),
@@ -190,7 +197,13 @@ impl<R: Read + AsRawFd + Drop, W: Write + Link + Drop, C: Clock + Drop> PollWire
             let gap = GAP_MICROS.saturating_sub(between(self.since, at));
             return Duration::from_micros(rest.min(gap));
         }
-        Duration::from_micros(rest)
+        match self.soon {
+            Some(wait) => {
+                let left = wait.saturating_sub(between(self.since, at));
+                Duration::from_micros(rest.min(left))
+            }
+            None => Duration::from_micros(rest),
+        }
     }
 
     // The time from this moment to silence, if no byte comes.
@@ -263,6 +276,7 @@ impl<R: Read + AsRawFd + Drop, W: Write + Link + Drop, C: Clock + Drop> PollWire
             Came::Bytes(_) => Err(IoFault),
             Came::Nothing => Ok(Came::Nothing),
             Came::Gap => Ok(Came::Gap),
+            Came::Overdue => Ok(Came::Overdue),
             Came::Silence => Ok(Came::Silence),
         }
     }
@@ -289,6 +303,7 @@ impl<R: Read + AsRawFd + Drop, W: Write + Link + Drop, C: Clock + Drop> PollWire
         self.pace.take(between(self.asked, self.at), bytes);
         self.since = self.at;
         self.begun = true;
+        self.soon = None;
         self.came = true;
         match self.until {
             Until::Still => self.limit = self.patience,
@@ -340,6 +355,7 @@ impl<R: Read + AsRawFd + Drop, W: Write + Link + Drop, C: Clock + Drop> PollWire
             }
             self.since = self.at;
             self.begun = false;
+            self.soon = None;
             self.noise = 0;
             self.until = Until::Still;
             self.limit = self.patience;
@@ -353,7 +369,24 @@ impl<R: Read + AsRawFd + Drop, W: Write + Link + Drop, C: Clock + Drop> PollWire
             self.begun = false;
             return Ok(Came::Gap);
         }
+        if self.is_late() {
+            self.soon = None;
+            self.pace.acks = false;
+            return Ok(Came::Overdue);
+        }
         Ok(Came::Nothing)
+    }
+
+    // Whether the answer is overdue.
+    fn is_late(&self) -> bool
+        ensures { result ≡ true → IsLate self.now }
+    {
+        match self.soon {
+            Some(wait) => {
+                self.ahead.as_slice().is_empty() && between(self.since, self.at) >= wait
+            }
+            None => false,
+        }
     }
 
     // How long requests have waited that met silence, where the last one does now.
@@ -375,8 +408,10 @@ impl<R: Read + AsRawFd + Drop, W: Write + Link + Drop, C: Clock + Drop> PollWire
         if self.writer.write_all(bytes).is_err() {
             return Err(IoFault);
         }
-        self.asked = now(&self.clock)?;
-        self.since = self.asked;
+        self.since = now(&self.clock)?;
+        if asking.repeats == 0 {
+            self.asked = self.since;
+        }
         self.begun = false;
         self.asks = true;
         self.noise = 0;
@@ -385,6 +420,7 @@ impl<R: Read + AsRawFd + Drop, W: Write + Link + Drop, C: Clock + Drop> PollWire
         self.patience = patience_after(self.stated, asking.late);
         self.until = until_by(is_reset(bytes) && self.pace.delay.is_some(), asking.many);
         self.limit = self.limit_by(bytes, asking.many);
+        self.soon = self.soon_by(asking);
         Ok(())
     }
 
@@ -397,12 +433,25 @@ impl<R: Read + AsRawFd + Drop, W: Write + Link + Drop, C: Clock + Drop> PollWire
         }
         self.since = now(&self.clock).unwrap_or(self.since);
         self.begun = false;
+        self.soon = None;
         self.ahead = AnswerBuf::new();
         self.asks = false;
         self.noise = 0;
         self.until = Until::Still;
         self.limit = self.patience;
         true
+    }
+
+    // How long after this request its answer is overdue.
+    fn soon_by(&self, asking: Asking) -> Option<u64>
+        ensures { result ≡ soon_by asking self.now.pace self.now.patience }
+    {
+        let repeats = asking.repeats < MOST_REPEATS;
+        if !asking.many && asking.late == 0 && repeats && self.pace.acks {
+            self.pace.repeat_wait(self.patience)
+        } else {
+            None
+        }
     }
 
     // The time-out after this request.

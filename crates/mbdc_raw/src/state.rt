@@ -4,7 +4,7 @@ ghost use Rattle.std.specs.Prelude.{◌≡◌, ◌≤◌, bytes_eq, length};
 ghost use Rattle.dc_linkframe.specs.Reading.{frame_of};
 ghost use Rattle.mbdc_bus.specs.Limits.{most_answer};
 ghost use Rattle.mbdc_raw.specs.Turn.{is_answer, is_copy, is_reset, is_wrong, kind_of};
-ghost use Rattle.mbdc_raw.specs.Turn.{last_behind, last_waited, may_go, quiet_by};
+ghost use Rattle.mbdc_raw.specs.Turn.{last_behind, last_waited, may_go, quiet_by, repeats_of, repeats_out};
 ghost use Rattle.mbdc_raw.specs.Turn.{wants_ack};
 
 use dc_linkframe::control::{SELECTED, SND_NKE, SND_UD};
@@ -21,6 +21,8 @@ pub enum State {
     Listened,
     /// Nothing but a copy of the last answer: the one request since has its answer.
     Answered,
+    /// The acknowledgement of the last request, which is overdue: it may be repeated at once.
+    Overdue,
     /// The answer to the last request, or what came before it.
     Busy,
 }
@@ -37,15 +39,19 @@ pub enum Kind {
 }
 
 /// Whether a request may go out, which several meters may answer or not: on a quiet line any, and after an answer one
-/// that differs from the request that it answered. The reset of all selected meters also goes out as the first request
-/// of a line: what comes is dropped until the line is quiet.
-pub fn may_go(state: State, last: &FrameBuf, request: &FrameBuf, many: bool) -> bool
-    ensures { result ≡ may_go state last.now request.now many }
+/// that differs from the request that it answered. Where an acknowledgement is overdue its request is repeated; after
+/// such repeats none that is acknowledged goes out until the line is quiet. The reset of all selected meters also goes
+/// out as the first request of a line: what comes is dropped until the line is quiet.
+pub fn may_go(state: State, repeats: u8, last: &FrameBuf, request: &FrameBuf, many: bool) -> bool
+    ensures { result ≡ may_go state repeats last.now request.now many }
 {
+    let is_acked = wants_ack(request.as_slice());
+    let is_apart = repeats == 0 || !is_acked;
     match state {
         State::Quiet => true,
-        State::Listened => many,
-        State::Answered => last.as_slice() != request.as_slice(),
+        State::Listened => many && is_apart,
+        State::Answered => last.as_slice() != request.as_slice() && is_apart,
+        State::Overdue => !many && (last.as_slice() == request.as_slice() && is_acked),
         State::Busy => last.as_slice().is_empty() && is_reset(request.as_slice()),
     }
 }
@@ -138,7 +144,30 @@ pub fn last_behind(state: State, last: Option<AnswerBuf>) -> Option<AnswerBuf>
         }
         State::Listened => None,
         State::Answered => last,
+        State::Overdue => last,
         State::Busy => last,
+    }
+}
+
+/// Number of early repeats of an acknowledged request, once a request goes out, of which acknowledgements may be under
+/// way.
+pub fn repeats_out(state: State, repeats: u8) -> u8
+    ensures { result ≡ repeats_out state repeats }
+{
+    match state {
+        State::Quiet => 0,
+        State::Overdue => repeats.saturating_add(1),
+        State::Listened | State::Answered | State::Busy => repeats,
+    }
+}
+
+/// Number of early repeats of the request that goes out.
+pub fn repeats_of(state: State, repeats: u8) -> u8
+    ensures { result ≡ repeats_of state repeats }
+{
+    match state {
+        State::Overdue => repeats.saturating_add(1),
+        State::Quiet | State::Listened | State::Answered | State::Busy => 0,
     }
 }
 

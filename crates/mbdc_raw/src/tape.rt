@@ -19,6 +19,8 @@ pub enum Event {
     Nothing,
     /// Nothing for as long as ends an answer.
     Gap,
+    /// Nothing for as long as a repeat waits.
+    Overdue,
     /// Nothing for the whole time-out.
     Silence,
     /// The next call fails.
@@ -149,6 +151,10 @@ impl<'a> Wire for Tape<'a> {
             Event::Gap => {
                 self.events = more;
                 Ok(Came::Gap)
+            }
+            Event::Overdue => {
+                self.events = more;
+                Ok(Came::Overdue)
             }
             Event::Silence => {
                 self.events = more;

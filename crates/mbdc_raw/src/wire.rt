@@ -18,6 +18,8 @@ pub enum Came {
     /// Nothing since the last byte for as long as ends an answer that has begun. It is returned
     /// once after a byte.
     Gap,
+    /// Nothing came since the request for as long as its repeat waits. It is returned once after a request.
+    Overdue,
     /// The wire's time-out is over: nothing came for its patience since the request, the last byte
     /// or the last silence; or the time is over that an [`Asking`] gives.
     Silence,
@@ -31,6 +33,8 @@ pub struct Asking {
     pub many: bool,
     /// Number of times that bytes came late on the line: each doubles the patience.
     pub late: u64,
+    /// Number of times that this request went out just before, each time overdue.
+    pub repeats: u8,
 }
 
 /// The wire of a line. No call waits.

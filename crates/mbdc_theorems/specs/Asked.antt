@@ -3,6 +3,7 @@
 -- THE PREMISES of a line in time, by name, and where the model has each:
 --   one master       Runs, Lives: nothing is sent on the wire but by the line
 --   one answer       Puts: a request has at most one answer, and at most one copy of it
+--   alike            IsAlike: a repeat while the acknowledgement is overdue has the same answer, where that was sent
 --   in order         Passes, Comes: what is under way comes in the order in which it was sent, or is lost
 --   patience         Passes: where the wire gives silence nothing is under way; it gives it after the
 --                    patience, and when the time of the reset of all selected meters is over
@@ -15,7 +16,7 @@ use Rattle.mbdc_raw.specs.Line.{Gives, GivesOver, LineSends, LineWaits, Skips, a
 use Rattle.mbdc_raw.specs.Line.{gives_nothing, gives_now, gives_one, gives_then, gives_up, no_copy}
 use Rattle.mbdc_raw.specs.Line.{one_answer, two_copies, waits_all, waits_held, waits_nothing, waits_one}
 use Rattle.mbdc_raw.specs.declared.line.Line.{Line}
-use Rattle.mbdc_raw.specs.declared.state.State.TheVariants.{Busy}
+use Rattle.mbdc_raw.specs.declared.state.State.TheVariants.{Busy, Overdue}
 
 -- a wire, and the answers under way on it, the oldest first
 pub record OnWay (W : Type 0) : Type 0 where
@@ -100,11 +101,17 @@ pub record IsNew {W : Type 0} (line : Line (OnWay W)) : Type 0 where
   pub busy : line.state ≡ Busy
   pub last : line.last ≡ None
 
--- A RUN of a line: one request after the other
-pub data Runs {W : Type 0} (wire : WireGhosts W) : Line (OnWay W) → Type 0 where
-  connects : {new : Line (OnWay W)} → IsNew new → Runs wire new
-  asks : {old new : Line (OnWay W)} {request answer : List ℕ} {reply : Option (List ℕ)}
-      → Runs wire old → Asks wire request reply old answer new → Runs wire new
+-- A REPEAT IS ANSWERED ALIKE: where this request repeats one that is overdue, its answer is that one's, if that had one
+abbrev pub IsAlike : {W : Type 0} → Line (OnWay W) → List ℕ → (due reply : Option (List ℕ)) → Type 0
+IsAlike line request due reply =
+    line.state ≡ Overdue → line.hearing.request ≡ request → (due ≡ None) ⊎ (reply ≡ due)
+
+-- A RUN of a line: one request after the other, of which the last had this answer
+pub data Runs {W : Type 0} (wire : WireGhosts W) : Line (OnWay W) → Option (List ℕ) → Type 0 where
+  connects : {new : Line (OnWay W)} → IsNew new → Runs wire new None
+  asks : {old new : Line (OnWay W)} {request answer : List ℕ} {reply due : Option (List ℕ)}
+      → Runs wire old due → IsAlike old request due reply → Asks wire request reply old answer new
+      → Runs wire new reply
 
 -- an answer to this very request, or no frame
 abbrev pub IsToIt : Option (List ℕ) → List ℕ → Type 0

@@ -1,6 +1,6 @@
 use Rattle.std.proofs.Common.{◌≡◌, ℕ, ◌+◌, length, take, refl, sym, ◌∙◌, subst, arith}
-use Rattle.mbdc_raw.specs.Heard.{not_yet, at_gap, at_silence}
-use Rattle.mbdc_raw.specs.Wire.{FitsRoom, Wanes, sound_of, piece, nothing, gap, silence}
+use Rattle.mbdc_raw.specs.Heard.{not_yet, at_gap, at_silence, when_late}
+use Rattle.mbdc_raw.specs.Wire.{FitsRoom, Wanes, sound_of, piece, nothing, gap, overdue, silence}
 use Rattle.mbdc_raw.specs.declared.state.State.{State}
 use Rattle.mbdc_raw.specs.declared.state.State.TheVariants.{Busy}
 use Rattle.mbdc_raw.specs.declared.wire.Came.{Came}
@@ -25,6 +25,11 @@ pub returns-in-Gap-clause-drained : goal.returns-in-Gap-clause-drained
 returns-in-Gap-clause-drained g c =
     drained g.W.Wire.hears c.args.wire.now c.drops.wire c.hear.new.self c.args.state.now c.drops.state c.args.late.now c.drops.late c.drops.count gap c.drops.invariant.so
     (subst (λ (came : Came). g.W.Wire.hears c.drops.wire (sound_of came c.hear.new.room) c.hear.new.self) c.in-Gap.is c.in_ok-_came.ensures.step) (λ bursts. at_gap)
+
+pub returns-in-Overdue-clause-drained : goal.returns-in-Overdue-clause-drained
+returns-in-Overdue-clause-drained g c =
+    drained g.W.Wire.hears c.args.wire.now c.drops.wire c.hear.new.self c.args.state.now c.drops.state c.args.late.now c.drops.late c.drops.count overdue c.drops.invariant.so
+    (subst (λ (came : Came). g.W.Wire.hears c.drops.wire (sound_of came c.hear.new.room) c.hear.new.self) c.in-Overdue.is c.in_ok-_came.ensures.step) (λ bursts. when_late)
 
 pub returns-in-Silence-clause-drained : goal.returns-in-Silence-clause-drained
 returns-in-Silence-clause-drained g c =

@@ -1,7 +1,7 @@
 use Rattle.std.proofs.Common.{◌≡◌, ℕ, Some, None, true, length, take, refl, ◌∙◌, subst, arith, ap, ◌++◌, List}
 use Rattle.mbdc_bus.specs.Limits.{most_answer}
-use Rattle.mbdc_raw.specs.Heard.{may_go_on, goes_on, is_quiet}
-use Rattle.mbdc_raw.specs.Wire.{FitsRoom, Wanes, sound_of, piece, nothing, gap, silence}
+use Rattle.mbdc_raw.specs.Heard.{may_go_on, goes_on, is_quiet, may_be_late}
+use Rattle.mbdc_raw.specs.Wire.{FitsRoom, Wanes, sound_of, piece, nothing, gap, overdue, silence}
 use Rattle.mbdc_raw.specs.declared.wire.Came.{Came}
 use Rattle.mbdc_raw.specs.declared.wire.Came.TheVariants.{Bytes}
 use Rattle.mbdc_raw.proofs.Drops.{came_some, gathered_none, gathered_one, gathers, gathers_most}
@@ -24,6 +24,11 @@ pub returns-in-Gap-clause-gathered : goal.returns-in-Gap-clause-gathered
 returns-in-Gap-clause-gathered g c =
     gathers g.W.Wire.hears c.args.wire.now c.pieces.wire c.hear.new.self c.args.all.now c.pieces.all c.pieces.count gap None c.pieces.invariant.so
     (subst (λ (came : Came). g.W.Wire.hears c.pieces.wire (sound_of came c.hear.new.room) c.hear.new.self) c.in-Gap.is c.in_ok-came.ensures.step) (λ bursts. goes_on)
+
+pub returns-in-Overdue-clause-gathered : goal.returns-in-Overdue-clause-gathered
+returns-in-Overdue-clause-gathered g c =
+    gathers g.W.Wire.hears c.args.wire.now c.pieces.wire c.hear.new.self c.args.all.now c.pieces.all c.pieces.count overdue None c.pieces.invariant.so
+    (subst (λ (came : Came). g.W.Wire.hears c.pieces.wire (sound_of came c.hear.new.room) c.hear.new.self) c.in-Overdue.is c.in_ok-came.ensures.step) (λ bursts. may_be_late)
 
 pub returns-in-Silence-clause-gathered : goal.returns-in-Silence-clause-gathered
 returns-in-Silence-clause-gathered g c =

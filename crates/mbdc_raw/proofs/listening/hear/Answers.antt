@@ -1,11 +1,11 @@
-use Rattle.std.proofs.Common.{◌≡◌, ◌<◌, ℕ, List, length, take, refl, sym, ◌∙◌, subst, arith, ◌==◌}
+use Rattle.std.proofs.Common.{◌≡◌, ◌<◌, ℕ, Bool, List, length, take, refl, sym, ◌∙◌, subst, arith, ◌==◌}
 use Rattle.std.proofs.lemmas.List.{take-append-le}
-use Rattle.mbdc_raw.specs.Wire.{FitsRoom, Wanes, sound_of, piece, nothing, gap}
+use Rattle.mbdc_raw.specs.Wire.{FitsRoom, Wanes, sound_of, piece, nothing, gap, overdue}
 use Rattle.mbdc_raw.specs.declared.wire.Came.{Came}
 use Rattle.mbdc_raw.specs.declared.wire.Came.TheVariants.{Bytes}
-use Rattle.mbdc_raw.specs.Heard.{answer_of, still, still_none, wanted_of}
+use Rattle.mbdc_raw.specs.Heard.{answer_of, still, still_none, still_some, wanted_of}
 use Rattle.mbdc_raw.proofs.Echoes.{none_missing, some_missing}
-use Rattle.mbdc_raw.proofs.Pieces.{far_gap, far_more, far_none, far_over, far_silent, far_waits, has_length, no_length, not_false, not_of_true}
+use Rattle.mbdc_raw.proofs.Pieces.{Ended, far_gap, far_late, far_more, far_none, far_over, far_silent, far_waits, has_length, no_length, not_false, not_of_true}
 use Rattle.mbdc_raw.proofs.listening.hear.Goals as goal
 
 pub pieces-init : goal.pieces-init
@@ -14,6 +14,7 @@ pieces-init g c = record {
   fits = c.wanted-count.ensures.fits;
   well = refl;
   left = omega arith;
+  soon = refl;
   so = far_none g.W.Wire.hears c.args.wire.now c.args.hearing.now;
 }
 
@@ -27,11 +28,12 @@ returns-in-Nothing-clause-waits g c =
 pub returns-then-has_begun-clause-heard : goal.returns-then-has_begun-clause-heard
 returns-then-has_begun-clause-heard g c =
     let some : 0 < wanted_of c.pieces.hearing.request c.pieces.hearing.bytes = omega (arith, c.pieces.invariant.wants, c.pieces-test.true) in
-    far_gap g.W.Wire.hears c.args.wire.now c.pieces.wire c.hear.new.self c.args.hearing.now c.pieces.hearing c.take.new.self c.take.result c.pieces.invariant.so
+    subst (λ (early : Bool). Ended g.W.Wire.hears c.args.wire.now c.args.hearing.now c.take.result c.hear.new.self c.take.new.self early) (sym c.pieces.invariant.soon)
+    (far_gap g.W.Wire.hears c.args.wire.now c.pieces.wire c.hear.new.self c.args.hearing.now c.pieces.hearing c.take.new.self c.take.result c.pieces.invariant.so
     c.take.ensures.answer c.take.ensures.exact c.take.ensures.kept
     (some_missing c.pieces.hearing.request c.pieces.hearing.bytes (answer_of c.pieces.hearing) refl some)
     (has_length (answer_of c.pieces.hearing) (not_of_true (length (answer_of c.pieces.hearing) == 0) (sym c.has_begun.ensures ∙ c.if-has_begun.true)))
-    (subst (λ (came : Came). g.W.Wire.hears c.pieces.wire (sound_of came c.hear.new.room) c.hear.new.self) c.in-Gap.is c.in_ok-came.ensures.step)
+    (subst (λ (came : Came). g.W.Wire.hears c.pieces.wire (sound_of came c.hear.new.room) c.hear.new.self) c.in-Gap.is c.in_ok-came.ensures.step))
 
 pub returns-else-has_begun-clause-waits : goal.returns-else-has_begun-clause-waits
 returns-else-has_begun-clause-waits g c =
@@ -41,20 +43,37 @@ returns-else-has_begun-clause-waits g c =
     (still_none (no_length (answer_of c.pieces.hearing) (not_false (length (answer_of c.pieces.hearing) == 0) (sym c.has_begun.ensures ∙ c.if-has_begun.false))))
     (subst (λ (came : Came). g.W.Wire.hears c.pieces.wire (sound_of came c.hear.new.room) c.hear.new.self) c.in-Gap.is c.in_ok-came.ensures.step)
 
+pub returns-then-has_begun-2-clause-waits : goal.returns-then-has_begun-2-clause-waits
+returns-then-has_begun-2-clause-waits g c =
+    let some : 0 < wanted_of c.pieces.hearing.request c.pieces.hearing.bytes = omega (arith, c.pieces.invariant.wants, c.pieces-test.true) in
+    far_waits g.W.Wire.hears c.args.wire.now c.pieces.wire c.hear.new.self c.args.hearing.now c.pieces.hearing overdue c.pieces.invariant.so
+    (some_missing c.pieces.hearing.request c.pieces.hearing.bytes (answer_of c.pieces.hearing) refl some)
+    (still_some (has_length (answer_of c.pieces.hearing) (not_of_true (length (answer_of c.pieces.hearing) == 0) (sym c.has_begun-in-Overdue.ensures ∙ c.if-has_begun-2.true))))
+    (subst (λ (came : Came). g.W.Wire.hears c.pieces.wire (sound_of came c.hear.new.room) c.hear.new.self) c.in-Overdue.is c.in_ok-came.ensures.step)
+
+pub returns-in-Overdue-clause-heard : goal.returns-in-Overdue-clause-heard
+returns-in-Overdue-clause-heard g c =
+    far_late g.W.Wire.hears c.args.wire.now c.pieces.wire c.hear.new.self c.args.hearing.now c.pieces.hearing c.take-in-Overdue.new.self c.take-in-Overdue.result c.pieces.invariant.so
+    c.take-in-Overdue.ensures.answer c.take-in-Overdue.ensures.exact c.take-in-Overdue.ensures.kept
+    (no_length (answer_of c.pieces.hearing) (not_false (length (answer_of c.pieces.hearing) == 0) (sym c.has_begun-in-Overdue.ensures ∙ c.if-has_begun-2.false)))
+    (subst (λ (came : Came). g.W.Wire.hears c.pieces.wire (sound_of came c.hear.new.room) c.hear.new.self) c.in-Overdue.is c.in_ok-came.ensures.step)
+
 pub returns-in-Silence-clause-heard : goal.returns-in-Silence-clause-heard
 returns-in-Silence-clause-heard g c =
     let some : 0 < wanted_of c.pieces.hearing.request c.pieces.hearing.bytes = omega (arith, c.pieces.invariant.wants, c.pieces-test.true) in
-    far_silent g.W.Wire.hears c.args.wire.now c.pieces.wire c.hear.new.self c.args.hearing.now c.pieces.hearing c.take-in-Silence.new.self c.take-in-Silence.result c.pieces.invariant.so
+    subst (λ (early : Bool). Ended g.W.Wire.hears c.args.wire.now c.args.hearing.now c.take-in-Silence.result c.hear.new.self c.take-in-Silence.new.self early) (sym c.pieces.invariant.soon)
+    (far_silent g.W.Wire.hears c.args.wire.now c.pieces.wire c.hear.new.self c.args.hearing.now c.pieces.hearing c.take-in-Silence.new.self c.take-in-Silence.result c.pieces.invariant.so
     c.take-in-Silence.ensures.answer c.take-in-Silence.ensures.exact c.take-in-Silence.ensures.kept
     (some_missing c.pieces.hearing.request c.pieces.hearing.bytes (answer_of c.pieces.hearing) refl some)
-    (subst (λ (came : Came). g.W.Wire.hears c.pieces.wire (sound_of came c.hear.new.room) c.hear.new.self) c.in-Silence.is c.in_ok-came.ensures.step)
+    (subst (λ (came : Came). g.W.Wire.hears c.pieces.wire (sound_of came c.hear.new.room) c.hear.new.self) c.in-Silence.is c.in_ok-came.ensures.step))
 
 pub returns-clause-heard : goal.returns-clause-heard
 returns-clause-heard g c =
     let none : wanted_of c.pieces.hearing.request c.pieces.hearing.bytes ≡ 0 = omega (arith, c.pieces.invariant.wants, c.pieces-test.false) in
-    far_over g.W.Wire.hears c.args.wire.now c.pieces.wire c.args.hearing.now c.pieces.hearing c.take-2.new.self c.take-2.result c.pieces.invariant.so
+    subst (λ (early : Bool). Ended g.W.Wire.hears c.args.wire.now c.args.hearing.now c.take-2.result c.pieces.wire c.take-2.new.self early) (sym c.pieces.invariant.soon)
+    (far_over g.W.Wire.hears c.args.wire.now c.pieces.wire c.args.hearing.now c.pieces.hearing c.take-2.new.self c.take-2.result c.pieces.invariant.so
     c.take-2.ensures.answer c.take-2.ensures.exact c.take-2.ensures.kept
-    (none_missing c.pieces.hearing.request c.pieces.hearing.bytes (answer_of c.pieces.hearing) refl none)
+    (none_missing c.pieces.hearing.request c.pieces.hearing.bytes (answer_of c.pieces.hearing) refl none))
 
 pub pieces-preserved : goal.pieces-preserved
 pieces-preserved g c =
@@ -75,6 +94,7 @@ pieces-preserved g c =
       fits = c.wanted-count-in-pieces.ensures.fits;
       well = c.in_ok-came.ensures.well ∙ c.pieces.invariant.well;
       left = omega (arith, less, c.pieces.invariant.left);
+      soon = c.pieces.invariant.soon;
       so = far_more g.W.Wire.hears c.args.wire.now c.pieces.wire c.hear.new.self c.args.hearing.now c.pieces.hearing c.append.new.self given c.pieces.invariant.so
           (omega (arith, c.split_at.ensures.front_len, count.0)) (subst (λ (xs : List ℕ). g.W.Wire.hears c.pieces.wire (piece xs) c.hear.new.self) is step) c.append.ensures;
     }

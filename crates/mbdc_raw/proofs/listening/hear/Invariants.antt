@@ -1,4 +1,4 @@
-use Rattle.std.proofs.Common.{◌≡◌, ◌+◌, ◌-◌, ◌≤◌, length}
+use Rattle.std.proofs.Common.{◌≡◌, ◌+◌, ◌-◌, ◌≤◌, false, length}
 use Rattle.mbdc_bus.specs.Limits.{most_answer}
 use Rattle.mbdc_raw.specs.Heard.{wanted_of}
 use Rattle.mbdc_raw.proofs.Pieces.{SoFar}
@@ -10,6 +10,7 @@ invariant-pieces g l = record {
   fits : length l.hearing.bytes + l.count ≤ length l.hearing.request + most_answer;
   well : g.W.Wire.failures l.wire ≡ g.W.Wire.failures l.initial.wire;
   left : g.W.Wire.waits_left l.wire ≤ g.W.Wire.waits_left l.initial.wire;
+  soon : l.early ≡ false;
   so : SoFar g.W.Wire.hears l.initial.wire l.initial.hearing l.wire l.hearing;
 }
 

@@ -1,5 +1,5 @@
 use Rattle.std.proofs.Common.{arith, refl, rules, ◌∙◌}
-use Rattle.mbdc_raw.specs.declared.wire.Came.TheVariants.{Nothing, Gap, Silence}
+use Rattle.mbdc_raw.specs.declared.wire.Came.TheVariants.{Nothing, Gap, Overdue, Silence}
 use Rattle.mbdc_raw.proofs.Waits.{bytes_heard, deserted_of, none_heard}
 use Rattle.mbdc_raw.proofs.poll_wire.PollWire.look.Goals as goal
 
@@ -17,6 +17,11 @@ returns-in-Gap-clause-step g c =
     none_heard g.R.Read.remaining c.args.self.now c.read_past_noise.new.reader c.read_past_noise.new.ahead c.in_ok-self.field-0 _ c.takes_all-takes_all.ensures c.in_ok-count.count c.read_past_noise.new.room _ c.hold.new.self c.nothing.new.self _ Gap c.in-Gap.is refl (omega (arith, c.if-count-gt0.false))
     c.in_ok-count.ensures.bytes (search rules) c.hold.ensures.step c.in_ok-still.ensures.step
 
+pub returns-in-Overdue-clause-step : goal.returns-in-Overdue-clause-step
+returns-in-Overdue-clause-step g c =
+    none_heard g.R.Read.remaining c.args.self.now c.read_past_noise.new.reader c.read_past_noise.new.ahead c.in_ok-self.field-0 _ c.takes_all-takes_all.ensures c.in_ok-count.count c.read_past_noise.new.room _ c.hold.new.self c.nothing.new.self _ Overdue c.in-Overdue.is refl (omega (arith, c.if-count-gt0.false))
+    c.in_ok-count.ensures.bytes (search rules) c.hold.ensures.step c.in_ok-still.ensures.step
+
 pub returns-in-Silence-clause-step : goal.returns-in-Silence-clause-step
 returns-in-Silence-clause-step g c =
     none_heard g.R.Read.remaining c.args.self.now c.read_past_noise.new.reader c.read_past_noise.new.ahead c.in_ok-self.field-0 _ c.takes_all-takes_all.ensures c.in_ok-count.count c.read_past_noise.new.room _ c.hold.new.self c.nothing.new.self _ Silence c.in-Silence.is refl (omega (arith, c.if-count-gt0.false))
@@ -28,6 +33,10 @@ returns-in-Nothing-clause-deserted g c was is =
 
 pub returns-in-Gap-clause-deserted : goal.returns-in-Gap-clause-deserted
 returns-in-Gap-clause-deserted g c was is =
+    deserted_of c.args.self.now c.hold.new.self c.read_past_noise.new.reader c.in_ok-self.field-0 c.nothing.new.self.at c.hold.ensures.kept (c.in_ok-still.ensures.deserted (c.hold.ensures.deserted ∙ was) is) (c.in_ok-still.ensures.at ∙ c.hold.ensures.at)
+
+pub returns-in-Overdue-clause-deserted : goal.returns-in-Overdue-clause-deserted
+returns-in-Overdue-clause-deserted g c was is =
     deserted_of c.args.self.now c.hold.new.self c.read_past_noise.new.reader c.in_ok-self.field-0 c.nothing.new.self.at c.hold.ensures.kept (c.in_ok-still.ensures.deserted (c.hold.ensures.deserted ∙ was) is) (c.in_ok-still.ensures.at ∙ c.hold.ensures.at)
 
 pub returns-in-Silence-clause-deserted : goal.returns-in-Silence-clause-deserted

@@ -1,6 +1,6 @@
-use Rattle.std.proofs.Common.{ℕ, false, ap, refl}
+use Rattle.std.proofs.Common.{ℕ, false, None, ap, refl, sym, ◌∙◌}
 use Rattle.mbdc_raw.specs.declared.poll_wire.Until.TheVariants.{Still}
-use Rattle.mbdc_raw.specs.PollWire.{at_gap, at_silence, not_yet}
+use Rattle.mbdc_raw.specs.PollWire.{at_gap, at_silence, not_yet, when_late}
 use Rattle.mbdc_raw.proofs.poll_wire.PollWire.nothing.Goals as goal
 
 pub returns-then-rest-eq0-clause-step : goal.returns-then-rest-eq0-clause-step
@@ -9,6 +9,7 @@ returns-then-rest-eq0-clause-step g c =
     (ap (λ (waited : ℕ). record c.args.self.now {
       since = c.args.self.now.at;
       begun = false;
+      soon = None;
       asks = false;
       waited = waited;
       noise = 0;
@@ -18,6 +19,9 @@ returns-then-rest-eq0-clause-step g c =
 
 pub returns-then-between-ge-GAP_MICROS-clause-step : goal.returns-then-between-ge-GAP_MICROS-clause-step
 returns-then-between-ge-GAP_MICROS-clause-step g c = at_gap refl
+
+pub returns-then-is_late-clause-step : goal.returns-then-is_late-clause-step
+returns-then-is_late-clause-step g c = let late = c.is_late.ensures c.if-is_late.true in when_late (record { wait = late.wait; is = late.is; over = late.over }) refl
 
 pub returns-clause-step : goal.returns-clause-step
 returns-clause-step g c = not_yet refl

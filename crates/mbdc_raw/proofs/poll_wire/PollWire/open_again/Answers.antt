@@ -1,4 +1,4 @@
-use Rattle.std.proofs.Common.{ℕ, List, false, ap, refl}
+use Rattle.std.proofs.Common.{ℕ, List, false, None, ap, refl}
 use Rattle.mbdc_raw.specs.PollWire.{is_as_before, is_open}
 use Rattle.mbdc_raw.specs.declared.poll_wire.Until.TheVariants.{Still}
 use Rattle.mbdc_raw.proofs.poll_wire.PollWire.open_again.Goals as goal
@@ -11,6 +11,7 @@ returns g c = is_open (ap (λ (ahead : List ℕ). record c.args.self.now {
   writer = c.reopen.new.self;
   since = c.unwrap_or-self.result;
   begun = false;
+  soon = None;
   ahead = ahead;
   asks = false;
   noise = 0;
