@@ -14,6 +14,8 @@ mod Courses
 mod Numbers
 -- a meter that is confirmed
 mod Confirmings
+-- a wildcard that is closed
+mod Others
 -- of the module `bench`
 
 -- a text, and what is printed after it

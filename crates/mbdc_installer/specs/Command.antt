@@ -13,6 +13,7 @@ use Rattle.mbdc_bus.specs.declared.bus.Bus.{Ghosts as BusGhosts}
 use Rattle.mbdc_ending.specs.declared.ending.Ending.{Ending}
 use Rattle.mbdc_installer.specs.Address.{IsAddressed, addressing_text}
 use Rattle.mbdc_installer.specs.Number.{IsFound, unfound_text}
+use Rattle.mbdc_installer.specs.Other.{others_text}
 use Rattle.mbdc_installer.specs.Read.{IsReadOn, Tells}
 use Rattle.mbdc_installer.specs.Scan.{AsksEach, Counts, Identifies, Scanned, greatest}
 use Rattle.mbdc_installer.specs.declared.address.Addressing.{Addressing}
@@ -20,6 +21,7 @@ use Rattle.mbdc_installer.specs.declared.address.Target.{Target}
 use Rattle.mbdc_installer.specs.declared.address.Addressing.TheVariants.{Set, Taken, Nobody as NobodyThere}
 use Rattle.mbdc_installer.specs.declared.address.Addressing.TheVariants.{Unclear, Unconfirmed}
 use Rattle.mbdc_installer.specs.declared.number.Numbered.TheVariants.{One, Shared, Nobody}
+use Rattle.mbdc_installer.specs.declared.other.Other.{Other}
 use Rattle.mbdc_installer.specs.declared.reading.Readout.{Readout}
 use Rattle.mbdc_installer.specs.declared.reading.Readout.TheVariants.{Whole, Failed}
 use Rattle.mbdc_installer.specs.declared.wildcards.Count.{Count}
@@ -107,11 +109,11 @@ is_faulty late (Addressed outcome) = is_unset outcome
 -- ---- the whole command
 
 -- what was done, or what stopped it
-abbrev pub DoesOrStops : {B S : Type 0} → BusGhosts B → Ghosts S → Work → B → B → S → S
+abbrev pub DoesOrStops : {B S : Type 0} → BusGhosts B → (B → List Other) → Ghosts S → Work → B → B → S → S
     → Result Done ScanFault → Type 0
-DoesOrStops bus g work old new before behind (Ok done) = IsDone bus
-    (λ text. PutsInto g before behind (text ++ late_text (bus.late new))) work old new done
-DoesOrStops bus g work old new before behind (Err fault) = IsStopped g before behind fault
+DoesOrStops bus others g work old new before behind (Ok done) = IsDone bus (λ text. PutsInto g before behind
+    (text ++ (others_text (others new) ++ late_text (bus.late new)))) work old new done
+DoesOrStops bus others g work old new before behind (Err fault) = IsStopped g before behind fault
 
 -- whether it was at fault
 abbrev pub fault_of : (late : ℕ) → Result Done ScanFault → Result Bool ScanFault
@@ -119,9 +121,9 @@ fault_of late (Ok done) = Ok (is_faulty late done)
 fault_of late (Err fault) = Err fault
 
 -- THE COMMAND, from the bus to its ending. Where it wasn't stopped, the text that was printed is that of what it did, and
--- then the number of late answers.
-pub record Works {B S : Type 0} (bus : BusGhosts B) (g : Ghosts S) (work : Work) (old new : B)
-    (before behind : S) (ending : Ending) : Type 0 where
+-- then the wildcards that were closed, and the number of late answers.
+pub record Works {B S : Type 0} (bus : BusGhosts B) (others : B → List Other) (g : Ghosts S) (work : Work)
+    (old new : B) (before behind : S) (ending : Ending) : Type 0 where
   pub outcome : Result Done ScanFault
-  pub does : DoesOrStops bus g work old new before behind outcome
+  pub does : DoesOrStops bus others g work old new before behind outcome
   pub ends : EndsOver (bus.lost new) (fault_of (bus.late new) outcome) ending

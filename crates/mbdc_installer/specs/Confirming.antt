@@ -1,29 +1,19 @@
 -- Who answers a wildcard, where several meters may answer in step (EN 13757-2, the current of a space wins over a mark, so
 -- a line shows the AND of what meters send at once; EN 13757-3, selection with wildcards).
-use Rattle.std.specs.Prelude.{◌≡◌, ◌≢◌, ◌⊎◌, ◌<◌, ℕ, ◌+◌, ◌-◌, ◌/◌, ◌%◌, Bool, true, false, not, ◌&&◌, ◌||◌, ◌==◌}
-use Rattle.std.specs.Prelude.{List, [], Option, None, Some, if◌then◌else◌, length, take, slice_index, nat_le, nat_lt}
+use Rattle.std.specs.Prelude.{◌≡◌, ◌≢◌, ◌<◌, ℕ, ◌+◌, ◌-◌, ◌/◌, ◌%◌, Bool, true, false, not, ◌&&◌, ◌||◌, ◌==◌}
+use Rattle.std.specs.Prelude.{List, [], Option, None, Some, if◌then◌else◌, slice_index, nat_lt}
 use Rattle.std.specs.Prelude.{Contains, bit_and, count_by, zip}
 use Rattle.dc_address.specs.Mask.{MaskParts, are_sent, matches, mask_at, mask_of, mask_wire, with_digit}
 use Rattle.dc_address.specs.Text.{text_of}
 use Rattle.dc_address.specs.declared.identity.Identity.{Identity}
 use Rattle.dc_linkframe.specs.Control.{selection_by}
-use Rattle.dc_linkframe.specs.Frame.{FrameSeen, ack, short, long, spelling}
+use Rattle.dc_linkframe.specs.Frame.{spelling}
 use Rattle.dc_linkframe.specs.Reading.{frame_of}
 use Rattle.dc_readout.specs.Misses.{is_silent}
-use Rattle.dc_search.specs.Answer.{answer_of}
-use Rattle.mbdc_bus.specs.Windows.{Insists, most_tries, noise}
+use Rattle.mbdc_bus.specs.Windows.{Insists, most_tries}
 use Rattle.mbdc_installer.specs.Number.{digit_of}
 use Rattle.mbdc_installer.specs.Scan.{is_ack}
 use Rattle.mbdc_installer.specs.declared.confirming.Confirmed.{Confirmed}
-use Rattle.mbdc_installer.specs.declared.confirming.Wildcard.{Wildcard}
-
--- the eight bytes of a selection
-abbrev pub selection_in : Option FrameSeen → Option (List ℕ)
-selection_in None = None
-selection_in (Some ack) = None
-selection_in (Some (short control address)) = None
-selection_in (Some (long control address ci body)) =
-    if ci == 0x52 && nat_le 8 (length body) then Some (take 8 body) else None
 
 -- ---- who can hide behind whom
 
@@ -128,30 +118,6 @@ pub data Confirms {B : Type 0} (asks_all : B → List ℕ → List ℕ → B →
       → AsksHidden asks_all wire meter is_due old nobody between → nobody ≡ true
       → Insists asks_all (selection_of meter) most_tries between answer new
       → is_so ≡ is_ack (frame_of answer) → Confirms asks_all wire meter is_due old is_so new
-
--- what is confirmed of a selection
-abbrev pub wire_if : Bool → List ℕ → Option (List ℕ)
-wire_if confirms wire = if confirms then Some wire else None
-
--- A REQUEST AND WHAT IS BELIEVED OF ITS ANSWER: the first telegram after a selection only where its meter is confirmed.
-pub data Hears {B : Type 0} (lost : B → Bool) (asks_all : B → List ℕ → List ℕ → B → Type 0)
-    (request : List ℕ) (old : B) (before : Wildcard) (heard : List ℕ) (new : B) (after : Wildcard)
-    : Type 0 where
-  is_lost : lost old ≡ true → heard ≡ [] → new ≡ old → after ≡ before
-      → Hears lost asks_all request old before heard new after
-  selects : {wire : List ℕ} → selection_in (frame_of request) ≡ Some wire → asks_all old request heard new
-      → after ≡ record before { wire = wire_if before.confirms wire }
-      → Hears lost asks_all request old before heard new after
-  passes : selection_in (frame_of request) ≡ None → asks_all old request heard new → after ≡ before
-      → (before.wire ≡ None) ⊎ (answer_of heard ≡ None)
-      → Hears lost asks_all request old before heard new after
-  is_judged : {between : B} {wire : List ℕ} {meter : Identity} {is_due is_so : Bool} (answer : List ℕ)
-      → before.wire ≡ Some wire → answer_of answer ≡ Some meter → asks_all old request answer between
-      → is_due ≡ could_be_in_step before.last meter answer
-      → Confirms asks_all wire meter is_due between is_so new
-      → heard ≡ (if is_so then answer else noise)
-      → after ≡ record before { wire = None; last = if is_so then Some (record { meter = meter; telegram = answer }) else before.last }
-      → Hears lost asks_all request old before heard new after
 
 -- ---- what is known of a meter that is confirmed
 

@@ -8,6 +8,7 @@ use Rattle.dc_linkframe.specs.Frame.{FrameSeen, ack, short, long}
 use Rattle.dc_linkframe.specs.Reading.{frame_of}
 use Rattle.dc_readout.specs.Misses.{is_noise, is_silent}
 use Rattle.dc_search.specs.Answer.{answer_of}
+use Rattle.mbdc_installer.specs.Other.{format_of}
 use Rattle.mbdc_installer.specs.declared.course.Course.{Course}
 
 abbrev pub new_course : Course
@@ -21,6 +22,7 @@ new_course = record {
   collided = 0;
   is_answered = false;
   is_understood = false;
+  is_other = false;
   meter = None;
 }
 
@@ -80,6 +82,7 @@ after_answer answer c = record c {
   collided = one_if (c.is_request && is_noise answer) c.collided;
   is_answered = c.is_answered || not (is_silent answer);
   is_understood = c.is_understood || is_some (frame_of answer);
+  is_other = c.is_other || is_some (format_of answer);
   meter = last_meter (answer_of answer) c.meter;
 }
 

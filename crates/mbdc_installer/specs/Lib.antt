@@ -14,6 +14,10 @@ pub mod Unread
 pub mod Number
 -- who answers a wildcard
 pub mod Confirming
+-- meters that answer with a frame of another CI
+pub mod Other
+-- what a search believes of what it hears
+pub mod Hearing
 -- of the module `bench`
 
 -- how a command over a bus ends

@@ -1,8 +1,9 @@
 -- A bus on which a search is given up that hears noise alone (this product).
 use Rattle.std.specs.Prelude.{◌≡◌, ◌-◌, ◌==◌, ◌||◌, ℕ, Bool, true, false, List, [], ◌∷◌, Option, None, Some}
 use Rattle.std.specs.Prelude.{if◌then◌else◌}
-use Rattle.mbdc_installer.specs.Confirming
+use Rattle.mbdc_installer.specs.Hearing
 use Rattle.mbdc_installer.specs.declared.bench.listening.Listening.{Listening}
+use Rattle.mbdc_installer.specs.declared.other.Other.{Other}
 use Rattle.dc_linkframe.specs.Frame.{FrameSeen}
 use Rattle.dc_linkframe.specs.Reading.{frame_of}
 
@@ -15,6 +16,12 @@ abbrev pub left_after : List ℕ → Option ℕ → Option ℕ
 left_after answer None = None
 left_after [] (Some left) = Some left
 left_after (byte ∷ bytes) (Some left) = unless_frame (frame_of (byte ∷ bytes)) left
+
+-- the same where these frames closed a wildcard: they are frames
+abbrev pub left_with : List Other → List ℕ → Option ℕ → Option ℕ
+left_with [] answer left = left_after answer left
+left_with (other ∷ more) [] left = left
+left_with (other ∷ more) (byte ∷ bytes) left = None
 
 abbrev pub is_given_up : Option ℕ → Bool
 is_given_up None = false
@@ -38,7 +45,7 @@ pub record Passed {B : Type 0} (asks : B → List ℕ → List ℕ → B → Typ
 abbrev pub Confirmed : {B : Type 0} → (B → Bool) → (B → List ℕ → List ℕ → B → Type 0)
     → Listening B → List ℕ → List ℕ → Listening B → Type 0
 Confirmed lost asks_all old request heard new =
-    Confirming.Hears lost asks_all request old.bus old.wildcard heard new.bus new.wildcard
+    Hearing.Hears lost asks_all request old.bus old.wildcard heard new.bus new.wildcard
 
 -- A REQUEST AND ITS ANSWER: what the bus does, until the search is given up; then nothing goes out.
 pub record Hears {B : Type 0} (lost : B → Bool)
@@ -47,4 +54,4 @@ pub record Hears {B : Type 0} (lost : B → Bool)
   pub untouched : is_given_up old.left ≡ true → new ≡ old
   pub silence : IsSilent (is_given_up new.left || lost new.bus) answer
   pub asked : is_given_up old.left ≡ false → (heard : List ℕ) × asks old request heard new
-      × (new.left ≡ left_after heard old.left) × (answer ≡ heard_as new.left heard)
+      × (new.left ≡ left_with new.wildcard.others heard old.left) × (answer ≡ heard_as new.left heard)

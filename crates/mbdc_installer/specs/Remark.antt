@@ -15,11 +15,16 @@ use Rattle.dc_readout.specs.declared.misses.reason.Owner.TheVariants.{Meter as O
 use Rattle.mbdc_installer.specs.declared.bench.command.MeterName.{MeterName}
 use Rattle.mbdc_installer.specs.declared.bench.command.MeterName.TheVariants.{Identity as ByIdentity, Address as ByAddress, Number as ByNumber}
 
--- of what was counted: numbers of several meters come first
+-- of what was counted: numbers of several meters come first, then frames of another CI
+abbrev pub other_hint : List ℕ
+other_hint =
+    codes "telegrams of another CI than 72 came, which mbdc doesn't read: can these meters send 72?\n"
+
 abbrev pub counted_hint : Course → Option Count → List ℕ
-counted_hint course None = codes ""
+counted_hint course None = if course.is_other then other_hint else codes ""
 counted_hint course (Some count) = if not (count.shared == 0) then
     codes "SHARED: find these meters by scan --primary, and read each by its address\n"
+    else if course.is_other then other_hint
     else if count.meters == 0 && is_all_read course then
     codes "answers came, but of no meter: look at speed, parity and noise\n"
     else codes ""

@@ -15,6 +15,7 @@ mod reading;
 mod remark;
 
 pub use crate::Target;
+pub use crate::other::{Format, Noting, Other};
 pub use command::{Done, Listing, MeterName, Scan, Work, run_over, work_over};
 pub use printer::Printer;
 pub use progress::{Progress, Show};

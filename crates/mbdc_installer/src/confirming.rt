@@ -6,22 +6,17 @@
 //! selected by its whole identity. Of each digit that the wildcard leaves open, those digits are selected that have its
 //! bits, and more: it can hide only meters with such a digit.
 
-ghost use Rattle.std.specs.Prelude.{◌≡◌, ◌≤◌, ◌<◌, [], length, true};
-ghost use Rattle.dc_linkframe.specs.Reading.{frame_of};
-ghost use Rattle.mbdc_bus.specs.Limits.{most_request};
-ghost use Rattle.mbdc_bus.specs.Windows.{noise};
+ghost use Rattle.std.specs.Prelude.{◌≡◌, ◌≤◌, ◌<◌, length, true};
+ghost use Rattle.mbdc_bus.specs.Windows.{Insists, most_tries, noise};
 ghost use Rattle.mbdc_installer.specs.Confirming.{AsksDigit, AsksDigits, AsksHidden, AsksPlace, AsksPlaces, Confirms};
-ghost use Rattle.mbdc_installer.specs.Confirming.{Hears, can_hide, could_be_in_step};
-ghost use Rattle.mbdc_installer.specs.Confirming.{differing, is_open, is_of_type, selection_in};
-ghost use Rattle.mbdc_installer.specs.Confirming.{selection_of, selection_with, wire_if};
-ghost use Rattle.mbdc_bus.specs.Windows.{Insists, most_tries};
+ghost use Rattle.mbdc_installer.specs.Confirming.{can_hide, could_be_in_step, differing, is_open, is_of_type};
+ghost use Rattle.mbdc_installer.specs.Confirming.{selection_of, selection_with};
 
 use crate::number::{digit_of, is_silent};
 use crate::primary::is_ack;
 use dc_address::{Identity, Mask};
-use dc_linkframe::control::{SELECTION, write_selection};
-use dc_linkframe::{Frame, FrameBuf, parse};
-use dc_search::meter_of;
+use dc_linkframe::FrameBuf;
+use dc_linkframe::control::write_selection;
 use mbdc_bus::{AnswerBuf, Bus, TRIES, insist};
 
 // Number of digits of an identification number.
@@ -40,56 +35,13 @@ pub(crate) struct Confirmed {
     pub telegram: AnswerBuf,
 }
 
-/// What a search knows of the wildcard that it selected by last.
-#[derive(Drop)]
-pub(crate) struct Wildcard {
-    /// Whether answers are confirmed: only those of a search are.
-    pub confirms: bool,
-    /// The eight bytes of the last selection, until somebody's answer to it is confirmed.
-    pub wire: Option<[u8; 8]>,
-    /// The last telegram that was confirmed.
-    pub last: Option<Confirmed>,
-}
-
-/// Sends a request that several meters may answer. The first telegram after a selection is returned only where the
-/// meter that it names answers its whole identity and hides nobody; otherwise noise is, as of meters that
-/// answer out of step.
-pub(crate) fn ask<B: Bus>(bus: &mut B, wildcard: &mut Wildcard, request: &FrameBuf) -> AnswerBuf
-    requires { length request.now ≤ most_request }
-    ensures heard { Hears B.lost B.asks_all request.now bus.old wildcard.old result bus.new wildcard.new }
-    // A lost bus is silent, and nothing is touched.
-    ensures silence { B.lost bus.old ≡ true → result ≡ [] }
-    ensures untouched { B.lost bus.old ≡ true → bus.new ≡ bus.old }
-    ensures same { B.lost bus.old ≡ true → wildcard.new ≡ wildcard.old }
-{
-    if bus.is_lost() {
-        return AnswerBuf::new();
-    }
-    if let Some(wire) = selection_in(request) {
-        wildcard.wire = wire_if(wildcard.confirms, wire);
-        return bus.ask_all(request);
-    }
-    let answer = bus.ask_all(request);
-    let Some(wire) = wildcard.wire else {
-        return answer;
-    };
-    let Some(meter) = meter_of(answer.as_slice()) else {
-        return answer;
-    };
-    wildcard.wire = None;
-    let is_due = could_be_in_step(&wildcard.last, &meter, &answer);
-    if !is_confirmed(bus, &wire, &meter, is_due) {
-        return bytes_of_noise();
-    }
-    wildcard.last = Some(Confirmed {
-        meter,
-        telegram: copy_of(&answer),
-    });
-    answer
-}
-
-// Whether a meter answers its whole identity, and nobody answers whom it could hide.
-fn is_confirmed<B: Bus>(bus: &mut B, wire: &[u8; 8], meter: &Identity, is_due: bool) -> bool
+/// Whether a meter answers its whole identity, and nobody answers whom it could hide.
+pub(crate) fn is_confirmed<B: Bus>(
+    bus: &mut B,
+    wire: &[u8; 8],
+    meter: &Identity,
+    is_due: bool,
+) -> bool
     ensures { Confirms B.asks_all wire.now meter.now is_due bus.old result bus.new }
 {
     if !is_nobody_hidden(bus, wire, meter, is_due) {
@@ -196,8 +148,8 @@ fn can_hide(own: u8, digit: u8) -> bool
     digit != own && digit & own == own
 }
 
-// Whether a digit of a selection is open.
-fn is_open(wire: &[u8; 8], place: usize) -> bool
+/// Whether a digit of a selection is open.
+pub(crate) fn is_open(wire: &[u8; 8], place: usize) -> bool
     requires { place < 8 }
     ensures { result ≡ is_open wire.now place }
 {
@@ -209,9 +161,13 @@ fn is_open(wire: &[u8; 8], place: usize) -> bool
     }
 }
 
-// Whether a meter could be in step with others of its type. The telegram before shows that it can't where its meter is
-// of that type and has data of its own.
-fn could_be_in_step(last: &Option<Confirmed>, meter: &Identity, telegram: &AnswerBuf) -> bool
+/// Whether a meter could be in step with others of its type. The telegram before shows that it can't where its meter is
+/// of that type and has data of its own.
+pub(crate) fn could_be_in_step(
+    last: &Option<Confirmed>,
+    meter: &Identity,
+    telegram: &AnswerBuf,
+) -> bool
     ensures { result ≡ could_be_in_step last.now meter.now telegram.now }
 {
     match last {
@@ -240,27 +196,8 @@ fn differing(bytes: &[u8], other: &[u8]) -> usize
         .count()
 }
 
-// The eight bytes of a selection.
-fn selection_in(request: &FrameBuf) -> Option<[u8; 8]>
-    ensures { result ≡ selection_in (frame_of request.now) }
-{
-    match parse(request.as_slice()) {
-        Ok(Frame::Long { ci, body, .. }) if ci == SELECTION => {
-            let (wire, _) = body.split_first_chunk::<8>()?;
-            Some(*wire)
-        }
-        _ => None,
-    }
-}
-
-// A selection whose answer is to be confirmed.
-fn wire_if(confirms: bool, wire: [u8; 8]) -> Option<[u8; 8]>
-    ensures { result ≡ wire_if confirms wire }
-{
-    if confirms { Some(wire) } else { None }
-}
-
-fn bytes_of_noise() -> AnswerBuf
+/// Bytes that are no frame.
+pub(crate) fn bytes_of_noise() -> AnswerBuf
     ensures { result ≡ noise }
 {
     let mut answer = AnswerBuf::new();
@@ -268,7 +205,8 @@ fn bytes_of_noise() -> AnswerBuf
     answer
 }
 
-fn copy_of(answer: &AnswerBuf) -> AnswerBuf
+/// The same bytes.
+pub(crate) fn copy_of(answer: &AnswerBuf) -> AnswerBuf
     ensures { result ≡ answer.now }
 {
     let mut copy = AnswerBuf::new();

@@ -5,6 +5,7 @@ ghost use Rattle.dc_linkframe.specs.Reading.{frame_of};
 ghost use Rattle.mbdc_installer.specs.Course.{address_after, after_answer, after_request, is_reset};
 ghost use Rattle.mbdc_installer.specs.Course.{is_selection, last_meter, new_course, one_if};
 
+use crate::other::format_of;
 use dc_address::Identity;
 use dc_linkframe::control::{SELECTION, SND_NKE};
 use dc_linkframe::{Frame, parse};
@@ -32,6 +33,8 @@ pub struct Course {
     pub is_answered: bool,
     /// Whether any frame came.
     pub is_understood: bool,
+    /// Whether any response of another CI than 72 came.
+    pub is_other: bool,
     /// The meter whose telegram came last.
     pub meter: Option<Identity>,
 }
@@ -51,6 +54,7 @@ impl Course {
             collided: 0,
             is_answered: false,
             is_understood: false,
+            is_other: false,
             meter: None,
         }
     }
@@ -71,6 +75,7 @@ impl Course {
             collided: self.collided,
             is_answered: self.is_answered,
             is_understood: self.is_understood,
+            is_other: self.is_other,
             meter: self.meter,
         }
     }
@@ -92,6 +97,7 @@ impl Course {
             collided: one_if(self.is_request && is_noise, self.collided),
             is_answered: self.is_answered || !is_silent,
             is_understood: self.is_understood || is_frame,
+            is_other: self.is_other || format_of(answer).is_some(),
             meter: last_meter(meter_of(answer), self.meter),
         }
     }

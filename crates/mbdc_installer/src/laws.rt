@@ -5,6 +5,7 @@ ghost use Rattle.dc_address.specs.declared.identity.Identity.{Identity as Meter}
 ghost use Rattle.mbdc_bus.specs.Bus.{Exchange};
 ghost use Rattle.mbdc_installer.specs.Confirming.{Confirms, HasMeters, IsKnown};
 ghost use Rattle.mbdc_installer.specs.Course.{CountsAnswers};
+ghost use Rattle.mbdc_installer.specs.Other.{AnswersInStep, HidesNone, IsClosedOnce};
 
 use mbdc_bus::Bus;
 
@@ -20,4 +21,15 @@ pub fn a_confirmed_meter_is_known<B: Bus>()
     ensures { (meters : List Meter) (wire : List ℕ) (meter : Meter) (is_due : Bool) (old new : B)
         → HasMeters B.asks_all meters → Confirms B.asks_all wire meter is_due old true new
         → IsKnown meters wire meter is_due }
+{}
+
+/// A wildcard that a frame of another CI closed is matched by no meter of CI 72, while one of its digits is open: such a
+/// meter would have answered in step with that frame, and its CI has a bit that 72 lacks.
+pub fn a_closed_wildcard_hides_no_meter<B: Bus>()
+    ensures { (meters : List Meter) → AnswersInStep B.asks_all meters → HidesNone B.asks_all meters }
+{}
+
+/// Any wildcard may be closed, by a meter whose telegrams have no header.
+pub fn any_wildcard_may_be_closed()
+    ensures { (wire : List ℕ) → IsClosedOnce wire }
 {}

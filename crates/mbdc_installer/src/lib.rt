@@ -12,8 +12,10 @@ mod address;
 pub mod bench;
 mod confirming;
 mod course;
+mod hearing;
 mod laws;
 mod number;
+mod other;
 mod primary;
 mod reading;
 mod unread;
@@ -21,7 +23,10 @@ mod wildcards;
 
 pub use address::{Addressing, Target, put_addressing, set_address};
 pub use course::Course;
-pub use laws::{a_confirmed_meter_is_known, a_course_counts_the_answers};
+pub use laws::{
+    a_closed_wildcard_hides_no_meter, a_confirmed_meter_is_known, a_course_counts_the_answers,
+    any_wildcard_may_be_closed,
+};
 pub use number::{Numbered, find_number, put_unfound};
 pub use primary::{Asked, GREATEST, ask_address, identify, is_there, scan_primary, sender_at};
 pub use reading::{Readout, read};

@@ -11,7 +11,8 @@ use crate::bench::listing::list_over;
 use crate::bench::printer::Printer;
 use crate::bench::progress::{Cleared, Progress};
 use crate::bench::reading::read_named;
-use crate::confirming::Wildcard;
+use crate::hearing::Wildcard;
+use crate::other::Noting;
 use crate::{
     Addressing, Count, Readout, ScanFault, Target, put_addressing, scan, scan_primary, set_address,
 };
@@ -110,11 +111,7 @@ where
         } else {
             None
         },
-        wildcard: Wildcard {
-            confirms: matches!(work, Work::Search(_)),
-            wire: None,
-            last: None,
-        },
+        wildcard: Wildcard::new(matches!(work, Work::Search(_))),
         is_hushed: &progress.is_hushed,
     };
     let mut out = WriteSink::new(out);
@@ -143,9 +140,9 @@ pub fn work_over<'a, R, B, W>(
 ) -> Ending<'a>
 where
     R: Clock + Eprint,
-    B: Bus,
+    B: Noting,
     W: Printer,
-    ensures { Works B.Bus W.Sink work bus.old bus.new out.old out.new result }
+    ensures { Works B.Bus B.others W.Sink work bus.old bus.new out.old out.new result }
 {
     let outcome = do_and_finish(alloc, work, bus, out);
     let is_lost = bus.is_lost();
@@ -158,16 +155,16 @@ where
 }
 
 // Does the work, and prints what comes last.
-fn do_and_finish<B: Bus, W: Printer>(
+fn do_and_finish<B: Noting, W: Printer>(
     alloc: Global,
     work: Work,
     bus: &mut B,
     out: &mut W,
 ) -> Result<Done, ScanFault>
-    ensures { DoesOrStops B.Bus W.Sink work bus.old bus.new out.old out.new result }
+    ensures { DoesOrStops B.Bus B.others W.Sink work bus.old bus.new out.old out.new result }
 {
     match do_work(alloc, work, bus, out) {
-        Ok(done) => match finish(bus.late(), out) {
+        Ok(done) => match finish(bus.others(), bus.late(), out) {
             Ok(()) => Ok(done),
             Err(IoFault) => Err(ScanFault::Write),
         },

@@ -1,9 +1,10 @@
 //! A bus on which a search is given up that hears noise alone, and on which it believes who is confirmed.
 
 ghost use Rattle.std.specs.Prelude.{◌≡◌};
-ghost use Rattle.mbdc_installer.specs.Listening.{heard_as, is_given_up, left_after};
+ghost use Rattle.mbdc_installer.specs.Listening.{heard_as, is_given_up, left_after, left_with};
 
-use crate::confirming::{self, Wildcard};
+use crate::hearing::{self, Wildcard};
+use crate::other::{Noting, Other};
 use dc_linkframe::{FrameBuf, parse};
 use mbdc_bus::{AnswerBuf, Bus};
 use std::cell::Cell;
@@ -18,7 +19,7 @@ pub(crate) struct Listening<'c, B: Bus + Drop> {
     pub bus: B,
     /// Number of answers that may still be noise; none once a frame came, or where nothing is given up.
     pub left: Option<u8>,
-    /// The wildcard that a search selected by last.
+    /// What a search knows of its wildcards.
     pub wildcard: Wildcard,
     /// Set once it is given up: what noise alone said isn't printed.
     pub is_hushed: &'c Cell<bool>,
@@ -35,12 +36,12 @@ impl<B: Bus + Drop> Listening<'_, B> {
     // Counts an answer. The one by which the search is given up is silence.
     fn heard(&mut self, answer: AnswerBuf) -> AnswerBuf
         ensures bus { self.new.bus ≡ self.old.bus }
-        ensures left { self.new.left ≡ left_after answer self.old.left }
+        ensures left { self.new.left ≡ left_with self.old.wildcard.others answer self.old.left }
         ensures answer { result ≡ heard_as self.new.left answer }
         ensures wildcard { self.new.wildcard ≡ self.old.wildcard }
         ensures hushed { self.new.is_hushed ≡ self.old.is_hushed }
     {
-        self.left = left_after(&answer, self.left);
+        self.left = left_with(self.wildcard.others.as_slice(), &answer, self.left);
         if self.is_given_up() {
             self.is_hushed.set(true);
             AnswerBuf::new()
@@ -50,7 +51,17 @@ impl<B: Bus + Drop> Listening<'_, B> {
     }
 }
 
-// How many answers may still be noise.
+// How many answers may still be noise; a frame that closed a wildcard is a frame.
+fn left_with(others: &[Other], answer: &AnswerBuf, left: Option<u8>) -> Option<u8>
+    ensures { result ≡ left_with others.now answer.now left }
+{
+    match others {
+        [] => left_after(answer, left),
+        _ if answer.as_slice().is_empty() => left,
+        _ => None,
+    }
+}
+
 fn left_after(answer: &AnswerBuf, left: Option<u8>) -> Option<u8>
     ensures { result ≡ left_after answer.now left }
 {
@@ -99,11 +110,19 @@ impl<B: Bus + Drop> Bus for Listening<'_, B> {
         if self.is_given_up() {
             return AnswerBuf::new();
         }
-        let answer = confirming::ask(&mut self.bus, &mut self.wildcard, request);
+        let answer = hearing::ask(&mut self.bus, &mut self.wildcard, request);
         self.heard(answer)
     }
 
     fn late(&self) -> u64 {
         self.bus.late()
+    }
+}
+
+impl<B: Bus + Drop> Noting for Listening<'_, B> {
+    ghost others = { λ listening. listening.wildcard.others };
+
+    fn others(&self) -> &[Other] {
+        self.wildcard.others.as_slice()
     }
 }

@@ -4,6 +4,7 @@ use crate::bench::command::{Done, Listing, Scan, Work};
 use crate::bench::ending::ended;
 use crate::bench::printer::Printer;
 use crate::bench::progress::Progress;
+use crate::other::{Noting, Other, digits_of, put_other};
 use crate::{Count, GREATEST, ScanFault, ask_address, is_there, sender_at};
 use dc_address::Identity;
 use dc_records::names::medium_name;
@@ -13,7 +14,7 @@ use mbdc_bus::{Bus, search_windows};
 use mbdc_decode::put_point;
 use mbdc_decode::tokens::{Piece, put_pieces};
 use mbdc_ending::Ending;
-use mbdc_io::{FixedSink, IoFault, Sink, put_number};
+use mbdc_io::{FixedSink, IoFault, Sink, put_byte, put_number};
 use std::alloc::Global;
 use std::rt::Clock;
 
@@ -41,7 +42,7 @@ pub(crate) fn list_over<'a, R, B, W>(
 ) -> Ending<'a>
 where
     R: Clock + Eprint,
-    B: Bus,
+    B: Noting,
     W: Printer,
 {
     let mut list = List {
@@ -64,7 +65,7 @@ where
 
 impl<W: Printer, R: Clock + Eprint> List<'_, '_, W, R> {
     // Searches, and writes what is found.
-    fn all<B: Bus>(
+    fn all<B: Noting>(
         &mut self,
         alloc: Global,
         scan: Scan,
@@ -82,6 +83,9 @@ impl<W: Printer, R: Clock + Eprint> List<'_, '_, W, R> {
                 None
             }
         };
+        for other in bus.others() {
+            self.put_closed(other)?;
+        }
         if bus.late() != 0 {
             let late = Piece::Number(bus.late());
             self.put_event(b"LATE ", b"late\",\"answers\":", late, b"}\n")?;
@@ -106,7 +110,7 @@ impl<W: Printer, R: Clock + Eprint> List<'_, '_, W, R> {
             self.put_meter(meter, None)?;
         }
         for number in search.shared() {
-            let number = digits_of(*number);
+            let number = eight_digits(*number);
             self.put_event(
                 b"SHARED ",
                 b"shared\",\"number\":\"",
@@ -142,6 +146,23 @@ impl<W: Printer, R: Clock + Eprint> List<'_, '_, W, R> {
             }
         }
         Ok(())
+    }
+
+    // Writes a wildcard that was closed: an object; beside a list a line on standard error.
+    fn put_closed(&mut self, other: &Other) -> Result<(), ScanFault> {
+        let put = match self.listing {
+            Listing::Csv(_) => {
+                let mut text: FixedSink<ROOM> = FixedSink::new();
+                let put = put_noted(&mut text, other);
+                self.progress.say(text.as_slice());
+                put
+            }
+            _ => put_object(self.out, other),
+        };
+        match put {
+            Ok(()) => Ok(()),
+            Err(IoFault) => Err(ScanFault::Write),
+        }
     }
 
     // Writes a meter, found at its primary address or by wildcards, as a row or an object.
@@ -212,8 +233,28 @@ fn put_row<W: Sink>(
     out.put(b"\n")
 }
 
+fn put_noted<W: Sink>(out: &mut W, other: &Other) -> Result<(), IoFault> {
+    out.put(b"mbdc: ")?;
+    put_other(other, out)
+}
+
+fn put_object<W: Sink>(out: &mut W, other: &Other) -> Result<(), IoFault> {
+    out.put(b"{\"event\":\"other\",\"mask\":\"")?;
+    out.put(&digits_of(&other.wire))?;
+    out.put(b"\",\"ci\":\"")?;
+    put_byte(out, other.format.ci)?;
+    match &other.format.number {
+        Some(number) => {
+            out.put(b"\",\"number\":\"")?;
+            out.put(&digits_of(number))?;
+            out.put(b"\"}\n")
+        }
+        None => out.put(b"\",\"number\":null}\n"),
+    }
+}
+
 // The eight digits of a number.
-fn digits_of(number: u32) -> [u8; 8] {
+fn eight_digits(number: u32) -> [u8; 8] {
     let mut left = number;
     let mut digits = [b'0'; 8];
     for digit in digits.iter_mut().rev() {

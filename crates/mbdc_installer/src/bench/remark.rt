@@ -49,6 +49,9 @@ fn hint(course: &Course, count: Option<Count>, is_watched: bool) -> &'static [u8
         Some(count) if count.shared != 0 => {
             b"SHARED: find these meters by scan --primary, and read each by its address\n"
         }
+        _ if course.is_other => {
+            b"telegrams of another CI than 72 came, which mbdc doesn't read: can these meters send 72?\n"
+        }
         Some(count) if count.meters == 0 && is_all_read(course) => {
             b"answers came, but of no meter: look at speed, parity and noise\n"
         }
