@@ -18,6 +18,8 @@ pub mod Rounds
 pub mod Storing
 -- where first questions are answered, none is spared
 pub mod Spared
+-- where nobody is busy, nothing is dropped
+pub mod Retried
 -- a queue that is at its end went through all its meters, in passes
 pub mod Tried
 -- a meter that is done with isn't started again

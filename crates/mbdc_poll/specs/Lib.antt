@@ -12,6 +12,8 @@ pub mod Queue
 pub mod Talking
 -- a bus that asks a meter that was silent in the last poll one question
 pub mod Sparing
+-- a bus on which a busy meter is asked again
+pub mod Retrying
 -- what a round commits
 pub mod Keeping
 -- what the tries of a readout brought

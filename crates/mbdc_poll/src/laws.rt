@@ -9,6 +9,7 @@ ghost use Rattle.dc_address.specs.Identity.{identity_cmp};
 ghost use Rattle.dc_address.specs.declared.identity.Identity.{Identity};
 ghost use Rattle.mbdc_change.specs.State.{State};
 ghost use Rattle.dc_core.specs.Core.{Core};
+ghost use Rattle.dc_core.specs.declared.line_heard.LineHeard.{LineHeard};
 ghost use Rattle.dc_core.specs.Transcript.{Turn, IsChain, leads};
 ghost use Rattle.mbdc_poll.specs.Committed.{IsCommittedWhereNoneIsAsked};
 ghost use Rattle.mbdc_poll.specs.Failures.{BroughtIsTold};
@@ -19,6 +20,7 @@ ghost use Rattle.mbdc_poll.specs.Planned.{queue_on};
 ghost use Rattle.mbdc_poll.specs.Queue.{Part, part, AreApart, Goes, GoesWell, IsToldAs, IsTried};
 ghost use Rattle.mbdc_poll.specs.Queue.{Lacks, meter_of, most_asks, read_in, requests_in};
 ghost use Rattle.mbdc_poll.specs.Queue.{starts_in};
+ghost use Rattle.mbdc_poll.specs.Retrying.{DropsNothing, IsAskedAgain};
 ghost use Rattle.mbdc_poll.specs.Sparing.{IsAskedOnce, SparesNothing};
 ghost use Rattle.mbdc_poll.specs.declared.end.End.{End};
 ghost use Rattle.mbdc_poll.specs.declared.event.Event.{Event as Told};
@@ -86,4 +88,11 @@ pub fn what_is_read_is_committed<B: HalfBus + Drop, T: Timer<B>>()
 pub fn a_silent_meter_is_asked_once<B: HalfBus + Drop>()
     ensures spares { SparesNothing B.HalfBus }
     ensures once { (question : List ℕ) → IsAskedOnce question }
+{}
+
+/// Where no meter answers that it is busy, [`Retrying`](crate::Retrying) drops nothing: the talk is one on the bus
+/// itself. Where one does twice, the readout hears silence twice, and the third answer to the same request.
+pub fn a_busy_meter_is_asked_again<B: HalfBus + Drop>()
+    ensures drops { DropsNothing B.HalfBus }
+    ensures again { (request third : List ℕ) (answer : LineHeard) → IsAskedAgain request third answer }
 {}
