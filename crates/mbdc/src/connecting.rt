@@ -2,17 +2,29 @@
 
 ghost use Rattle.std.specs.Prelude.{⊤};
 
+use libc::net::poll;
+use mbdc_bus::trace::{Observed, Observer};
 use mbdc_commands::links_of;
 use mbdc_commands::words::{LinkName, Links};
 use mbdc_ending::Ending;
 use mbdc_files::{Host, without_number};
 use mbdc_raw::GivenUp;
 use mbdc_raw::links::reach::{Connector, Unconnected, reach_all, release_all};
-use mbdc_raw::links::{Connection, Held, Peer, Socket};
+use mbdc_raw::links::{Connection, Held, LinkBus, Peer, Socket, SystemBus};
 use std::fs::File;
 use std::net::{Net, TcpStream};
 use std::rt::{Clock, Files};
+use std::time::{Duration, Instant};
 use std::{fs, io};
+
+// For how many seconds a link by TCP is tried again: a converter may start together with this box, and take longer.
+const AGAIN: u64 = 60;
+
+// The pause between two tries of a link, in milliseconds.
+const PAUSE: i32 = 5_000;
+
+// The most tries within that time.
+const MOST_TRIES: usize = 12;
 
 // The links of a command, or the ending of the command without them.
 type Connected<'a, R> = Result<Vec<Option<Peer<R>>>, Ending<'a>>;
@@ -28,6 +40,7 @@ where
     let mut linker = Linker {
         rt: host.rt,
         has_lines: false,
+        begun: None,
     };
     match reach_all(host.rt.alloc(), links, &mut linker) {
         Err(Unconnected::Link(missed)) => Err(host.why.link(None, missed.why)),
@@ -35,22 +48,60 @@ where
     }
 }
 
-/// Connects the links that can be; the first is that of line 1. For each other a line is printed on standard error,
-/// and its line is as one without a link.
+/// Connects the links that can be; the first is that of line 1. One by TCP that can't be at first is tried again for a
+/// minute, if that is asked for. For each that can't be connected a line is printed on standard error, and its line is
+/// as one without a link.
 ///
 /// # Errors
 /// The ending of the command: no link can be connected, or memory ran out.
-pub fn reached<'a, R>(host: &Host<'_, R>, links: &Links<'_>) -> Connected<'a, R>
+pub fn reached<'a, R>(host: &Host<'_, R>, links: &Links<'_>, again: bool) -> Connected<'a, R>
 where
     R: Files<File = File> + Net<Stream = TcpStream> + Clock + Copy + Eprint + AllocGlobal,
 {
     let mut linker = Linker {
         rt: host.rt,
         has_lines: true,
+        begun: if again {
+            Instant::now(host.rt).ok()
+        } else {
+            None
+        },
     };
     let peers = reach_all(host.rt.alloc(), &links.links, &mut linker);
     host.why.is_named.set(peers.is_err());
     links_of(host.why, peers)
+}
+
+/// Makes the bus of each connected link, with its observer; a line without a link has an absent one. Where no patience
+/// in milliseconds is given, each link has its own.
+///
+/// # Errors
+/// The ending of the command: the clock failed, or memory ran out.
+pub fn buses_of<'p, 'e, O, R>(
+    host: &Host<'_, R>,
+    peers: &'p [Option<Peer<R>>],
+    observers: Vec<O>,
+    patience: Option<u16>,
+) -> Result<Vec<Observed<SystemBus<'p, R>, O>>, Ending<'e>>
+where
+    O: Observer + Drop,
+    R: Net<Stream = TcpStream> + Clock + Copy + AllocGlobal,
+{
+    let mut buses = Vec::new(host.rt.alloc());
+    for (peer, observer) in peers.iter().zip(observers) {
+        let bus = match peer {
+            Some(peer) => peer.bus(*host.rt, patience.unwrap_or(peer.patience())),
+            None => Ok(LinkBus::Absent),
+        };
+        let bus = match bus {
+            Ok(bus) => Observed { bus, observer },
+            Err(error) => return Err(host.why.link(None, error)),
+        };
+        if buses.push(bus).is_err() {
+            return Err(Ending::Memory);
+        }
+    }
+    Ok(buses)
 }
 
 // Says on standard error why a line was given up, if it was: what is wrong on a bus where only such bytes come.
@@ -83,6 +134,7 @@ where
     let mut linker = Linker {
         rt: host.rt,
         has_lines: true,
+        begun: None,
     };
     release_all::<LinkName<'_>, Peer<R>, io::Error, Linker<'_, R>>(peers, &mut linker);
 }
@@ -93,6 +145,54 @@ struct Linker<'r, R> {
     // The system.
     rt: &'r R,
     has_lines: bool,
+    // Since when links are connected that are tried again.
+    begun: Option<Instant>,
+}
+
+impl<R> Linker<'_, R>
+where
+    R: Files<File = File> + Net<Stream = TcpStream> + Clock + Copy + Eprint + AllocGlobal,
+{
+    // Connects a link, by one try.
+    fn try_once(&self, name: &LinkName<'_>) -> io::Result<Peer<R>> {
+        match *name {
+            LinkName::Tcp(place) => Ok(Peer::Tcp(Socket::new(self.rt, place)?)),
+            LinkName::Serial(path) => Ok(Peer::Serial(Held::open(self.rt, path)?)),
+            LinkName::Blocks(place) => Ok(Peer::Blocks(Connection::new(self.rt, place)?)),
+        }
+    }
+
+    // Connects a link that couldn't be connected, if that succeeds in time.
+    fn try_again(&self, name: &LinkName<'_>, error: io::Error) -> io::Result<Peer<R>> {
+        let Some(begun) = self.begun else {
+            return Err(error);
+        };
+        let mut last = error;
+        'tries: for _ in 0..MOST_TRIES {
+            match begun.elapsed(self.rt) {
+                Ok(spent) if spent < Duration::from_secs(AGAIN) => {}
+                _ => break 'tries,
+            }
+            poll(&mut [], PAUSE);
+            match self.try_once(name) {
+                Ok(peer) => return Ok(peer),
+                Err(error) => last = error,
+            }
+        }
+        Err(last)
+    }
+
+    // Says on standard error that the link of this name is tried again.
+    fn say_again(&self, place: &str, error: &io::Error) {
+        if self.begun.is_some()
+            && let Ok(said) = format!(in self.rt.alloc(); "{error}")
+        {
+            let words = without_number(said.as_str());
+            let _ = eprint!(self.rt;
+                "mbdc: gateway: {place}: {words}; it is tried again for a minute\n"
+            );
+        }
+    }
 }
 
 impl<'n, R> Connector<LinkName<'n>, Peer<R>, io::Error> for Linker<'_, R>
@@ -111,10 +211,12 @@ where
     // The host isn't found or doesn't accept the connection within 10 s; the terminal can't be opened, or another
     // program uses it; or out of memory.
     fn connect(&mut self, name: &LinkName<'n>) -> io::Result<Peer<R>> {
-        match *name {
-            LinkName::Tcp(place) => Ok(Peer::Tcp(Socket::new(self.rt, place)?)),
-            LinkName::Serial(path) => Ok(Peer::Serial(Held::open(self.rt, path)?)),
-            LinkName::Blocks(place) => Ok(Peer::Blocks(Connection::new(self.rt, place)?)),
+        match (self.try_once(name), *name) {
+            (Err(error), LinkName::Tcp(place) | LinkName::Blocks(place)) => {
+                self.say_again(place, &error);
+                self.try_again(name, error)
+            }
+            (peer, _) => peer,
         }
     }
 

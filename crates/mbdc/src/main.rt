@@ -7,6 +7,7 @@ mod clock;
 mod connecting;
 mod demo;
 mod ending;
+mod exchanged;
 mod fit;
 mod inspect;
 mod journal;

@@ -1,7 +1,8 @@
 //! The command `poll`: the registered meters of an image are read over the bus lines.
 
 use crate::clock::moment;
-use crate::connecting::{reached, released};
+use crate::connecting::{buses_of, reached, released};
+use crate::exchanged::{Attending, Missing, look_for_missing};
 use crate::journal::Noting;
 use crate::names::meters_of;
 use crate::tracing::{Trace, shows_progress, trace_of, tracers_of};
@@ -9,7 +10,7 @@ use dc_address::Identity;
 use dc_meters::House;
 use dc_sectors::FileDisk;
 use mbdc_bus::HalfBus;
-use mbdc_bus::trace::{Observed, Observer};
+use mbdc_bus::trace::Observer;
 use mbdc_change::Moment;
 use mbdc_commands::words::PollTask;
 use mbdc_commands::{Printing, SparingWatch, poll_over};
@@ -17,8 +18,8 @@ use mbdc_ending::Ending;
 use mbdc_files::{Host, Output, open_disk};
 use mbdc_io::NoMemory;
 use mbdc_poll::events::{Form, Notes};
-use mbdc_poll::{Doubt, Plan, Sparing};
-use mbdc_raw::links::{LinkBus, Peer, Watched};
+use mbdc_poll::{Doubt, Plan, Retrying, Sparing};
+use mbdc_raw::links::{Peer, Watched};
 use std::alloc::Global;
 use std::fs::{File, OpenFile};
 use std::io;
@@ -48,7 +49,7 @@ where
         Ok(trace) => trace,
         Err(error) => return host.why.file(task.trace.unwrap_or_default(), error),
     };
-    let peers = match reached(host, &task.links) {
+    let peers = match reached(host, &task.links, task.tries > 1) {
         Ok(peers) => peers,
         Err(ending) => return ending,
     };
@@ -86,11 +87,16 @@ where
         form: if task.is_json { Form::Json } else { Form::Text },
         is_shown: shows_progress(host, trace),
     };
+    let missing = Missing::new(&house);
     let mut notes = Noting::new(host, task.image, house);
     // A meter that is named gets all its tries.
     let lines = u8::try_from(peers.len()).unwrap_or_default();
     let doubts = notes.doubts(lines, !only.is_empty());
-    match (tracers_of(host, trace, peers.len()), doubts) {
+    let notes = Attending {
+        notes,
+        missing: &missing,
+    };
+    let ending = match (tracers_of(host, trace, peers.len()), doubts) {
         (Ok(observers), Ok(mut doubts)) => poll_peers(
             host,
             disk,
@@ -104,11 +110,13 @@ where
         ),
         (Err(ending), _) => ending,
         (_, Err(NoMemory)) => Ending::Memory,
-    }
+    };
+    look_for_missing(host, peers, trace, &missing, task.patience);
+    ending
 }
 
-// Makes the bus of each connected link, with its observer, and reads the meters over them. The observers are any, for
-// the checker meets its step limit over the parts of a trace.
+// Reads the meters over the buses of the connected links. The observers are any, for the checker meets its step limit
+// over the parts of a trace.
 fn poll_peers<'a, D, O, J, R>(
     host: &Host<'_, R>,
     disk: FileDisk<D>,
@@ -126,26 +134,14 @@ where
     J: Notes + Drop,
     R: Files<File = File> + Net<Stream = TcpStream> + Clock + Copy + Print + Eprint + AllocGlobal,
 {
-    let mut buses = Vec::new(host.rt.alloc());
-    for (peer, observer) in peers.iter().zip(observers) {
-        // One without a link is absent.
-        let bus = match peer {
-            Some(peer) => peer.bus(*host.rt, task.patience.unwrap_or(peer.patience())),
-            None => Ok(LinkBus::Absent),
-        };
-        let bus = match bus {
-            Ok(bus) => Observed { bus, observer },
-            Err(error) => return host.why.link(None, error),
-        };
-        if buses.push(bus).is_err() {
-            return Ending::Memory;
-        }
+    match buses_of(host, peers, observers, task.patience) {
+        Ok(buses) => poll_sparing(host, disk, buses, doubts, only, printing, notes, task),
+        Err(ending) => ending,
     }
-    poll_sparing(host, disk, buses, doubts, only, printing, notes, task)
 }
 
-// Reads the meters over these buses, each of which asks who was silent on it one question. They are any, as the
-// observers are.
+// Reads the meters over these buses, each of which asks who was silent on it one question, and who is busy again. They
+// are any, as the observers are.
 fn poll_sparing<'a, D, B, J, R>(
     host: &Host<'_, R>,
     disk: FileDisk<D>,
@@ -165,7 +161,7 @@ where
     let mut sparing = Vec::new(host.rt.alloc());
     for (bus, silent) in buses.into_iter().zip(doubts.iter_mut()) {
         if sparing
-            .push(Sparing::new(bus, silent.as_mut_slice()))
+            .push(Sparing::new(Retrying::new(bus), silent.as_mut_slice()))
             .is_err()
         {
             return Ending::Memory;

@@ -4,7 +4,7 @@ ghost use Rattle.mbdc_commands.specs.Waiting.{AddsAwaited, AddsOne};
 ghost use Rattle.mbdc_poll.specs.Waiting.{is_awaited};
 
 use mbdc_bus::HalfBus;
-use mbdc_poll::{Sparing, Station, is_awaited};
+use mbdc_poll::{Retrying, Sparing, Station, is_awaited};
 use mbdc_raw::links::{Watch, Watched};
 use std::mem;
 
@@ -42,7 +42,7 @@ impl SparingWatch {
     }
 }
 
-impl<B: HalfBus + Watched + Drop> Waits<Sparing<'_, B>> for SparingWatch {
+impl<B: HalfBus + Watched + Drop> Waits<Sparing<'_, Retrying<B>>> for SparingWatch {
     ghost use Rattle.std.specs.Prelude.{⊤};
 
     // What a wait does is in no contract.
@@ -50,11 +50,11 @@ impl<B: HalfBus + Watched + Drop> Waits<Sparing<'_, B>> for SparingWatch {
 
     ghost waited = { λ _ _. ⊤ };
 
-    fn add_bus(&mut self, bus: &Sparing<'_, B>)
+    fn add_bus(&mut self, bus: &Sparing<'_, Retrying<B>>)
         ensures { ⊤ }
     {
         self.spares = self.spares || bus.spares;
-        bus.bus.add_to(&mut self.watch);
+        bus.bus.bus.add_to(&mut self.watch);
     }
 
     fn wait_for_all(&mut self)

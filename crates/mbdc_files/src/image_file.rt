@@ -26,7 +26,7 @@ pub struct ImageFile<'h, 'n, R> {
     rt: &'h R,
     name: &'n str,
     syncs: Cell<u32>,
-    // The root sectors, as they were last read or written.
+    // The root sectors, as they were last read or written; none where that isn't known.
     roots: [Cell<Option<[u8; SECTOR]>>; 2],
 }
 
@@ -67,7 +67,7 @@ pub fn open_disk<'h, 'n, R: Files<File = File>>(
 }
 
 impl<R: Files<File = File>> ImageFile<'_, '_, R> {
-    // Notes a sector that was read or written, if it is a root.
+    // Notes what a sector has, if it is a root: nothing is known where this isn't a whole sector.
     fn note(&self, sector: &[u8], at: u64) {
         'roots: for (known, place) in self.roots.iter().zip(ROOTS.iter()) {
             if *place == at {
@@ -115,17 +115,25 @@ impl<R: Files<File = File>> FileExt for ImageFile<'_, '_, R> {
             Err(error) if self.syncs.get() >= OPENS && error.raw_os_error() == Some(EIO) => {
                 Err(io::Error::new(ErrorKind::Other, "the drive can't read a sector"))
             }
-            answer => {
+            Ok(SECTOR) => {
                 self.note(room, at);
-                answer
+                Ok(SECTOR)
             }
+            answer => answer,
         }
     }
 
     fn write_at(&self, bytes: &[u8], at: u64) -> io::Result<usize> {
         self.unless_overwritten()?;
-        self.note(bytes, at);
-        self.file.write_at(bytes, at)
+        // A write that fails may have left any bytes.
+        self.note(&[], at);
+        match self.file.write_at(bytes, at) {
+            Ok(SECTOR) => {
+                self.note(bytes, at);
+                Ok(SECTOR)
+            }
+            answer => answer,
+        }
     }
 }
 

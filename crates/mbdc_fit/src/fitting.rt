@@ -80,8 +80,8 @@ fn fit<D: Disk + Drop, A: Allocator + Copy>(
 /// disk is returned in every case.
 ///
 /// # Errors
-/// [`FitFault::Open`] and [`FitFault::NoMemory`] before anything is done; [`FitFault::Disk`] where the image couldn't be
-/// written: it has all that is asked then, or nothing of it.
+/// [`FitFault::Open`] and [`FitFault::NoMemory`] before anything is done; [`FitFault::Disk`] where the image couldn't
+/// be written: it has all that is asked then, or nothing of it.
 pub fn fit_on<D: Disk + Drop, A: Allocator + Copy>(
     alloc: A,
     disk: D,

@@ -4,7 +4,8 @@ ghost use Rattle.std.specs.Prelude.{◌≡◌, option_map};
 ghost use Rattle.mbdc_io.specs.Written.{Wrote};
 ghost use Rattle.mbdc_json.specs.Overview.{age_words, cell, cells, failure_in, failure_words};
 ghost use Rattle.mbdc_json.specs.Overview.{first_cells, overview_line, overview_lines, overview_text};
-ghost use Rattle.mbdc_json.specs.Overview.{name_of, place_cells, reported, seconds_of, sent_cells, state_by, state_cells, titles};
+ghost use Rattle.mbdc_json.specs.Overview.{name_of, place_cells, reported, seconds_of, sent_cells, state_by};
+ghost use Rattle.mbdc_json.specs.Overview.{state_cells, titles};
 ghost use Rattle.mbdc_json.specs.Overview.{value_cells};
 ghost use Rattle.mbdc_reading.specs.Sent.{sent_view};
 

@@ -215,8 +215,8 @@ fn read_parts<K: Kept, D: Disk>(
 }
 
 /// Rescues the state of an image: what it reads as; where its chain is broken, the state that the chain reads as up to
-/// there; where the root in force leads to no state, that of the older root. Sectors are cleared in `copy`, so it has to
-/// be a copy of the image, in memory.
+/// there; where the root in force leads to no state, that of the older root. Sectors are cleared in `copy`, so it has
+/// to be a copy of the image, in memory.
 ///
 /// # Errors
 /// Why the image reads as no state, if it leads to none without the sector where reading stops, nor by the older root.

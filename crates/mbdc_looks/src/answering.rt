@@ -246,8 +246,8 @@ pub fn scan<D: Disk>(disk: &mut D) -> Result<Greatest, ProgramFault>
 }
 
 /// Looks at an image: reads the root slots and the state that the image reads as, each sector of the chain once, and
-/// returns the text of what is asked; of values and status with what the journal says. Nothing is written to the disk and
-/// nothing is synced, not even the next root. Of an image that can't be read the text says why, or is empty.
+/// returns the text of what is asked; of values and status with what the journal says. Nothing is written to the disk
+/// and nothing is synced, not even the next root. Of an image that can't be read the text says why, or is empty.
 ///
 /// # Errors
 /// `Open(Device)` if a read of the disk failed, and [`ProgramFault::NoMemory`] if memory ran out.

@@ -44,7 +44,7 @@ pub struct Listed<'a> {
     list: Current,
     records: SentRecords<'a>,
     bodies: &'a [&'a [u8]],
-    // So many of the bodies were begun.
+    // How many of the bodies were begun.
     gone: usize,
 }
 

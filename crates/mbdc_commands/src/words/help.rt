@@ -333,13 +333,13 @@ pub const SCAN: &str = "Example:
   mbdc scan tcp://192.0.2.10:10001
 
 Printed: FOUND ident for each meter, SHARED number for a number that more than
-one meter has, BUDGET where the budget was spent, SELECTIONS n, and LATE n where
-n times bytes came that nothing could have sent. With --primary: ADDRESS n for
-each address that acknowledges, and its ident where its telegram can be read. A
-meter begins its readout anew afterwards; nothing is stored. On a terminal,
-standard error shows how far it is, and each meter as it answers, with its
-medium and value. Where answers were no frame, a line on standard error counts
-them at the end.
+one meter has, BUDGET where the budget was spent, SELECTIONS n, OTHER mask CI n
+where a meter sends another CI than 72, and LATE n where n times bytes came that
+nothing could have sent. With --primary: ADDRESS n for each address that
+acknowledges, and its ident where its telegram can be read. A meter begins its
+readout anew afterwards; nothing is stored. On a terminal, standard error shows
+how far it is, and each meter as it answers, with its medium and value. Where
+answers were no frame, a line on standard error counts them at the end.
 --csv N prints a list of bus line N that fit takes once its flats are filled in:
   meter,line,address,flat,medium,value
 All else that was found goes to standard error then. --json: an object a meter.
