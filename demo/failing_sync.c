@@ -1,7 +1,8 @@
 /* For demo/losses, by LD_PRELOAD: a drive beside each file, and one fdatasync that fails, after which the system takes the
    pages for clean, as Linux does. FILE.drive has what the drive holds; FILE.clean what the page cache held at the failure.
 
-   FAIL_SYNC=N: the Nth fdatasync of the process fails. FAIL_READ=N: sector N of a file NAME.image can't be read (EIO).
+   FAIL_SYNC=N: the Nth fdatasync of the process fails. FAIL_READ=N: sector N of a file NAME.image can't be read (EIO);
+   with FAIL_READS=COUNT only the first COUNT reads of it fail.
    CLOCK=SECONDS: the time of day, since 1970. */
 #define _GNU_SOURCE
 #include <errno.h>
@@ -96,8 +97,9 @@ static int is_image(int fd) {
 }
 
 ssize_t pread64(int fd, void *room, size_t length, off64_t at) {
-    const char *failing = getenv("FAIL_READ");
-    if (failing && at / SECTOR == atoll(failing) && is_image(fd)) {
+    static int failed;
+    const char *failing = getenv("FAIL_READ"), *most = getenv("FAIL_READS");
+    if (failing && at / SECTOR == atoll(failing) && is_image(fd) && (!most || failed++ < atoi(most))) {
         errno = EIO;
         return -1;
     }

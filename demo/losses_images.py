@@ -35,45 +35,6 @@ def printed(program: Program, *words: str) -> tuple[int, str, str]:
     return ended.returncode, ended.stdout, ended.stderr
 
 
-def list_of(folder: pathlib.Path, count: int) -> str:
-    """A list of that many meters, in a file."""
-    rows = "".join(f"{number:08}.PAD.01.07,1,S,A{number}\n" for number in range(1, count + 1))
-    (folder / "meters.csv").write_text("meter,line,address,flat\n" + rows)
-    return "meters.csv"
-
-
-def rot(image: pathlib.Path, sector: int) -> None:
-    """Other bytes come into a sector."""
-    with open(image, "r+b") as file:
-        file.seek(SECTOR * sector)
-        file.write(random.Random(sector).randbytes(SECTOR))
-
-
-def overtaken(program: Program, folder: pathlib.Path) -> pathlib.Path:
-    """An image whose second of three groups is damaged: it reads as the state before it, and the third is ahead."""
-    program.formats("house.image")
-    for number in (1, 2, 3):
-        (folder / "day.txt").write_text(f"OFFICE {number} FIT {number:08}.PAD.01.07 1 S A{number}\n")
-        wants(program.run("run", "house.image", "day.txt")[0] == 0, f"command {number} isn't done")
-    rot(folder / "house.image", 7)
-    return folder / "house.image"
-
-
-def an_image_that_is_behind_is_shown_and_not_written(program: Program, folder: pathlib.Path) -> None:
-    image = overtaken(program, folder)
-    before, line = image.read_bytes(), "mbdc: behind: sector 9 is ahead of what the image reads as; see mbdc rescue --help\n"
-    for words in (["inspect"], ["values"], ["status"], ["report"]):
-        status, text, said = printed(program, *words, "house.image", *(["register"] if words == ["report"] else []))
-        wants((status, said) == (3, line), f"{words[0]}: status {status}, {said!r}")
-        wants("00000001" in text or "METERS 1\n" in text, f"{words[0]} shows nothing: {text[:60]!r}")
-    bus = TransparentGateway(Bus([], random.Random(1)))
-    bus.start()
-    for words in (["run", "house.image", "day.txt"], ["fit", "house.image", list_of(folder, 3)],
-                  ["poll", "house.image", "--line", f"1=tcp://{bus.address}"]):
-        wants(program.run(*words) == (3, line), f"{words[0]} isn't refused")
-    wants(image.read_bytes() == before, "it was written")
-
-
 # Polls
 
 
@@ -194,18 +155,5 @@ def a_look_takes_the_memory_of_the_state(program: Program, folder: pathlib.Path)
         wants(ended == 0, f"{words[0]}: status {ended}, {text!r}")
 
 
-def a_copy_beside_a_poll_is_whole(program: Program, folder: pathlib.Path) -> None:
-    link = bus_of(program, folder, 60)
-    copies: list[int] = []
-    with program.start("poll", "house.image", "--line", link, stdout=subprocess.DEVNULL) as polling:
-        while polling.poll() is None:
-            name = f"copy{len(copies)}.image"
-            wants(program.run("copy", "house.image", name) == (0, ""), "no copy is made")
-            copies.append(readings_in(program, name))
-    wants(polling.returncode == 0 and len(copies) > 1, f"status {polling.returncode}, {len(copies)} copies")
-    wants(copies == sorted(copies) and copies[0] >= 0, f"readings in the copies: {copies}")
-
-
 CASES: Sequence[Any] = [
-    an_image_that_is_behind_is_shown_and_not_written, a_poll_into_a_replaced_image_stops, a_poll_outlives_its_output,
-    a_full_log_is_named, a_look_takes_the_memory_of_the_state, a_copy_beside_a_poll_is_whole]
+    a_poll_into_a_replaced_image_stops, a_poll_outlives_its_output, a_full_log_is_named, a_look_takes_the_memory_of_the_state]

@@ -13,11 +13,10 @@ from people.truth import (DECIMALS, DISTURBED, ESTIMATED, HAND, HELD, MISSING, P
 
 WORDS = {"de": {ESTIMATED: "geschätzt", HAND: "abgelesen", PROVISIONAL: "vorläufig:", MISSING: "nicht gelesen",
                 DISTURBED: "ein Zählerstand wird geprüft", HELD: "auffällig hoch", "before": "eingezogen",
-                "none": "kein Wert",
-                "only": "Tagen,"},
+                "none": "kein Wert", "only": "nur"},
          "en": {ESTIMATED: "estimated", HAND: "person", PROVISIONAL: "provisional:", MISSING: "wasn't read",
                 DISTURBED: "a reading is being checked", HELD: "unusually high", "before": "moved in",
-                "none": "no value", "only": "days,"}}
+                "none": "no value", "only": "only"}}
 MONTHS = {"de": "Jan Feb Mär Apr Mai Jun Jul Aug Sep Okt Nov Dez".split(),
           "en": "Jan Feb Mar Apr May Jun Jul Aug Sep Oct Nov Dec".split()}
 METER_CELLS = 6  # of a meter's row on a house page

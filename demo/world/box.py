@@ -17,10 +17,12 @@ Word = Union[str, int, pathlib.Path]
 
 @dataclasses.dataclass(frozen=True)
 class Ended:
-    """A run of the program that has ended: its status, the whole lines that it printed, and when it ended."""
+    """A run of the program that has ended: its status, the whole lines that it printed, when it ended, and the lines on
+    standard error."""
     status: int
     printed: list[str]
     moment: float
+    said: Sequence[str] = ()
 
     @property
     def was_killed(self) -> bool:
@@ -43,15 +45,15 @@ def run(words: Sequence[Word], text: str = "", killed_after: Optional[float] = N
 
     Ends the caller where a run that isn't to be killed takes too long."""
     with subprocess.Popen(list(map(str, words)), stdin=subprocess.PIPE, stdout=subprocess.PIPE,
-                          stderr=subprocess.DEVNULL, text=True) as process:
+                          stderr=subprocess.PIPE, text=True) as process:
         try:
-            printed, _ = process.communicate(text, seconds if killed_after is None else killed_after)
+            printed, said = process.communicate(text, seconds if killed_after is None else killed_after)
         except subprocess.TimeoutExpired:
             process.kill()
-            printed, _ = process.communicate()
+            printed, said = process.communicate()
     if killed_after is None and process.returncode == -signal.SIGKILL:
         raise SystemExit(f"{' '.join(map(str, words))[:80]}: it took more than {seconds} s")
-    return Ended(process.returncode, printed[:printed.rfind("\n") + 1].splitlines(), time.time())
+    return Ended(process.returncode, printed[:printed.rfind("\n") + 1].splitlines(), time.time(), said.splitlines())
 
 
 class Box:

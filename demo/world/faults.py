@@ -7,6 +7,7 @@ connection ends goes to the next one, as it does with ser2net.
 
 import contextlib
 import functools
+import itertools
 import operator
 import queue
 import random
@@ -16,7 +17,7 @@ from collections.abc import Callable, Sequence
 from typing import Optional
 
 from world.bus import Bus, Port
-from world.frames import ACK, SND_NKE, short_frame
+from world.frames import ACK, CI_ERROR, RSP_UD, SND_NKE, long_frame, short_frame
 from world.meters import Meter
 
 CLOSE = None
@@ -24,6 +25,7 @@ STALL = 0.8  # seconds: longer than the gap that ends an answer
 SHARE, AGAIN = 0.3, 0.1  # of the answers; seconds to an answer's copy, at most
 APART = (0.005, 0.2)  # seconds between two acknowledgements of one selection
 NOISE, OTHERS, BABBLING = b"\x00", short_frame(SND_NKE, 251), 0.1  # no frame; another master's; seconds between two
+TOO_BUSY = bytes([8])  # the application error of a meter that is too busy
 SILENT_BYTE = 0xFF  # what an idle line adds to others' bits
 
 Piece = tuple[float, Optional[bytes]]
@@ -63,6 +65,17 @@ def twice(rng: random.Random, request: bytes, answer: bytes) -> list[Piece]:
     return [(0, answer), (rng.uniform(0, AGAIN), answer)] if rng.random() < SHARE else [(0, answer)]
 
 
+def busy(every: int) -> Fault:
+    """In place of one telegram of so many the meter says that it is too busy."""
+    telegrams = itertools.count(1)
+
+    def fault(rng: random.Random, request: bytes, answer: bytes) -> list[Piece]:
+        if len(answer) <= len(ACK) or next(telegrams) % every:
+            return [(0, answer)]
+        return [(0, long_frame(RSP_UD, answer[5], CI_ERROR, TOO_BUSY))]
+    return fault
+
+
 def silent(rng: random.Random, request: bytes, answer: bytes) -> list[Piece]:
     """Nobody answers."""
     return []
@@ -84,6 +97,13 @@ def echoes(rng: random.Random, request: bytes, answer: bytes) -> list[Piece]:
 def late(longest: float) -> Fault:
     """An answer comes at any moment up to so many seconds after its request."""
     return lambda rng, request, answer: [(rng.uniform(0, longest) if rng.random() < SHARE else 0, answer)]
+
+
+def acknowledges_late(longest: float) -> Fault:
+    """An acknowledgement comes at any moment up to so many seconds after its request."""
+    def fault(rng: random.Random, request: bytes, answer: bytes) -> list[Piece]:
+        return [(rng.uniform(0, longest) if answer == ACK and rng.random() < SHARE else 0, answer)]
+    return fault
 
 
 def always_late(seconds: float) -> Fault:

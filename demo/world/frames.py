@@ -8,7 +8,7 @@ SHORT_START, LONG_START, STOP = 0x10, 0x68, 0x16
 SHORT_LENGTH, LONG_OVERHEAD = 5, 6  # bytes of a short frame; of a long one besides its content
 SND_NKE, SND_UD, RSP_UD = 0x40, 0x53, 0x08  # control bytes
 REQ_UD2 = (0x5B, 0x7B)  # by the frame count bit
-CI_VARIABLE, CI_SELECT, CI_DATA = 0x72, 0x52, 0x51
+CI_VARIABLE, CI_SELECT, CI_DATA, CI_ERROR = 0x72, 0x52, 0x51, 0x70
 SECONDARY = 0xFD  # the address of the meter that is selected
 LAST, MORE = b"\x0f", b"\x1f"  # DIFs that end the records: manufacturer data; another telegram follows
 
@@ -51,9 +51,9 @@ def long_frame(control: int, address: int, ci: int, body: bytes) -> bytes:
     return bytes([LONG_START, len(data), len(data), LONG_START, *data, checksum(data), STOP])
 
 
-def answer(address: int, body: bytes) -> bytes:
+def answer(address: int, body: bytes, ci: int = CI_VARIABLE) -> bytes:
     """A meter's answer: the long frame of a telegram."""
-    return long_frame(RSP_UD, address, CI_VARIABLE, body)
+    return long_frame(RSP_UD, address, ci, body)
 
 
 def digits(frame: bytes) -> str:

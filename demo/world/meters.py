@@ -6,8 +6,8 @@ import random
 from collections.abc import Sequence
 from typing import Optional
 
-from world.frames import (ACK, CI_DATA, CI_SELECT, MORE, REQ_UD2, SECONDARY, SND_NKE, SND_UD, Frame, Identity, answer,
-                          bcd, header, type_g)
+from world.frames import (ACK, CI_DATA, CI_SELECT, CI_VARIABLE, MORE, REQ_UD2, SECONDARY, SND_NKE, SND_UD, Frame, Identity,
+                          answer, bcd, header, type_g)
 
 DUE, DUE_BEFORE = datetime.date(2024, 12, 31), datetime.date(2023, 12, 31)
 VOLUME, STORED_DATE, STORED_VOLUME = b"\x0c\x13", b"\x42\x6c", b"\x4c\x13"  # DIF and VIF of each record
@@ -39,7 +39,7 @@ class Meter:
         self.name, self.address = str(self.identity), str(primary or "S")
         self.litres, self.telegrams, self.access = rng.randrange(80_000_000), rng.choice((1, 2)), rng.randrange(256)
         self.due, self.due_litres = DUE_BEFORE, rng.randrange(self.litres)
-        self.status = 0  # its status byte
+        self.status, self.ci = 0, CI_VARIABLE  # its status byte, and the CI of its telegrams
         self.bit: Optional[int] = None
         self.place, self.is_selected = 0, False
         self.readouts: list[Readout] = []
@@ -78,7 +78,7 @@ class Meter:
             if self.place == len(self.readouts[-1].bodies):
                 self.begin_readout(moment)
         self.bit = bit
-        return answer(self.primary or 0, self.readouts[-1].bodies[self.place])
+        return answer(self.primary or 0, self.readouts[-1].bodies[self.place], self.ci)
 
     def matches(self, mask: bytes) -> bool:
         """Whether a wildcard address selects the meter."""
