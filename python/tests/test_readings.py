@@ -80,7 +80,11 @@ CONTENTS = [*rows_of("contents.tsv"), *(fixed_row(status, code) for status in ra
 CORRECTED = {0x00: 0, 0x3A: 0, 0x3B: 0, 0x3E: 0, **{0x70 + n: n - 6 for n in range(8)}, 0x7D: 3}
 OF_VIFES = [[f"{HEADER.hex()}0493{vife:02X}0B0BCD13", f"0:332204811e{CORRECTED[vife] - 3}:m3" if vife in CORRECTED else "-"]
             for vife in range(128)]
-HEADLINES = [*rows_of("headlines.tsv"), *OF_VIFES]
+# A water meter stands at each volume that is a current one and has no VIFE
+OF_VOLUMES = [[f"{HEADER.hex()}{record}", "-" if value == "-" else f"0:{value}:{unit}"]
+              for record, quantity, vifes, _, value, unit, kind, *_ in READINGS
+              if (quantity, vifes, kind) == ("volume", "-", "number") and int(record[:2], 16) < 0x10]
+HEADLINES = [*rows_of("headlines.tsv"), *OF_VIFES, *OF_VOLUMES]
 
 
 def wanted_of(field: str, cell: str) -> object:

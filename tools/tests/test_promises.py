@@ -54,11 +54,6 @@ def test_functions_with_their_owners_and_clauses(promises: types.ModuleType, tmp
     assert shown.names() == ["Fault::fmt", "Display::fmt"] and law.is_theorem() and not append.is_theorem()
 
 
-@pytest.mark.parametrize("line, depth", [("fn f() {", 1), ("'{'", 0), ('"{" }', -1), ("{ // {", 1), (r'"\"{" {', 1)])
-def test_braces(promises: types.ModuleType, line: str, depth: int) -> None:
-    assert promises.braces(line) == depth
-
-
 @pytest.fixture
 def crate(promises: types.ModuleType, tmp_path: pathlib.Path, monkeypatch: pytest.MonkeyPatch) -> types.SimpleNamespace:
     """A crate with a mutant that changes `Store::append` and one that changes `Display::fmt`."""
@@ -78,10 +73,3 @@ def test_what_is_wrong_with_promises(promises: types.ModuleType, crate: types.Si
     assert set(promises.faults_of({"dc_x": crate}, page)) == {
         "dc_x/law: no doc comment", "dc_x: no promise rests on what must-fail/shows_eight changes", "dc_x: Store::append has no clause gone",
         "dc_x: no contract of lost", "dc_y: no contract of law", "dc_x/src/store.rt: no theorem says that its premises may be met"}
-
-
-def test_a_function_that_a_promise_calls_is_beneath_it(crate: types.SimpleNamespace) -> None:
-    append, shown, law = crate.functions
-    assert crate.promised() == [append, law] and crate.beneath() == {append, law}
-    append.text += "\nfmt();"
-    assert crate.beneath() == {append, shown, law} and list(crate.loose()) == []

@@ -24,11 +24,6 @@ def test_a_number_with_another_name(release: types.ModuleType) -> None:
     assert release.renamed(old, release.faults_in(REFUSALS.replace(", 3 Truncated", ", 4 Lengths"))) == []
 
 
-def test_entries_that_are_open(release: types.ModuleType) -> None:
-    assert release.section(CHANGES, "Unreleased") == "New:\n\n* x"
-    assert release.section(CHANGES, "0.2.0") == "" and release.section(CHANGES, "0.3.0") is None
-
-
 def test_the_version_by_each_place(release: types.ModuleType, tmp_path: pathlib.Path) -> None:
     for place, text in (("CHANGELOG.md", CHANGES), ("debian/changelog", "mbdc (0.2.0) unstable; urgency=low\n"),
                         (release.HELP, 'pub const VERSION: &str = "0.1.0, logic x";\n'), (release.PYTHON, '__version__ = "0.2.0"\n')):
@@ -49,22 +44,6 @@ def test_a_case_that_prints_another_text(release: types.ModuleType, tmp_path: pa
 def test_symbols_and_versions_of_images(release: types.ModuleType) -> None:
     assert release.symbols_in("MBDC_0 {\n global: mbdc_decode_text; mbdc_x;\n local: *;\n};") == {"mbdc_decode_text", "mbdc_x"}
     assert release.image_versions_in("| 4 | version: 2, or 1 of an earlier release |\n") == {"1", "2"}
-
-
-def test_what_came_of_steps_of_this_commit_counts(release: types.ModuleType, tmp_path: pathlib.Path,
-                                                   monkeypatch: pytest.MonkeyPatch) -> None:
-    monkeypatch.setattr(release, "KEPT", tmp_path / "steps.json")
-    assert release.kept(["gate"]) == {}
-    commit = release.said("git", "rev-parse", "HEAD").strip()
-    rows = {"gate": [True, 3600, "418 passed, 0 failed"], "lines": [True, 350, "23 passed, 0 failed"]}
-    for of, wanted in ((commit, ["gate"]), ("another", [])):
-        release.KEPT.write_text(release.json.dumps({"commit": of, "rows": rows}))
-        assert list(release.kept(["check", "gate"])) == wanted
-    assert release.shown("gate", release.Row(*rows["gate"])) == "gate         passed    3600 s  418 passed, 0 failed"
-
-
-def test_packages_that_differ(release: types.ModuleType) -> None:
-    assert release.differing({"a": b"1", "b": b"2"}, {"a": b"1", "b": b"3", "c": b""}) == ["b differs", "c differs"]
 
 
 def test_each_step_has_a_program(release: types.ModuleType) -> None:

@@ -39,24 +39,6 @@ def test_a_commit_with_other_sources_has_a_plus(tmp_path: pathlib.Path) -> None:
     assert printed(*commit) == f"{head}+\n"
 
 
-def test_check_has_a_help_that_runs_nothing(tmp_path: pathlib.Path) -> None:
-    (tmp_path / "check").symlink_to(ROOT / "check")
-    said = printed("./check", "--help", cwd=tmp_path)
-    assert said.startswith("Proves and tests") and "`./check --mutants" in said and said.endswith("--help.\n")
-
-
-def test_who_reads_no_more_of_the_headline_ends_it_without_a_word() -> None:
-    with subprocess.Popen([ROOT / "tools/promises", "--names"], stdout=subprocess.PIPE, stderr=subprocess.PIPE) as ran:
-        assert ran.stdout and ran.stderr
-        ran.stdout.close()
-        assert ran.stderr.read() == b""
-
-
-def test_the_file_for_pkg_config_of_the_packages() -> None:
-    lines = printed(ROOT / "tools/library", "--pc", "/usr", "/usr/lib/x").splitlines()
-    assert lines[:3] == ["prefix=/usr", "includedir=${prefix}/include", "libdir=/usr/lib/x"]
-
-
 @pytest.mark.parametrize("settings, port", [("", "2400"), ("BAUD=300", "300"), ("BAUD=300\nBAUD_1=2400,8N1", "2400 8N1"),
                                             ("BAUD_2=300", "2400"), ("BAUD=9600,8E1", "9600 8E1")])
 def test_the_port_of_a_bus_line_is_set_up_by_the_settings(tmp_path: pathlib.Path, settings: str, port: str) -> None:

@@ -49,16 +49,3 @@ def test_units(texts: types.ModuleType, tmp_path: pathlib.Path, listed: str, fau
     for name, text in {"src": 'Volume => "m3"', "specs": 'volume = codes "m3"', "page": f"| point | `{listed}` |\n"}.items():
         (tmp_path / name).write_text(text)
     assert texts.compared(PLACES, "point") == ({"m3"}, faults)
-
-
-def test_what_mypy_says_of_a_copy_has_the_name_of_its_script(texts: types.ModuleType) -> None:
-    copy = texts.copy_name("demo/fleet-link")
-    assert copy == "copy_demo_fleet_link.py" != texts.copy_name("demo/fleet_link/x.py")
-    said = f"/tmp/types-x/{copy}:12: error: wrong\ndemo/world/box.py:3: note: here\n"
-    assert texts.renamed(said, {copy: "demo/fleet-link"}) == "demo/fleet-link:12: error: wrong\ndemo/world/box.py:3: note: here\n"
-
-
-def test_prose_without_code(texts: types.ModuleType, tmp_path: pathlib.Path) -> None:
-    page = tmp_path / "page.md"
-    page.write_text("# A title\n\nIt tells `what stands` here.\n```\ntold\n```\n    told\n| a | told |\n")
-    assert [line.split(":")[1:3] for line in texts.mannered(page)] == [["3", " tells"], ["8", " told"]]

@@ -6,7 +6,6 @@ import pathlib
 import re
 import shlex
 import shutil
-import subprocess
 import time
 import types
 from collections.abc import Callable
@@ -128,12 +127,3 @@ def test_of_several_first_calls_one_compiles(unproved: types.ModuleType, tmp_pat
     assert counted.read_text() == "built\n"
     assert unproved.is_kept("sum")
     assert not unproved.is_kept("another sum")
-
-
-def test_what_it_says_of_itself_is_no_part_of_an_example(unproved: types.ModuleType, tmp_path: pathlib.Path) -> None:
-    program, page = tmp_path / "mbdc", tmp_path / "page.md"
-    program.write_text(f'#!/bin/sh\necho "mbdc: {unproved.UNPROVED}" >&2\necho "mbdc: file: -" >&2\necho "$@"\n')
-    program.chmod(0o755)
-    page.write_text("```\n./mbdc x\n```\n```\nmbdc: file: -\nx\n```\n")
-    ran = subprocess.run([pathlib.Path(unproved.kit.ROOT) / "demo/readme", page, "--mbdc", program], stdout=subprocess.PIPE, text=True)
-    assert (ran.stdout, ran.returncode) == ("page.md:2: as printed there\n", 0)

@@ -35,7 +35,7 @@ def test_words_are_completed(share: pathlib.Path, typed: str, wanted: str) -> No
 
 def test_manual_pages_are_sound_and_have_each_command_option_and_setting(share: pathlib.Path) -> None:
     page = {file.name: file.read_text() for file in share.glob("man/man*/*")}
-    assert set(page) == {"mbdc.1", "mbdc-house.1", "mbdc-page.1", "mbdc-port.1", "house.conf.5", "mbdc-image.5"}
+    assert set(page) == {"mbdc.1", "mbdc-house.1", "mbdc-page.1", "mbdc-port.1", "house.conf.5"}
     assert not [name for name, text in page.items() if "\n@" in text]
     for name, words in {"mbdc-house.1": ["check", "after\\-poll", "restore"], "mbdc-page.1": ["\\-\\-days", "en | de"],
                         "house.conf.5": ["LINE_1=", "serial:/PATH", "PATIENCE=", "BACKUP="]}.items():
