@@ -40,7 +40,6 @@ where
     let mut linker = Linker {
         rt: host.rt,
         has_lines: false,
-        begun: None,
     };
     match reach_all(host.rt.alloc(), links, &mut linker) {
         Err(Unconnected::Link(missed)) => Err(host.why.link(None, missed.why)),
@@ -58,16 +57,20 @@ pub fn reached<'a, R>(host: &Host<'_, R>, links: &Links<'_>, again: bool) -> Con
 where
     R: Files<File = File> + Net<Stream = TcpStream> + Clock + Copy + Eprint + AllocGlobal,
 {
-    let mut linker = Linker {
+    let linker = Linker {
         rt: host.rt,
         has_lines: true,
+    };
+    let mut patient = Patient {
+        rt: host.rt,
         begun: if again {
             Instant::now(host.rt).ok()
         } else {
             None
         },
+        linker,
     };
-    let peers = reach_all(host.rt.alloc(), &links.links, &mut linker);
+    let peers = reach_all(host.rt.alloc(), &links.links, &mut patient);
     host.why.is_named.set(peers.is_err());
     links_of(host.why, peers)
 }
@@ -134,7 +137,6 @@ where
     let mut linker = Linker {
         rt: host.rt,
         has_lines: true,
-        begun: None,
     };
     release_all::<LinkName<'_>, Peer<R>, io::Error, Linker<'_, R>>(peers, &mut linker);
 }
@@ -145,54 +147,6 @@ struct Linker<'r, R> {
     // The system.
     rt: &'r R,
     has_lines: bool,
-    // Since when links are connected that are tried again.
-    begun: Option<Instant>,
-}
-
-impl<R> Linker<'_, R>
-where
-    R: Files<File = File> + Net<Stream = TcpStream> + Clock + Copy + Eprint + AllocGlobal,
-{
-    // Connects a link, by one try.
-    fn try_once(&self, name: &LinkName<'_>) -> io::Result<Peer<R>> {
-        match *name {
-            LinkName::Tcp(place) => Ok(Peer::Tcp(Socket::new(self.rt, place)?)),
-            LinkName::Serial(path) => Ok(Peer::Serial(Held::open(self.rt, path)?)),
-            LinkName::Blocks(place) => Ok(Peer::Blocks(Connection::new(self.rt, place)?)),
-        }
-    }
-
-    // Connects a link that couldn't be connected, if that succeeds in time.
-    fn try_again(&self, name: &LinkName<'_>, error: io::Error) -> io::Result<Peer<R>> {
-        let Some(begun) = self.begun else {
-            return Err(error);
-        };
-        let mut last = error;
-        'tries: for _ in 0..MOST_TRIES {
-            match begun.elapsed(self.rt) {
-                Ok(spent) if spent < Duration::from_secs(AGAIN) => {}
-                _ => break 'tries,
-            }
-            poll(&mut [], PAUSE);
-            match self.try_once(name) {
-                Ok(peer) => return Ok(peer),
-                Err(error) => last = error,
-            }
-        }
-        Err(last)
-    }
-
-    // Says on standard error that the link of this name is tried again.
-    fn say_again(&self, place: &str, error: &io::Error) {
-        if self.begun.is_some()
-            && let Ok(said) = format!(in self.rt.alloc(); "{error}")
-        {
-            let words = without_number(said.as_str());
-            let _ = eprint!(self.rt;
-                "mbdc: gateway: {place}: {words}; it is tried again for a minute\n"
-            );
-        }
-    }
 }
 
 impl<'n, R> Connector<LinkName<'n>, Peer<R>, io::Error> for Linker<'_, R>
@@ -211,12 +165,10 @@ where
     // The host isn't found or doesn't accept the connection within 10 s; the terminal can't be opened, or another
     // program uses it; or out of memory.
     fn connect(&mut self, name: &LinkName<'n>) -> io::Result<Peer<R>> {
-        match (self.try_once(name), *name) {
-            (Err(error), LinkName::Tcp(place) | LinkName::Blocks(place)) => {
-                self.say_again(place, &error);
-                self.try_again(name, error)
-            }
-            (peer, _) => peer,
+        match *name {
+            LinkName::Tcp(place) => Ok(Peer::Tcp(Socket::new(self.rt, place)?)),
+            LinkName::Serial(path) => Ok(Peer::Serial(Held::open(self.rt, path)?)),
+            LinkName::Blocks(place) => Ok(Peer::Blocks(Connection::new(self.rt, place)?)),
         }
     }
 
@@ -240,5 +192,77 @@ where
         {
             let _ = fs::remove_file(self.rt, name.as_str());
         }
+    }
+}
+
+// Tries the links by TCP of a connector again, while a minute since it began isn't over. What is connected is any, for
+// the borrow checker doesn't cover links.
+#[derive(Drop)]
+struct Patient<'r, R, C: Drop> {
+    // The system.
+    rt: &'r R,
+    // When it began; none where nothing is tried again.
+    begun: Option<Instant>,
+    linker: C,
+}
+
+impl<'n, P, R, C> Connector<LinkName<'n>, P, io::Error> for Patient<'_, R, C>
+where
+    P: Drop,
+    R: Clock + Eprint + AllocGlobal,
+    C: Connector<LinkName<'n>, P, io::Error> + Drop,
+{
+    ghost use Rattle.std.specs.Prelude.{⊤};
+
+    ghost tries = { λ _ _ _ _. ⊤ };
+
+    ghost says = { λ _ _ _. ⊤ };
+
+    ghost releases = { λ _ _ _. ⊤ };
+
+    fn connect(&mut self, name: &LinkName<'n>) -> io::Result<P> {
+        let mut error = match self.linker.connect(name) {
+            Ok(peer) => return Ok(peer),
+            Err(error) => error,
+        };
+        let (LinkName::Tcp(place) | LinkName::Blocks(place)) = *name else {
+            return Err(error);
+        };
+        let Some(begun) = self.begun else {
+            return Err(error);
+        };
+        say_again(self.rt, place, &error);
+        for _ in 0..MOST_TRIES {
+            match begun.elapsed(self.rt) {
+                Ok(spent) if spent < Duration::from_secs(AGAIN) => {}
+                _ => return Err(error),
+            }
+            poll(&mut [], PAUSE);
+            match self.linker.connect(name) {
+                Ok(peer) => return Ok(peer),
+                Err(again) => error = again,
+            }
+        }
+        Err(error)
+    }
+
+    fn say(&mut self, line: u8, error: &io::Error)
+        ensures { ⊤ }
+    {
+        self.linker.say(line, error);
+    }
+
+    fn release(&mut self, peer: &P)
+        ensures { ⊤ }
+    {
+        self.linker.release(peer);
+    }
+}
+
+// Says on standard error that the link of this name is tried again.
+fn say_again<R: Eprint + AllocGlobal>(rt: &R, place: &str, error: &io::Error) {
+    if let Ok(said) = format!(in rt.alloc(); "{error}") {
+        let words = without_number(said.as_str());
+        let _ = eprint!(rt; "mbdc: gateway: {place}: {words}; it is tried again for a minute\n");
     }
 }

@@ -1,8 +1,5 @@
 //! Bus lines whose cables may be exchanged: a meter of a line on which nobody was heard is looked for on the others.
 
-ghost use Rattle.std.specs.Prelude.{◌≤◌, length};
-ghost use Rattle.mbdc_bus.specs.Limits.{most_request};
-
 use crate::connecting::buses_of;
 use crate::tracing::{Trace, tracers_of};
 use dc_address::{Identity, Mask};
@@ -12,11 +9,11 @@ use dc_meters::House;
 use dc_readout::Why;
 use dc_search::meter_of;
 use mbdc_bus::trace::Observer;
-use mbdc_bus::{AnswerBuf, HalfBus};
+use mbdc_bus::{Both, Bus, HalfBus, Pause};
 use mbdc_files::Host;
 use mbdc_poll::Event;
 use mbdc_poll::events::Notes;
-use mbdc_raw::links::{Peer, Watch, Watched};
+use mbdc_raw::links::{Peer, Waiter};
 use std::alloc::Global;
 use std::cell::Cell;
 use std::fs::File;
@@ -29,9 +26,6 @@ const LINES: usize = 8;
 
 // The patience in milliseconds where none is given, that of a search: nothing is stored.
 const PATIENCE: u16 = 2_000;
-
-// More waits than three answers take on eight lines.
-const MOST_WAITS: u32 = 65_535;
 
 // What a poll has found of a line.
 #[derive(Clone, Copy)]
@@ -140,20 +134,9 @@ impl<J: Notes + Drop> Notes for Attending<'_, J> {
     }
 }
 
-// A line on which a meter is looked for.
-#[derive(Drop)]
-struct Place<B: HalfBus + Drop> {
-    line: u8,
-    bus: B,
-    // Whether the next request goes there, and whether its answer is due.
-    is_asked: bool,
-    is_awaited: bool,
-    answer: AnswerBuf,
-}
-
 /// Where all meters of a line were missing in the poll, and some of another one, the first of them is selected on each
-/// line with missing meters, and standard error says where it answers with its telegram: the lines are exchanged there.
-/// Its selection is taken back. Nothing is stored, and without memory nothing is asked.
+/// other line with missing meters, one after the other, and standard error says where it answers with its telegram: the
+/// lines are exchanged there. Its selection is taken back. Nothing is stored, and without memory nothing is asked.
 pub fn look_for_missing<R>(
     host: &Host<'_, R>,
     peers: &[Option<Peer<R>>],
@@ -187,148 +170,56 @@ where
 {
     let patience = Some(patience.unwrap_or(PATIENCE));
     if let Ok(buses) = buses_of(host, peers, observers, patience) {
-        look_on(host, buses, missing);
+        look_on(host, buses, Waiter, missing);
     }
 }
 
-// Looks for a meter of each deserted line on these buses, the first of which is that of line 1.
-fn look_on<B, R>(host: &Host<'_, R>, buses: Vec<B>, missing: &Missing)
+// Looks on each of these buses, the first of which is that of line 1.
+fn look_on<B, P, R>(host: &Host<'_, R>, buses: Vec<B>, pause: P, missing: &Missing)
 where
-    B: HalfBus + Watched + Drop,
-    R: Clock + Eprint + AllocGlobal,
+    B: HalfBus + Drop,
+    P: Pause<B> + Copy + Drop,
+    R: Eprint,
 {
-    let mut places = Vec::new(host.rt.alloc());
+    let mut line = 0u8;
     for bus in buses {
-        let line = u8::try_from(places.len())
-            .unwrap_or_default()
-            .saturating_add(1);
-        let place = Place {
-            line,
-            bus,
-            is_asked: false,
-            is_awaited: false,
-            answer: AnswerBuf::new(),
-        };
-        if places.push(place).is_err() {
-            return;
-        }
-    }
-    look_for_each(host, places.as_mut_slice(), missing);
-}
-
-fn look_for_each<B, R>(host: &Host<'_, R>, places: &mut [Place<B>], missing: &Missing)
-where
-    B: HalfBus + Watched + Drop,
-    R: Clock + Eprint,
-{
-    for place in 0..LINES {
-        let line = u8::try_from(place).unwrap_or_default().saturating_add(1);
-        if let Some(meter) = missing.deserted(line) {
-            look_for(host, places, missing, line, &meter);
+        line = line.saturating_add(1);
+        if missing.is_short(line) {
+            look_on_line(host, &mut Both { bus, pause }, line, missing);
         }
     }
 }
 
-// Looks for a meter of this line on the others with missing meters, on all at once.
-fn look_for<B, R>(
-    host: &Host<'_, R>,
-    places: &mut [Place<B>],
-    missing: &Missing,
-    line: u8,
-    meter: &Identity,
-)
-where
-    B: HalfBus + Watched + Drop,
-    R: Clock + Eprint,
-{
-    for place in places.iter_mut() {
-        place.is_asked = place.line != line && missing.is_short(place.line);
+// Looks on the bus of this line for a meter of each deserted one.
+fn look_on_line<B: Bus, R: Eprint>(host: &Host<'_, R>, bus: &mut B, line: u8, missing: &Missing) {
+    let mut own = 0u8;
+    for _ in 0..LINES {
+        own = own.saturating_add(1);
+        if own != line
+            && let Some(meter) = missing.deserted(own)
+            && answers(bus, &meter)
+        {
+            let text = meter.text();
+            let name = str::from_utf8(&text).unwrap_or_default();
+            let _ = eprint!(host.rt; "mbdc: line {own}: {name} answers on line {line}\n");
+        }
     }
+}
+
+// Whether a meter that is selected answers with its telegram. Its selection is taken back.
+fn answers<B: Bus>(bus: &mut B, meter: &Identity) -> bool {
     let mut request = FrameBuf::new();
     write_selection(&Mask::of(meter).wire(), &mut request);
-    ask(places, &request);
-    drop_silent(places);
-    let mut request = FrameBuf::new();
+    let answer = bus.ask(&request);
+    if !matches!(parse(answer.as_slice()), Ok(Frame::Ack)) {
+        return false;
+    }
     write_request(true, SELECTED, &mut request);
-    ask(places, &request);
-    say_where(host, places, line, meter);
-    let mut request = FrameBuf::new();
+    let telegram = bus.ask(&request);
     write_reset(SELECTED, &mut request);
-    ask(places, &request);
-}
-
-// The next request goes only where this one was acknowledged.
-fn drop_silent<B: HalfBus + Drop>(places: &mut [Place<B>]) {
-    for place in places {
-        let is_ack = matches!(parse(place.answer.as_slice()), Ok(Frame::Ack));
-        place.is_asked = place.is_asked && is_ack;
-    }
-}
-
-// Says on which lines the meter's own telegram came.
-fn say_where<B: HalfBus + Drop, R: Eprint>(
-    host: &Host<'_, R>,
-    places: &[Place<B>],
-    line: u8,
-    meter: &Identity,
-) {
-    let text = meter.text();
-    let name = str::from_utf8(&text).unwrap_or_default();
-    for place in places {
-        if place.is_asked
-            && let Some(sender) = meter_of(place.answer.as_slice())
-            && sender == *meter
-        {
-            let other = place.line;
-            let _ = eprint!(host.rt; "mbdc: line {line}: {name} answers on line {other}\n");
-        }
-    }
-}
-
-// Sends a request to each place that is asked.
-fn send<B: HalfBus + Drop>(places: &mut [Place<B>], request: &FrameBuf)
-    requires { length request.now ≤ most_request }
-{
-    for place in places {
-        place.answer = AnswerBuf::new();
-        place.is_awaited = place.is_asked;
-        if place.is_asked {
-            place.bus.send(request);
-        }
-    }
-}
-
-// Sends a request to each place that is asked, and waits for all answers.
-fn ask<B: HalfBus + Watched + Drop>(places: &mut [Place<B>], request: &FrameBuf)
-    requires { length request.now ≤ most_request }
-{
-    send(places, request);
-    for _ in 0..MOST_WAITS {
-        let mut watch = Watch::new();
-        if hear(places, &mut watch) {
-            return;
-        }
-        watch.wait();
-    }
-}
-
-// Takes the answers that are complete, and adds the buses of the others to those that are waited for. Whether all are
-// complete.
-fn hear<B: HalfBus + Watched + Drop>(places: &mut [Place<B>], watch: &mut Watch) -> bool {
-    let mut is_over = true;
-    for place in places {
-        if place.is_awaited {
-            match place.bus.hear() {
-                Some(answer) => {
-                    place.answer = answer;
-                    place.is_awaited = false;
-                }
-                None => {
-                    place.bus.add_to(watch);
-                    is_over = false;
-                }
-            }
-        }
-    }
-    is_over
+    bus.ask(&request);
+    let Some(sender) = meter_of(telegram.as_slice()) else {
+        return false;
+    };
+    sender == *meter
 }
