@@ -1,5 +1,5 @@
 -- What `fit` leaves of a disk where memory runs out first.
-use Rattle.std.proofs.Common.{◌≡◌, ℕ, false, List, Option, Err, refl}
+use Rattle.std.proofs.Common.{ℕ, false, List, Option, Err, refl}
 use Rattle.mbdc_commands.specs.FitOver.{FitsOver}
 use Rattle.dc_sectors.proofs.Moments.{started}
 use Rattle.dc_sectors.specs.Disk.{Image, IsImage}

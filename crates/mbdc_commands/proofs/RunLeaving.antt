@@ -1,5 +1,5 @@
 -- A script whose text was written in another way.
-use Rattle.std.proofs.Common.{◌≡◌, ◌⊎◌, inl, inr, ⊎_elim, ◌≤◌, ◌<◌, ℕ, Bool, true, List, [], length, Option, Result, Ok, Err, IfOk, IfErr, IfSome, OnOk, MatchResult, refl, sym, subst, ◌∙◌}
+use Rattle.std.proofs.Common.{◌≡◌, ◌⊎◌, inl, inr, ⊎_elim, ◌≤◌, ◌<◌, ℕ, Bool, true, List, [], length, Option, Result, Ok, Err, IfOk, IfErr, IfSome, OnOk, refl, sym, subst, ◌∙◌}
 use Rattle.std.specs.Prelude.{◌≢◌, IsErrOf}
 use Rattle.std.proofs.KnownBytes.{Appends-nil}
 use Rattle.mbdc_commands.specs.Bytes.{IsPrinted}
@@ -11,8 +11,6 @@ use Rattle.mbdc_ending.specs.Unopened.{IsUnopened}
 use Rattle.mbdc_ending.specs.declared.fault.ProgramFault.{ProgramFault}
 use Rattle.mbdc_ending.specs.declared.fault.ProgramFault.TheVariants.{TooLong, Write, NoMemory}
 use Rattle.mbdc_io.specs.Lines.{most_input}
-use Rattle.mbdc_log.specs.Halves.{fewest_sectors}
-use Rattle.mbdc_log.specs.declared.fault.OpenFault.TheVariants.{NotImage}
 use Rattle.dc_poller.specs.ImageRun.{ImageCut, ImageRan}
 use Rattle.dc_poller.specs.Link.{Link}
 use Rattle.dc_poller.specs.Starved.{ImageStarved, IsOfSearch}

@@ -1,5 +1,5 @@
 -- What the commands `fit`, `swap`, `move` and `out` do to an image, what it prints, and how it ends (this product).
-use Rattle.std.specs.Prelude.{◌≡◌, ◌⊎◌, Bool, true, false, List, [], ℕ, codes, Option, Result, Ok, Err, IfOk, IfErr}
+use Rattle.std.specs.Prelude.{◌≡◌, Bool, true, false, List, [], ℕ, codes, Option, Result, Ok, Err, IfOk, IfErr}
 use Rattle.std.specs.Prelude.{if◌then◌else◌}
 use Rattle.mbdc_commands.specs.Bytes.{IsPrinted}
 use Rattle.dc_core.specs.declared.fault.CommitFault.{CommitFault}

@@ -1,5 +1,5 @@
 -- What the command `poll` does to an image, what it prints, and how it ends (this product).
-use Rattle.std.specs.Prelude.{◌≡◌, ◌⊎◌, ◌≤◌, ◌<◌, ℕ, Bool, true, false, List, [], ◌∷◌, ◌++◌, Option}
+use Rattle.std.specs.Prelude.{◌≡◌, ◌⊎◌, ◌≤◌, ℕ, Bool, List, [], ◌∷◌, ◌++◌, Option}
 use Rattle.std.specs.Prelude.{Result, IfOk, IfErr, IsErrOf}
 use Rattle.dc_address.specs.declared.identity.Identity.{Identity}
 use Rattle.mbdc_commands.specs.Bytes.{IsPrinted}

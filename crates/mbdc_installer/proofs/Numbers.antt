@@ -1,5 +1,5 @@
 -- The tries that find a meter by its number.
-use Rattle.std.proofs.Common.{◌≡◌, ℕ, ◌-◌, ◌<◌, Bool, true, false, ◌&&◌, List, [], ◌∷◌, ◌++◌, Option, None, Some, sym, ◌∙◌, subst, append_assoc}
+use Rattle.std.proofs.Common.{◌≡◌, ℕ, ◌-◌, ◌<◌, Bool, true, false, ◌&&◌, List, [], ◌∷◌, ◌++◌, None, Some, sym, ◌∙◌, subst, append_assoc}
 use Rattle.dc_address.specs.declared.identity.Identity.{Identity}
 use Rattle.mbdc_bus.specs.Windows.{Reads}
 use Rattle.dc_linkframe.specs.Control.{request_to, selected}

@@ -1,21 +1,20 @@
 -- No meter of CI 72 is behind a wildcard that is closed.
-use Rattle.std.proofs.Common.{◌≡◌, ◌≢◌, ◌⊎◌, inl, ◌<◌, ℕ, Bool, true, false, not, ◌&&◌, ◌||◌, List, [], Option, None, Some, refl, sym, ◌∙◌, ap, subst, get_or, if◌then◌else◌, arith}
+use Rattle.std.proofs.Common.{◌≡◌, ◌≢◌, inl, ◌<◌, ℕ, Bool, true, false, not, ◌&&◌, ◌||◌, List, [], Option, None, Some, refl, ◌∙◌, ap, subst, get_or, if◌then◌else◌, arith}
 use Rattle.std.proofs.lemmas.Bool.{eqb-true}
 use Rattle.std.proofs.lemmas.Bool.Decides.{nat_tests}
-use Rattle.std.specs.Prelude.{Contains, bit_and, ◌==◌}
-use Rattle.dc_address.specs.Mask.{MaskParts, mask_wire, matches}
+use Rattle.std.specs.Prelude.{bit_and, ◌==◌}
+use Rattle.dc_address.specs.Mask.{mask_wire, matches}
 use Rattle.dc_address.specs.declared.identity.Identity.{Identity}
 use Rattle.dc_linkframe.proofs.Readings.{Spells-frame_of}
 use Rattle.dc_linkframe.proofs.Spellings.{frame_of-spelling}
-use Rattle.dc_linkframe.specs.Control.{is_rsp_ud, selection_by, variable_data}
+use Rattle.dc_linkframe.specs.Control.{is_rsp_ud, variable_data}
 use Rattle.dc_linkframe.specs.Frame.{FrameSeen, ack, short, long, spelling}
 use Rattle.dc_linkframe.specs.Reading.{frame_of}
 use Rattle.dc_search.specs.Answer.{answer_of, identity_at, identity_in}
-use Rattle.mbdc_bus.specs.Windows.{Insists, data_request, most_tries}
+use Rattle.mbdc_bus.specs.Windows.{Insists}
 use Rattle.mbdc_installer.specs.Confirming.{is_open}
 use Rattle.mbdc_installer.specs.Other.{AnswersInStep, HasBitsOf, HidesNone, IsClosedOnce, Looks, can_close, closing, format_in, format_of, if_closing, is_foreign, number_in}
 use Rattle.mbdc_installer.specs.declared.other.Format.{Format}
-use Rattle.mbdc_installer.specs.declared.other.Looked.TheVariants.{Closed, Kept}
 
 refuted : (b : Bool) → (b ≡ true → ⊥) → b ≡ false
 refuted true wrong = absurd (wrong refl)

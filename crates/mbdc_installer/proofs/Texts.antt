@@ -1,6 +1,5 @@
 -- What a command does, and what is printed after its text.
-use Rattle.std.proofs.Common.{◌≡◌, ℕ, Bool, List, ◌++◌, Option, true, ap, sym, ◌∙◌, subst}
-use Rattle.std.specs.Io.KnownBytes.{append_known}
+use Rattle.std.proofs.Common.{ℕ, Bool, List, ◌++◌}
 use Rattle.mbdc_installer.specs.Command.{IsDone, IsRead, addresses, asks_each, by_address, by_identity, by_number, reads, scans, shared, unfound, unidentified}
 use Rattle.mbdc_installer.specs.declared.bench.command.Done.{Done}
 use Rattle.mbdc_installer.specs.declared.bench.command.Work.{Work}
@@ -8,8 +7,7 @@ use Rattle.mbdc_bus.specs.declared.bus.Bus.{Ghosts as BusGhosts}
 use Rattle.mbdc_installer.specs.Read.{IsReadOn}
 use Rattle.mbdc_installer.specs.Scan.{Scanned}
 use Rattle.mbdc_installer.specs.declared.reading.Readout.{Readout}
-use Rattle.mbdc_io.proofs.Pieces.{puts-both, puts_front-first}
-use Rattle.mbdc_io.specs.Stream.{begins_with, PutsFront}
+use Rattle.mbdc_io.proofs.Pieces.{puts-both}
 use Rattle.mbdc_io.specs.Written.{PutsInto}
 use Rattle.mbdc_io.specs.declared.stream.Sink.{Ghosts}
 use Rattle.dc_readout.specs.Summary.{Summary}
@@ -20,13 +18,6 @@ use Rattle.mbdc_installer.specs.declared.bench.command.MeterName.{MeterName}
 pub then_puts : {S : Type 0} (g : Ghosts S) (old between new : S) (late text : List ℕ) → PutsInto g between new late → PutsInto g old between text
     → PutsInto g old new (text ++ late)
 then_puts g old between new late text second first = puts-both (g.written old) (g.written between) (g.written new) text late first second
-
--- of the first piece of what is left, after what went out of the whole
-pub front_of_all : (old between new : Option (List ℕ)) (piece rest left all : List ℕ) → left ≡ piece ++ rest → append_known between left ≡ append_known old all
-    → PutsFront between new piece → PutsFront old new all
-front_of_all old between new piece rest left all is same front = record {
-  begins = let P : Option (List ℕ) → Type 0 = λ m. begins_with m new ≡ true in subst P (ap (append_known between) (sym is) ∙ same) (puts_front-first rest front).begins;
-}
 
 module _ {B : Type 0} (bus : BusGhosts B) (P Q : List ℕ → Type 0) (then : (text : List ℕ) → P text → Q text) where
   -- a search whose text was written in another way

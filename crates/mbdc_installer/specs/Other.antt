@@ -1,6 +1,6 @@
 -- Meters that answer with a frame of another CI than 72, and the wildcards that it closes (EN 13757-3, CI field; EN 13757-2,
 -- the current of a space wins over a mark, so a line shows the AND of what meters send at once).
-use Rattle.std.specs.Prelude.{◌≡◌, ◌≢◌, ◌<◌, ℕ, ◌+◌, ◌&&◌, ◌||◌, ◌==◌, Bool, true, false, not, List, [], ◌∷◌, ◌++◌, codes}
+use Rattle.std.specs.Prelude.{◌≡◌, ◌≢◌, ◌<◌, ℕ, ◌+◌, ◌&&◌, ◌||◌, ◌==◌, Bool, true, false, not, List, ◌++◌, codes}
 use Rattle.std.specs.Prelude.{Option, None, Some, if◌then◌else◌, Contains, length, take, get_or, slice_index, nat_le, bit_and}
 use Rattle.std.specs.List.{flat_map, list_any}
 use Rattle.std.specs.Str.{bytes_eq}

@@ -1,4 +1,4 @@
-use Rattle.std.proofs.Common.{◌≡◌, ◌≢◌, ℕ, List, [], ap, sym, ◌∙◌, subst, rules}
+use Rattle.std.proofs.Common.{◌≡◌, ◌≢◌, ℕ, List, [], subst, rules}
 use Rattle.mbdc_bus.specs.Windows.{Insists, most_tries}
 use Rattle.dc_linkframe.specs.Control.{reset_to}
 use Rattle.dc_linkframe.specs.Frame.{spelling}
