@@ -1,9 +1,9 @@
 //! Meters that answer with a frame of another CI than 72.
 //!
-//! Such a frame that comes twice, alone, closes the wildcard that was selected: nobody is searched behind it, and it is
-//! noted. No meter of CI 72 can be behind it, since its CI has a bit that 72 lacks, and answers in step come as their AND
-//! (EN 13757-2). One without such a bit, as an application error (70), may be the AND of several, and is a collision. Where
-//! no digit is open any of them closes.
+//! Such a frame that comes twice, with nothing beside it, closes the wildcard that was selected: the search goes no
+//! deeper there, and notes the frame. It hides no meter of CI 72: its CI has a bit that 72 lacks, and answers in step come
+//! as their AND (EN 13757-2). A CI without such a bit, as an application error (70), may be the AND of several, and is a
+//! collision. If no digit is open, any CI closes.
 
 ghost use Rattle.std.specs.Prelude.{◌≡◌, ◌≢◌, ◌≤◌, ◌<◌, ◌++◌, ◌∷◌, [], true, false, Some, List, length, nat_lt};
 ghost use Rattle.dc_linkframe.specs.Frame.{seen};
