@@ -84,13 +84,14 @@ Lines of the file: what is declared of a house and its spans; then each place
   with its meters, the telegrams and other values that decide a span, its parts
   and its numbers; then the sums, and what is computed from them. docs/COMMANDS
   has the fields. FILE may be - for standard input.
-Printed: DIFFERS line n, with the published number and the computed one;
-  NO EVIDENCE line n, with why; and then a line that counts both, the readings,
+Printed: AS line n, with a device type that the office chose; RULE line n, with
+  what no file may say; NO EVIDENCE line n, with why; DIFFERS line n, with the
+  published number and the computed one; and a line that counts these, readings,
   values by hand, estimates and struck values. With --fill the file with what
   holds in the place of each ? (a text, also ?.0 to ?.000 for decimals; a mark;
   a count of a house), and on standard error what differs and why it is refused.
-Faults: LINE n FAULT 1 Header, 2 Row, 3 Order, 4 Moment, 5 Part, 6 Unit, 7 Fact
-  (not declared, or twice), 8 TooMany, 9 TooLarge, 10 End, and nothing after it.
+Faults: LINE n FAULT 1 Header, 2 Row, 3 Order, 6 Unit, 7 Fact (not declared, or
+  twice), 8 TooMany, 9 TooLarge, 10 End, and nothing after it.
 Status: 0 where every number holds and every value has evidence, else 1";
 
 /// Of `format`.
