@@ -3,7 +3,7 @@
 
    FAIL_SYNC=N: the Nth fdatasync of the process fails. FAIL_READ=N: sector N of a file NAME.image can't be read (EIO);
    with FAIL_READS=COUNT only the first COUNT reads of it fail.
-   CLOCK=SECONDS: the time of day, since 1970. */
+   CLOCK=SECONDS: the time of day, since 1970. FALLING: each time that it is asked for it is a second earlier. */
 #define _GNU_SOURCE
 #include <errno.h>
 #include <fcntl.h>
@@ -110,7 +110,8 @@ ssize_t pread(int fd, void *room, size_t length, off_t at) { return pread64(fd, 
 
 int clock_gettime(clockid_t clock, struct timespec *now) {
     int status = syscall(SYS_clock_gettime, clock, now);
+    static int asked;
     const char *shifted = getenv("CLOCK");
-    if (shifted && clock == CLOCK_REALTIME) now->tv_sec = atoll(shifted);
+    if (shifted && clock == CLOCK_REALTIME) now->tv_sec = atoll(shifted) - (getenv("FALLING") ? asked++ : 0);
     return status;
 }

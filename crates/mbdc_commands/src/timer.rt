@@ -57,6 +57,9 @@ where
             && let Ok(since) = now.duration_since(UNIX_EPOCH)
             && let Some(moment) = Moment::from_seconds(since.as_secs())
         {
+            if moment.seconds < self.last.seconds {
+                let _ = self.rt.eprint("mbdc: clock: went back during the poll\n");
+            }
             self.last = moment;
         }
         self.last

@@ -324,8 +324,9 @@ ends:
 With --json an object an event. On a terminal, standard error shows how far it
 is, and the table of values follows END. --trace FILE gets each request and
 answer, as of scan. Where the clock is earlier than a time stamp of the
-register:
+register, or goes back meanwhile:
 mbdc: clock: behind the newest reading
+mbdc: clock: went back during the poll
 Status: 0 every meter was read, 1 one wasn't, 3 the image, 4 a link, a file or
   memory.";
 
