@@ -266,16 +266,21 @@ fn mistake(alloc: Global, error: &Error, words: &[String]) -> Result<String, All
         what.push_str(line.trim().trim_start_matches("error: "))?;
     }
     // Words that begin with - are options.
-    if error.kind() == ErrorKind::InvalidSubcommand
-        && let Some(word) = words.iter().skip(1).find(|word| !word.starts_with('-'))
-        && let Some(command) = nearest(word)
-    {
-        return format!(in alloc; "{what}; did you mean {command}?; try mbdc --help");
+    let command = words.iter().skip(1).find(|word| !word.starts_with('-'));
+    if error.kind() == ErrorKind::InvalidSubcommand {
+        return match command.and_then(|word| nearest(word)) {
+            Some(meant) => format!(in alloc; "{what}; did you mean {meant}?; try mbdc --help"),
+            None => format!(in alloc; "{what}; try mbdc --help"),
+        };
     }
+    let help = match command {
+        Some(word) => format!(in alloc; "try mbdc {word} --help")?,
+        None => format!(in alloc; "try mbdc --help")?,
+    };
     if let Some((_, tip)) = text.as_str().split_once(SIMILAR)
         && let Some((option, _)) = tip.split_once('\'')
     {
-        return format!(in alloc; "{what}; did you mean {option}?; try mbdc --help");
+        return format!(in alloc; "{what}; did you mean {option}?; {help}");
     }
-    format!(in alloc; "{what}; try mbdc --help")
+    format!(in alloc; "{what}; {help}")
 }

@@ -318,8 +318,9 @@ ends:
   REFUSED ident n Name     the register or the disk refused it
   LINE n LOST              the link of line n failed, or nobody answers for
                            120 s: the line is given up
-  LATE line n              n times bytes came on that line that nothing could
-                           have sent: make --patience longer
+  LATE line n              n times bytes came on that line although no meter
+                           could still have been answering: make --patience
+                           longer
   END read failed
 With --json an object an event. On a terminal, standard error shows how far it
 is, and the table of values follows END. --trace FILE gets each request and
@@ -336,12 +337,13 @@ pub const SCAN: &str = "Example:
 
 Printed: FOUND ident for each meter, SHARED number for a number that more than
 one meter has, BUDGET where the budget was spent, SELECTIONS n, OTHER mask CI n
-where a meter sends another CI than 72, and LATE n where n times bytes came that
-nothing could have sent. With --primary: ADDRESS n for each address that
-acknowledges, and its ident where its telegram can be read. A meter begins its
-readout anew afterwards; nothing is stored. On a terminal, standard error shows
-how far it is, and each meter as it answers, with its medium and value. Where
-answers were no frame, a line on standard error counts them at the end.
+where a meter sends another CI than 72, and LATE n where n times bytes came
+although no meter could still have been answering. With --primary: ADDRESS n for
+each address that acknowledges, and its ident where its telegram can be read. A
+meter begins its readout anew afterwards; nothing is stored. On a terminal,
+standard error shows how far it is, and each meter as it answers, with its
+medium and value. Where answers were no frame, a line on standard error counts
+them at the end.
 --csv N prints a list of bus line N that fit takes once its flats are filled in:
   meter,line,address,flat,medium,value
 All else that was found goes to standard error then. --json: an object a meter.
@@ -375,9 +377,9 @@ Printed is what decode prints of the telegrams, each before the meter is asked
 for the next one. Nothing is stored. Where the readout fails, FAILED n Name
 follows and the status is 1; standard error says what the failed tries brought:
 mbdc: 12345678.PAD.01.07: 3 tries failed: 2 silent, 1 unreadable. LATE n comes
-last where n times bytes came that nothing could have sent. A number alone, as
-12345678, is the one meter on the bus that has it; SHARED number where several
-have it, or where the answers of one are damaged. Address 0 is that of a meter
-that got none; it is selected once it is known.
+last where n times bytes came although no meter could still have been answering.
+A number alone, as 12345678, is the one meter on the bus that has it; SHARED
+number where several have it, or where the answers of one are damaged. Address 0
+is that of a meter that got none; it is selected once it is known.
 --trace FILE gets each request and answer, as of scan.
 Faults: mbdc: gateway where the link can't be connected or is lost; mbdc: memory";

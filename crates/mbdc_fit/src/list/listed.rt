@@ -62,7 +62,8 @@ pub enum Listing {
 }
 
 /// Reads a list: a row for each of its lines that has a field, but for the first one and each other that names all four
-/// columns, in any order and case. A number alone is the registered meter that has it.
+/// columns, in any order and case. A number alone is the registered meter that has it, and an empty flat that of a
+/// registered meter.
 ///
 /// # Errors
 /// Out of memory.
@@ -165,10 +166,15 @@ fn row_of(
         flat: shown_field(alloc, record, flat)?,
     };
     if let Some(house) = house
-        && let Some(name @ Named::Number(_)) = Named::parse(row.meter.as_slice())
+        && let Some(name) = Named::parse(row.meter.as_slice())
         && let Ok(meter) = resolve(alloc, house, name)
     {
         row.meter = Vec::from_slice(alloc, &meter.text())?;
+        if row.flat.is_empty()
+            && let Some(known) = house.meter(&meter)
+        {
+            row.flat = Vec::from_slice(alloc, known.flat().as_slice())?;
+        }
     }
     Ok(row)
 }
