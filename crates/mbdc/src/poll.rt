@@ -18,7 +18,7 @@ use mbdc_ending::Ending;
 use mbdc_files::{Host, Output, open_disk};
 use mbdc_io::NoMemory;
 use mbdc_poll::events::{Form, Notes};
-use mbdc_poll::{Doubt, Plan, Retrying, Sparing};
+use mbdc_poll::{Doubt, Plan, Remembering, Retrying, Sparing};
 use mbdc_raw::links::{Peer, Watched};
 use std::alloc::Global;
 use std::fs::{File, OpenFile};
@@ -140,8 +140,8 @@ where
     }
 }
 
-// Reads the meters over these buses, each of which asks who was silent on it one question, and who is busy again. They
-// are any, as the observers are.
+// Reads the meters over these buses, each of which asks who was silent on it one question, drops copies of telegrams, and
+// asks who is busy again. They are any, as the observers are. A copy that comes of a first question is no silence.
 fn poll_sparing<'a, D, B, J, R>(
     host: &Host<'_, R>,
     disk: FileDisk<D>,
@@ -158,17 +158,15 @@ where
     J: Notes + Drop,
     R: Files<File = File> + Clock + Print + Eprint + AllocGlobal,
 {
-    let mut sparing = Vec::new(host.rt.alloc());
+    let mut retrying = Vec::new(host.rt.alloc());
     for (bus, silent) in buses.into_iter().zip(doubts.iter_mut()) {
-        if sparing
-            .push(Sparing::new(Retrying::new(bus), silent.as_mut_slice()))
-            .is_err()
-        {
+        let remembering = Remembering::new(Sparing::new(bus, silent.as_mut_slice()));
+        if retrying.push(Retrying::new(remembering)).is_err() {
             return Ending::Memory;
         }
     }
     let plan = Plan {
-        buses: sparing,
+        buses: retrying,
         only,
         tries: task.tries.max(1),
     };

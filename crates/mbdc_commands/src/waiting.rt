@@ -4,7 +4,7 @@ ghost use Rattle.mbdc_commands.specs.Waiting.{AddsAwaited, AddsOne};
 ghost use Rattle.mbdc_poll.specs.Waiting.{is_awaited};
 
 use mbdc_bus::HalfBus;
-use mbdc_poll::{Retrying, Sparing, Station, is_awaited};
+use mbdc_poll::{Remembering, Retrying, Sparing, Station, is_awaited};
 use mbdc_raw::links::{Watch, Watched};
 use std::mem;
 
@@ -42,7 +42,7 @@ impl SparingWatch {
     }
 }
 
-impl<B: HalfBus + Watched + Drop> Waits<Sparing<'_, Retrying<B>>> for SparingWatch {
+impl<B: HalfBus + Watched + Drop> Waits<Retrying<Remembering<Sparing<'_, B>>>> for SparingWatch {
     ghost use Rattle.std.specs.Prelude.{⊤};
 
     // What a wait does is in no contract.
@@ -50,11 +50,12 @@ impl<B: HalfBus + Watched + Drop> Waits<Sparing<'_, Retrying<B>>> for SparingWat
 
     ghost waited = { λ _ _. ⊤ };
 
-    fn add_bus(&mut self, bus: &Sparing<'_, Retrying<B>>)
+    fn add_bus(&mut self, bus: &Retrying<Remembering<Sparing<'_, B>>>)
         ensures { ⊤ }
     {
-        self.spares = self.spares || bus.spares;
-        bus.bus.bus.add_to(&mut self.watch);
+        let sparing = &bus.bus.bus;
+        self.spares = self.spares || sparing.spares;
+        sparing.bus.add_to(&mut self.watch);
     }
 
     fn wait_for_all(&mut self)

@@ -20,6 +20,8 @@ pub mod Storing
 pub mod Spared
 -- where nobody is busy, nothing is dropped
 pub mod Retried
+-- where no telegram comes twice, none is dropped
+pub mod Remembered
 -- a queue that is at its end went through all its meters, in passes
 pub mod Tried
 -- a meter that is done with isn't started again

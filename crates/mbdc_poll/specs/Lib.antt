@@ -14,6 +14,8 @@ pub mod Talking
 pub mod Sparing
 -- a bus on which a busy meter is asked again
 pub mod Retrying
+-- a bus on which a copy of an earlier telegram is dropped
+pub mod Remembering
 -- what a round commits
 pub mod Keeping
 -- what the tries of a readout brought

@@ -20,6 +20,7 @@ ghost use Rattle.mbdc_poll.specs.Planned.{queue_on};
 ghost use Rattle.mbdc_poll.specs.Queue.{Part, part, AreApart, Goes, GoesWell, IsToldAs, IsTried};
 ghost use Rattle.mbdc_poll.specs.Queue.{Lacks, meter_of, most_asks, read_in, requests_in};
 ghost use Rattle.mbdc_poll.specs.Queue.{starts_in};
+ghost use Rattle.mbdc_poll.specs.Remembering.{IsDropped, DropsNothing as DropsNoTelegram};
 ghost use Rattle.mbdc_poll.specs.Retrying.{DropsNothing, IsAskedAgain};
 ghost use Rattle.mbdc_poll.specs.Sparing.{IsAskedOnce, SparesNothing};
 ghost use Rattle.mbdc_poll.specs.declared.end.End.{End};
@@ -95,4 +96,13 @@ pub fn a_silent_meter_is_asked_once<B: HalfBus + Drop>()
 pub fn a_busy_meter_is_asked_again<B: HalfBus + Drop>()
     ensures drops { DropsNothing B.HalfBus }
     ensures again { (request third : List ℕ) (answer : LineHeard) → IsAskedAgain request third answer }
+{}
+
+/// Where no telegram comes twice, [`Remembering`](crate::Remembering) drops nothing: the talk is one on the bus itself.
+/// Where a copy of the first telegram comes third, the readout hears silence and asks the same again. It hears what
+/// comes then: a third telegram, or the first one, which its meter sends.
+pub fn a_copied_telegram_is_dropped<B: HalfBus + Drop>()
+    ensures drops { DropsNoTelegram B.HalfBus }
+    ensures third { (answer : LineHeard) → IsDropped 3 answer }
+    ensures again { (answer : LineHeard) → IsDropped 1 answer }
 {}

@@ -21,6 +21,7 @@ mod newest;
 mod outcome;
 mod phase;
 mod readout;
+mod remembering;
 mod retrying;
 mod sparing;
 mod station;
@@ -36,12 +37,13 @@ pub use event::Event;
 pub use image::{Plan, poll_image};
 pub use last_part::LastPart;
 pub use laws::{
-    a_busy_meter_is_asked_again, a_queue_goes_in_passes, a_silent_meter_is_asked_once,
-    what_a_failed_readout_brought_is_told, what_is_read_is_committed,
+    a_busy_meter_is_asked_again, a_copied_telegram_is_dropped, a_queue_goes_in_passes,
+    a_silent_meter_is_asked_once, what_a_failed_readout_brought_is_told, what_is_read_is_committed,
 };
 pub use outcome::{Counts, Outcome};
 pub use phase::{Phase, Request};
 pub use readout::read_all;
+pub use remembering::Remembering;
 pub use retrying::Retrying;
 pub use sparing::{Doubt, Fate, Sparing};
 pub use station::Station;
