@@ -5,8 +5,6 @@ import hashlib
 import json
 import pathlib
 import re
-import subprocess
-import tempfile
 from typing import Any, Optional
 
 from world.browser import Browser, each_look
@@ -31,27 +29,6 @@ def audited(browser: Browser, content: bytes, is_file: bool = False) -> tuple[st
     until(browser.said, SECONDS, "the page says nothing")
     verdict: Any = browser.run("return [last.verdict, last.printed];")
     return verdict[0], verdict[1]
-
-
-def printed(program: str, content: bytes) -> tuple[str, str]:
-    """What the program says of a file."""
-    with tempfile.NamedTemporaryFile(suffix=".audit") as file:
-        file.write(content)
-        file.flush()
-        done = subprocess.run([program, "audit", file.name], capture_output=True, check=False)
-    wants(done.returncode in (0, 1), f"mbdc audit: status {done.returncode}")
-    return ("right", "wrong")[done.returncode], done.stdout.decode("utf-8", "replace")
-
-
-def sheets(browser: Browser, program: str, folder: pathlib.Path) -> None:
-    """Each sheet's file holds, and is the one that its sheet names."""
-    files = sorted(folder.rglob("*/sheets/*/*.audit")) or sorted(folder.rglob("*.audit"))
-    for file in files:
-        content = file.read_bytes()
-        browser.open(hashlib.sha256(content).hexdigest())
-        wants(audited(browser, content, True) == printed(program, content), f"{file}")
-        wants("It is the file" in browser.run("return document.getElementById('hash').textContent;"), f"{file}: another hash")
-    print(f"    {len(files)} files", flush=True)
 
 
 def links(browser: Browser) -> None:

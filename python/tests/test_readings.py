@@ -1,8 +1,10 @@
 """Each code, record, body and headline of the tables beside this file is read as its row says, by both ways."""
 
 import decimal
+import itertools
 import json
 import pathlib
+import re
 from typing import Any, Dict, Iterator, List, Optional, Tuple
 
 import pytest
@@ -40,20 +42,48 @@ def read_as(field: str, data: str, value: str, unit: str, power: int, kind: str)
     return ["point" if kind == "point" and field != REAL else "plain", f"{decimal.Decimal(value).scaleb(power):f}", unit, "number"]
 
 
+def codes_of(cell: str) -> Iterator[str]:
+    """The codes of a cell: single ones, and of several the first and the last byte."""
+    for part in cell.split(","):
+        first, _, last = part.partition("-")
+        for byte in range(int(first[-2:], 16), int(last or first[-2:], 16) + 1):
+            yield f"{first[:-2]}{byte:02X}"
+
+
 def rows_of_codes(row: List[str]) -> Iterator[List[str]]:
     """The rows of readings that a row of codes is."""
     codes, quantity, units, power, kind = row
-    first, _, last = codes.partition("-")
-    before, count = first[:-2], int(last or first[-2:], 16) - int(first[-2:], 16) + 1
     of_codes = units.split("|")
-    for n in range(count):
+    for n, code in enumerate(codes_of(codes)):
         unit, grown = (of_codes[n], 0) if len(of_codes) > 1 else (units, n)
-        for field, data, value in DATA[before]:
+        for field, data, value in DATA[code[:-2]]:
             reading, *others = read_as(field, data, value, unit, int(power) + grown, kind)
-            yield [f"{field}{before}{int(first[-2:], 16) + n:02X}{data}", quantity, "-", reading, *others, *"------"]
+            yield [f"{field}{code}{data}", quantity, "-", reading, *others, *"------"]
 
 
-READINGS = [*rows_of("readings.tsv"), *(made for row in rows_of("codes.tsv") for made in rows_of_codes(row))]
+# A volume and an energy with a VIFE: what is before and after it, the quantity, the number, its power of ten, the unit, and the data as a
+# moment: value, unit, type, and whether it is summer time
+WITH_VIFE = [("0493", "0B0BCD13", "volume", 332204811, -3, "m3", ["2014-03-13T11:11", "-", "minute", "false"]),
+             ("0285", "BF1C", "energy", 7359, 2, "Wh", ["2013-12-31", "-", "date", "-"])]
+
+
+def rows_of_vifes(row: List[str]) -> Iterator[List[str]]:
+    """The rows of readings that a row of VIFEs is."""
+    codes, name, parts, units, kind = row
+    for code, part, unit in zip(codes_of(codes), itertools.cycle(parts.split("|")), itertools.cycle(units.split("|"))):
+        for before, after, quantity, number, power, base, moment in WITH_VIFE:
+            scaled = decimal.Decimal(number).scaleb(power + int(part if kind == "power" else 0))
+            value, of, type_, summer = {
+                "moment": moment, "count": [str(number), "-", "number", "-"], "time": [str(number), part, "number", "-"],
+                "error": list("----"), "other": list("----"),
+            }.get(kind, [f"{scaled:f}", base + unit.strip("-"), "number", "-"])
+            said = name.format(part)
+            yield [f"{before}{code}{after}", quantity, said, "other" if kind == "other" else "qualified", value, of, type_,
+                   said if kind == "error" else "-", *"----", summer]
+
+
+READINGS = [*rows_of("readings.tsv"), *(made for row in rows_of("codes.tsv") for made in rows_of_codes(row)),
+            *(made for row in rows_of("vifes.tsv") for made in rows_of_vifes(row))]
 # Units of fixed data (EN 13757-3): the code of the first of nine, quantity, unit, and its power of ten
 NINE = [(2, "energy", "Wh", 0), (11, "energy", "J", 3), (20, "power", "W", 0), (29, "power", "J/h", 3), (38, "volume", "m3", -6),
         (47, "volume_flow", "m3/h", -6)]
@@ -80,10 +110,11 @@ CONTENTS = [*rows_of("contents.tsv"), *(fixed_row(status, code) for status in ra
 CORRECTED = {0x00: 0, 0x3A: 0, 0x3B: 0, 0x3E: 0, **{0x70 + n: n - 6 for n in range(8)}, 0x7D: 3}
 OF_VIFES = [[f"{HEADER.hex()}0493{vife:02X}0B0BCD13", f"0:332204811e{CORRECTED[vife] - 3}:m3" if vife in CORRECTED else "-"]
             for vife in range(128)]
-# A water meter stands at each volume that is a current one and has no VIFE
-OF_VOLUMES = [[f"{HEADER.hex()}{record}", "-" if value == "-" else f"0:{value}:{unit}"]
+# A water meter stands at each volume that is a current one and has no VIFE, or several that multiply it
+OTHERWISE = re.compile("(^|; )(?!-|multiplicative|multiplied by 1000)")
+OF_VOLUMES = [[f"{HEADER.hex()}{record}", "-" if value == "-" or OTHERWISE.search(vifes) else f"0:{value}:{unit}"]
               for record, quantity, vifes, _, value, unit, kind, *_ in READINGS
-              if (quantity, vifes, kind) == ("volume", "-", "number") and int(record[:2], 16) < 0x10]
+              if quantity == "volume" and (";" in vifes or (vifes, kind) == ("-", "number")) and int(record[:2], 16) < 0x10]
 HEADLINES = [*rows_of("headlines.tsv"), *OF_VIFES, *OF_VOLUMES]
 
 
