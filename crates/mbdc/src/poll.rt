@@ -92,10 +92,6 @@ where
     // A meter that is named gets all its tries.
     let lines = u8::try_from(peers.len()).unwrap_or_default();
     let doubts = notes.doubts(lines, !only.is_empty());
-    let notes = Attending {
-        notes,
-        missing: &missing,
-    };
     let ending = match (tracers_of(host, trace, peers.len()), doubts) {
         (Ok(observers), Ok(mut doubts)) => poll_peers(
             host,
@@ -106,17 +102,18 @@ where
             only.as_slice(),
             printing,
             notes,
+            &missing,
             task,
         ),
-        (Err(ending), _) => ending,
-        (_, Err(NoMemory)) => Ending::Memory,
+        (Err(ending), _doubts) => ending,
+        (_observers, Err(NoMemory)) => Ending::Memory,
     };
     look_for_missing(host, peers, trace, &missing, task.patience);
     ending
 }
 
-// Reads the meters over the buses of the connected links. The observers are any, for the checker meets its step limit
-// over the parts of a trace.
+// Reads the meters over the buses of the connected links, and keeps who is missing. The observers are any, for the
+// checker meets its step limit over the parts of a trace, and the notes, for their lifetimes.
 fn poll_peers<'a, D, O, J, R>(
     host: &Host<'_, R>,
     disk: FileDisk<D>,
@@ -126,6 +123,7 @@ fn poll_peers<'a, D, O, J, R>(
     only: &[Identity],
     printing: Printing,
     notes: J,
+    missing: &Missing,
     task: &PollTask<'a>,
 ) -> Ending<'a>
 where
@@ -134,6 +132,7 @@ where
     J: Notes + Drop,
     R: Files<File = File> + Net<Stream = TcpStream> + Clock + Copy + Print + Eprint + AllocGlobal,
 {
+    let notes = Attending { notes, missing };
     match buses_of(host, peers, observers, task.patience) {
         Ok(buses) => poll_sparing(host, disk, buses, doubts, only, printing, notes, task),
         Err(ending) => ending,
