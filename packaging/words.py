@@ -164,6 +164,18 @@ _mbdc_page() {{
 }}
 complete -F _mbdc_page mbdc-page
 """
+SPEEDS, FORMS = "300 600 1200 2400 4800 9600 19200 38400", "8E1 8N1"  # of mbdc-port
+BASH_PORT = f"""
+_mbdc_port() {{
+    local word=${{COMP_WORDS[COMP_CWORD]}}
+    case $COMP_CWORD in
+    1) mapfile -t COMPREPLY < <(compgen -f -- "${{word:-/dev/tty}}") ;;
+    2) mapfile -t COMPREPLY < <(compgen -W '{SPEEDS}' -- "$word") ;;
+    3) mapfile -t COMPREPLY < <(compgen -W '{FORMS}' -- "$word") ;;
+    esac
+}}
+complete -F _mbdc_port mbdc-port
+"""
 
 
 def bash_of(program: str, function: str, commands: list[Command], house: str = "") -> str:
@@ -177,10 +189,10 @@ def bash() -> str:
     house, page = [it for it, _ in of_house()], of_page()
     cases = (f"    {option}:*) mapfile -t COMPREPLY < <(compgen -W '{value.replace(',', ' ') if value.islower() else ''}' -- \"$word\") ;;"
              for option, (value, _) in page.items() if value not in FILES)
-    return "".join(["# Completion of mbdc, mbdc-house and mbdc-page for bash.\n# Made by packaging/words.py.\n",
+    return "".join(["# Completion of mbdc, mbdc-house, mbdc-page and mbdc-port for bash.\n# Made by packaging/words.py.\n",
                     bash_of("mbdc", "_mbdc", listed()),
                     bash_of("mbdc-house", "_mbdc_house", house, BASH_HOUSE.format(names=" | ".join(it.name for it in house))),
-                    BASH_PAGE.format(cases="\n".join(cases), options=" ".join([*page, "--help"]))])
+                    BASH_PAGE.format(cases="\n".join(cases), options=" ".join([*page, "--help"])), BASH_PORT])
 
 
 def fish_of(program: str, commands: list[tuple[Command, str]]) -> Iterator[str]:
@@ -197,8 +209,11 @@ def fish_of(program: str, commands: list[tuple[Command, str]]) -> Iterator[str]:
 def fish() -> str:
     page = (f"complete -c mbdc-page -l {option[2:]} -r" + (f" -f -a '{value.replace(',', ' ')}'" if value.islower() else "")
             for option, (value, _) in of_page().items())
-    return "\n".join(["# Completion of mbdc, mbdc-house and mbdc-page for fish.", "# Made by packaging/words.py.",
-                      *fish_of("mbdc", [(it, about(it.name)) for it in listed()]), *fish_of("mbdc-house", of_house()), *page]) + "\n"
+    port = (f"complete -c mbdc-port -n 'test (count (commandline -opc)) -eq {at}' -f -a '{words}'"
+            for at, words in ((2, SPEEDS), (3, FORMS)))
+    return "\n".join(["# Completion of mbdc, mbdc-house, mbdc-page and mbdc-port for fish.", "# Made by packaging/words.py.",
+                      *fish_of("mbdc", [(it, about(it.name)) for it in listed()]), *fish_of("mbdc-house", of_house()), *page,
+                      *port]) + "\n"
 
 
 def zsh_text(text: str) -> str:

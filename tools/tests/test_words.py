@@ -25,7 +25,8 @@ def share(tmp_path_factory: pytest.TempPathFactory) -> pathlib.Path:
     ("mbdc-house second che", "check"), ("mbdc-house second check --p", "--ports"), ("mbdc-house poll --o", "--only"),
     ("mbdc-house status --s", "--silent"), ("mbdc-house poll --l", ""), ("mbdc-house scan 1 --c", "--csv"),
     ("mbdc-house read ''", "1 2 3 4 5 6 7 8"),
-    ("mbdc-page --l", "--language"), ("mbdc-page --language d", "de"), ("mbdc-page --title x", "")])
+    ("mbdc-page --l", "--language"), ("mbdc-page --language d", "de"), ("mbdc-page --title x", ""),
+    ("mbdc-port /dev/nul", "/dev/null"), ("mbdc-port /dev/ttyS0 24", "2400"), ("mbdc-port /dev/ttyS0 2400 8E", "8E1")])
 def test_words_are_completed(share: pathlib.Path, typed: str, wanted: str) -> None:
     program = typed.split()[0]
     ask = ASK.format(share, program, typed, "_" + program.replace("-", "_"))
