@@ -54,10 +54,3 @@ module _ (now : ℕ) (entry : Entry) (bodies : List (List ℕ)) (old new : List 
       here : (b : Bool) → is_at (identity_cmp entry.meter) meter ≡ b → sent_in new meter ≡ bodies_after now meter entry (Some bodies) (sent_in old meter)
       here true at = rw (updates meter, at, in_time) refl
       here false at = rw (updates meter, at) refl
-
-pub nothing_kept : (now : ℕ) (meter : Identity) (entry : Entry) (before : List (List ℕ)) → before ≡ bodies_after now meter entry None before
-nothing_kept now meter entry before = here (is_of now meter entry)
-  where
-    here : (b : Bool) → before ≡ cond b before before
-    here true = refl
-    here false = refl

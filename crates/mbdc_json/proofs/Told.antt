@@ -1,5 +1,5 @@
 -- What is told of a reading: its fields, one after the other.
-use Rattle.std.proofs.Common.{◌≡◌, ℕ, Bool, List, [], ◌∷◌, ◌++◌, Option, codes, decimal, ap, sym, ◌∙◌, append-nil, append_assoc}
+use Rattle.std.proofs.Common.{◌≡◌, ℕ, List, [], ◌∷◌, ◌++◌, Option, codes, decimal, ap, sym, ◌∙◌, append-nil, append_assoc}
 use Rattle.json.specs.Json.{Json}
 use Rattle.json.specs.Token as Token
 use Rattle.json.specs.Tree.{json_tokens}
@@ -19,15 +19,14 @@ reading_as kind r =
     (sym (members_are ((codes "serial", count r.serial) ∷ reported_fields r.moment r.status kind (bodies_sent r.bodies))))
 
 -- a registered meter, and its reading
-pub stands_as : (place : Place) (shown : Option Shown) (noted : Bool) → noted ≡ is_noted shown
-    → Token.begin_object ∷ (fields_tokens (place_fields place noted) ++ (Token.key (codes "reading") ∷ (json_tokens (shown_json place.meter.kind shown) ++ (Token.end_object ∷ [])))) ≡ json_tokens (stands_json place shown)
+pub stands_as : (place : Place) (shown : Option Shown)
+    → Token.begin_object ∷ (fields_tokens (place_fields place (is_noted shown)) ++ (Token.key (codes "reading") ∷ (json_tokens (shown_json place.meter.kind shown) ++ (Token.end_object ∷ [])))) ≡ json_tokens (stands_json place shown)
 unfolding stands_json fields_tokens
-stands_as place shown noted is =
+stands_as place shown =
     let first = place_fields place (is_noted shown) in
     let json : Json = shown_json place.meter.kind shown in
     let last : List Field = (codes "reading", json) ∷ [] in
-    ap (λ (b : Bool). Token.begin_object ∷ (fields_tokens (place_fields place b) ++ (Token.key (codes "reading") ∷ (json_tokens json ++ (Token.end_object ∷ []))))) is
-    ∙ ap (λ (ts : List Token.Token). Token.begin_object ∷ (fields_tokens first ++ (Token.key (codes "reading") ∷ (ts ++ (Token.end_object ∷ []))))) (sym (append-nil (json_tokens json)))
+    ap (λ (ts : List Token.Token). Token.begin_object ∷ (fields_tokens first ++ (Token.key (codes "reading") ∷ (ts ++ (Token.end_object ∷ []))))) (sym (append-nil (json_tokens json)))
     ∙ ap (λ (ts : List Token.Token). Token.begin_object ∷ ts) (sym (append_assoc (fields_tokens first) (fields_tokens last) (Token.end_object ∷ [])))
     ∙ ap (λ (ts : List Token.Token). Token.begin_object ∷ (ts ++ (Token.end_object ∷ []))) (sym (fields-append first last))
     ∙ ap (λ (ts : List Token.Token). Token.begin_object ∷ ts) (sym (members_are (first ++ last)))

@@ -6,13 +6,10 @@ use Rattle.std.specs.Option.{option_or, option_and_then}
 use Rattle.std.specs.List.{flat_map}
 use Rattle.mbdc_io.specs.Words.{number_word, byte_word}
 use Rattle.dc_address.specs.declared.identity.Identity.{Identity}
-use Rattle.dc_address.specs.Text.{text_of}
 use Rattle.dc_units.specs.Text.{value_text}
 use Rattle.dc_records.specs.Fields.{application_name}
-use Rattle.dc_records.specs.Media.{medium_name}
 use Rattle.mbdc_change.specs.State.{State, ReadingRow, PartRow}
 use Rattle.dc_meters.specs.Orders.{reading_of, serials_of}
-use Rattle.dc_meters.specs.declared.place.Place.{Place}
 use Rattle.dc_records.specs.Record.{Entry}
 use Rattle.mbdc_reading.specs.Codes.{code_at, number_of}
 use Rattle.mbdc_reading.specs.Headline.{headline}
@@ -95,11 +92,6 @@ unread_line n =
     else if n == 1 then codes "1 record not read\n"
     else decimal n ++ codes " records not read\n"
 
--- what the records of a meter of this device type tell
-unfoldable pub told_lines : ℕ → List Sent → List ℕ
-told_lines kind ss = sent_lines (codes "HEADLINE") (headline kind ss) ++ (sent_lines (codes "VALUE") (listed Values ss)
-    ++ (also_lines (listed Also ss) ++ unread_line (counted (listed Unread ss))))
-
 -- what a bit of the status byte says, where it is set
 unfoldable pub bit_words : ℕ → List ℕ → List ℕ
 bit_words bit words = if bit % 2 == 1 then words else []
@@ -121,21 +113,15 @@ abbrev pub end_words : Bool → List ℕ
 end_words true = codes "Z JOURNAL\n"
 end_words false = codes "Z\n"
 
--- the minute at which the last telegram was received, in UTC, and whether the reading is the journal's
-unfoldable pub when_words : ℕ → Bool → List ℕ
-when_words moment is_noted = codes " " ++ (value_text (minute_of moment) ++ end_words is_noted)
-
--- the serial and the moment of a reading, the meter's status, and what its records tell
+-- the serial of a reading, the minute (UTC) of its last telegram and whether it is the journal's, the meter's status, and
+-- what the records of a meter of this device type tell
 unfoldable pub shown_lines : ℕ → Shown → List ℕ
-shown_lines kind r = number_word r.serial ++ (when_words r.moment r.is_noted
-    ++ (status_line r.status ++ told_lines kind (bodies_sent r.bodies)))
+shown_lines kind r = number_word r.serial ++ (codes " " ++ (value_text (minute_of r.moment) ++ (end_words r.is_noted
+    ++ (status_line r.status ++ (sent_lines (codes "HEADLINE") (headline kind (bodies_sent r.bodies))
+    ++ (sent_lines (codes "VALUE") (listed Values (bodies_sent r.bodies)) ++ (also_lines (listed Also (bodies_sent r.bodies))
+    ++ unread_line (counted (listed Unread (bodies_sent r.bodies))))))))))
 
 -- what follows the meter: the reading that is shown, if one is
 abbrev pub shown_words : ℕ → Option Shown → List ℕ
 shown_words kind None = codes " NONE\n"
 shown_words kind (Some r) = shown_lines kind r
-
--- the flat, the meter and its medium
-unfoldable pub place_words : Place → List ℕ
-place_words place = codes "METER " ++ (place.flat ++ (codes " " ++ (text_of place.meter
-    ++ (codes " " ++ medium_name place.meter.kind))))

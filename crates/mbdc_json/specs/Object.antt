@@ -83,19 +83,12 @@ row_object row = object_by row.told row
 abbrev pub object_at : ℕ → ℕ → Notes → State → Place → List ℕ
 object_at patience now journal s place = row_object (row_at patience now journal s place)
 
-unfoldable pub row_objects : ℕ → ℕ → Notes → State → List ℕ
-row_objects patience now journal s = flat_map (object_at patience now journal s) (by_flat s.meters)
-
--- how full the image is
-unfoldable pub image_object : ℕ → ℕ → State → List ℕ
-image_object budget now s = value_line (object_of (
-    (codes "bytes", count (size_of s))
-    ∷ (codes "budget", count budget)
-    ∷ (codes "days", maybe_json (days_left budget now s))
-    ∷ (codes "room", maybe_json (readings_left budget s))
-    ∷ []))
-
--- THE OBJECTS at a clock
+-- THE OBJECTS at a clock, and how full the image is
 unfoldable pub status_objects : ℕ → ℕ → Notes → Held → List ℕ
-status_objects patience now journal house = row_objects patience now journal house.state
-    ++ image_object house.budget now house.state
+status_objects patience now journal house = flat_map (object_at patience now journal house.state) (by_flat house.state.meters)
+    ++ value_line (object_of (
+    (codes "bytes", count (size_of house.state))
+    ∷ (codes "budget", count house.budget)
+    ∷ (codes "days", maybe_json (days_left house.budget now house.state))
+    ∷ (codes "room", maybe_json (readings_left house.budget house.state))
+    ∷ []))

@@ -22,33 +22,24 @@ use Rattle.mbdc_json.specs.declared.latest.reading.Shown.{Shown}
 use Rattle.mbdc_json.specs.declared.status.row.Row.{Row}
 use Rattle.mbdc_json.specs.declared.status.row.Told.{Told}
 
--- ---- cells
-
 -- the names of the columns
 unfoldable pub titles : List ℕ
 titles = codes "FLAT\tMETER\tMEDIUM\tVALUE\tUNIT\tHEARD\tSTATE\n"
 
--- a text, and the end of its cell
-unfoldable pub cell : List ℕ → List ℕ
-cell text = text ++ codes "\t"
-
 -- ---- what the meter stands at
 
--- a value and its unit; a dash for what isn't there
-unfoldable pub cells : Option (List ℕ) → List ℕ → List ℕ
-cells value unit = value_word value ++ (codes "\t" ++ (shown_word unit ++ codes "\t"))
-
+-- the value and the unit of a record; a dash for what isn't there
 unfoldable pub sent_cells : Sent → List ℕ
-sent_cells s = cells (value_text_of (reading_of s.entry s.len) s.entry.content)
-    (unit_text (reading_of s.entry s.len) s.entry.vib)
+sent_cells s = value_word (value_text_of (reading_of s.entry s.len) s.entry.content)
+    ++ (codes "\t" ++ (shown_word (unit_text (reading_of s.entry s.len) s.entry.vib) ++ codes "\t"))
 
 -- those of the first record of a headline
 abbrev pub first_cells : List Sent → List ℕ
-first_cells [] = cells None []
+first_cells [] = codes "-\t-\t"
 first_cells (s ∷ ss) = sent_cells s
 
 abbrev pub value_cells : ℕ → Option Shown → List ℕ
-value_cells kind None = cells None []
+value_cells kind None = codes "-\t-\t"
 value_cells kind (Some shown) = first_cells (headline kind (bodies_sent shown.bodies))
 
 -- ---- its state, and when it was heard
@@ -81,14 +72,11 @@ state_by false (Some number) status = codes "FAILED"
 state_by false None status = reported_in status
 
 -- how long ago: in minutes below two hours, in hours below two days, else in days
-abbrev pub seconds_of : ℕ → ℕ
-seconds_of age = if nat_lt age 7200 then 60 else if nat_lt age 172800 then 3600 else 86400
-
-abbrev pub name_of : ℕ → List ℕ
-name_of age = if nat_lt age 7200 then codes " min" else if nat_lt age 172800 then codes " h" else codes " d"
-
-unfoldable pub ago_words : ℕ → List ℕ
-ago_words age = decimal (age / seconds_of age) ++ name_of age
+abbrev pub ago_words : ℕ → List ℕ
+ago_words age =
+    if nat_lt age 7200 then decimal (age / 60) ++ codes " min"
+    else if nat_lt age 172800 then decimal (age / 3600) ++ codes " h"
+    else decimal (age / 86400) ++ codes " d"
 
 abbrev pub age_words : Option ℕ → List ℕ
 age_words None = codes "never"
@@ -100,18 +88,15 @@ failure_words (Some number) = codes " " ++ (failure_name number ++ codes "\n")
 
 -- ---- the table
 
-unfoldable pub place_cells : Place → List ℕ
-place_cells place = cell place.flat ++ (cell (take 8 (text_of place.meter)) ++ cell (medium_name place.meter.kind))
-
 unfoldable pub state_cells : Row → List ℕ
 state_cells row = age_words row.age ++ (codes "\t"
     ++ (state_by row.is_silent (failure_in row.told) row.status ++ failure_words (failure_in row.told)))
 
 -- the line of a meter: its place, what it stands at, when it was heard, and its state
 unfoldable pub overview_line : ℕ → ℕ → Notes → State → Place → List ℕ
-overview_line patience now journal s place = place_cells place
-    ++ (value_cells place.meter.kind (shown_of journal s place.meter)
-    ++ state_cells (row_at patience now journal s place))
+overview_line patience now journal s place = place.flat ++ (codes "\t" ++ (take 8 (text_of place.meter) ++ (codes "\t"
+    ++ (medium_name place.meter.kind ++ (codes "\t" ++ (value_cells place.meter.kind (shown_of journal s place.meter)
+    ++ state_cells (row_at patience now journal s place)))))))
 
 unfoldable pub overview_lines : ℕ → ℕ → Notes → State → List ℕ
 overview_lines patience now journal s = flat_map (overview_line patience now journal s) (by_flat s.meters)

@@ -106,27 +106,18 @@ days_left budget now s =
     if bytes_a_day now s (first_moment s) == 0 then None
     else Some ((budget - size_of s) / bytes_a_day now s (first_moment s))
 
-unfoldable pub days_words : Option ℕ → List ℕ
-days_words days = number_line (codes "DAYS") days
-
-unfoldable pub size_line : ℕ → State → List ℕ
-size_line budget s = codes "SIZE" ++ (number_word (size_of s) ++ (number_word budget ++ codes "\n"))
-
 -- ---- all
 
 -- a meter at a clock, which is silent after so many seconds
 abbrev pub row_line : ℕ → ℕ → Notes → State → Place → List ℕ
 row_line patience now journal s place = row_text (row_at patience now journal s place)
 
-unfoldable pub row_lines : ℕ → ℕ → Notes → State → List ℕ
-row_lines patience now journal s = flat_map (row_line patience now journal s) (by_flat s.meters)
-
 -- THE TEXT at a clock, where a meter is silent after so many seconds
 unfoldable pub status_text : ℕ → ℕ → Notes → Held → List ℕ
-status_text patience now journal house = row_lines patience now journal house.state
-    ++ (size_line house.budget house.state
-    ++ (days_words (days_left house.budget now house.state)
-    ++ room_words (readings_left house.budget house.state)))
+status_text patience now journal house = flat_map (row_line patience now journal house.state) (by_flat house.state.meters)
+    ++ (codes "SIZE" ++ (number_word (size_of house.state) ++ (number_word house.budget ++ (codes "\n"
+    ++ (number_line (codes "DAYS") (days_left house.budget now house.state)
+    ++ room_words (readings_left house.budget house.state))))))
 
 -- one of them is silent
 abbrev pub any_silent : ℕ → ℕ → Notes → State → Bool

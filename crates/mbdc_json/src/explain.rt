@@ -5,7 +5,7 @@
 ghost use Rattle.std.specs.Prelude.{◌≡◌, ◌<◌, IfSome, IfOk};
 ghost use Rattle.dc_linkframe.specs.Frame.{seen};
 ghost use Rattle.mbdc_decode.specs.Engine.{EngineEnds};
-ghost use Rattle.mbdc_decode.specs.Frames.{is_bad, is_bad_content, is_bad_frame};
+ghost use Rattle.mbdc_decode.specs.Frames.{is_bad_content, is_bad_frame};
 ghost use Rattle.mbdc_decode.specs.Text.{has_fault};
 
 use crate::place::{body_place, frame_place};
@@ -46,32 +46,20 @@ fn put_link<W: Sink>(out: &mut W, control: u8, address: u8) -> Result<(), IoFaul
 fn put_body<W: Sink>(out: &mut W, start: usize, ci: u8, body: &[u8]) -> Result<bool, IoFault>
     ensures { IfOk result (λ bad. bad ≡ is_bad_content ci body.now) }
 {
-    if ci != VARIABLE_DATA {
-        put_told(out, ci, body, false)?;
-        return Ok(false);
-    }
-    match Telegram::parse(body) {
-        Ok(_) => {
-            put_told(out, ci, body, true)?;
-            Ok(false)
-        }
-        Err(fault) => {
+    let mut is_bad = false;
+    if ci == VARIABLE_DATA {
+        if let Err(fault) = Telegram::parse(body) {
             let (place, expected) = body_place(body, fault);
             out.put(b"  body fault ")?;
             put_fault(out, fault.number(), fault.name())?;
             put_expected(out, start.saturating_add(place), expected)?;
-            put_told(out, ci, body, false)?;
-            Ok(true)
+            is_bad = true;
         }
     }
-}
-
-// Writes what a body says.
-fn put_told<W: Sink>(out: &mut W, ci: u8, body: &[u8], is_telegram: bool) -> Result<(), IoFault> {
-    match content_of(ci, body) {
-        Some(content) => put_content(out, &content, is_telegram),
-        None => Ok(()),
+    if let Some(content) = content_of(ci, body) {
+        put_content(out, &content, ci == VARIABLE_DATA && !is_bad)?;
     }
+    Ok(is_bad)
 }
 
 // Writes a frame that begins at this place of a line, and returns whether its body has a fault.
@@ -107,23 +95,6 @@ fn put_frame<W: Sink>(out: &mut W, start: usize, frame: Frame<'_>) -> Result<boo
     }
 }
 
-// Writes a text that begins at this place of a line, and returns whether it has a fault.
-#[tactic(auto, unfolding(mbdc_decode::specs::Frames::is_bad))]
-fn put_text_table<W: Sink>(out: &mut W, start: usize, text: &[u8]) -> Result<bool, IoFault>
-    ensures { IfOk result (λ bad. bad ≡ is_bad text.now) }
-{
-    match read_frame(text) {
-        Ok(frame) => put_frame(out, start, frame),
-        Err(fault) => {
-            let (place, expected) = frame_place(text, fault);
-            out.put(b"frame fault ")?;
-            put_fault(out, fault.number(), fault.name())?;
-            put_expected(out, start.saturating_add(place), expected)?;
-            Ok(true)
-        }
-    }
-}
-
 /// The form of `decode --explain`: words and tables.
 struct Table;
 
@@ -136,6 +107,7 @@ impl LineForm for Table {
 
     ghost fault_text = { λ _. [] };
 
+    #[tactic(auto, unfolding(mbdc_decode::specs::Frames::is_bad))]
     fn put_frame<W: Sink>(
         line: u64,
         start: usize,
@@ -143,7 +115,16 @@ impl LineForm for Table {
         out: &mut W,
     ) -> Result<bool, IoFault> {
         put_place(out, line)?;
-        put_text_table(out, start, bytes)
+        match read_frame(bytes) {
+            Ok(frame) => put_frame(out, start, frame),
+            Err(fault) => {
+                let (place, expected) = frame_place(bytes, fault);
+                out.put(b"frame fault ")?;
+                put_fault(out, fault.number(), fault.name())?;
+                put_expected(out, start.saturating_add(place), expected)?;
+                Ok(true)
+            }
+        }
     }
 
     fn put_hex_fault<W: Sink>(line: u64, out: &mut W) -> Result<(), IoFault> {

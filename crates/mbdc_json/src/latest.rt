@@ -13,6 +13,6 @@ mod reading;
 mod status;
 
 pub use lines::put_values;
-pub(crate) use lines::{put_names, put_value_word, put_word};
-pub(crate) use reading::{Shown, last_of, last_reading, part_in, shown_of};
+pub(crate) use lines::{put_names, put_word};
+pub(crate) use reading::{Shown, last_reading, part_in, shown_of};
 pub(crate) use status::put_byte_words;

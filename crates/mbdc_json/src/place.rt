@@ -28,10 +28,20 @@ pub(crate) fn frame_place(text: &[u8], fault: FrameFault) -> (usize, &'static st
 
 /// The place of a fault in a body, in bytes from its start, and what was expected there.
 pub(crate) fn body_place(body: &[u8], fault: BodyFault) -> (usize, &'static str) {
-    let item = whole_items(body);
+    // the longest prefix that is a telegram: its header and whole items
+    let item = (HEADER..body.len())
+        .rev()
+        .find(|end| Telegram::parse(&body[..*end]).is_ok())
+        .unwrap_or(0);
     match fault {
         BodyFault::Short => (body.len(), "a header of 12 bytes"),
-        BodyFault::BadIdentity => identity_place(body),
+        BodyFault::BadIdentity => {
+            let mut number = body.iter().take(NUMBER);
+            match number.position(|byte| *byte / 16 > 9 || *byte % 16 > 9) {
+                Some(place) => (place, "two digits of the meter's number"),
+                None => (NUMBER, "three letters of the manufacturer"),
+            }
+        }
         BodyFault::Encrypted => (MODE, "security mode 0"),
         BodyFault::ReservedDif => (item, "a DIF that isn't reserved"),
         BodyFault::TooManyDife => (item, "a record of at most ten DIFEs"),
@@ -40,26 +50,4 @@ pub(crate) fn body_place(body: &[u8], fault: BodyFault) -> (usize, &'static str)
         BodyFault::PlainTextExtension => (item, "a record whose VIF isn't FC"),
         BodyFault::Cut => (item, "a whole record"),
     }
-}
-
-// The first byte of the number that isn't two digits, else the manufacturer.
-fn identity_place(body: &[u8]) -> (usize, &'static str) {
-    for (place, byte) in body.iter().take(NUMBER).enumerate() {
-        if *byte / 16 > 9 || *byte % 16 > 9 {
-            return (place, "two digits of the meter's number");
-        }
-    }
-    (NUMBER, "three letters of the manufacturer")
-}
-
-// Number of bytes of a body's header and whole items: the longest prefix that is a telegram.
-fn whole_items(body: &[u8]) -> usize {
-    let mut whole = 0;
-    'ends: for end in HEADER..body.len() {
-        let (front, _) = body.split_at(end);
-        if Telegram::parse(front).is_ok() {
-            whole = end;
-        }
-    }
-    whole
 }

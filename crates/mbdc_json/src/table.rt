@@ -1,12 +1,11 @@
 //! A telegram, or what another body says, as an aligned table.
 
 use crate::latest::{put_byte_words, put_names};
-use dc_address::Identity;
 use dc_records::names::{function_name, medium_name};
 use dc_records::{End, Record};
 use mbdc_io::{IoFault, Sink, put_byte, put_hex, put_number};
 use mbdc_reading::content::{
-    Content, Counter, FixedData, REASON_ROOM, Security, Variable, medium_of, security_name,
+    Content, FixedData, REASON_ROOM, Security, Variable, medium_of, security_name,
 };
 use mbdc_reading::{
     How, READING_ROOM, Reading, Sent, code_at, digits_text, label_text, maker_of, number_of,
@@ -23,41 +22,31 @@ const UNIT: usize = 8;
 // The names of the columns.
 const COLUMNS: &[u8] = b"  quantity                 value              unit     which\n";
 
-// Writes this many spaces, and one more.
-fn put_spaces<W: Sink>(out: &mut W, count: usize) -> Result<(), IoFault> {
-    'spaces: for _ in 0..count {
+// Writes a cell of a column: a text from a meter, and at least one space.
+fn put_cell<W: Sink>(out: &mut W, text: &[u8], width: usize) -> Result<(), IoFault> {
+    put_shown(out, text)?;
+    'spaces: for _ in text.len()..width {
         out.put(b" ")?;
     }
     out.put(b" ")
 }
 
-// Writes a cell of a column.
-fn put_cell<W: Sink>(out: &mut W, text: &[u8], width: usize) -> Result<(), IoFault> {
-    out.put(text)?;
-    put_spaces(out, width.saturating_sub(text.len()))
-}
-
-// Writes the meter, where a header names it, and the access number and the status of a header.
+// Writes the number and the medium of a meter, where it is named, an access number and a status byte.
 fn put_header<W: Sink>(
     out: &mut W,
-    meter: Option<Identity>,
+    meter: Option<(&[u8], &str)>,
     access: u8,
     status: u8,
 ) -> Result<(), IoFault> {
     out.put(b"  meter   ")?;
     match meter {
-        Some(meter) => {
-            out.put(&meter.text())?;
+        Some((number, medium)) => {
+            out.put(number)?;
             out.put(b", ")?;
-            out.put(medium_name(meter.kind).as_bytes())?;
+            out.put(medium.as_bytes())?;
         }
         None => out.put(b"not named")?,
     }
-    put_state(out, access, status)
-}
-
-// Writes an access number and a status byte.
-fn put_state<W: Sink>(out: &mut W, access: u8, status: u8) -> Result<(), IoFault> {
     out.put(b", access number ")?;
     put_number(out, u64::from(access))?;
     out.put(b"\n  status  ")?;
@@ -83,8 +72,7 @@ fn put_shown<W: Sink>(out: &mut W, text: &[u8]) -> Result<(), IoFault> {
 fn put_value<W: Sink>(out: &mut W, found: &Record<'_>, reading: &Reading) -> Result<(), IoFault> {
     let mut room = [0u8; READING_ROOM];
     if let Some(text) = value_text(reading, found.content, &mut room) {
-        put_shown(out, text)?;
-        return put_spaces(out, VALUE.saturating_sub(text.len()));
+        return put_cell(out, text, VALUE);
     }
     if let Some(fault) = reading.found.fault_name() {
         out.put(b"none (")?;
@@ -96,43 +84,38 @@ fn put_value<W: Sink>(out: &mut W, found: &Record<'_>, reading: &Reading) -> Res
         );
     }
     put_hex(out, found.content)?;
-    put_spaces(
+    put_cell(
         out,
+        b"",
         VALUE.saturating_sub(found.content.len().saturating_mul(2)),
     )
 }
 
 // Writes which value of its quantity a record has: its function and its numbers, but for those of the current value.
 fn put_place<W: Sink>(out: &mut W, found: &Record<'_>) -> Result<(), IoFault> {
+    let numbers: [(&[u8], u64); 3] = [
+        (b"storage ", found.storage),
+        (b"tariff ", u64::from(found.tariff)),
+        (b"subunit ", u64::from(found.subunit)),
+    ];
     let mut is_current = found.function == 0;
     if !is_current {
         out.put(function_name(found.function).as_bytes())?;
     }
-    put_place_number(out, &mut is_current, b"storage ", found.storage)?;
-    put_place_number(out, &mut is_current, b"tariff ", u64::from(found.tariff))?;
-    put_place_number(out, &mut is_current, b"subunit ", u64::from(found.subunit))?;
+    'numbers: for (name, number) in numbers {
+        if number != 0 {
+            if !is_current {
+                out.put(b", ")?;
+            }
+            is_current = false;
+            out.put(name)?;
+            put_number(out, number)?;
+        }
+    }
     if is_current {
         out.put(b"current")?;
     }
     Ok(())
-}
-
-// Writes a number that isn't 0 with its name.
-fn put_place_number<W: Sink>(
-    out: &mut W,
-    is_first: &mut bool,
-    name: &[u8],
-    number: u64,
-) -> Result<(), IoFault> {
-    if number == 0 {
-        return Ok(());
-    }
-    if !*is_first {
-        out.put(b", ")?;
-    }
-    *is_first = false;
-    out.put(name)?;
-    put_number(out, number)
 }
 
 // Writes the row of a record: what it is of, its unit, what is read, and of its value information block, where it has
@@ -151,8 +134,7 @@ fn put_told<W: Sink>(
     if matches!(reading.how, How::Other) {
         put_cell(out, b"hex", UNIT)?;
     } else {
-        put_shown(out, unit)?;
-        put_spaces(out, UNIT.saturating_sub(unit.len()))?;
+        put_cell(out, unit, UNIT)?;
     }
     put_place(out, found)?;
     put_names(out, told_of(vib))?;
@@ -168,34 +150,6 @@ fn put_told<W: Sink>(
     out.put(b"\n")
 }
 
-// Writes the row of a record.
-fn put_row<W: Sink>(out: &mut W, sent: &Sent<'_>) -> Result<(), IoFault> {
-    let (vib, reading) = (sent.record.vib, reading_of(&sent.record, sent.len));
-    let mut room = [0u8; READING_ROOM];
-    let unit = unit_text(&reading, vib, &mut room);
-    put_told(
-        out,
-        &sent.record,
-        code_at(number_of(vib)).name,
-        vib,
-        unit,
-        &reading,
-    )
-}
-
-// Writes the row of a counter of fixed data.
-fn put_counter<W: Sink>(out: &mut W, counter: &Counter<'_>) -> Result<(), IoFault> {
-    let unit = counter.unit.as_bytes();
-    put_told(
-        out,
-        &counter.record,
-        counter.name,
-        &[],
-        unit,
-        &counter.reading,
-    )
-}
-
 // Writes the header of variable data, and a row for each record before the first fault; of what is no telegram also its
 // structure.
 fn put_variable<W: Sink>(
@@ -207,12 +161,23 @@ fn put_variable<W: Sink>(
         put_structure(out, variable)?;
     }
     if let Some(head) = variable.head {
-        put_header(out, variable.meter, head.access, head.status)?;
+        match variable.meter {
+            Some(meter) => {
+                let number = meter.text();
+                let named = Some((number.as_slice(), medium_name(meter.kind)));
+                put_header(out, named, head.access, head.status)?;
+            }
+            None => put_header(out, None, head.access, head.status)?,
+        }
     }
     if variable.refused.is_none() {
         out.put(COLUMNS)?;
-        'records: for found in variable.records() {
-            put_row(out, &found)?;
+        'records: for Sent { record, len } in variable.records() {
+            let reading = reading_of(&record, len);
+            let name = code_at(number_of(record.vib)).name;
+            let mut room = [0u8; READING_ROOM];
+            let unit = unit_text(&reading, record.vib, &mut room);
+            put_told(out, &record, name, record.vib, unit, &reading)?;
         }
     }
     if is_telegram && matches!(variable.end(), Ok(End::More(_))) {
@@ -238,20 +203,27 @@ fn put_structure<W: Sink>(out: &mut W, variable: &Variable<'_>) -> Result<(), Io
 
 // Writes the meter of fixed data, and its counters.
 fn put_fixed<W: Sink>(out: &mut W, data: &FixedData<'_>) -> Result<(), IoFault> {
-    out.put(b"  body    fixed data\n  meter   ")?;
+    let mut room = [0u8; 8];
+    out.put(b"  body    fixed data\n")?;
     if data.has_number() {
-        let mut room = [0u8; 8];
-        out.put(digits_text(data.number, &mut room))?;
-        out.put(b", ")?;
-        out.put(medium_of(data.medium).as_bytes())?;
+        let named = Some((digits_text(data.number, &mut room), medium_of(data.medium)));
+        put_header(out, named, data.access, data.status)?;
     } else {
-        out.put(b"not named")?;
+        put_header(out, None, data.access, data.status)?;
     }
-    put_state(out, data.access, data.status)?;
     if data.shows_counters() {
         out.put(COLUMNS)?;
-        put_counter(out, &data.first)?;
-        put_counter(out, &data.second)?;
+        'counters: for counter in [&data.first, &data.second] {
+            let unit = counter.unit.as_bytes();
+            put_told(
+                out,
+                &counter.record,
+                counter.name,
+                &[],
+                unit,
+                &counter.reading,
+            )?;
+        }
     }
     Ok(())
 }

@@ -1,6 +1,6 @@
 //! What the meters of a house stand at, as JSON Lines.
 
-ghost use Rattle.std.specs.Prelude.{◌≡◌, ◌≤◌, IfSome};
+ghost use Rattle.std.specs.Prelude.{◌≤◌, IfSome};
 ghost use Rattle.json.specs.Tree.{json_tokens};
 ghost use Rattle.mbdc_change.specs.Fields.{last_moment};
 ghost use Rattle.mbdc_io.specs.Written.{Wrote};
@@ -32,25 +32,16 @@ fn put_reading<W: Sink>(out: &mut TokenWriter<'_, W>, kind: u8, shown: &Shown<'_
 
 // Writes the flat and the meter, and whether the reading is the journal's.
 #[tactic(auto, unfolding(crate::specs::Values::place_fields))]
-fn put_place<W: Sink>(out: &mut TokenWriter<'_, W>, place: &Place, is_noted: bool)
-    ensures { Added W.Sink out.old out.new (fields_tokens (place_fields place.now is_noted)) }
+fn put_place<W: Sink>(out: &mut TokenWriter<'_, W>, place: &Place, shown: &Option<Shown<'_>>)
+    ensures { Added W.Sink out.old out.new (fields_tokens (place_fields place.now (is_noted shown.now))) }
 {
     let flat = Cell::Text("flat", place.flat.as_slice());
     let meter = Cell::Meter("meter", place.meter);
-    if is_noted {
-        put_row(out, &[flat, meter, Cell::Text("from", b"journal")]);
-    } else {
-        put_row(out, &[flat, meter]);
-    }
-}
-
-// Whether a reading is the journal's.
-fn is_noted(shown: &Option<Shown<'_>>) -> bool
-    ensures { result ≡ is_noted shown.now }
-{
     match shown {
-        Some(shown) => shown.is_noted,
-        None => false,
+        Some(shown) if shown.is_noted => {
+            put_row(out, &[flat, meter, Cell::Text("from", b"journal")]);
+        }
+        _ => put_row(out, &[flat, meter]),
     }
 }
 
@@ -71,7 +62,7 @@ fn put_stands<W: Sink>(out: &mut TokenWriter<'_, W>, place: &Place, shown: &Opti
     ensures { Added W.Sink out.old out.new (json_tokens (stands_json place.now shown.now)) }
 {
     out.begin_object();
-    put_place(out, place, is_noted(shown));
+    put_place(out, place, shown);
     out.put_name("reading");
     put_shown(out, place.meter.kind, shown);
     out.end_object();

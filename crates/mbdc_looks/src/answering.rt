@@ -3,20 +3,19 @@
 ghost use Rattle.std.specs.Prelude.{◌≡◌, ◌<◌, ◌≤◌, ◌++◌, ◌↔◌, IsOk, IfOk, IfErr, OnOk};
 ghost use Rattle.std.specs.Prelude.{IsErrOf, option_map};
 ghost use Rattle.mbdc_io.specs.Failures.{HasRisen};
-ghost use Rattle.mbdc_io.specs.Written.{Wrote};
 ghost use Rattle.dc_sectors.specs.Runs.{OnlyLooked, Counts};
 ghost use Rattle.mbdc_log.specs.Greatest.{IsGreatest};
 ghost use Rattle.mbdc_log.specs.Halves.{budget_of, fewest_sectors, half_len_of, half_of, longest_half};
 ghost use Rattle.mbdc_log.specs.declared.fault.OpenFault.TheVariants.{Device};
 ghost use Rattle.mbdc_looks.specs.Answer.{IsAnswer, IsSeen, contents_text, house_text, seen_house};
-ghost use Rattle.mbdc_looks.specs.Answer.{is_silent, small_text, status_in, table_text};
+ghost use Rattle.mbdc_looks.specs.Answer.{is_silent, small_text, table_text};
 ghost use Rattle.mbdc_looks.specs.Look.{EndsLook, IsPlaced, seen_of};
 ghost use Rattle.mbdc_looks.specs.Told.{IsOfLook};
 
 use crate::asking::{Asked, Form, Report};
 use crate::look::{Look, Outlook, Slots, look_at, read_slots};
 use crate::report::{put_due_objects, put_register_objects};
-use crate::text::{put_image, put_number_line, put_small};
+use crate::text::{put_image, put_number_line, put_refused_line};
 use dc_meters::House;
 use dc_report::{due_table, register_table, rows};
 use dc_sectors::{Disk, Failed};
@@ -47,22 +46,6 @@ fn kept(put: Result<(), IoFault>) -> Result<(), NoMemory>
     match put {
         Ok(()) => Ok(()),
         Err(IoFault) => Err(NoMemory),
-    }
-}
-
-// Writes the status of a house.
-fn put_status_in<A: Allocator + Copy, W: Sink>(
-    out: &mut W,
-    form: Form,
-    clock: Clock,
-    journal: &Journal<A>,
-    house: &House<A>,
-) -> Result<(), IoFault>
-    ensures { Wrote W.Sink result out.old out.new (status_in form clock journal.now house.now) }
-{
-    match form {
-        Form::Text => put_status(out, house, clock, journal),
-        Form::Json => put_status_objects(out, house, clock, journal),
     }
 }
 
@@ -109,7 +92,8 @@ fn add_house<A: Allocator + Copy>(
         Asked::Contents => Ok(()),
         Asked::Values(Form::Text) => kept(put_values(text, house, journal)),
         Asked::Values(Form::Json) => kept(put_value_objects(text, house, journal)),
-        Asked::Status(form, clock) => kept(put_status_in(text, *form, *clock, journal, house)),
+        Asked::Status(Form::Text, clock) => kept(put_status(text, house, *clock, journal)),
+        Asked::Status(Form::Json, clock) => kept(put_status_objects(text, house, *clock, journal)),
         Asked::Overview(clock) => kept(put_overview(text, house, *clock, journal)),
         Asked::Table(report, form) => add_table(alloc, house, *report, *form, text),
     }
@@ -177,12 +161,16 @@ fn answer_of<A: Allocator + Copy>(
 }
 
 // What is asked of a disk that is too small for an image.
+#[tactic(auto, using(mbdc_io::proofs::Pieces::written))]
 fn answer_small<A: Allocator>(alloc: A, sectors: u32, asked: Asked) -> Result<Bytes<A>, NoMemory>
     ensures { IfOk result (λ text. text.bytes ≡ small_text asked sectors) }
 {
     let mut text = Bytes::new(alloc);
     match asked {
-        Asked::Contents => kept(put_small(&mut text, sectors))?,
+        Asked::Contents => {
+            kept(put_number_line(&mut text, b"DISK", u64::from(sectors)))?;
+            kept(put_refused_line(&mut text, OpenFault::NotImage))?;
+        }
         Asked::Values(_) | Asked::Status(..) | Asked::Overview(_) | Asked::Table(..) => {}
     }
     Ok(text)

@@ -1,12 +1,11 @@
 //! Writes the contents of an image as text.
 
-ghost use Rattle.std.specs.Prelude.{◌≡◌, ◌≤◌, ◌++◌, codes, option_map};
+ghost use Rattle.std.specs.Prelude.{◌≡◌, ◌≤◌, option_map};
 ghost use Rattle.mbdc_io.specs.Written.{Wrote};
 ghost use Rattle.mbdc_log.specs.Halves.{half_start, half_end, longest_half};
-ghost use Rattle.mbdc_log.specs.declared.fault.OpenFault.TheVariants.{NotImage};
 ghost use Rattle.mbdc_decode.specs.Pieces.{piece_text};
 ghost use Rattle.mbdc_looks.specs.Look.{IsPlaced, seen_of};
-ghost use Rattle.mbdc_looks.specs.Text.{ahead_text, image_text, number_line, place_text, refusal_text};
+ghost use Rattle.mbdc_looks.specs.Text.{ahead_text, image_text, number_line, place_text};
 ghost use Rattle.mbdc_looks.specs.Text.{refused_line, seen_text, serial_word, slot_line, summary_text};
 
 use crate::look::{Look, Slots};
@@ -152,9 +151,9 @@ fn put_ahead<W: Sink>(out: &mut W, ahead: Option<u32>) -> Result<(), IoFault>
     }
 }
 
-// Writes why an image doesn't open.
+/// Writes why an image doesn't open.
 #[tactic(auto, unfolding(crate::specs::Text::refused_line))]
-fn put_refused_line<W: Sink>(out: &mut W, fault: OpenFault) -> Result<(), IoFault>
+pub(crate) fn put_refused_line<W: Sink>(out: &mut W, fault: OpenFault) -> Result<(), IoFault>
     ensures { Wrote W.Sink result out.old out.new (refused_line fault) }
 {
     let number = u64::from(fault.number());
@@ -180,16 +179,6 @@ fn put_refused_line<W: Sink>(out: &mut W, fault: OpenFault) -> Result<(), IoFaul
                 Piece::Text(b"\n"),
             ],
         ),
-    }
-}
-
-// Writes why an image doesn't open, if it doesn't.
-fn put_refusal<W: Sink>(out: &mut W, refusal: Option<OpenFault>) -> Result<(), IoFault>
-    ensures { Wrote W.Sink result out.old out.new (refusal_text refusal) }
-{
-    match refusal {
-        Some(fault) => put_refused_line(out, fault),
-        None => Ok(()),
     }
 }
 
@@ -232,15 +221,8 @@ pub(crate) fn put_image<A: Allocator + Copy, W: Sink>(
     put_slot(out, 2, &slots.second)?;
     put_found(out, half_len, &look.found)?;
     put_ahead(out, look.outlook.ahead)?;
-    put_refusal(out, look.outlook.refusal)
-}
-
-/// Writes the text of a disk that is too small for an image.
-#[tactic(auto, using(mbdc_io::proofs::Pieces::written))]
-pub(crate) fn put_small<W: Sink>(out: &mut W, sectors: u32) -> Result<(), IoFault>
-    ensures { Wrote W.Sink result out.old out.new
-        (number_line (codes "DISK") sectors ++ refused_line NotImage) }
-{
-    put_number_line(out, b"DISK", u64::from(sectors))?;
-    put_refused_line(out, OpenFault::NotImage)
+    match look.outlook.refusal {
+        Some(fault) => put_refused_line(out, fault),
+        None => Ok(()),
+    }
 }

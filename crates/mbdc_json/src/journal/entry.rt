@@ -98,7 +98,7 @@ fn entry_of<A: Allocator>(json: &Value<'_, A>) -> Option<Entry>
     ensures found { IfSome result (λ entry. IsEntry (value_view json.now) entry) }
     ensures only { (entry : Noted) → IsEntry (value_view json.now) entry → result ≡ Some entry }
 {
-    let meter = meter_in(json)?;
+    let meter = Identity::parse_text(text_in(json, "meter")?.as_bytes()).ok()?;
     let said = said_in(json)?;
     Some(Entry { meter, said })
 }
@@ -140,15 +140,6 @@ fn failed_in<A: Allocator>(json: &Value<'_, A>) -> Option<Said>
     let at = number_in(json, "at")?;
     let number = byte_in(json, "number")?;
     Some(Said::Failed { at, number })
-}
-
-// The meter that is named.
-fn meter_in<A: Allocator>(json: &Value<'_, A>) -> Option<Identity>
-    ensures found { IfSome result (λ meter. NamesMeter (value_view json.now) meter) }
-    ensures only { (meter : Meter) → IsOfBytes meter → NamesMeter (value_view json.now) meter
-        → result ≡ Some meter }
-{
-    Identity::parse_text(text_in(json, "meter")?.as_bytes()).ok()
 }
 
 // The text of a member.

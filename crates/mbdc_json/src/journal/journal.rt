@@ -3,7 +3,7 @@
 ghost use Rattle.std.specs.Prelude.{◌≡◌, Some, false, IfOk, OnOk};
 ghost use Rattle.dc_address.specs.declared.identity.Identity.{Identity as Meter};
 ghost use Rattle.mbdc_io.specs.Lines.{lines_of};
-ghost use Rattle.mbdc_json.specs.Journal.{Adds, IsJournal, after_entry, bodies_after, moment_of, no_notes, noted_in};
+ghost use Rattle.mbdc_json.specs.Journal.{IsJournal, after_entry, bodies_after, moment_of, no_notes, noted_in};
 ghost use Rattle.mbdc_json.specs.Journal.{sent_in};
 
 use crate::journal::entry::{Entry, Line, Said, read_line};
@@ -63,7 +63,10 @@ impl<A: Allocator + Copy> Journal<A> {
     {
         match self.notes.get(meter) {
             Some(noted) => *noted,
-            None => Noted::nothing(),
+            None => Noted {
+                read: None,
+                failing: None,
+            },
         }
     }
 
@@ -121,24 +124,6 @@ impl<A: Allocator + Copy> Journal<A> {
             None => Ok(()),
         }
     }
-
-    // Takes lines.
-    fn take_lines(&mut self, alloc: A, text: &[u8], now: u64) -> Result<(), NoMemory>
-        ensures added { OnOk result (Adds now (lines_of text.now) self.old self.new) }
-        ensures there { self.new.is_there ≡ self.old.is_there }
-    {
-        let mut scratch = Scratch::new(alloc);
-        let mut rest = text;
-        'lines: while !rest.is_empty() {
-            let (line, after) = first_line(rest);
-            match read_line(alloc, line, &mut scratch)? {
-                Some(line) => self.take_line(line, now)?,
-                None => {}
-            }
-            rest = after;
-        }
-        Ok(())
-    }
 }
 
 fn moment_of(said: Said) -> u64
@@ -163,6 +148,15 @@ pub fn read_journal<A: Allocator + Copy>(
         notes: BTreeMap::new(alloc),
         sent: BTreeMap::new(alloc),
     };
-    journal.take_lines(alloc, lines, now)?;
+    let mut scratch = Scratch::new(alloc);
+    let mut rest = lines;
+    'lines: while !rest.is_empty() {
+        let (line, after) = first_line(rest);
+        match read_line(alloc, line, &mut scratch)? {
+            Some(line) => journal.take_line(line, now)?,
+            None => {}
+        }
+        rest = after;
+    }
     Ok(journal)
 }

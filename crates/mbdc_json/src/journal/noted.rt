@@ -1,7 +1,7 @@
 //! What is noted of a meter.
 
 ghost use Rattle.std.specs.Prelude.{◌≡◌};
-ghost use Rattle.mbdc_json.specs.Noted.{failing_after, noted_after, nothing};
+ghost use Rattle.mbdc_json.specs.Noted.{noted_after};
 
 use crate::journal::entry::Said;
 
@@ -37,16 +37,6 @@ pub struct Noted {
 }
 
 impl Noted {
-    /// Nothing is noted of it.
-    pub fn nothing() -> Noted
-        ensures { result ≡ nothing }
-    {
-        Noted {
-            read: None,
-            failing: None,
-        }
-    }
-
     // The same after a line.
     pub(crate) fn after(self, said: Said) -> Noted
         ensures { result ≡ noted_after said self }
@@ -66,18 +56,15 @@ impl Noted {
             },
             Said::Failed { at, number } => Noted {
                 read: self.read,
-                failing: Some(failing_after(self.failing, at, number)),
+                failing: Some(Failing {
+                    since: match self.failing {
+                        Some(failing) => failing.since,
+                        None => at,
+                    },
+                    at,
+                    number,
+                }),
             },
         }
     }
-}
-
-fn failing_after(failing: Option<Failing>, at: u64, number: u8) -> Failing
-    ensures { result ≡ failing_after failing at number }
-{
-    let since = match failing {
-        Some(failing) => failing.since,
-        None => at,
-    };
-    Failing { since, at, number }
 }

@@ -4,10 +4,8 @@ ghost use Rattle.std.specs.Prelude.{◌≡◌, ◌≤◌, codes, false, map, opt
 ghost use Rattle.mbdc_change.specs.Fields.{last_moment};
 ghost use Rattle.mbdc_io.specs.Written.{Wrote};
 ghost use Rattle.mbdc_json.specs.Latest.{meter_text, values_text};
-ghost use Rattle.mbdc_json.specs.LatestValues.{also_line, also_lines, counted, name_words, names_words, place_words};
-ghost use Rattle.mbdc_json.specs.LatestValues.{sent_line, sent_lines, sent_words, shown, shown_lines, shown_word};
-ghost use Rattle.mbdc_json.specs.LatestValues.{told_lines, unread_line, value_word, when_words};
-ghost use Rattle.mbdc_shown.specs.Stand.{bodies_sent};
+ghost use Rattle.mbdc_json.specs.LatestValues.{also_line, also_lines, counted, name_words, names_words, sent_line};
+ghost use Rattle.mbdc_json.specs.LatestValues.{sent_lines, sent_words, shown, shown_lines, unread_line, value_word};
 ghost use Rattle.mbdc_reading.specs.Sent.{sent_view};
 ghost use Rattle.mbdc_reading.specs.Vifes.{vife_at};
 
@@ -23,7 +21,7 @@ use mbdc_reading::{
     READING_ROOM, Sent, code_at, is_extension, number_after, number_of, reading_of, told_of,
     unit_text, value_text, vife_at,
 };
-use mbdc_shown::{Bodies, Current, Headline, Listed, minute};
+use mbdc_shown::{Current, Headline, Listed, minute};
 use std::alloc::Allocator;
 
 /// Writes what each registered meter stands at, by flat and then by identity, beside a journal.
@@ -52,65 +50,44 @@ fn put_meter<A: Allocator + Copy, W: Sink>(
     ensures { Wrote W.Sink result out.old out.new
         (meter_text journal.now house.now.state place.now) }
 {
-    put_place(out, place)?;
+    out.put(b"METER ")?;
+    out.put(place.flat.as_slice())?;
+    out.put(b" ")?;
+    out.put(&place.meter.text())?;
+    out.put(b" ")?;
+    out.put(medium_name(place.meter.kind).as_bytes())?;
     match shown_of(house, journal, &place.meter) {
         Some(shown) => put_shown_reading(out, place.meter.kind, &shown),
         None => out.put(b" NONE\n"),
     }
 }
 
-// Writes the flat, the meter and its medium.
-#[tactic(auto, using(mbdc_io::proofs::Pieces::written), unfolding(crate::specs::LatestValues::place_words))]
-fn put_place<W: Sink>(out: &mut W, place: &Place) -> Result<(), IoFault>
-    ensures { Wrote W.Sink result out.old out.new (place_words place.now) }
-{
-    out.put(b"METER ")?;
-    out.put(place.flat.as_slice())?;
-    out.put(b" ")?;
-    out.put(&place.meter.text())?;
-    out.put(b" ")?;
-    out.put(medium_name(place.meter.kind).as_bytes())
-}
-
-// Writes the serial and the moment of a reading, the status, and what the records of a meter of this device type tell.
+// Writes the serial and the minute (UTC) of a reading and whether it is the journal's, the status, and what the records
+// of a meter of this device type tell.
 #[tactic(auto, using(mbdc_io::proofs::Pieces::written), unfolding(crate::specs::LatestValues::shown_lines))]
 fn put_shown_reading<W: Sink>(out: &mut W, kind: u8, shown: &Shown<'_>) -> Result<(), IoFault>
     requires { shown.now.moment ≤ last_moment }
     ensures { Wrote W.Sink result out.old out.new (shown_lines kind shown.now) }
 {
-    put_number_word(out, shown.serial)?;
-    put_when(out, shown.moment, shown.is_noted)?;
-    put_status(out, shown.status)?;
-    put_told(out, kind, &shown.bodies)
-}
-
-// Writes the minute (UTC) of a moment, and whether the reading is the journal's.
-#[tactic(auto, unfolding(crate::specs::LatestValues::when_words))]
-fn put_when<W: Sink>(out: &mut W, moment: u64, is_noted: bool) -> Result<(), IoFault>
-    requires { moment ≤ last_moment }
-    ensures { Wrote W.Sink result out.old out.new (when_words moment is_noted) }
-{
     let mut text = [0u8; TEXT_ROOM];
-    let end: &[u8] = if is_noted { b"Z JOURNAL\n" } else { b"Z\n" };
     put_pieces(
         out,
         &[
+            Piece::Word(shown.serial),
             Piece::Text(b" "),
-            Piece::Text(minute(moment).write_into(&mut text)),
-            Piece::Text(end),
+            Piece::Text(minute(shown.moment).write_into(&mut text)),
+            Piece::Text(if shown.is_noted {
+                b"Z JOURNAL\n"
+            } else {
+                b"Z\n"
+            }),
         ],
-    )
-}
-
-// Writes what the records of a meter of this device type tell.
-#[tactic(auto, using(mbdc_io::proofs::Pieces::written), unfolding(crate::specs::LatestValues::told_lines))]
-fn put_told<W: Sink>(out: &mut W, kind: u8, bodies: &Bodies<'_>) -> Result<(), IoFault>
-    ensures { Wrote W.Sink result out.old out.new (told_lines kind (bodies_sent bodies.now)) }
-{
-    put_headline(out, Headline::new(kind, bodies))?;
-    put_current(out, Listed::new(Current::Values, bodies))?;
-    put_also(out, Listed::new(Current::Also, bodies))?;
-    put_unread(out, Listed::new(Current::Unread, bodies))
+    )?;
+    put_status(out, shown.status)?;
+    put_headline(out, Headline::new(kind, &shown.bodies))?;
+    put_current(out, Listed::new(Current::Values, &shown.bodies))?;
+    put_also(out, Listed::new(Current::Also, &shown.bodies))?;
+    put_unread(out, Listed::new(Current::Unread, &shown.bodies))
 }
 
 // Writes the lines of what a meter stands at.
@@ -178,29 +155,19 @@ fn put_sent<W: Sink>(out: &mut W, word: &'static [u8], sent: &Sent<'_>) -> Resul
     put_number_word(out, u64::from(record.tariff))?;
     put_number_word(out, u64::from(record.subunit))?;
     out.put(b" ")?;
-    put_value_word(out, value_text(&reading, record.content, &mut room))?;
+    put_word(out, value_text(&reading, record.content, &mut room))?;
     out.put(b" ")?;
-    put_word(out, unit_text(&reading, record.vib, &mut room))
+    put_word(out, Some(unit_text(&reading, record.vib, &mut room)))
 }
 
-/// Writes a value as one word.
-pub(crate) fn put_value_word<W: Sink>(out: &mut W, text: Option<&[u8]>) -> Result<(), IoFault>
+/// Writes a text as one word; a dash for none.
+pub(crate) fn put_word<W: Sink>(out: &mut W, text: Option<&[u8]>) -> Result<(), IoFault>
     ensures { Wrote W.Sink result out.old out.new (value_word (option_map (λ s. s.now) text.entry)) }
 {
     match text {
-        Some(text) => put_word(out, text),
-        None => out.put(b"-"),
+        Some(text) if !text.is_empty() => put_shown(out, text),
+        _ => out.put(b"-"),
     }
-}
-
-/// Writes a text as one word.
-pub(crate) fn put_word<W: Sink>(out: &mut W, text: &[u8]) -> Result<(), IoFault>
-    ensures { Wrote W.Sink result out.old out.new (shown_word text.now) }
-{
-    if text.is_empty() {
-        return out.put(b"-");
-    }
-    put_shown(out, text)
 }
 
 fn put_shown<W: Sink>(out: &mut W, text: &[u8]) -> Result<(), IoFault>

@@ -1,11 +1,10 @@
 //! The reading that is shown of a meter.
 
 ghost use Rattle.std.specs.Prelude.{◌≡◌, ◌≤◌, IfSome, option_copied};
-ghost use Rattle.dc_records.specs.Telegram.{telegram_at};
 ghost use Rattle.mbdc_change.specs.Fields.{last_moment};
-ghost use Rattle.mbdc_json.specs.Heard.{last_of_parts, part_in};
+ghost use Rattle.mbdc_json.specs.Heard.{part_in};
 ghost use Rattle.mbdc_json.specs.LatestValues.{last_of, last_reading};
-ghost use Rattle.mbdc_json.specs.Shown.{byte_in, held_shown, noted_shown, shown_of};
+ghost use Rattle.mbdc_json.specs.Shown.{held_shown, noted_shown, shown_of};
 
 use crate::journal::Journal;
 use crate::status::{is_later, moment_of, taken_at};
@@ -75,21 +74,14 @@ fn held_shown<A: Allocator>(reading: Option<&Reading<A>>) -> Option<Shown<'_>>
     ensures within { IfSome result (λ shown. shown.moment ≤ last_moment) }
 {
     let reading = reading?;
-    let part = last_of(reading.parts())?;
+    let part = reading.parts().last()?;
     Some(Shown {
         serial: reading.serial(),
         moment: part.moment(),
-        status: status_of(part),
+        status: part.telegram().header().status,
         is_noted: false,
         bodies: Bodies::of(reading.parts()),
     })
-}
-
-// The status byte of a part's telegram.
-fn status_of<A: Allocator>(part: &Part<A>) -> u8
-    ensures { result ≡ byte_in (telegram_at part.now.body) }
-{
-    part.telegram().header().status
 }
 
 /// The last reading of a meter that the register holds; none where the office has confirmed all, or none was taken.
@@ -114,19 +106,12 @@ fn last(serials: Serials<'_, Identity>) -> Option<u64>
     last
 }
 
-/// The last of these parts.
-pub(crate) fn last_of<A: Allocator>(parts: &[Part<A>]) -> Option<&Part<A>>
-    ensures { option_copied result ≡ last_of_parts parts.now }
-{
-    parts.get(parts.len().saturating_sub(1))
-}
-
 /// The last part of a reading.
 pub(crate) fn part_in<A: Allocator>(reading: Option<&Reading<A>>) -> Option<&Part<A>>
     ensures { option_copied result ≡ part_in (option_copied reading.entry) }
 {
     match reading {
-        Some(reading) => last_of(reading.parts()),
+        Some(reading) => reading.parts().last(),
         None => None,
     }
 }

@@ -3,10 +3,8 @@
 ghost use Rattle.std.specs.Prelude.{◌≡◌, ◌≤◌, IfSome};
 ghost use Rattle.mbdc_io.specs.Written.{Wrote};
 ghost use Rattle.mbdc_change.specs.Fields.{last_moment};
-ghost use Rattle.mbdc_json.specs.Status.{failed_text, failed_words, failure_name, heard_words};
-ghost use Rattle.mbdc_json.specs.Status.{name_end, row_lines, row_text};
-ghost use Rattle.mbdc_json.specs.Status.{silent_words, size_line};
-ghost use Rattle.mbdc_json.specs.Status.{source_words, state_words, status_text};
+ghost use Rattle.mbdc_json.specs.Status.{failed_text, failed_words, failure_name, heard_words, name_end, row_text};
+ghost use Rattle.mbdc_json.specs.Status.{silent_words, source_words, state_words, status_text};
 
 use crate::journal::Journal;
 use crate::latest::put_byte_words;
@@ -18,12 +16,12 @@ use dc_readout::Why;
 use dc_records::BodyFault;
 use dc_units::TEXT_ROOM;
 use mbdc_decode::tokens::{Piece, put_pieces};
-use mbdc_io::{IoFault, Sink};
+use mbdc_io::{IoFault, Sink, put_number_word};
 use mbdc_shown::{minute, put_number, readings_left};
 use std::alloc::Allocator;
 
 /// Writes when the registered meters were last heard, by flat and then by identity, and how full the image is.
-#[tactic(auto, using(mbdc_io::proofs::Pieces::written), unfolding(crate::specs::Status::status_text, crate::specs::Status::days_words, mbdc_shown::specs::Room::room_words))]
+#[tactic(auto, using(mbdc_io::proofs::Pieces::written), unfolding(crate::specs::Status::status_text, mbdc_shown::specs::Room::room_words))]
 pub fn put_status<A: Allocator + Copy, W: Sink>(
     out: &mut W,
     house: &House<A>,
@@ -33,27 +31,15 @@ pub fn put_status<A: Allocator + Copy, W: Sink>(
     ensures { Wrote W.Sink result out.old out.new
         (status_text clock.patience clock.now journal.now house.now) }
 {
-    put_rows(out, house, clock, journal)?;
-    put_size(out, house)?;
-    put_number(out, b"DAYS", days_left(house, clock.now))?;
-    put_number(out, b"ROOM", readings_left(house))
-}
-
-// Writes the line of each meter.
-#[tactic(auto, using(mbdc_io::proofs::Pieces::written), unfolding(crate::specs::Status::row_lines))]
-fn put_rows<A: Allocator + Copy, W: Sink>(
-    out: &mut W,
-    house: &House<A>,
-    clock: Clock,
-    journal: &Journal<A>,
-) -> Result<(), IoFault>
-    ensures { Wrote W.Sink result out.old out.new
-        (row_lines clock.patience clock.now journal.now house.now.state) }
-{
     for place in house.meters_by_flat() {
         put_row(out, &row_at(house, clock, journal, place))?;
     }
-    Ok(())
+    out.put(b"SIZE")?;
+    put_number_word(out, u64::from(house.size()))?;
+    put_number_word(out, u64::from(house.budget()))?;
+    out.put(b"\n")?;
+    put_number(out, b"DAYS", days_left(house, clock.now))?;
+    put_number(out, b"ROOM", readings_left(house))
 }
 
 // Writes the line of a meter.
@@ -64,10 +50,15 @@ fn put_row<W: Sink>(out: &mut W, row: &Row) -> Result<(), IoFault>
         IfSome told.failed (λ moment. moment ≤ last_moment)) }
     ensures { Wrote W.Sink result out.old out.new (row_text row.now) }
 {
-    out.put(b"METER ")?;
-    out.put(row.flat.as_slice())?;
-    out.put(b" ")?;
-    out.put(&row.meter.text())?;
+    put_pieces(
+        out,
+        &[
+            Piece::Text(b"METER "),
+            Piece::Text(row.flat.as_slice()),
+            Piece::Text(b" "),
+            Piece::Text(&row.meter.text()),
+        ],
+    )?;
     put_heard(out, row.heard, row.age)?;
     out.put(silent_words(row.is_silent))?;
     put_state(out, row.status)?;
@@ -159,20 +150,17 @@ fn put_heard<W: Sink>(out: &mut W, moment: Option<u64>, age: Option<u64>) -> Res
     ensures { Wrote W.Sink result out.old out.new (heard_words moment age) }
 {
     let mut text = [0u8; TEXT_ROOM];
-    match moment {
-        Some(moment) => match age {
-            Some(age) => put_pieces(
-                out,
-                &[
-                    Piece::Text(b" "),
-                    Piece::Text(minute(moment).write_into(&mut text)),
-                    Piece::Text(b"Z"),
-                    Piece::Word(age),
-                ],
-            ),
-            None => out.put(b" NONE"),
-        },
-        None => out.put(b" NONE"),
+    match (moment, age) {
+        (Some(moment), Some(age)) => put_pieces(
+            out,
+            &[
+                Piece::Text(b" "),
+                Piece::Text(minute(moment).write_into(&mut text)),
+                Piece::Text(b"Z"),
+                Piece::Word(age),
+            ],
+        ),
+        _ => out.put(b" NONE"),
     }
 }
 
@@ -190,20 +178,4 @@ fn silent_words(is_silent: bool) -> &'static [u8]
     ensures { result.now ≡ silent_words is_silent }
 {
     if is_silent { b" SILENT" } else { b"" }
-}
-
-// Writes the size of the register and its maximum.
-#[tactic(auto, unfolding(crate::specs::Status::size_line))]
-fn put_size<A: Allocator + Copy, W: Sink>(out: &mut W, house: &House<A>) -> Result<(), IoFault>
-    ensures { Wrote W.Sink result out.old out.new (size_line house.now.budget house.now.state) }
-{
-    put_pieces(
-        out,
-        &[
-            Piece::Text(b"SIZE"),
-            Piece::Word(u64::from(house.size())),
-            Piece::Word(u64::from(house.budget())),
-            Piece::Text(b"\n"),
-        ],
-    )
 }

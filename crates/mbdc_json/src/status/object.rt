@@ -5,9 +5,8 @@ ghost use Rattle.mbdc_io.specs.Written.{Wrote};
 ghost use Rattle.mbdc_change.specs.Fields.{last_moment};
 ghost use Rattle.mbdc_decode.specs.Record.{value_json};
 ghost use Rattle.mbdc_decode.specs.Row.{field_of};
-ghost use Rattle.mbdc_json.specs.Object.{failure_json, image_object, maybe_json, plain_object, row_object};
-ghost use Rattle.mbdc_json.specs.Object.{row_objects, source_json, state_json, status_objects};
-ghost use Rattle.mbdc_json.specs.Object.{told_object, utc_json};
+ghost use Rattle.mbdc_json.specs.Object.{failure_json, maybe_json, plain_object, row_object, source_json};
+ghost use Rattle.mbdc_json.specs.Object.{state_json, status_objects, told_object, utc_json};
 
 use crate::journal::Journal;
 use crate::status::full::days_left;
@@ -32,25 +31,18 @@ pub fn put_status_objects<A: Allocator + Copy, W: Sink>(
     ensures { Wrote W.Sink result out.old out.new
         (status_objects clock.patience clock.now journal.now house.now) }
 {
-    put_rows(out, house, clock, journal)?;
-    put_image(out, house, clock.now)
-}
-
-// Writes the object of each meter.
-#[tactic(auto, using(mbdc_io::proofs::Pieces::written), unfolding(crate::specs::Object::row_objects))]
-fn put_rows<A: Allocator + Copy, W: Sink>(
-    out: &mut W,
-    house: &House<A>,
-    clock: Clock,
-    journal: &Journal<A>,
-) -> Result<(), IoFault>
-    ensures { Wrote W.Sink result out.old out.new
-        (row_objects clock.patience clock.now journal.now house.now.state) }
-{
     for place in house.meters_by_flat() {
         put_row(out, &row_at(house, clock, journal, place))?;
     }
-    Ok(())
+    put_line(
+        out,
+        &[
+            Cell::Number("bytes", u64::from(house.size())),
+            Cell::Number("budget", u64::from(house.budget())),
+            maybe("days", days_left(house, clock.now)),
+            maybe("room", readings_left(house)),
+        ],
+    )
 }
 
 // Writes the object of a meter.
@@ -163,25 +155,4 @@ fn state(status: Option<u8>) -> Cell<'static>
         Some(status) => Cell::Status("status", status),
         None => Cell::Null("status"),
     }
-}
-
-// Writes the object of the image: its size, and when it is full.
-#[tactic(auto, unfolding(crate::specs::Object::image_object))]
-fn put_image<A: Allocator + Copy, W: Sink>(
-    out: &mut W,
-    house: &House<A>,
-    now: u64,
-) -> Result<(), IoFault>
-    ensures { Wrote W.Sink result out.old out.new
-        (image_object house.now.budget now house.now.state) }
-{
-    put_line(
-        out,
-        &[
-            Cell::Number("bytes", u64::from(house.size())),
-            Cell::Number("budget", u64::from(house.budget())),
-            maybe("days", days_left(house, now)),
-            maybe("room", readings_left(house)),
-        ],
-    )
 }

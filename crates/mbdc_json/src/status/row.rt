@@ -1,16 +1,14 @@
 //! What is shown of a registered meter.
 
-ghost use Rattle.std.specs.Prelude.{◌≡◌, ◌≤◌, Some, None, IfSome, if◌then◌else◌, option_copied, option_map};
+ghost use Rattle.std.specs.Prelude.{◌≡◌, ◌≤◌, Some, None, IfSome, if◌then◌else◌};
 ghost use Rattle.mbdc_change.specs.Fields.{last_moment};
-ghost use Rattle.mbdc_json.specs.Heard.{ago};
-ghost use Rattle.mbdc_json.specs.Row.{code_of, failed_by, failing_since, is_later, number_in, row_at};
-ghost use Rattle.mbdc_json.specs.Row.{status_in, taken_at, within};
+ghost use Rattle.mbdc_json.specs.Row.{failed_by, is_later, number_in, row_at, taken_at, within};
 
 use crate::journal::{Failing, Journal, Taken};
 use crate::latest::{last_reading, part_in};
 use crate::status::silence::{Clock, heard, is_silent};
 use dc_address::Identity;
-use dc_meters::{House, Part, Place};
+use dc_meters::{House, Place};
 use mbdc_change::{Flat, LAST_MOMENT};
 use std::alloc::Allocator;
 
@@ -45,7 +43,7 @@ pub(crate) struct Told {
 }
 
 /// The row of a meter at a clock.
-#[tactic(auto, unfolding(crate::specs::Row::row_at, crate::specs::Row::heard_by, crate::specs::Row::status_by))]
+#[tactic(auto, unfolding(crate::specs::Row::row_at, crate::specs::Row::heard_by, crate::specs::Row::status_by, crate::specs::Row::code_of))]
 pub(crate) fn row_at<A: Allocator + Copy>(
     house: &House<A>,
     clock: Clock,
@@ -65,17 +63,17 @@ pub(crate) fn row_at<A: Allocator + Copy>(
         flat: place.flat,
         meter: place.meter,
         heard,
-        age: age(clock.now, heard),
+        age: heard.map(|moment| clock.now.saturating_sub(moment)),
         is_silent: is_silent(
             clock,
             house.confirmed(),
-            failing_since(noted.failing),
+            noted.failing.map(|failing| failing.since),
             heard,
         ),
         status: if is_noted {
-            status_in(noted.read)
+            noted.read.map(|taken| taken.status)
         } else {
-            code_of(part_in(last_reading(house, &place.meter)))
+            part_in(last_reading(house, &place.meter)).map(|part| part.telegram().header().status)
         },
         told: told_by(journal.is_there(), is_noted, noted.failing, heard),
     }
@@ -100,24 +98,6 @@ pub(crate) fn taken_at(taken: Option<Taken>) -> Option<u64>
 {
     match taken {
         Some(taken) => within(taken.moment),
-        None => None,
-    }
-}
-
-fn status_in(taken: Option<Taken>) -> Option<u8>
-    ensures { result ≡ status_in taken }
-{
-    match taken {
-        Some(taken) => Some(taken.status),
-        None => None,
-    }
-}
-
-fn failing_since(failing: Option<Failing>) -> Option<u64>
-    ensures { result ≡ failing_since failing }
-{
-    match failing {
-        Some(failing) => Some(failing.since),
         None => None,
     }
 }
@@ -172,25 +152,4 @@ fn told_by(
         failed: failed_by(failing, heard),
         number,
     })
-}
-
-// Seconds since a moment.
-fn age(now: u64, moment: Option<u64>) -> Option<u64>
-    ensures { result ≡ option_map (ago now) moment }
-{
-    match moment {
-        Some(moment) => Some(now.saturating_sub(moment)),
-        None => None,
-    }
-}
-
-// The status byte of a part.
-#[tactic(auto, unfolding(crate::specs::Row::code_of))]
-fn code_of<A: Allocator>(part: Option<&Part<A>>) -> Option<u8>
-    ensures { result ≡ code_of (option_copied part.entry) }
-{
-    match part {
-        Some(part) => Some(part.telegram().header().status),
-        None => None,
-    }
 }

@@ -1,16 +1,15 @@
 //! Whether a meter is silent.
 
-ghost use Rattle.std.specs.Prelude.{◌≡◌, ◌≤◌, Some, IfSome, option_copied};
+ghost use Rattle.std.specs.Prelude.{◌≡◌, ◌≤◌, IfSome, option_copied};
 ghost use Rattle.mbdc_change.specs.Fields.{last_moment};
-ghost use Rattle.mbdc_json.specs.Heard.{heard, is_long, is_silent, later, moment_of};
-ghost use Rattle.mbdc_json.specs.Heard.{open_part};
+ghost use Rattle.mbdc_json.specs.Heard.{heard, is_silent, moment_of};
 ghost use Rattle.mbdc_json.specs.Status.{any_silent};
 
 use crate::journal::Journal;
-use crate::latest::{last_of, last_reading, part_in};
+use crate::latest::{last_reading, part_in};
 use crate::status::row::row_at;
 use dc_address::Identity;
-use dc_meters::{House, Meter, Part};
+use dc_meters::{House, Part};
 use std::alloc::Allocator;
 
 /// The moment at which a status is asked for.
@@ -33,44 +32,18 @@ pub(crate) fn moment_of<A: Allocator>(part: Option<&Part<A>>) -> Option<u64>
     }
 }
 
-fn open_part<A: Allocator>(row: Option<&Meter<A>>) -> Option<&Part<A>>
-    ensures { option_copied result ≡ open_part (option_copied row.entry) }
-{
-    match row {
-        Some(row) => last_of(row.parts()),
-        None => None,
-    }
-}
-
-fn later(first: Option<u64>, second: Option<u64>) -> Option<u64>
-    requires first { IfSome first (λ moment. moment ≤ last_moment) }
-    requires second { IfSome second (λ moment. moment ≤ last_moment) }
-    ensures later { result ≡ later first second }
-    ensures within { IfSome result (λ moment. moment ≤ last_moment) }
-{
-    match (first, second) {
-        (None, second) => second,
-        (Some(first), None) => Some(first),
-        (Some(first), Some(second)) => Some(first.max(second)),
-    }
-}
-
 /// The moment at which a meter was last heard; none where nothing of it is held.
 #[tactic(auto, unfolding(crate::specs::Heard::heard))]
 pub(crate) fn heard<A: Allocator + Copy>(house: &House<A>, meter: &Identity) -> Option<u64>
     ensures heard { result ≡ heard house.now.state meter.now }
     ensures within { IfSome result (λ moment. moment ≤ last_moment) }
 {
-    let open = moment_of(open_part(house.meter(meter)));
-    let read = moment_of(part_in(last_reading(house, meter)));
-    later(open, read)
-}
-
-// Whether a moment is longer ago than a meter may be silent.
-fn is_long(clock: Clock, moment: u64) -> bool
-    ensures { result ≡ is_long clock.patience clock.now (Some moment) }
-{
-    clock.now.saturating_sub(moment) > clock.patience
+    let open = moment_of(house.meter(meter).and_then(|row| row.parts().last()));
+    match (open, moment_of(part_in(last_reading(house, meter)))) {
+        (None, read) => read,
+        (Some(open), None) => Some(open),
+        (Some(open), Some(read)) => Some(open.max(read)),
+    }
 }
 
 /// Whether a meter is silent that was last heard then, and whose readouts have failed since that moment.
@@ -82,10 +55,9 @@ pub(crate) fn is_silent(
 ) -> bool
     ensures { result ≡ is_silent clock.patience clock.now confirmed failing heard }
 {
-    match (heard, failing) {
-        (Some(moment), _) => is_long(clock, moment),
-        (None, Some(since)) => confirmed == 0 || is_long(clock, since),
-        (None, None) => confirmed == 0,
+    match heard.or(failing) {
+        Some(moment) if clock.now.saturating_sub(moment) > clock.patience => true,
+        _ => heard.is_none() && confirmed == 0,
     }
 }
 

@@ -8,4 +8,4 @@ pub returns : goal.returns
 returns g c =
     said (json_tokens (stands_json c.args.place.now c.args.shown.now))
     (c.begin_object.ensures >> c.put_place.ensures >> c.put_name.ensures >> c.put_shown.ensures >> c.end_object.ensures >> unchanged)
-    (stands_as c.args.place.now c.args.shown.now c.is_noted.result c.is_noted.ensures)
+    (stands_as c.args.place.now c.args.shown.now)
