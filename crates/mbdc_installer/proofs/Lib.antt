@@ -20,5 +20,3 @@ mod Others
 
 -- a text, and what is printed after it
 mod Texts
--- the ways to a readout
-mod Ways

@@ -27,7 +27,6 @@ use Rattle.mbdc_installer.specs.declared.reading.Readout.TheVariants.{Whole, Fai
 use Rattle.mbdc_installer.specs.declared.wildcards.Count.{Count}
 use Rattle.mbdc_installer.specs.declared.wildcards.ScanFault.{ScanFault}
 use Rattle.mbdc_io.specs.Written.{PutsInto}
-use Rattle.mbdc_io.specs.declared.stream.IoFault.{IoFault}
 use Rattle.mbdc_io.specs.declared.stream.Sink.{Ghosts}
 use Rattle.dc_readout.specs.declared.misses.misses.Misses.{Misses}
 use Rattle.dc_readout.specs.Summary.{begun}
@@ -63,11 +62,6 @@ pub data IsRead {B : Type 0} (bus : BusGhosts B) (wrote : List ℕ → Type 0)
   unfound : {old new : B} (digits : List ℕ) (misses : Misses)
       → IsFound bus.asks_all digits old (Nobody misses) new → wrote (unfound_text digits false)
       → IsRead bus wrote (ByNumber digits) old new (Failed misses)
-
--- a readout that found no one meter, once that is printed
-abbrev pub missed_by : Misses → Result (Unit {0}) IoFault → Result Readout IoFault
-missed_by misses (Ok put) = Ok (Failed misses)
-missed_by misses (Err fault) = Err fault
 
 -- WHAT A COMMAND DOES to the bus, and prints of that. How much a search at primary addresses finds isn't counted.
 pub data IsDone {B : Type 0} (bus : BusGhosts B) (wrote : List ℕ → Type 0)

@@ -1,7 +1,7 @@
 -- How far a search is, by what goes over its bus (this product).
 use Rattle.std.specs.Prelude.{◌≡◌, ℕ, ◌+◌, ◌-◌, ◌^◌, min, Bool, true, false, not, ◌&&◌, ◌||◌, List, [], ◌∷◌}
 use Rattle.std.specs.Prelude.{◌==◌, Option, None, Some, if◌then◌else◌, is_some, count_by}
-use Rattle.dc_address.specs.declared.identity.Identity.{Identity}
+use Rattle.std.specs.Option.{option_or}
 use Rattle.mbdc_bus.specs.Bus.{Exchange}
 use Rattle.dc_linkframe.specs.Control.{selection, snd_nke}
 use Rattle.dc_linkframe.specs.Frame.{FrameSeen, ack, short, long}
@@ -70,11 +70,7 @@ after_request request c = record c {
 
 -- ---- answers
 
--- the meter of a telegram, or the one before it
-abbrev pub last_meter : Option Identity → Option Identity → Option Identity
-last_meter None before = before
-last_meter (Some meter) before = Some meter
-
+-- the meter of a telegram stays until the next one
 abbrev pub after_answer : List ℕ → Course → Course
 after_answer answer c = record c {
   silent = one_if (not c.is_request && is_silent answer) c.silent;
@@ -83,7 +79,7 @@ after_answer answer c = record c {
   is_answered = c.is_answered || not (is_silent answer);
   is_understood = c.is_understood || is_some (frame_of answer);
   is_other = c.is_other || is_some (format_of answer);
-  meter = last_meter (answer_of answer) c.meter;
+  meter = option_or (answer_of answer) c.meter;
 }
 
 -- ---- all of them

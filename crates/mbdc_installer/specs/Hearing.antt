@@ -1,6 +1,7 @@
 -- What a search believes of what comes where several meters may answer (EN 13757-3, selection with wildcards; this product).
 use Rattle.std.specs.Prelude.{◌≡◌, ◌⊎◌, ℕ, Bool, true, false, not, ◌&&◌, ◌||◌, ◌==◌, List, [], ◌∷◌, ◌++◌, length, take}
 use Rattle.std.specs.Prelude.{Option, None, Some, if◌then◌else◌, nat_le, nat_lt}
+use Rattle.std.specs.Bool.{then_some}
 use Rattle.dc_address.specs.declared.identity.Identity.{Identity}
 use Rattle.dc_linkframe.specs.Frame.{FrameSeen, ack, short, long}
 use Rattle.dc_linkframe.specs.Reading.{frame_of}
@@ -24,28 +25,24 @@ selection_in (Some (long control address ci body)) =
 
 -- ---- a selection
 
--- what is confirmed of a selection
-abbrev pub wire_if : Bool → List ℕ → Option (List ℕ)
-wire_if confirms wire = if confirms then Some wire else None
-
 -- ONE METER MAY ANSWER ALONE: where one acknowledged, or where bytes came and no digit is open. Only in a search, and while
 -- one more can be noted.
 abbrev pub is_looked : Wildcard → List ℕ → List ℕ → Bool
-is_looked w wire answer = w.confirms && (nat_lt (length w.others) most_others
+is_looked w wire answer = w.confirms && (nat_lt (length w.others.items) most_others
     && (is_ack (frame_of answer) || (not (is_open wire 7) && not (is_silent answer))))
 
 -- what is known after a selection whose data isn't requested at once
 abbrev pub selected_by : List ℕ → Wildcard → Wildcard
-selected_by wire before = record before { wire = wire_if before.confirms wire; held = None }
+selected_by wire before = record before { wire = then_some before.confirms wire; held = None }
 
 -- what came is held for the search's own request; or the wildcard is closed, and noted
 abbrev pub looked_at : List ℕ → Wildcard → Looked → Wildcard
 looked_at wire before (Kept answer) =
-    record before { wire = wire_if before.confirms wire; held = Some answer }
+    record before { wire = then_some before.confirms wire; held = Some answer }
 looked_at wire before (Closed format) = record before {
   wire = None;
   held = None;
-  others = before.others ++ record { wire = wire; format = format } ∷ [];
+  others = record { items = before.others.items ++ record { wire = wire; format = format } ∷ [] };
 }
 
 -- nobody acknowledged whose wildcard is closed
@@ -56,12 +53,12 @@ acknowledged (Closed format) acknowledgement = []
 -- A SELECTION. Of a wildcard that is closed nothing goes out. Where one meter may answer alone, it is asked at once.
 pub data Selects {B : Type 0} (asks_all : B → List ℕ → List ℕ → B → Type 0) (wire request : List ℕ)
     (old : B) (before : Wildcard) (heard : List ℕ) (new : B) (after : Wildcard) : Type 0 where
-  is_over : is_closed wire before.others ≡ true → heard ≡ [] → new ≡ old → after ≡ before
+  is_over : is_closed wire before.others.items ≡ true → heard ≡ [] → new ≡ old → after ≡ before
       → Selects asks_all wire request old before heard new after
-  is_believed : is_closed wire before.others ≡ false → asks_all old request heard new
+  is_believed : is_closed wire before.others.items ≡ false → asks_all old request heard new
       → is_looked before wire heard ≡ false → after ≡ selected_by wire before
       → Selects asks_all wire request old before heard new after
-  looks : {between : B} (answer : List ℕ) (looked : Looked) → is_closed wire before.others ≡ false
+  looks : {between : B} (answer : List ℕ) (looked : Looked) → is_closed wire before.others.items ≡ false
       → asks_all old request answer between → is_looked before wire answer ≡ true
       → Looks asks_all wire between looked new → heard ≡ acknowledged looked answer
       → after ≡ looked_at wire before looked

@@ -1,26 +1,20 @@
 -- A bus on which a search is given up that hears noise alone (this product).
 use Rattle.std.specs.Prelude.{◌≡◌, ◌-◌, ◌==◌, ◌||◌, ℕ, Bool, true, false, List, [], ◌∷◌, Option, None, Some}
-use Rattle.std.specs.Prelude.{if◌then◌else◌}
+use Rattle.std.specs.Prelude.{if◌then◌else◌, is_some}
 use Rattle.mbdc_installer.specs.Hearing
 use Rattle.mbdc_installer.specs.declared.bench.listening.Listening.{Listening}
 use Rattle.mbdc_installer.specs.declared.other.Other.{Other}
-use Rattle.dc_linkframe.specs.Frame.{FrameSeen}
 use Rattle.dc_linkframe.specs.Reading.{frame_of}
 
-abbrev pub unless_frame : Option FrameSeen → ℕ → Option ℕ
-unless_frame None left = Some (left - 1)
-unless_frame (Some frame) left = None
+abbrev pub one_less : Option ℕ → Option ℕ
+one_less None = None
+one_less (Some left) = Some (left - 1)
 
--- how many answers may still be noise after this one: silence is none, and after a frame nothing is given up
-abbrev pub left_after : List ℕ → Option ℕ → Option ℕ
-left_after answer None = None
-left_after [] (Some left) = Some left
-left_after (byte ∷ bytes) (Some left) = unless_frame (frame_of (byte ∷ bytes)) left
-
--- the same where these frames closed a wildcard: they are frames
+-- how many answers may still be noise after this one: silence is none, and after a frame nothing is given up. Where frames
+-- closed a wildcard, they are frames.
 abbrev pub left_with : List Other → List ℕ → Option ℕ → Option ℕ
-left_with [] answer left = left_after answer left
-left_with (other ∷ more) [] left = left
+left_with others [] left = left
+left_with [] (byte ∷ bytes) left = if is_some (frame_of (byte ∷ bytes)) then None else one_less left
 left_with (other ∷ more) (byte ∷ bytes) left = None
 
 abbrev pub is_given_up : Option ℕ → Bool
@@ -54,4 +48,4 @@ pub record Hears {B : Type 0} (lost : B → Bool)
   pub untouched : is_given_up old.left ≡ true → new ≡ old
   pub silence : IsSilent (is_given_up new.left || lost new.bus) answer
   pub asked : is_given_up old.left ≡ false → (heard : List ℕ) × asks old request heard new
-      × (new.left ≡ left_with new.wildcard.others heard old.left) × (answer ≡ heard_as new.left heard)
+      × (new.left ≡ left_with new.wildcard.others.items heard old.left) × (answer ≡ heard_as new.left heard)

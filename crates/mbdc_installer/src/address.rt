@@ -1,21 +1,18 @@
 //! Setting a primary address.
 
-ghost use Rattle.std.specs.Prelude.{◌≡◌, ◌≤◌, ◌++◌, true, ℕ, List, codes, length};
+ghost use Rattle.std.specs.Prelude.{◌≡◌, ◌≤◌, ◌++◌, length};
 ghost use Rattle.mbdc_bus.specs.Limits.{most_request};
-ghost use Rattle.mbdc_bus.specs.Windows.{Insists, most_tries};
-ghost use Rattle.dc_linkframe.specs.Control.{request_to};
 ghost use Rattle.dc_linkframe.specs.Frame.{spelling};
 ghost use Rattle.mbdc_io.specs.Written.{Wrote};
-ghost use Rattle.mbdc_installer.specs.Address.{IsAddressed, IsChanged, IsFree, address_word};
-ghost use Rattle.mbdc_installer.specs.Address.{addressing_text, call_to, change_to, confirmed, elsewhere};
-ghost use Rattle.mbdc_installer.specs.Address.{one_at, place_of, target_word};
+ghost use Rattle.mbdc_installer.specs.Address.{IsAddressed, IsChanged, IsFree, addressing_text, call_to, one_at};
+ghost use Rattle.mbdc_installer.specs.Address.{place_of, target_word};
 
-use crate::primary::{Asked, ask_address, ask_reset, call, is_ack, put_address, sender_at};
+use crate::primary::{Asked, ask_address, ask_data, call, is_ack, put_address, sender_at};
 use dc_address::{Identity, Mask};
-use dc_linkframe::control::{SELECTED, SND_UD, write_request, write_reset, write_selection};
+use dc_linkframe::control::{SELECTED, SND_UD, write_reset, write_selection};
 use dc_linkframe::{FrameBuf, write_long};
 use dc_search::meter_of;
-use mbdc_bus::{AnswerBuf, Bus, TRIES, insist};
+use mbdc_bus::{Bus, TRIES, insist};
 use mbdc_decode::tokens::{Piece, put_pieces};
 use mbdc_io::{IoFault, Sink};
 
@@ -103,22 +100,14 @@ fn place_of(target: &Target) -> u8
 fn is_free<B: Bus>(bus: &mut B, address: u8) -> bool
     ensures { IsFree B.asks_all address bus.old result bus.new }
 {
-    let answer = ask_reset(bus, address);
+    let mut request = FrameBuf::new();
+    write_reset(address, &mut request);
+    let answer = insist(bus, &request, TRIES);
     if !answer.as_slice().is_empty() {
         return false;
     }
     let telegram = ask_data(bus, address);
     telegram.as_slice().is_empty()
-}
-
-// Requests a telegram, and returns what comes to that.
-fn ask_data<B: Bus>(bus: &mut B, address: u8) -> AnswerBuf
-    ensures { Insists B.asks_all (spelling (request_to true address)) most_tries bus.old result
-        bus.new }
-{
-    let mut request = FrameBuf::new();
-    write_request(true, address, &mut request);
-    insist(bus, &request, TRIES)
 }
 
 // The one meter that acknowledges: at an address its telegram comes from there, and a selected one is that meter.
@@ -137,19 +126,9 @@ fn one_at(target: &Target, asked: &Asked) -> Option<Identity>
     }
 }
 
-// Sends a meter its new address, and reads it there.
+// Sends a meter its new address, and reads it there. The frame count bit is 0: that of the request before it was 1.
 fn change<B: Bus>(bus: &mut B, meter: &Identity, from: u8, to: u8) -> Addressing
     ensures { IsChanged B.asks B.asks_all from to meter.now bus.old result bus.new }
-{
-    send_change(bus, from, to);
-    let asked = ask_address(bus, to);
-    confirmed(meter, sender_at(to, &asked.telegram))
-}
-
-// Sends the record of the new address, and waits for its acknowledgement. The frame count bit is 0: that of the
-// request before it was 1.
-fn send_change<B: Bus>(bus: &mut B, from: u8, to: u8)
-    ensures { (answer : List ℕ) × B.asks bus.old (change_to from to) answer bus.new }
 {
     let mut request = FrameBuf::new();
     write_long(
@@ -160,13 +139,8 @@ fn send_change<B: Bus>(bus: &mut B, from: u8, to: u8)
         &mut request,
     );
     let _ = bus.ask(&request);
-}
-
-// What came of the change, by the meter that answers at the new address.
-fn confirmed(meter: &Identity, sender: Option<Identity>) -> Addressing
-    ensures { result ≡ confirmed meter.now sender }
-{
-    let Some(sender) = sender else {
+    let asked = ask_address(bus, to);
+    let Some(sender) = sender_at(to, &asked.telegram) else {
         return Addressing::Unconfirmed(*meter);
     };
     if sender == *meter {
@@ -202,7 +176,16 @@ pub fn put_addressing<W: Sink>(
                 out,
             )
         }
-        Addressing::Unconfirmed(meter) => put_unconfirmed(to, meter, out),
+        Addressing::Unconfirmed(meter) => put_pieces(
+            out,
+            &[
+                Piece::Text(b"address"),
+                Piece::Word(u64::from(to)),
+                Piece::Text(b": "),
+                Piece::Text(&meter.text()),
+                Piece::Text(b" doesn't answer there\n"),
+            ],
+        ),
     }
 }
 
@@ -221,20 +204,4 @@ fn put_sentence<W: Sink>(target: &Target, text: &[u8], out: &mut W) -> Result<()
         ),
         Target::Meter(meter) => put_pieces(out, &[Piece::Text(&meter.text()), Piece::Text(text)]),
     }
-}
-
-fn put_unconfirmed<W: Sink>(address: u8, meter: &Identity, out: &mut W) -> Result<(), IoFault>
-    ensures { Wrote W.Sink result out.old out.new
-        (address_word address ++ (codes ": " ++ elsewhere meter.now)) }
-{
-    put_pieces(
-        out,
-        &[
-            Piece::Text(b"address"),
-            Piece::Word(u64::from(address)),
-            Piece::Text(b": "),
-            Piece::Text(&meter.text()),
-            Piece::Text(b" doesn't answer there\n"),
-        ],
-    )
 }

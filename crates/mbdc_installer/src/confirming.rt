@@ -9,10 +9,10 @@
 ghost use Rattle.std.specs.Prelude.{◌≡◌, ◌≤◌, ◌<◌, length, true};
 ghost use Rattle.mbdc_bus.specs.Windows.{Insists, most_tries, noise};
 ghost use Rattle.mbdc_installer.specs.Confirming.{AsksDigit, AsksDigits, AsksHidden, AsksPlace, AsksPlaces, Confirms};
-ghost use Rattle.mbdc_installer.specs.Confirming.{can_hide, could_be_in_step, differing, is_open, is_of_type};
+ghost use Rattle.mbdc_installer.specs.Confirming.{can_hide, could_be_in_step, differing, is_open};
 ghost use Rattle.mbdc_installer.specs.Confirming.{selection_of, selection_with};
 
-use crate::number::{digit_of, is_silent};
+use crate::number::digit_of;
 use crate::primary::is_ack;
 use dc_address::{Identity, Mask};
 use dc_linkframe::FrameBuf;
@@ -128,7 +128,7 @@ fn has_no_digit<B: Bus>(bus: &mut B, mask: &Mask, place: usize, own: u8, digit: 
     if !can_hide(own, digit) {
         return true;
     }
-    is_silent(&ask_digit(bus, mask, place, digit))
+    ask_digit(bus, mask, place, digit).as_slice().is_empty()
 }
 
 fn ask_digit<B: Bus>(bus: &mut B, mask: &Mask, place: usize, digit: u8) -> AnswerBuf
@@ -170,19 +170,13 @@ pub(crate) fn could_be_in_step(
 ) -> bool
     ensures { result ≡ could_be_in_step last.now meter.now telegram.now }
 {
-    match last {
-        Some(last) => {
-            !is_of_type(&last.meter, meter)
-                || differing(telegram.as_slice(), last.telegram.as_slice()) < MANY
-        }
-        None => true,
-    }
-}
-
-fn is_of_type(meter: &Identity, other: &Identity) -> bool
-    ensures { result ≡ is_of_type meter.now other.now }
-{
-    meter.maker == other.maker && meter.version == other.version && meter.kind == other.kind
+    let Some(last) = last else {
+        return true;
+    };
+    last.meter.maker != meter.maker
+        || last.meter.version != meter.version
+        || last.meter.kind != meter.kind
+        || differing(telegram.as_slice(), last.telegram.as_slice()) < MANY
 }
 
 // In how many bytes the first has a bit that the other one lacks.

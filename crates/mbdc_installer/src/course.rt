@@ -1,9 +1,7 @@
 //! How far a search is, by what goes over its bus.
 
 ghost use Rattle.std.specs.Prelude.{◌≡◌};
-ghost use Rattle.dc_linkframe.specs.Reading.{frame_of};
-ghost use Rattle.mbdc_installer.specs.Course.{address_after, after_answer, after_request, is_reset};
-ghost use Rattle.mbdc_installer.specs.Course.{is_selection, last_meter, new_course, one_if};
+ghost use Rattle.mbdc_installer.specs.Course.{after_answer, after_request, new_course, one_if};
 
 use crate::other::format_of;
 use dc_address::Identity;
@@ -63,20 +61,22 @@ impl Course {
     pub fn after_request(self, request: &[u8]) -> Self
         ensures { result ≡ after_request request.now self }
     {
-        let selects = is_selection(request);
-        let resets = is_reset(request);
-        Course {
-            selections: one_if(selects, self.selections),
-            resets: one_if(resets, self.resets),
-            address: address_after(request, self.address),
-            is_request: !selects && !resets,
-            silent: self.silent,
-            unreadable: self.unreadable,
-            collided: self.collided,
-            is_answered: self.is_answered,
-            is_understood: self.is_understood,
-            is_other: self.is_other,
-            meter: self.meter,
+        match parse(request) {
+            Ok(Frame::Long { ci, .. }) if ci == SELECTION => Course {
+                selections: self.selections.saturating_add(1),
+                is_request: false,
+                ..self
+            },
+            Ok(Frame::Short { control, address }) if control == SND_NKE => Course {
+                resets: self.resets.saturating_add(1),
+                address,
+                is_request: false,
+                ..self
+            },
+            _ => Course {
+                is_request: true,
+                ..self
+            },
         }
     }
 
@@ -88,17 +88,14 @@ impl Course {
         let is_frame = parse(answer).is_ok();
         let is_noise = !is_silent && !is_frame;
         Course {
-            selections: self.selections,
-            resets: self.resets,
-            address: self.address,
-            is_request: self.is_request,
             silent: one_if(!self.is_request && is_silent, self.silent),
             unreadable: one_if(!self.is_request && is_noise, self.unreadable),
             collided: one_if(self.is_request && is_noise, self.collided),
             is_answered: self.is_answered || !is_silent,
             is_understood: self.is_understood || is_frame,
             is_other: self.is_other || format_of(answer).is_some(),
-            meter: last_meter(meter_of(answer), self.meter),
+            meter: meter_of(answer).or(self.meter),
+            ..self
         }
     }
 }
@@ -111,43 +108,5 @@ fn one_if(is_one: bool, count: u64) -> u64
         count.saturating_add(1)
     } else {
         count
-    }
-}
-
-fn is_selection(request: &[u8]) -> bool
-    ensures { result ≡ is_selection (frame_of request.now) }
-{
-    match parse(request) {
-        Ok(Frame::Long { ci, .. }) => ci == SELECTION,
-        _ => false,
-    }
-}
-
-fn is_reset(request: &[u8]) -> bool
-    ensures { result ≡ is_reset (frame_of request.now) }
-{
-    match parse(request) {
-        Ok(Frame::Short { control, .. }) => control == SND_NKE,
-        _ => false,
-    }
-}
-
-// The address of a reset, or the one before it.
-fn address_after(request: &[u8], before: u8) -> u8
-    ensures { result ≡ address_after (frame_of request.now) before }
-{
-    match parse(request) {
-        Ok(Frame::Short { control, address }) if control == SND_NKE => address,
-        _ => before,
-    }
-}
-
-// The meter of a telegram, or the one before it.
-fn last_meter(meter: Option<Identity>, before: Option<Identity>) -> Option<Identity>
-    ensures { result ≡ last_meter meter before }
-{
-    match meter {
-        Some(meter) => Some(meter),
-        None => before,
     }
 }

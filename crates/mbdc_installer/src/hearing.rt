@@ -7,14 +7,13 @@ ghost use Rattle.std.specs.Prelude.{◌≡◌, ◌≤◌, None, [], length, true
 ghost use Rattle.dc_linkframe.specs.Reading.{frame_of};
 ghost use Rattle.mbdc_bus.specs.Limits.{most_request};
 ghost use Rattle.mbdc_installer.specs.Hearing.{Hears, Selects, Takes, acknowledged, is_looked, looked_at, selection_in};
-ghost use Rattle.mbdc_installer.specs.Hearing.{wire_if};
 
 use crate::confirming::{
     Confirmed, bytes_of_noise, copy_of, could_be_in_step, is_confirmed, is_open,
 };
-use crate::number::is_silent;
-use crate::other::{Looked, Other, Others, look};
+use crate::other::{Looked, MOST_OTHERS, Other, is_closed, look};
 use crate::primary::is_ack;
+use arrayvec::ArrayVec;
 use dc_linkframe::control::SELECTION;
 use dc_linkframe::{Frame, FrameBuf, parse};
 use dc_search::meter_of;
@@ -32,7 +31,7 @@ pub(crate) struct Wildcard {
     /// The last telegram that was confirmed.
     pub last: Option<Confirmed>,
     /// The wildcards that were closed.
-    pub others: Others,
+    pub others: ArrayVec<Other, MOST_OTHERS>,
 }
 
 impl Wildcard {
@@ -43,7 +42,7 @@ impl Wildcard {
             wire: None,
             held: None,
             last: None,
-            others: Others::none(),
+            others: ArrayVec::new(),
         }
     }
 }
@@ -94,11 +93,11 @@ fn select<B: Bus>(
     requires { length request.now ≤ most_request }
     ensures { Selects B.asks_all wire.now request.now bus.old wildcard.old result bus.new wildcard.new }
 {
-    if wildcard.others.has(wire) {
+    if is_closed(wire, wildcard.others.as_slice()) {
         return AnswerBuf::new();
     }
     let answer = bus.ask_all(request);
-    wildcard.wire = wire_if(wildcard.confirms, *wire);
+    wildcard.wire = wildcard.confirms.then_some(*wire);
     wildcard.held = None;
     if !is_looked(wildcard, wire, &answer) {
         return answer;
@@ -124,8 +123,8 @@ fn is_looked(wildcard: &Wildcard, wire: &[u8; 8], answer: &AnswerBuf) -> bool
     ensures { result ≡ is_looked wildcard.now wire.now answer.now }
 {
     wildcard.confirms
-        && wildcard.others.has_room()
-        && (is_ack(answer) || !is_open(wire, 7) && !is_silent(answer))
+        && wildcard.others.len() < MOST_OTHERS
+        && (is_ack(answer) || !is_open(wire, 7) && !answer.as_slice().is_empty())
 }
 
 // What was held, or else what comes to the request.
@@ -151,11 +150,4 @@ fn selection_in(request: &FrameBuf) -> Option<[u8; 8]>
         }
         _ => None,
     }
-}
-
-// A selection whose answer is to be confirmed.
-fn wire_if(confirms: bool, wire: [u8; 8]) -> Option<[u8; 8]>
-    ensures { result ≡ wire_if confirms wire }
-{
-    if confirms { Some(wire) } else { None }
 }

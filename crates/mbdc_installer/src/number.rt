@@ -2,14 +2,12 @@
 
 ghost use Rattle.std.specs.Prelude.{◌≡◌, ◌≤◌, ◌+◌, ◌&&◌, ◌++◌, length, map};
 ghost use Rattle.dc_linkframe.specs.Frame.{spelling};
-ghost use Rattle.mbdc_installer.specs.Number.{IsFound, Tries, digit_of, ending};
-ghost use Rattle.mbdc_installer.specs.Number.{selection_to, unfound_text, with_number};
+ghost use Rattle.mbdc_installer.specs.Number.{IsFound, digit_of, ending, selection_to, unfound_text, with_number};
+ghost use Rattle.dc_readout.specs.Misses.{is_noise};
 ghost use Rattle.mbdc_io.specs.Written.{Wrote};
-ghost use Rattle.dc_readout.specs.Misses.{and_missed, is_noise, is_silent};
-ghost use Rattle.dc_search.specs.Prefix.{mask_of_digits};
 
 use crate::primary::ask_telegram;
-use dc_address::{Identity, Mask};
+use dc_address::Identity;
 use dc_linkframe::FrameBuf;
 use dc_linkframe::control::{SELECTED, write_selection};
 use dc_readout::misses::{Misses, is_noise};
@@ -39,47 +37,23 @@ pub enum Numbered {
 pub fn find_number<B: Bus>(bus: &mut B, digits: &[u8; 8]) -> Numbered
     ensures { IsFound B.asks_all digits.now bus.old result bus.new }
 {
-    try_on(bus, digits, TRIES, true, Misses::none())
-}
-
-// The tries that are left, after failed ones that brought this, and each of which collided or not.
-fn try_on<B: Bus>(
-    bus: &mut B,
-    digits: &[u8; 8],
-    left: u8,
-    collided: bool,
-    misses: Misses,
-) -> Numbered
-    ensures { Tries B.asks_all digits.now left collided misses bus.old result bus.new }
-{
-    if left == 0 {
-        return ending(collided, misses);
-    }
-    let answer = ask_selection(bus, digits);
-    if is_silent(&answer) {
-        return try_on(bus, digits, left - 1, false, and_missed(&answer, misses));
-    }
-    let telegram = ask_telegram(bus, SELECTED);
-    match with_number(&telegram, digits) {
-        Some(meter) => Numbered::One(meter),
-        None => {
-            let collided = have_collided(collided, &telegram);
-            try_on(
-                bus,
-                digits,
-                left - 1,
-                collided,
-                and_missed(&telegram, misses),
-            )
+    let mut collided = true;
+    let mut misses = Misses::none();
+    'tries: for _ in 0..TRIES {
+        let answer = ask_selection(bus, digits);
+        if answer.as_slice().is_empty() {
+            collided = false;
+            misses.count(answer.as_slice());
+            continue;
         }
+        let telegram = ask_telegram(bus, SELECTED);
+        if let Some(meter) = with_number(&telegram, digits) {
+            return Numbered::One(meter);
+        }
+        collided = have_collided(collided, &telegram);
+        misses.count(telegram.as_slice());
     }
-}
-
-/// Whether no byte came.
-pub(crate) fn is_silent(answer: &AnswerBuf) -> bool
-    ensures { result ≡ is_silent answer.now }
-{
-    answer.as_slice().is_empty()
+    ending(collided, misses)
 }
 
 // Whether each try up to this one collided.
@@ -87,15 +61,6 @@ fn have_collided(collided: bool, telegram: &AnswerBuf) -> bool
     ensures { result ≡ (collided && is_noise telegram.now) }
 {
     collided && is_noise(telegram.as_slice())
-}
-
-// The counts, and one failed try more.
-fn and_missed(answer: &AnswerBuf, misses: Misses) -> Misses
-    ensures { result ≡ and_missed answer.now misses }
-{
-    let mut misses = misses;
-    misses.count(answer.as_slice());
-    misses
 }
 
 // What came of tries without a meter.
@@ -113,15 +78,8 @@ fn ask_selection<B: Bus>(bus: &mut B, digits: &[u8; 8]) -> AnswerBuf
     ensures { B.asks_all bus.old (spelling (selection_to digits.now)) result bus.new }
 {
     let mut request = FrameBuf::new();
-    write_selection(&mask_of(digits).wire(), &mut request);
+    write_selection(&fix(Branch::root(), digits).mask().wire(), &mut request);
     bus.ask_all(&request)
-}
-
-// The mask of all meters with a number.
-fn mask_of(digits: &[u8; 8]) -> Mask
-    ensures { result ≡ mask_of_digits (map digit_of digits.now) }
-{
-    fix(Branch::root(), digits).mask()
 }
 
 // The mask with these digits fixed next.

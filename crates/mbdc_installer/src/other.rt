@@ -5,22 +5,19 @@
 //! as their AND (EN 13757-2). A CI without such a bit, as an application error (70), may be the AND of several, and is a
 //! collision. If no digit is open, any CI closes.
 
-ghost use Rattle.std.specs.Prelude.{◌≡◌, ◌≢◌, ◌≤◌, ◌<◌, ◌++◌, ◌∷◌, [], true, false, Some, List, length, nat_lt};
-ghost use Rattle.dc_linkframe.specs.Frame.{seen};
-ghost use Rattle.mbdc_bus.specs.Windows.{Insists, data_request, most_tries};
-ghost use Rattle.mbdc_installer.specs.Other.{Looks, can_close, closing, digits_of, format_in, format_of};
-ghost use Rattle.mbdc_installer.specs.Other.{is_closed, most_others, number_in, other_line, others_text};
+ghost use Rattle.std.specs.Prelude.{◌≡◌, ◌≢◌, ◌≤◌, true, false, Some, List, length};
+ghost use Rattle.mbdc_installer.specs.Other.{Looks, closing, digits_of, format_of, is_closed, number_in};
+ghost use Rattle.mbdc_installer.specs.Other.{other_line, others_text};
 ghost use Rattle.mbdc_io.specs.Written.{Wrote};
 ghost use Rattle.mbdc_installer.specs.declared.other.Other.{Other as Noted};
 
 use crate::confirming::{bytes_of_noise, is_open};
-use arrayvec::ArrayVec;
-use dc_linkframe::control::{SELECTED, VARIABLE_DATA, is_rsp_ud, write_request};
-use dc_linkframe::{Frame, FrameBuf, parse};
-use mbdc_bus::{AnswerBuf, Bus, TRIES, insist};
+use crate::primary::ask_data;
+use dc_linkframe::control::{SELECTED, VARIABLE_DATA, is_rsp_ud};
+use dc_linkframe::{Frame, parse};
+use mbdc_bus::{AnswerBuf, Bus};
 use mbdc_decode::tokens::{Piece, put_pieces};
 use mbdc_io::{IoFault, Sink, pair_of};
-use std::marker::Model;
 
 /// Maximum number of frames that are noted: more meters than a bus line has.
 pub const MOST_OTHERS: usize = 250;
@@ -55,61 +52,6 @@ pub(crate) enum Looked {
     Kept(AnswerBuf),
 }
 
-/// The frames that were noted, in order. Contracts see them as a list.
-#[derive(Drop)]
-pub(crate) struct Others {
-    list: ArrayVec<Other, MOST_OTHERS>,
-}
-
-impl Model for Others {
-    ghost use Rattle.std.specs.Prelude.{List};
-    ghost use Rattle.mbdc_installer.specs.declared.other.Other.{Other as Noted};
-
-    ghost Value = { List Noted };
-
-    ghost view = { λ others. others.list.items };
-}
-
-impl Others {
-    /// None.
-    pub fn none() -> Self
-        ensures { result ≡ [] }
-    {
-        Others {
-            list: ArrayVec::new(),
-        }
-    }
-
-    /// Whether one more has room.
-    pub fn has_room(&self) -> bool
-        ensures { result ≡ nat_lt (length self.now) most_others }
-    {
-        self.list.len() < MOST_OTHERS
-    }
-
-    /// Notes one.
-    pub fn push(&mut self, other: Other)
-        requires { length self.old < most_others }
-        ensures { self.new ≡ self.old ++ other ∷ [] }
-    {
-        self.list.push(other);
-    }
-
-    /// All of them.
-    pub fn as_slice(&self) -> &[Other]
-        ensures { result.now ≡ self.now }
-    {
-        self.list.as_slice()
-    }
-
-    /// Whether this selection's wildcard is closed.
-    pub fn has(&self, wire: &[u8; 8]) -> bool
-        ensures { result ≡ is_closed wire.now self.now }
-    {
-        self.list.as_slice().iter().any(|other| other.wire == *wire)
-    }
-}
-
 /// A bus that notes which wildcards it closed.
 pub trait Noting: Bus {
     ghost others: { Self → List Noted };
@@ -123,11 +65,11 @@ pub trait Noting: Bus {
 pub(crate) fn look<B: Bus>(bus: &mut B, wire: &[u8; 8]) -> Looked
     ensures { Looks B.asks_all wire.now bus.old result bus.new }
 {
-    let first = ask_data(bus);
+    let first = ask_data(bus, SELECTED);
     let Some(format) = closing(wire, &first) else {
         return Looked::Kept(first);
     };
-    let again = ask_data(bus);
+    let again = ask_data(bus, SELECTED);
     if is_from(wire, &again, &format) {
         Looked::Closed(format)
     } else {
@@ -135,12 +77,11 @@ pub(crate) fn look<B: Bus>(bus: &mut B, wire: &[u8; 8]) -> Looked
     }
 }
 
-fn ask_data<B: Bus>(bus: &mut B) -> AnswerBuf
-    ensures { Insists B.asks_all data_request most_tries bus.old result bus.new }
+/// Whether the wildcard of these eight bytes is closed.
+pub(crate) fn is_closed(wire: &[u8; 8], others: &[Other]) -> bool
+    ensures { result ≡ is_closed wire.now others.now }
 {
-    let mut request = FrameBuf::new();
-    write_request(true, SELECTED, &mut request);
-    insist(bus, &request, TRIES)
+    others.iter().any(|other| other.wire == *wire)
 }
 
 // What an answer says, if it closes the wildcard of these eight bytes.
@@ -148,7 +89,7 @@ fn closing(wire: &[u8; 8], answer: &AnswerBuf) -> Option<Format>
     ensures { result ≡ closing wire.now answer.now }
 {
     let format = format_of(answer.as_slice())?;
-    if can_close(wire, format.ci) {
+    if format.ci & VARIABLE_DATA != format.ci || !is_open(wire, 7) {
         Some(format)
     } else {
         None
@@ -166,36 +107,22 @@ fn is_from(wire: &[u8; 8], answer: &AnswerBuf, format: &Format) -> bool
     }
 }
 
-// Whether a frame of this CI closes a wildcard.
-fn can_close(wire: &[u8; 8], ci: u8) -> bool
-    ensures { result ≡ can_close wire.now ci }
-{
-    ci & VARIABLE_DATA != ci || !is_open(wire, 7)
-}
-
 /// What a response of another CI than 72 says of its meter.
 #[tactic(auto, unfolding(crate::specs::Other::format_of))]
 pub(crate) fn format_of(bytes: &[u8]) -> Option<Format>
     ensures { result ≡ format_of bytes.now }
 {
     match parse(bytes) {
-        Ok(frame) => format_in(&frame),
-        Err(_) => None,
-    }
-}
-
-fn format_in(frame: &Frame<'_>) -> Option<Format>
-    ensures { result ≡ format_in (Some (seen frame.now)) }
-{
-    match frame {
-        Frame::Long {
-            control,
+        Ok(
+            Frame::Long {
+                control,
+                ci,
+                body,
+                ..
+            },
+        ) if is_rsp_ud(control) && ci != VARIABLE_DATA => Some(Format {
             ci,
-            body,
-            ..
-        } if is_rsp_ud(*control) && *ci != VARIABLE_DATA => Some(Format {
-            ci: *ci,
-            number: number_in(*ci, body),
+            number: number_in(ci, body),
         }),
         _ => None,
     }

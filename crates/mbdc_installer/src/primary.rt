@@ -1,18 +1,16 @@
 //! The search at primary addresses.
 
-ghost use Rattle.std.specs.Prelude.{◌≡◌, ◌≤◌, ◌+◌, ◌∷◌, [], true, List, ℕ, OnOk, OnErr, length};
+ghost use Rattle.std.specs.Prelude.{◌≡◌, ◌≤◌, ◌+◌, true, List, ℕ, OnOk, OnErr, length};
 ghost use Rattle.std.specs.List.{range_with_len};
 ghost use Rattle.mbdc_bus.specs.Limits.{most_request};
 ghost use Rattle.mbdc_bus.specs.Windows.{Insists, Reads, most_tries};
-ghost use Rattle.dc_linkframe.specs.Control.{request_to, reset_to};
+ghost use Rattle.dc_linkframe.specs.Control.{request_to};
 ghost use Rattle.dc_linkframe.specs.Frame.{spelling};
 ghost use Rattle.dc_linkframe.specs.Reading.{frame_of};
 ghost use Rattle.mbdc_io.specs.Failures.{HasRisen};
 ghost use Rattle.mbdc_io.specs.Written.{PutsInto, Wrote};
-ghost use Rattle.dc_readout.specs.Misses.{misses_of};
-ghost use Rattle.mbdc_installer.specs.Scan.{AsksEach, AsksOne, Identifies, IsAsked, IsCalled, address_line};
-ghost use Rattle.mbdc_installer.specs.Scan.{greatest, identified, is_ack, is_sent_from};
-ghost use Rattle.mbdc_installer.specs.Scan.{is_there, line_of, sender_at};
+ghost use Rattle.mbdc_installer.specs.Scan.{AsksEach, Identifies, IsAsked, IsCalled, address_line, greatest};
+ghost use Rattle.mbdc_installer.specs.Scan.{is_ack, is_there, line_of, sender_at};
 
 use dc_address::Identity;
 use dc_linkframe::control::{write_request, write_reset};
@@ -59,26 +57,12 @@ pub fn identify<B: Bus>(bus: &mut B, address: u8) -> Result<Identity, Misses>
     ensures { Identifies B.asks_all address bus.old result bus.new }
 {
     let asked = ask_address(bus, address);
-    identified(sender_at(address, &asked.telegram), &asked.telegram)
-}
-
-// The meter, or what the failed try brought.
-fn identified(meter: Option<Identity>, telegram: &AnswerBuf) -> Result<Identity, Misses>
-    ensures { result ≡ identified meter telegram.now }
-{
-    match meter {
-        Some(meter) => Ok(meter),
-        None => Err(missed(telegram)),
-    }
-}
-
-// The count of one failed try.
-fn missed(answer: &AnswerBuf) -> Misses
-    ensures { result ≡ misses_of (answer.now ∷ []) }
-{
-    let mut misses = Misses::none();
-    misses.count(answer.as_slice());
-    misses
+    let Some(meter) = sender_at(address, &asked.telegram) else {
+        let mut misses = Misses::none();
+        misses.count(asked.telegram.as_slice());
+        return Err(misses);
+    };
+    Ok(meter)
 }
 
 // `count` addresses from the first one on.
@@ -98,21 +82,11 @@ fn scan_range<B: Bus, W: Sink>(
     if count == 0 {
         return Ok(());
     }
-    match scan_one(first, bus, out) {
+    let asked = ask_address(bus, first);
+    match put_asked(first, &asked, out) {
         Ok(()) => scan_range(first + 1, count - 1, bus, out),
         Err(fault) => Err(fault),
     }
-}
-
-fn scan_one<B: Bus, W: Sink>(address: u8, bus: &mut B, out: &mut W) -> Result<(), IoFault>
-    ensures asked { OnOk result ((line : List ℕ)
-        × AsksOne B.asks_all address bus.old line bus.new
-        × PutsInto W.Sink out.old out.new line) }
-    ensures failed { OnErr result (HasRisen (W.put_failures out.old) (W.put_failures out.new)) }
-    ensures well { OnOk result (W.put_failures out.new ≡ W.put_failures out.old) }
-{
-    let asked = ask_address(bus, address);
-    put_asked(address, &asked, out)
 }
 
 // Prints an address at which somebody answers.
@@ -158,12 +132,13 @@ pub(crate) fn call<B: Bus>(bus: &mut B, request: &FrameBuf, address: u8) -> Aske
     Asked { answer, telegram }
 }
 
-/// Resets an address, and returns what comes to that.
-pub(crate) fn ask_reset<B: Bus>(bus: &mut B, address: u8) -> AnswerBuf
-    ensures { Insists B.asks_all (spelling (reset_to address)) most_tries bus.old result bus.new }
+/// Requests a telegram, and returns what comes to that.
+pub(crate) fn ask_data<B: Bus>(bus: &mut B, address: u8) -> AnswerBuf
+    ensures { Insists B.asks_all (spelling (request_to true address)) most_tries bus.old result
+        bus.new }
 {
     let mut request = FrameBuf::new();
-    write_reset(address, &mut request);
+    write_request(true, address, &mut request);
     insist(bus, &request, TRIES)
 }
 
@@ -187,24 +162,14 @@ pub(crate) fn is_ack(answer: &AnswerBuf) -> bool
 pub fn sender_at(address: u8, telegram: &AnswerBuf) -> Option<Identity>
     ensures { result ≡ sender_at address telegram.now }
 {
-    if is_sent_from(address, telegram) {
-        meter_of(telegram.as_slice())
-    } else {
-        None
-    }
-}
-
-fn is_sent_from(address: u8, telegram: &AnswerBuf) -> bool
-    ensures { result ≡ is_sent_from address (frame_of telegram.now) }
-{
     match parse(telegram.as_slice()) {
         Ok(
             Frame::Long {
                 address: sender,
                 ..
             },
-        ) => sender == address,
-        _ => false,
+        ) if sender == address => meter_of(telegram.as_slice()),
+        _ => None,
     }
 }
 

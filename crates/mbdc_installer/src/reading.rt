@@ -12,7 +12,7 @@ ghost use Rattle.dc_readout.specs.Summary.{asked_by, begun, verdict_by};
 ghost use Rattle.dc_readout.specs.Bound.{requests_left};
 ghost use Rattle.dc_readout.specs.Seen.{verdict};
 ghost use Rattle.mbdc_installer.specs.Read.{IsCutOff, IsReadOn, Tells, TellsFrom, after, and_heard};
-ghost use Rattle.mbdc_installer.specs.Read.{is_failure, is_miss, printed};
+ghost use Rattle.mbdc_installer.specs.Read.{is_failure, printed};
 
 use dc_address::{Identity, Primary};
 use dc_core::{LineHeard, put_heard};
@@ -104,35 +104,22 @@ fn exchange<B: Bus, W: Sink>(
     let answer = bus.ask(request);
     let heard = session.hear(answer.as_slice());
     put_read(&heard, answer.as_slice(), out)?;
-    count(&heard, answer.as_slice(), misses);
     match heard {
-        Heard::Failed(_) => Ok(true),
         Heard::New { .. } => {
             session.settle();
             Ok(false)
         }
-        Heard::Again => Ok(false),
+        Heard::Failed(why) => {
+            if is_missing(&why) {
+                misses.count(answer.as_slice());
+            }
+            Ok(true)
+        }
+        Heard::Again => {
+            misses.count(answer.as_slice());
+            Ok(false)
+        }
         Heard::Ready => Ok(false),
-    }
-}
-
-// Counts the answer, where the try failed.
-fn count(heard: &Heard<'_>, answer: &[u8], misses: &mut Misses)
-    ensures { misses.new ≡ and_heard (verdict heard.now) answer.now misses.old }
-{
-    if is_miss(heard) {
-        misses.count(answer);
-    }
-}
-
-// Whether the try failed.
-fn is_miss(heard: &Heard<'_>) -> bool
-    ensures { result ≡ is_miss (verdict heard.now) }
-{
-    match heard {
-        Heard::Again => true,
-        Heard::Failed(why) => is_missing(why),
-        Heard::Ready | Heard::New { .. } => false,
     }
 }
 

@@ -2,11 +2,11 @@
 
 ghost use Rattle.std.specs.Prelude.{◌≡◌};
 ghost use Rattle.mbdc_io.specs.Written.{Wrote};
-ghost use Rattle.mbdc_installer.specs.Unread.{asked_text, count_text, counts_text, hint, is_all_read};
-ghost use Rattle.mbdc_installer.specs.Unread.{is_by_wildcards, unread_line, unread_text};
+ghost use Rattle.mbdc_installer.specs.Unread.{hint, is_all_read, unread_line, unread_text};
 
 use crate::course::Course;
-use mbdc_io::{IoFault, Sink, put_number};
+use mbdc_decode::tokens::{Piece, put_pieces};
+use mbdc_io::{IoFault, Sink};
 
 /// Writes how many selections or resets of a search had no answer that can be read, and what that points to:
 /// `mbdc: 37 selections: 30 silent, 2 unreadable, 5 collided: several meters answered one wildcard`. `unreadable` are
@@ -19,7 +19,11 @@ pub fn put_unread<W: Sink>(out: &mut W, course: &Course) -> Result<(), IoFault>
     if is_all_read(course) {
         return Ok(());
     }
-    put_line(out, course)
+    // A search by wildcards selects, one at primary addresses resets.
+    match course.selections {
+        0 => put_line(out, course.resets, b" resets: ", course),
+        count => put_line(out, count, b" selections: ", course),
+    }
 }
 
 /// Whether each answer was a frame.
@@ -29,64 +33,38 @@ pub fn is_all_read(course: &Course) -> bool
     course.unreadable == 0 && course.collided == 0
 }
 
-#[tactic(auto, using(mbdc_io::proofs::Pieces::written), unfolding(crate::specs::Unread::unread_line))]
-fn put_line<W: Sink>(out: &mut W, course: &Course) -> Result<(), IoFault>
-    ensures { Wrote W.Sink result out.old out.new (unread_line course.now) }
+#[tactic(auto, unfolding(crate::specs::Unread::unread_line))]
+fn put_line<W: Sink>(out: &mut W, count: u64, asked: &[u8], course: &Course) -> Result<(), IoFault>
+    ensures { Wrote W.Sink result out.old out.new (unread_line count asked.now course.now) }
 {
-    let by_wildcards = is_by_wildcards(course);
-    put_asked(out, by_wildcards, course)?;
-    put_counts(out, course)?;
-    out.put(hint(by_wildcards, course))
-}
-
-// Whether it selects: a search at primary addresses resets.
-fn is_by_wildcards(course: &Course) -> bool
-    ensures { result ≡ is_by_wildcards course.now }
-{
-    course.selections != 0
-}
-
-#[tactic(auto, unfolding(crate::specs::Unread::asked_text))]
-fn put_asked<W: Sink>(out: &mut W, by_wildcards: bool, course: &Course) -> Result<(), IoFault>
-    ensures { Wrote W.Sink result out.old out.new (asked_text by_wildcards course.now) }
-{
-    if by_wildcards {
-        put_count(out, b"mbdc: ", course.selections, b" selections: ")
-    } else {
-        put_count(out, b"mbdc: ", course.resets, b" resets: ")
-    }
-}
-
-#[tactic(auto, using(mbdc_io::proofs::Pieces::written), unfolding(crate::specs::Unread::counts_text))]
-fn put_counts<W: Sink>(out: &mut W, course: &Course) -> Result<(), IoFault>
-    ensures { Wrote W.Sink result out.old out.new (counts_text course.now) }
-{
-    put_count(out, b"", course.silent, b" silent, ")?;
-    put_count(out, b"", course.unreadable, b" unreadable, ")?;
-    put_count(out, b"", course.collided, b" collided: ")
+    put_pieces(
+        out,
+        &[
+            Piece::Text(b"mbdc: "),
+            Piece::Number(count),
+            Piece::Text(asked),
+            Piece::Number(course.silent),
+            Piece::Text(b" silent, "),
+            Piece::Number(course.unreadable),
+            Piece::Text(b" unreadable, "),
+            Piece::Number(course.collided),
+            Piece::Text(b" collided: "),
+            Piece::Text(hint(course)),
+        ],
+    )
 }
 
 // What it points to.
-fn hint(by_wildcards: bool, course: &Course) -> &'static [u8]
-    ensures { result.now ≡ hint by_wildcards course.now }
+fn hint(course: &Course) -> &'static [u8]
+    ensures { result.now ≡ hint course.now }
 {
     if !course.is_understood {
         b"are speed and parity right?\n"
     } else if course.collided == 0 {
         b"noise, or several meters acknowledged at once\n"
-    } else if by_wildcards {
-        b"several meters answered one wildcard\n"
-    } else {
+    } else if course.selections == 0 {
         b"two meters have one address, or the line is disturbed\n"
+    } else {
+        b"several meters answered one wildcard\n"
     }
-}
-
-// Writes a number between two texts.
-#[tactic(auto, using(mbdc_io::proofs::Pieces::written), unfolding(crate::specs::Unread::count_text))]
-fn put_count<W: Sink>(out: &mut W, before: &[u8], count: u64, words: &[u8]) -> Result<(), IoFault>
-    ensures { Wrote W.Sink result out.old out.new (count_text before.now count words.now) }
-{
-    out.put(before)?;
-    put_number(out, count)?;
-    out.put(words)
 }

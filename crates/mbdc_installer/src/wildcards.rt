@@ -3,12 +3,11 @@
 ghost use Rattle.std.specs.Prelude.{◌≡◌, IfOk, IsErrOf, OnOk};
 ghost use Rattle.mbdc_io.specs.Failures.{HasRisen};
 ghost use Rattle.mbdc_io.specs.Written.{PutsInto};
-ghost use Rattle.dc_search.specs.Found.{search_text};
 ghost use Rattle.mbdc_installer.specs.Scan.{Counts, Scanned};
 
-use dc_search::{Search, put_search};
+use dc_search::put_search;
 use mbdc_bus::{Bus, search_windows};
-use mbdc_io::{IoFault, NoMemory, Sink};
+use mbdc_io::{IoFault, Sink};
 use std::alloc::Allocator;
 use thiserror::Error;
 
@@ -21,6 +20,16 @@ pub enum ScanFault {
     /// Out of memory.
     #[error("out of memory")]
     NoMemory,
+}
+
+impl From<IoFault> for ScanFault {
+    ghost use Rattle.mbdc_installer.specs.declared.wildcards.ScanFault.TheVariants.{Write};
+
+    ghost from_gives = { λ _ fault. fault ≡ Write };
+
+    fn from(_failed: IoFault) -> ScanFault {
+        ScanFault::Write
+    }
 }
 
 /// How much a search found.
@@ -51,25 +60,12 @@ pub fn scan<A: Allocator + Copy, B: Bus, W: Sink>(
     ensures well { OnOk result (W.put_failures out.new ≡ W.put_failures out.old) }
     ensures unwritten { IsErrOf result ScanFault.NoMemory → out.new ≡ out.old }
 {
-    match search_windows(alloc, budget, bus) {
-        Ok(search) => print(&search, out),
-        Err(NoMemory) => Err(ScanFault::NoMemory),
-    }
-}
-
-fn print<A: Allocator + Copy, W: Sink>(search: &Search<A>, out: &mut W) -> Result<Count, ScanFault>
-    ensures counted { IfOk result (λ count. Counts count search.now) }
-    ensures text { OnOk result (PutsInto W.Sink out.old out.new (search_text search.now)) }
-    ensures write { IsErrOf result ScanFault.Write
-        → HasRisen (W.put_failures out.old) (W.put_failures out.new) }
-    ensures well { OnOk result (W.put_failures out.new ≡ W.put_failures out.old) }
-    ensures only { IsErrOf result ScanFault.NoMemory → ⊥ }
-{
-    match put_search(search, out) {
-        Ok(()) => Ok(Count {
-            meters: search.found().len(),
-            shared: search.shared().len(),
-        }),
-        Err(IoFault) => Err(ScanFault::Write),
-    }
+    let Ok(search) = search_windows(alloc, budget, bus) else {
+        return Err(ScanFault::NoMemory);
+    };
+    put_search(&search, out)?;
+    Ok(Count {
+        meters: search.found().len(),
+        shared: search.shared().len(),
+    })
 }

@@ -2,10 +2,10 @@
 
 ghost use Rattle.std.specs.Prelude.{◌≡◌, IfOk, IfErr, OnOk};
 ghost use Rattle.mbdc_io.specs.Written.{PutsInto};
-ghost use Rattle.mbdc_installer.specs.Command.{DoesOrStops, IsDone, Works, fault_of};
+ghost use Rattle.mbdc_installer.specs.Command.{DoesOrStops, IsDone, Works};
 ghost use Rattle.mbdc_installer.specs.Ending.{IsStopped};
 
-use crate::bench::ending::{ended, finish};
+use crate::bench::ending::{conclude, finish};
 use crate::bench::listening::{Listening, MOST_NOISE};
 use crate::bench::listing::list_over;
 use crate::bench::printer::Printer;
@@ -145,13 +145,7 @@ where
     ensures { Works B.Bus B.others W.Sink work bus.old bus.new out.old out.new result }
 {
     let outcome = do_and_finish(alloc, work, bus, out);
-    let is_lost = bus.is_lost();
-    if let Ok(done) = &outcome
-        && !is_lost
-    {
-        progress.remark(&work, done);
-    }
-    ended(is_lost, fault_of(bus.late(), &outcome))
+    conclude(&work, &outcome, bus, progress)
 }
 
 // Does the work, and prints what comes last.
@@ -163,13 +157,9 @@ fn do_and_finish<B: Noting, W: Printer>(
 ) -> Result<Done, ScanFault>
     ensures { DoesOrStops B.Bus B.others W.Sink work bus.old bus.new out.old out.new result }
 {
-    match do_work(alloc, work, bus, out) {
-        Ok(done) => match finish(bus.others(), bus.late(), out) {
-            Ok(()) => Ok(done),
-            Err(IoFault) => Err(ScanFault::Write),
-        },
-        Err(fault) => Err(fault),
-    }
+    let done = do_work(alloc, work, bus, out)?;
+    finish(bus.others(), bus.late(), out)?;
+    Ok(done)
 }
 
 fn do_work<B: Bus, W: Sink>(
@@ -205,17 +195,5 @@ fn do_work<B: Bus, W: Sink>(
                 Err(IoFault) => Err(ScanFault::Write),
             }
         }
-    }
-}
-
-// Whether something was at fault, or what stopped it.
-fn fault_of(late: u64, outcome: &Result<Done, ScanFault>) -> Result<bool, ScanFault>
-    ensures { result ≡ fault_of late outcome.now }
-{
-    match outcome {
-        Ok(Done::Searched(_)) => Ok(late != 0),
-        Ok(Done::ReadOut(Readout::Whole) | Done::Addressed(Addressing::Set(_))) => Ok(false),
-        Ok(Done::ReadOut(Readout::Failed(_)) | Done::Addressed(_)) => Ok(true),
-        Err(fault) => Err(*fault),
     }
 }

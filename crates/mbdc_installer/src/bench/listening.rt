@@ -1,7 +1,7 @@
 //! A bus on which a search is given up that hears noise alone, and on which it believes who is confirmed.
 
 ghost use Rattle.std.specs.Prelude.{◌≡◌};
-ghost use Rattle.mbdc_installer.specs.Listening.{heard_as, is_given_up, left_after, left_with};
+ghost use Rattle.mbdc_installer.specs.Listening.{heard_as, is_given_up, left_with};
 
 use crate::hearing::{self, Wildcard};
 use crate::other::{Noting, Other};
@@ -36,7 +36,7 @@ impl<B: Bus + Drop> Listening<'_, B> {
     // Counts an answer. The one by which the search is given up is silence.
     fn heard(&mut self, answer: AnswerBuf) -> AnswerBuf
         ensures bus { self.new.bus ≡ self.old.bus }
-        ensures left { self.new.left ≡ left_with self.old.wildcard.others answer self.old.left }
+        ensures left { self.new.left ≡ left_with self.old.wildcard.others.items answer self.old.left }
         ensures answer { result ≡ heard_as self.new.left answer }
         ensures wildcard { self.new.wildcard ≡ self.old.wildcard }
         ensures hushed { self.new.is_hushed ≡ self.old.is_hushed }
@@ -51,28 +51,18 @@ impl<B: Bus + Drop> Listening<'_, B> {
     }
 }
 
-// How many answers may still be noise; a frame that closed a wildcard is a frame.
+// How many answers may still be noise after this one: silence is none, and after a frame nothing is given up. A frame
+// that closed a wildcard is a frame.
 fn left_with(others: &[Other], answer: &AnswerBuf, left: Option<u8>) -> Option<u8>
     ensures { result ≡ left_with others.now answer.now left }
 {
-    match others {
-        [] => left_after(answer, left),
-        _ if answer.as_slice().is_empty() => left,
-        _ => None,
-    }
-}
-
-fn left_after(answer: &AnswerBuf, left: Option<u8>) -> Option<u8>
-    ensures { result ≡ left_after answer.now left }
-{
-    let left = left?;
     if answer.as_slice().is_empty() {
-        return Some(left);
+        return left;
     }
-    match parse(answer.as_slice()) {
-        Ok(_) => None,
-        Err(_) => Some(left.saturating_sub(1)),
+    if !others.is_empty() || parse(answer.as_slice()).is_ok() {
+        return None;
     }
+    Some(left?.saturating_sub(1))
 }
 
 impl<B: Bus + Drop> Bus for Listening<'_, B> {
@@ -120,7 +110,7 @@ impl<B: Bus + Drop> Bus for Listening<'_, B> {
 }
 
 impl<B: Bus + Drop> Noting for Listening<'_, B> {
-    ghost others = { λ listening. listening.wildcard.others };
+    ghost others = { λ listening. listening.wildcard.others.items };
 
     fn others(&self) -> &[Other] {
         self.wildcard.others.as_slice()

@@ -1,14 +1,14 @@
 //! What a search finds as a list for `fit`, and as JSON Lines. Its text is in no contract.
 
 use crate::bench::command::{Done, Listing, Scan, Work};
-use crate::bench::ending::ended;
+use crate::bench::ending::conclude;
 use crate::bench::printer::Printer;
 use crate::bench::progress::Progress;
 use crate::other::{Noting, Other, digits_of, put_other};
 use crate::{Count, GREATEST, ScanFault, ask_address, is_there, sender_at};
 use dc_address::Identity;
 use dc_records::names::medium_name;
-use dc_search::Step;
+use dc_search::{Search, Step};
 use dc_units::{Point, TEXT_ROOM};
 use mbdc_bus::{Bus, search_windows};
 use mbdc_decode::put_point;
@@ -51,33 +51,27 @@ where
         progress,
     };
     let outcome = list.all(alloc, scan, bus);
-    let is_lost = bus.is_lost();
-    match outcome {
-        Ok(count) => {
-            if !is_lost {
-                progress.remark(&Work::Search(scan), &Done::Searched(count));
-            }
-            ended(is_lost, Ok(bus.late() != 0))
-        }
-        Err(fault) => ended(is_lost, Err(fault)),
-    }
+    conclude(&Work::Search(scan), &outcome, bus, progress)
 }
 
 impl<W: Printer, R: Clock + Eprint> List<'_, '_, W, R> {
-    // Searches, and writes what is found.
+    // Searches for meters, and writes what is found.
     fn all<B: Noting>(
         &mut self,
         alloc: Global,
         scan: Scan,
         bus: &mut B,
-    ) -> Result<Option<Count>, ScanFault> {
-        if let Listing::Csv(_) = self.listing
-            && self.out.put(HEADER).is_err()
-        {
-            return Err(ScanFault::Write);
+    ) -> Result<Done, ScanFault> {
+        if let Listing::Csv(_) = self.listing {
+            self.out.put(HEADER)?;
         }
         let count = match scan {
-            Scan::Wildcards(budget) => Some(self.search(alloc, budget, bus)?),
+            Scan::Wildcards(budget) => {
+                let Ok(search) = search_windows(alloc, budget, bus) else {
+                    return Err(ScanFault::NoMemory);
+                };
+                Some(self.put_search(&search)?)
+            }
             Scan::Primary => {
                 self.ask_each(bus)?;
                 None
@@ -90,22 +84,12 @@ impl<W: Printer, R: Clock + Eprint> List<'_, '_, W, R> {
             let late = Piece::Number(bus.late());
             self.put_event(b"LATE ", b"late\",\"answers\":", late, b"}\n")?;
         }
-        match self.out.flush() {
-            Ok(()) => Ok(count),
-            Err(IoFault) => Err(ScanFault::Write),
-        }
+        self.out.flush()?;
+        Ok(Done::Searched(count))
     }
 
-    // Searches by wildcards.
-    fn search<B: Bus>(
-        &mut self,
-        alloc: Global,
-        budget: u32,
-        bus: &mut B,
-    ) -> Result<Count, ScanFault> {
-        let Ok(search) = search_windows(alloc, budget, bus) else {
-            return Err(ScanFault::NoMemory);
-        };
+    // Writes what a search by wildcards found.
+    fn put_search(&mut self, search: &Search<Global>) -> Result<Count, IoFault> {
         for meter in search.found() {
             self.put_meter(meter, None)?;
         }
@@ -131,7 +115,7 @@ impl<W: Printer, R: Clock + Eprint> List<'_, '_, W, R> {
     }
 
     // Asks each primary address.
-    fn ask_each<B: Bus>(&mut self, bus: &mut B) -> Result<(), ScanFault> {
+    fn ask_each<B: Bus>(&mut self, bus: &mut B) -> Result<(), IoFault> {
         for address in 1..=GREATEST {
             let asked = ask_address(bus, address);
             if is_there(&asked) {
@@ -149,32 +133,32 @@ impl<W: Printer, R: Clock + Eprint> List<'_, '_, W, R> {
     }
 
     // Writes a wildcard that was closed: an object; beside a list a line on standard error.
-    fn put_closed(&mut self, other: &Other) -> Result<(), ScanFault> {
-        let put = match self.listing {
-            Listing::Csv(_) => {
-                let mut text: FixedSink<ROOM> = FixedSink::new();
-                let put = put_noted(&mut text, other);
-                self.progress.say(text.as_slice());
-                put
-            }
-            _ => put_object(self.out, other),
-        };
-        match put {
-            Ok(()) => Ok(()),
-            Err(IoFault) => Err(ScanFault::Write),
+    fn put_closed(&mut self, other: &Other) -> Result<(), IoFault> {
+        if let Listing::Csv(_) = self.listing {
+            let mut text: FixedSink<ROOM> = FixedSink::new();
+            text.put(b"mbdc: ")?;
+            put_other(other, &mut text)?;
+            self.progress.say(text.as_slice());
+            return Ok(());
         }
+        self.out.put(b"{\"event\":\"other\",\"mask\":\"")?;
+        self.out.put(&digits_of(&other.wire))?;
+        self.out.put(b"\",\"ci\":\"")?;
+        put_byte(self.out, other.format.ci)?;
+        let Some(number) = &other.format.number else {
+            return self.out.put(b"\",\"number\":null}\n");
+        };
+        self.out.put(b"\",\"number\":\"")?;
+        self.out.put(&digits_of(number))?;
+        self.out.put(b"\"}\n")
     }
 
     // Writes a meter, found at its primary address or by wildcards, as a row or an object.
-    fn put_meter(&mut self, meter: &Identity, address: Option<u8>) -> Result<(), ScanFault> {
+    fn put_meter(&mut self, meter: &Identity, address: Option<u8>) -> Result<(), IoFault> {
         let value = self.progress.value_of(meter);
-        let put = match self.listing {
+        match self.listing {
             Listing::Csv(line) => put_row(self.out, line, meter, address, value),
             _ => put_found(self.out, meter, address, value),
-        };
-        match put {
-            Ok(()) => Ok(()),
-            Err(IoFault) => Err(ScanFault::Write),
         }
     }
 
@@ -185,27 +169,21 @@ impl<W: Printer, R: Clock + Eprint> List<'_, '_, W, R> {
         event: &'p [u8],
         number: Piece<'p>,
         end: &'p [u8],
-    ) -> Result<(), ScanFault> {
-        let mut text: FixedSink<ROOM> = FixedSink::new();
-        let before = Piece::Text(b"{\"event\":\"");
-        let put = match self.listing {
-            Listing::Csv(_) if words.is_empty() || self.progress.is_hushed.get() => Ok(()),
-            Listing::Csv(_) => {
-                let before = Piece::Text(b"mbdc: ");
-                let row = [before, Piece::Text(words), number, Piece::Text(b"\n")];
-                let put = put_pieces(&mut text, &row);
-                self.progress.say(text.as_slice());
-                put
-            }
-            _ => put_pieces(
-                self.out,
-                &[before, Piece::Text(event), number, Piece::Text(end)],
-            ),
+    ) -> Result<(), IoFault> {
+        let Listing::Csv(_) = self.listing else {
+            let before = Piece::Text(b"{\"event\":\"");
+            let row = [before, Piece::Text(event), number, Piece::Text(end)];
+            return put_pieces(self.out, &row);
         };
-        match put {
-            Ok(()) => Ok(()),
-            Err(IoFault) => Err(ScanFault::Write),
+        if words.is_empty() || self.progress.is_hushed.get() {
+            return Ok(());
         }
+        let mut text: FixedSink<ROOM> = FixedSink::new();
+        let before = Piece::Text(b"mbdc: ");
+        let row = [before, Piece::Text(words), number, Piece::Text(b"\n")];
+        put_pieces(&mut text, &row)?;
+        self.progress.say(text.as_slice());
+        Ok(())
     }
 }
 
@@ -231,26 +209,6 @@ fn put_row<W: Sink>(
         put_point(&point, out)?;
     }
     out.put(b"\n")
-}
-
-fn put_noted<W: Sink>(out: &mut W, other: &Other) -> Result<(), IoFault> {
-    out.put(b"mbdc: ")?;
-    put_other(other, out)
-}
-
-fn put_object<W: Sink>(out: &mut W, other: &Other) -> Result<(), IoFault> {
-    out.put(b"{\"event\":\"other\",\"mask\":\"")?;
-    out.put(&digits_of(&other.wire))?;
-    out.put(b"\",\"ci\":\"")?;
-    put_byte(out, other.format.ci)?;
-    match &other.format.number {
-        Some(number) => {
-            out.put(b"\",\"number\":\"")?;
-            out.put(&digits_of(number))?;
-            out.put(b"\"}\n")
-        }
-        None => out.put(b"\",\"number\":null}\n"),
-    }
 }
 
 // The eight digits of a number.

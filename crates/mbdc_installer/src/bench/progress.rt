@@ -28,22 +28,14 @@ const CLEAR: &str = "\r\u{1b}[K";
 
 type Text = FixedSink<ROOM>;
 
-// How many addresses a search asks, and how long each that is silent takes.
-#[derive(Clone, Copy)]
-struct Addresses {
-    // The greatest one; the first is 1.
-    last: u8,
-    // Milliseconds.
-    each: u32,
-}
-
 /// The line on standard error that shows how far a search is. A line of its own shows each meter as it answers. It is
 /// shown only on a terminal.
 #[derive(Drop)]
 pub struct Progress<'h, R> {
     rt: &'h R,
     is_terminal: bool,
-    addresses: Option<Addresses>,
+    // How many milliseconds a silent address takes, of a search at primary addresses.
+    each: Option<u32>,
     begun: Option<Instant>,
     course: Cell<Course>,
     // Number of meters that were shown.
@@ -60,17 +52,14 @@ impl<'h, R: Clock + Eprint> Progress<'h, R> {
     /// addresses it says how long that takes.
     pub fn new(rt: &'h R, alloc: Global, is_terminal: bool, work: Work, patience: u16) -> Self {
         // Each address is asked as often as a window may be silent.
-        let addresses = match work {
-            Work::Search(Scan::Primary) => Some(Addresses {
-                last: GREATEST,
-                each: u32::from(patience) * u32::from(TRIES),
-            }),
+        let each = match work {
+            Work::Search(Scan::Primary) => Some(u32::from(patience) * u32::from(TRIES)),
             _ => None,
         };
         let progress = Progress {
             rt,
             is_terminal,
-            addresses,
+            each,
             begun: Instant::now(rt).ok(),
             course: Cell::new(Course::new()),
             meters: Cell::new(0),
@@ -78,10 +67,10 @@ impl<'h, R: Clock + Eprint> Progress<'h, R> {
             is_shown: Cell::new(false),
             is_hushed: Cell::new(false),
         };
-        if is_terminal && let Some(Addresses { last, each }) = addresses {
-            let (time, unit) = time_of(last, each);
+        if is_terminal && let Some(each) = each {
+            let (time, unit) = time_of(GREATEST, each);
             let estimate = [
-                Piece::Number(u64::from(last)),
+                Piece::Number(u64::from(GREATEST)),
                 Piece::Text(b" addresses, "),
                 Piece::Number(u64::from(each)),
                 Piece::Text(b" ms each that is silent: up to "),
@@ -126,12 +115,9 @@ impl<'h, R: Clock + Eprint> Progress<'h, R> {
     /// The first current value that a meter answered.
     pub(crate) fn value_of(&self, meter: &Identity) -> Option<Point> {
         let values = self.values.try_borrow().ok()?;
-        for (known, value) in values.as_slice() {
-            if known == meter {
-                return Some(*value);
-            }
-        }
-        None
+        let mut values = values.as_slice().iter();
+        let (_, value) = values.find(|(known, _)| known == meter)?;
+        Some(*value)
     }
 }
 
@@ -165,9 +151,9 @@ impl<R: Clock + Eprint> Observer for Show<'_, '_, R> {
             },
             None => 0,
         };
-        let (addresses, meters) = (progress.addresses, progress.meters.get());
+        let (each, meters) = (progress.each, progress.meters.get());
         let mut text = Text::new();
-        if put_course(&mut text, &course, addresses, meters, seconds).is_ok()
+        if put_course(&mut text, &course, each, meters, seconds).is_ok()
             && let Ok(text) = str::from_utf8(text.as_slice())
         {
             let _ = progress.rt.eprint(text);
@@ -236,11 +222,11 @@ impl<R: Clock + Eprint, W: Write + Drop> Write for Cleared<'_, '_, R, W> {
 fn put_course<W: Sink>(
     out: &mut W,
     course: &Course,
-    addresses: Option<Addresses>,
+    each: Option<u32>,
     meters: u64,
     seconds: u64,
 ) -> Result<(), IoFault> {
-    let Some(Addresses { last, each }) = addresses else {
+    let Some(each) = each else {
         return put_pieces(
             out,
             &[
@@ -254,7 +240,7 @@ fn put_course<W: Sink>(
             ],
         );
     };
-    let (time, unit) = time_of(last.saturating_sub(course.address), each);
+    let (time, unit) = time_of(GREATEST.saturating_sub(course.address), each);
     put_pieces(
         out,
         &[
@@ -262,7 +248,7 @@ fn put_course<W: Sink>(
             Piece::Text(b"address "),
             Piece::Number(u64::from(course.address)),
             Piece::Text(b" of "),
-            Piece::Number(u64::from(last)),
+            Piece::Number(u64::from(GREATEST)),
             Piece::Text(b", "),
             Piece::Number(meters),
             Piece::Text(b" found, "),

@@ -2,7 +2,7 @@
 
 ghost use Rattle.std.specs.Prelude.{◌≡◌};
 ghost use Rattle.mbdc_io.specs.Written.{Wrote};
-ghost use Rattle.mbdc_installer.specs.Remark.{hint, owner_of, remark_text};
+ghost use Rattle.mbdc_installer.specs.Remark.{hint, remark_text};
 
 use crate::bench::command::{Done, MeterName, Work};
 use crate::{Count, Course, Readout, is_all_read, put_unread};
@@ -28,8 +28,14 @@ pub fn put_remark<W: Sink>(
             put_unread(out, course)?;
             out.put(hint(course, *count, is_watched))
         }
-        (Work::Read(meter), Done::ReadOut(Readout::Failed(misses))) => {
-            put_reason(out, &owner_of(meter), misses)
+        (Work::Read(MeterName::Identity(meter)), Done::ReadOut(Readout::Failed(misses))) => {
+            put_reason(out, &Owner::Meter(*meter), misses)
+        }
+        (Work::Read(MeterName::Address(address)), Done::ReadOut(Readout::Failed(misses))) => {
+            put_reason(out, &Owner::Address(*address), misses)
+        }
+        (Work::Read(MeterName::Number(digits)), Done::ReadOut(Readout::Failed(misses))) => {
+            put_reason(out, &Owner::Number(*digits), misses)
         }
         _ => Ok(()),
     }
@@ -56,16 +62,5 @@ fn hint(course: &Course, count: Option<Count>, is_watched: bool) -> &'static [u8
             b"answers came, but of no meter: look at speed, parity and noise\n"
         }
         _ => b"",
-    }
-}
-
-// Whose readout it is, in the words of the person who asked for it.
-fn owner_of(meter: &MeterName) -> Owner
-    ensures { result ≡ owner_of meter.now }
-{
-    match meter {
-        MeterName::Identity(meter) => Owner::Meter(*meter),
-        MeterName::Address(address) => Owner::Address(*address),
-        MeterName::Number(digits) => Owner::Number(*digits),
     }
 }

@@ -1,15 +1,41 @@
-use Rattle.std.proofs.Common.{Option, ap, ◌∙◌}
-use Rattle.dc_address.specs.declared.identity.Identity.{Identity}
-use Rattle.mbdc_installer.specs.Address.{confirmed}
+use Rattle.std.proofs.Common.{List, ℕ, subst, rules}
 use Rattle.mbdc_installer.proofs.address.change.Goals as goal
 
-pub returns : goal.returns
-returns g c = record {
-  acknowledgement = c.send_change.ensures.0;
-  between = c.send_change.new.bus;
-  sent = c.send_change.ensures.1;
-  answer = c.ask_address-asked.result.answer;
-  telegram = c.ask_address-asked.result.telegram;
-  asked = c.ask_address-asked.ensures;
-  outcome_is = c.confirmed.ensures ∙ ap (λ (sender : Option Identity). confirmed c.args.meter.now sender) c.sender_at.ensures;
-}
+pub returns-in_default : goal.returns-in_default
+returns-in_default g c =
+    let sent = subst (λ (frame : List ℕ). g.B.Bus.asks c.args.bus.now frame c.ask.result c.ask.new.self) c.write_long.ensures c.ask.ensures.asked in
+    record {
+      acknowledgement = c.ask.result;
+      between = c.ask.new.self;
+      sent = sent;
+      answer = c.ask_address-asked.result.answer;
+      telegram = c.ask_address-asked.result.telegram;
+      asked = c.ask_address-asked.ensures;
+      outcome_is = (search rules);
+    }
+
+pub returns-then-eq : goal.returns-then-eq
+returns-then-eq g c =
+    let sent = subst (λ (frame : List ℕ). g.B.Bus.asks c.args.bus.now frame c.ask.result c.ask.new.self) c.write_long.ensures c.ask.ensures.asked in
+    record {
+      acknowledgement = c.ask.result;
+      between = c.ask.new.self;
+      sent = sent;
+      answer = c.ask_address-asked.result.answer;
+      telegram = c.ask_address-asked.result.telegram;
+      asked = c.ask_address-asked.ensures;
+      outcome_is = (search rules);
+    }
+
+pub returns-else-eq : goal.returns-else-eq
+returns-else-eq g c =
+    let sent = subst (λ (frame : List ℕ). g.B.Bus.asks c.args.bus.now frame c.ask.result c.ask.new.self) c.write_long.ensures c.ask.ensures.asked in
+    record {
+      acknowledgement = c.ask.result;
+      between = c.ask.new.self;
+      sent = sent;
+      answer = c.ask_address-asked.result.answer;
+      telegram = c.ask_address-asked.result.telegram;
+      asked = c.ask_address-asked.ensures;
+      outcome_is = (search rules);
+    }

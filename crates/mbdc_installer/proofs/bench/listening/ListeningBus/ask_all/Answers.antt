@@ -10,7 +10,7 @@ returns-clause-asked g c =
     hearing.Hears g.B.Bus.lost g.B.Bus.asks_all c.args.request.now c.args.self.now.bus c.args.self.now.wildcard c.ask-answer.result bus wildcard in
     let heard = subst (λ bus. P bus c.heard.new.self.wildcard) (sym c.heard.ensures.bus)
     (subst (λ wildcard. P c.ask-answer.new.bus wildcard) (sym c.heard.ensures.wildcard) c.ask-answer.ensures.heard) in
-    let left = subst (λ (wildcard : Wildcard). c.heard.new.self.left ≡ left_with wildcard.others c.ask-answer.result c.args.self.now.left) (sym c.heard.ensures.wildcard)
+    let left = subst (λ (wildcard : Wildcard). c.heard.new.self.left ≡ left_with wildcard.others.items c.ask-answer.result c.args.self.now.left) (sym c.heard.ensures.wildcard)
     c.heard.ensures.left in
     record {
       untouched = (search rules);
