@@ -12,9 +12,6 @@ HasTime s = at (span_of s).from < at (span_of s).to
 abbrev pub AreOther : span_type.Span → span_type.Span → Type 0
 AreOther a b = (at (span_of a).from ≡ at (span_of b).from) × (at (span_of a).to ≡ at (span_of b).to) → ⊥
 
-abbrev pub IsSpan : List span_type.Span → ℕ → ℕ → Type 0
-IsSpan before from to = (from < to) × All (λ a. (at (span_of a).from ≡ from) × (at (span_of a).to ≡ to) → ⊥) before
-
 -- a span that ends last, and whose first month is the label
 abbrev pub IsMonth : List ℕ → List span_type.Span → span_type.Span → Type 0
 IsMonth label spans s = All (λ x. at (span_of x).to ≤ at (span_of s).to) spans × IsLabel label (span_of s).from.day

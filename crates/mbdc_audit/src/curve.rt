@@ -327,7 +327,8 @@ impl<'w, 'a, A: Allocator + Copy> Curve<'w, 'a, A> {
         ensures { result ≡ list_any (λ v. is_so is_guess v.source) (deciding moment (known_in self.now.values.items)) }
     {
         let (last, next) = self.deciding(moment);
-        is_so_at(last, is_guess) || is_so_at(next, is_guess)
+        last.is_some_and(|value| value.is_so(is_guess))
+            || next.is_some_and(|value| value.is_so(is_guess))
     }
 
     // Whether a period rests on a value that was put, or on an estimate: at its ends, or at an exchange in it.
@@ -518,16 +519,6 @@ impl<'w, 'a, A: Allocator + Copy> Curve<'w, 'a, A> {
             amount: None,
             grade,
         }
-    }
-}
-
-// Whether a value, where one is there, is an estimate or was put.
-fn is_so_at(value: Option<Value<'_>>, is_guess: bool) -> bool
-    ensures { result ≡ list_any (λ v. is_so is_guess (known_source v)) (list_of value.entry) }
-{
-    match value {
-        Some(value) => value.is_so(is_guess),
-        None => false,
     }
 }
 

@@ -123,10 +123,22 @@ impl<'s, W: Sink> Teller<'s, W> {
     {
         match stop {
             Stop::NoMemory => Err(TextFault::NoMemory),
-            Stop::Fault(fault) => match self.put_fault(line, fault) {
-                Ok(()) => Ok(false),
-                Err(IoFault) => Err(TextFault::Write),
-            },
+            Stop::Fault(fault) => {
+                let (number, name) = fault.told();
+                let words = [
+                    Text(b"LINE "),
+                    Number(line),
+                    Text(b" FAULT "),
+                    Number(u64::from(number)),
+                    Text(b" "),
+                    Text(name.as_bytes()),
+                    Text(b"\n"),
+                ];
+                match put_pieces(self.out, &words) {
+                    Ok(()) => Ok(false),
+                    Err(IoFault) => Err(TextFault::Write),
+                }
+            }
             _ => Err(TextFault::Write),
         }
     }

@@ -3,11 +3,10 @@
 ghost use Rattle.std.specs.Prelude.{◌≡◌, ◌↔◌, ◌<◌, ◌≤◌, ◌+◌, ◌∷◌, ◌==◌, ◌||◌, ℕ, [], true, false, min, decimal, All};
 ghost use Rattle.std.specs.Prelude.{AllPairs, Contains, IfErr, IfOk, IsTrue, None, OnOk, Some, codes, fold, map};
 ghost use Rattle.std.specs.Prelude.{slice_get};
-ghost use Rattle.std.specs.List.{list_any};
 ghost use Rattle.std.specs.Str.{bytes_eq};
 ghost use Rattle.dc_units.specs.Text.{decimal_text};
 ghost use Rattle.mbdc_consumption.specs.Order.{IsInOrder};
-ghost use Rattle.mbdc_audit.specs.Amount.{entries, is_over_at, is_same, known};
+ghost use Rattle.mbdc_audit.specs.Amount.{entries, is_same, known};
 ghost use Rattle.mbdc_audit.specs.declared.exact.Exact.{Exact};
 ghost use Rattle.mbdc_audit.specs.Exact.{FitsRounded};
 ghost use Rattle.mbdc_audit.specs.File.{AsksNothing, all_opened};
@@ -22,7 +21,7 @@ ghost use Rattle.mbdc_audit.specs.View.{beside_count, house_of, key_of, known_in
 ghost use Rattle.mbdc_audit.specs.Walk.{AreFound, AreGradedAll, Checks, IsGradedPlace, IsHeld, Sure};
 ghost use Rattle.mbdc_audit.specs.Walk.{decimal_or_dash, is_clean, open_of, texts_beside};
 
-use crate::curve::{Run, amount_of};
+use crate::curve::amount_of;
 use crate::exact::Exact;
 use crate::fault::{AuditFault, Stop};
 use crate::field::{first_field, is_word};
@@ -114,29 +113,18 @@ impl<'a, A: Allocator + Copy> House<'a, A> {
     }
 }
 
-// Whether a part begins or ends at a moment.
-fn cuts_part(moment: u64, parts: &[Part]) -> bool
-    ensures { result ≡ list_any (λ x. (x.from == moment) || (x.to == moment)) parts.now }
-{
-    parts
-        .iter()
-        .any(|part| part.from == moment || part.to == moment)
-}
-
-// Whether a run begins or ends at a moment.
-fn cuts_run(moment: u64, runs: &[Run<'_>]) -> bool
-    ensures { result ≡ list_any (λ r. (r.begin == moment) || is_over_at moment r.end) runs.now }
-{
-    runs.iter()
-        .any(|run| run.begin == moment || run.end == Some(moment))
-}
-
 // Whether a part or a run begins or ends at a moment.
 fn is_cut<A: Allocator + Copy>(place: &Place<'_, A>, window: &Window<'_, A>, moment: u64) -> bool
     ensures { IsTrue result ↔ Contains (cuts (open_of (place_of place.now) (window_of window.now))) moment }
 {
-    let by_part = cuts_part(moment, window.parts.as_slice());
-    let by_run = cuts_run(moment, place.runs.as_slice());
+    let by_part = window
+        .parts
+        .iter()
+        .any(|part| part.from == moment || part.to == moment);
+    let by_run = place
+        .runs
+        .iter()
+        .any(|run| run.begin == moment || run.end == Some(moment));
     by_part || by_run
 }
 
@@ -221,18 +209,14 @@ fn found_at(run: u64, moment: u64, values: &[Value<'_>]) -> Option<u64>
     found
 }
 
-// The amount that a text spells, in units of a size.
-fn amount_in(text: &[u8], size: u64) -> Option<u64>
-    ensures { result ≡ of_text size text.now }
-{
-    of_spelled(decimal_in(text, MOST_VALUE_DECIMALS)?, size)
-}
-
-// Whether a text spells the value that is found, or is to be filled in.
+// Whether a text spells the value that is found in units of a size, or is to be filled in.
 fn is_value(text: &[u8], size: u64, found: Option<u64>) -> bool
     ensures { result ≡ (bytes_eq text.now (codes "?") || is_same (of_text size text.now) found) }
 {
-    let published = amount_in(text, size);
+    let published = match decimal_in(text, MOST_VALUE_DECIMALS) {
+        Some(spelled) => of_spelled(spelled, size),
+        None => None,
+    };
     let is_same = published.is_some() && published == found;
     is_word(text, "?") || is_same
 }
@@ -630,24 +614,6 @@ impl<'s, W: Sink> Teller<'s, W> {
         Ok(())
     }
 
-    // Checks the numbers of a house's places.
-    fn judge_places<'a, A: Allocator + Copy, F: Sink>(
-        &mut self,
-        alloc: A,
-        house: &House<'a, A>,
-        filler: &mut Filler<'_, '_, F>,
-    ) -> Result<(), Stop>
-        ensures right { let h = house_of house.now in All (IsPlace h) h.places → AreGradedAll house.now.places.items
-            → All (λ p. All (λ w. All (λ n. MayAskOf h p w n.key) w.numbers) p.windows) h.places
-            → Sure result self.old.counts self.new.counts (All (λ p. All (λ w. All (λ n. AsksNothing n
-            → IsNumberOf h (open_of p w) n) w.numbers) p.windows) h.places) }
-    {
-        'places: for place in &house.places {
-            self.judge_place(alloc, house, place, filler)?;
-        }
-        Ok(())
-    }
-
     // Checks the sums, and what is computed from them.
     fn judge_sums<'a, A: Allocator + Copy, F: Sink>(
         &mut self,
@@ -682,7 +648,9 @@ impl<'s, W: Sink> Teller<'s, W> {
             (All (λ o. All (λ n. AsksNothing n → IsNumberOf h o n) o.window.numbers) (all_opened h)
             × All (λ n. AsksNothing n → IsNumber h n) h.numbers) }
     {
-        self.judge_places(alloc, house, filler)?;
+        'places: for place in &house.places {
+            self.judge_place(alloc, house, place, filler)?;
+        }
         self.judge_sums(alloc, house, filler)?;
         filler.up_to(filler.file.len())?;
         Ok(())

@@ -3,7 +3,6 @@
 ghost use Rattle.std.specs.Prelude.{◌≡◌, ◌≤◌, ◌<◌, ◌+◌, ◌-◌, ◌⊎◌, ◌↔◌, ◌==◌, ◌&&◌, ◌||◌, ℕ, true, false};
 ghost use Rattle.std.specs.Prelude.{All, IfErr, IfOk, IsSome, IsTrue, None, Some, is_some, length, slice_get};
 ghost use Rattle.std.specs.List.{list_any};
-ghost use Rattle.std.specs.Str.{bytes_eq};
 ghost use Rattle.dc_address.specs.Text.{text_of};
 ghost use Rattle.dc_address.specs.declared.identity.Identity as identity_type;
 ghost use Rattle.mbdc_audit.specs.declared.house.Fact as fact_type;
@@ -170,7 +169,7 @@ impl<'a, A: Allocator + Copy> Reader<'a, A> {
     {
         match line.word {
             Word::Audit => {
-                self.add_label(line);
+                self.house.label = field(line, 1);
                 Ok(())
             }
             Word::Use => self.add_use(line),
@@ -206,14 +205,6 @@ impl<'a, A: Allocator + Copy> Reader<'a, A> {
             | Word::Carbon
             | Word::Cost => self.add_number(line, text, at),
         }
-    }
-
-    fn add_label(&mut self, line: &Line<'a>)
-        requires { line.now.word ≡ Word.Audit }
-        ensures adds { Adds (house_of self.old.house) line.now (house_of self.new.house) }
-        ensures kept { (self.new.stage ≡ self.old.stage) × (self.new.may_ask ≡ self.old.may_ask) }
-    {
-        self.house.label = field(line, 1);
     }
 
     // The place of a use's word.
@@ -553,7 +544,8 @@ impl<'a, A: Allocator + Copy> Reader<'a, A> {
         ensures err { IfErr result (λ f. All (λ f. IsSome (declared (house_of self.now.house) f span))
             (of_factor (house_of self.now.house) number.now.used number.now.unit) → ⊥) }
     {
-        if !Unit::Kwh.is(number.unit) || self.is_energy(number.used) {
+        let is_energy = matches!(self.counts(number.used), Some(Counted::Energy));
+        if is_energy || !Unit::Kwh.is(number.unit) {
             return Ok(());
         }
         only_if(self.has(Fact::Factor(number.used), span), AuditFault::Fact)
@@ -580,13 +572,6 @@ impl<'a, A: Allocator + Copy> Reader<'a, A> {
         ensures { result ≡ is_some (declared (house_of self.now.house) fact span) }
     {
         self.house.declared(fact, span).is_some()
-    }
-
-    // Whether meters of a use count energy.
-    fn is_energy(&self, used: u64) -> bool
-        ensures { result ≡ is_energy (quantity (house_of self.now.house) used) }
-    {
-        matches!(self.counts(used), Some(Counted::Energy))
     }
 
     // A number without what it is of: its text, and what is beside it.
@@ -721,23 +706,13 @@ impl<'a, A: Allocator + Copy> Reader<'a, A> {
     {
         match number.word {
             Word::OfHouse => true,
-            Word::OfFlat => self.is_lived(number.flat) || self.is_placed(number.flat),
+            Word::OfFlat => {
+                let (users, places) = (&self.house.users, &self.house.places);
+                users.iter().any(|user| user.flat == number.flat)
+                    || places.iter().any(|place| place.flat == number.flat)
+            }
             _ => self.house.user(number.user).is_some(),
         }
-    }
-
-    // Whether a user has a flat.
-    fn is_lived(&self, flat: &[u8]) -> bool
-        ensures { result ≡ list_any (λ u. bytes_eq u.flat.now flat.now) self.now.house.users.items }
-    {
-        self.house.users.iter().any(|user| user.flat == flat)
-    }
-
-    // Whether a place is of a flat.
-    fn is_placed(&self, flat: &[u8]) -> bool
-        ensures { result ≡ list_any (λ p. bytes_eq p.flat.now flat.now) self.now.house.places.items }
-    {
-        self.house.places.iter().any(|place| place.flat == flat)
     }
 
     fn add_number(&mut self, line: &Line<'a>, text: &'a [u8], at: usize) -> Result<(), Stop>

@@ -8,9 +8,9 @@ ghost use Rattle.mbdc_consumption.specs.Order.{IsInOrder};
 ghost use Rattle.mbdc_audit.specs.Amount.{entries, last_of, of_run};
 ghost use Rattle.mbdc_audit.specs.Evidence.{IsSpelled, list_of};
 ghost use Rattle.mbdc_audit.specs.Settled.{AreCounted, AreKnown, AreSettled, IsReadBy, IsSettled, IsTold};
-ghost use Rattle.mbdc_audit.specs.Sound.{Falls, IfAnew, IsRead, IsReadPlace, told_of};
+ghost use Rattle.mbdc_audit.specs.Sound.{Falls, IsRead, IsReadPlace, told_of};
 ghost use Rattle.mbdc_audit.specs.View.{found_of as found_list, house_of, known_in, part_of, place_of, run_of};
-ghost use Rattle.mbdc_audit.specs.View.{seen_value, source_of, spelled_in, struck_of, use_of, window_of};
+ghost use Rattle.mbdc_audit.specs.View.{seen_value, spelled_in, struck_of, use_of, window_of};
 ghost use Rattle.mbdc_audit.specs.Walk.{AreGraded, AreJudged, Checks, IsJudged, IsOneValue, IsRefused, IsSmall};
 ghost use Rattle.mbdc_audit.specs.Walk.{RestsOn};
 ghost use Rattle.mbdc_audit.specs.File.{bare_house, bare_place, bare_window};
@@ -189,16 +189,6 @@ fn judged<'a, A: Allocator + Copy>(
     Ok(judged)
 }
 
-// Whether a counter began anew, where a value says so.
-fn begins(values: &[Value<'_>], value: &Value<'_>) -> bool
-    ensures ok { result ≡ true
-        → IfAnew (source_of value.now) (Falls (flat_map found_list values.now) (seen_value value.now)) }
-    ensures only { IfAnew (source_of value.now) (Falls (flat_map found_list values.now) (seen_value value.now))
-        → result ≡ true }
-{
-    !value.is_anew() || began_anew(values, value)
-}
-
 // Whether a value is of the same telegrams as an earlier one.
 fn is_repeated(values: &[Value<'_>], value: &Value<'_>) -> bool
     ensures { result ≡ (is_read value.now.word
@@ -221,7 +211,7 @@ fn settle<'a>(values: &[Value<'a>], value: &Value<'a>) -> Value<'a>
     ensures { IsSettled values.now value.now result }
 {
     let is_again = is_repeated(values, value);
-    if begins(values, value) {
+    if !value.is_anew() || began_anew(values, value) {
         Value { is_again, ..*value }
     } else {
         Value {

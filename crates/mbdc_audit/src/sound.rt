@@ -1,7 +1,7 @@
 //! The first walk: whether the file spells a sound house. Each check prints what breaks its rule.
 
 ghost use Rattle.std.specs.Prelude.{◌≡◌, ◌↔◌, ◌⊎◌, ◌<◌, ◌≤◌, ◌+◌, ◌-◌, ◌%◌, ◌==◌, ◌∷◌, [], All, AllPairs, Any};
-ghost use Rattle.std.specs.Prelude.{Contains, IfOk, IfSome, IsSome, IsTrue, OnOk};
+ghost use Rattle.std.specs.Prelude.{Contains, IfSome, IsSome, IsTrue, OnOk};
 ghost use Rattle.std.specs.Prelude.{ℕ, Some, filter, flat_map, length, map, option_to_list, slice_get};
 ghost use Rattle.std.specs.BTreeMap.{get};
 ghost use Rattle.std.specs.Ordering.{nat_cmp};
@@ -10,9 +10,9 @@ ghost use Rattle.mbdc_audit.specs.Amount.{deciding};
 ghost use Rattle.mbdc_audit.specs.File.{all_numbers};
 ghost use Rattle.mbdc_audit.specs.House.{Span as SaidSpan, Value as SaidValue, at};
 ghost use Rattle.mbdc_audit.specs.Sound.{AreAlike, AreNear, AreOneCurve, AreParts, AreRuns, AreSpans, AreTimed};
-ghost use Rattle.mbdc_audit.specs.Sound.{IfAnew, IsAllowed, IsAnew, IsBuilt, IsHouse, IsLabel, IsOfEnd, IsOnce};
+ghost use Rattle.mbdc_audit.specs.Sound.{IfAnew, IsAnew, IsBuilt, IsHouse, IsLabel, IsOfEnd, IsOnce};
 ghost use Rattle.mbdc_audit.specs.Sound.{IsOneCurve, IsOneTenancy, IsOver, IsPlace, IsReadPlace};
-ghost use Rattle.mbdc_audit.specs.Sound.{IsSpanned, IsSpannedBy, IsTimed, IsType, IsUntil, IsUserOf, IsWindow};
+ghost use Rattle.mbdc_audit.specs.Sound.{IsSpanned, IsSpannedBy, IsTimed, IsType, IsUntil, IsWindow};
 ghost use Rattle.mbdc_audit.specs.Sound.{ends_in, ends_of, ends_of_place, ends_of_spans, fitted, from, lived, to};
 ghost use Rattle.mbdc_audit.specs.View.{end_of, house_of, place_of, run_of, seen_value, source_of, span_of, window_of};
 ghost use Rattle.mbdc_audit.specs.Curve.{IsCurve};
@@ -66,19 +66,13 @@ fn is_label(label: &[u8], day: u32) -> bool
     false
 }
 
-// Whether no span ends after a moment.
-fn is_last(spans: &[Span<'_>], end: u64) -> bool
-    ensures { IsTrue result ↔ All (λ s. at (span_of s).to ≤ end) spans.now }
-{
-    spans.iter().all(|span| span.to.moment() <= end)
-}
-
 // Whether a span ends last, and a label is the month in which it begins.
 fn is_month(label: &[u8], spans: &[Span<'_>], span: &Span<'_>) -> bool
     ensures { IsTrue result ↔ (All (λ x. at (span_of x).to ≤ at (span_of span.now).to) spans.now
         × IsLabel label.now (span_of span.now).from.day) }
 {
-    is_last(spans, span.to.moment()) && is_label(label, span.from.day)
+    let end = span.to.moment();
+    spans.iter().all(|other| other.to.moment() <= end) && is_label(label, span.from.day)
 }
 
 // Whether a label is the month in which a span begins that ends last.
@@ -89,19 +83,13 @@ fn is_labelled(label: &[u8], spans: &[Span<'_>]) -> bool
     spans.iter().any(|span| is_month(label, spans, span))
 }
 
-// Whether a span differs from those before it.
-fn is_new(before: &[Span<'_>], from: u64, to: u64) -> bool
-    ensures { IsTrue result ↔ All (λ a. (at (span_of a).from ≡ from) × (at (span_of a).to ≡ to) → ⊥) before.now }
-{
-    before.iter().all(|other| other.from.moment() != from || other.to.moment() != to)
-}
-
 // Whether a span has time, and differs from those before it.
-fn is_span(before: &[Span<'_>], from: u64, to: u64) -> bool
-    ensures { IsTrue result ↔ ((from < to)
-        × All (λ a. (at (span_of a).from ≡ from) × (at (span_of a).to ≡ to) → ⊥) before.now) }
+fn is_span(before: &[Span<'_>], span: &Span<'_>) -> bool
+    ensures { let s = span_of span.now in IsTrue result ↔ ((at s.from < at s.to)
+        × All (λ a. (at (span_of a).from ≡ at s.from) × (at (span_of a).to ≡ at s.to) → ⊥) before.now) }
 {
-    from < to && is_new(before, from, to)
+    let (from, to) = (span.from.moment(), span.to.moment());
+    from < to && before.iter().all(|other| other.from.moment() != from || other.to.moment() != to)
 }
 
 // Whether the users of a flat have its area.
@@ -137,38 +125,16 @@ fn asks_of<A: Allocator + Copy>(places: &[Place<'_, A>]) -> bool
     false
 }
 
-// Whether a device type was allowed for a use.
-fn is_allowed(allowed: &[Allowed<'_>], used: u64, kind: u8) -> bool
-    ensures { IsTrue result ↔ Any (λ a. (a.used ≡ used) × (a.kind ≡ kind)) allowed.now }
-{
-    allowed
-        .iter()
-        .any(|allowed| allowed.used == used && allowed.kind == kind)
-}
-
-// Whether a run begins before it ends.
-fn has_time(run: &Run<'_>) -> bool
-    ensures { IsTrue result ↔ ((over : ℕ) → run.now.end ≡ Some over → run.now.begin < over) }
-{
-    match run.end {
-        Some(end) => run.begin < end,
-        None => true,
-    }
-}
-
-// Whether runs are over by a moment.
-fn are_over(runs: &[Run<'_>], moment: u64) -> bool
-    ensures { IsTrue result ↔ All (λ r. IsOver r.end moment) runs.now }
-{
-    runs.iter().all(|run| run.is_over(moment))
-}
-
 // Whether a run has time, after those before it.
 fn is_after_all(before: &[Run<'_>], run: &Run<'_>) -> bool
     ensures { IsTrue result ↔ (((over : ℕ) → run.now.end ≡ Some over → run.now.begin < over)
         × All (λ a. IsOver a.end run.now.begin) before.now) }
 {
-    has_time(run) && are_over(before, run.begin)
+    let has_time = match run.end {
+        Some(end) => run.begin < end,
+        None => true,
+    };
+    has_time && before.iter().all(|other| other.is_over(run.begin))
 }
 
 // Whether a run is of a type that counts a use.
@@ -176,7 +142,11 @@ fn is_counted(allowed: &[Allowed<'_>], used: u64, name: &[u8], run: &Run<'_>) ->
     ensures { IsTrue result ↔ (Any (λ a. (a.used ≡ used) × (a.kind ≡ run.now.identity.kind)) allowed.now
         ⊎ IsType name.now (run_of run.now)) }
 {
-    is_allowed(allowed, used, run.identity.kind) || is_type(name, run)
+    let kind = run.identity.kind;
+    allowed
+        .iter()
+        .any(|allowed| allowed.used == used && allowed.kind == kind)
+        || is_type(name, run)
 }
 
 // The end of the day at which a value is stored or ended.
@@ -208,19 +178,13 @@ fn agrees<A: Allocator + Copy>(offsets: &BTreeMap<u64, u16, A>, end: &DayEnd<'_>
     }
 }
 
-// Whether the offsets of two ends are at most an hour apart.
-fn is_near(one: &DayEnd<'_>, other: &DayEnd<'_>) -> bool
-    ensures { IsTrue result ↔ AreNear (end_of one.now) (end_of other.now) }
-{
-    one.offset.abs_diff(other.offset) <= NEAR_MINUTES
-}
-
-// Whether it is so near to an end of a span.
+// Whether an offset is at most an hour from that of an end of a span.
 fn is_near_to(end: &DayEnd<'_>, span: &Span<'_>) -> bool
     ensures { IsTrue result ↔ (AreNear (end_of end.now) (span_of span.now).from
         ⊎ AreNear (end_of end.now) (span_of span.now).to) }
 {
-    is_near(end, &span.from) || is_near(end, &span.to)
+    end.offset.abs_diff(span.from.offset) <= NEAR_MINUTES
+        || end.offset.abs_diff(span.to.offset) <= NEAR_MINUTES
 }
 
 // Whether a value that ended or is the last one lies at its run's end.
@@ -391,30 +355,13 @@ impl<'s, W: Sink> Teller<'s, W> {
     {
         let spans = house.spans.as_slice();
         'spans: for (i, span) in spans.iter().enumerate() {
-            self.check_span(&spans[..i], span, offsets)?;
+            self.check_offset(span.line, &span.from, offsets)?;
+            self.check_offset(span.line, &span.to, offsets)?;
+            let words = [Text(b"it has no time, or is one before it")];
+            self.unless(is_span(&spans[..i], span), span.line, "Span", &words)?;
         }
         let words = [Text(b"not the month in which the span that ends last begins")];
         self.unless(is_labelled(house.label, spans), 1, "Label", &words)?;
-        Ok(())
-    }
-
-    // Checks that a span has time, and differs from those before it.
-    fn check_span<'a, A: Allocator + Copy>(
-        &mut self,
-        before: &[Span<'a>],
-        span: &Span<'a>,
-        offsets: &mut BTreeMap<u64, u16, A>,
-    ) -> Result<(), Stop>
-        ensures { let s = span_of span.now in OnOk result
-            (Walks self.old.counts (get nat_cmp offsets.old) self.new.counts (get nat_cmp offsets.new)
-            (s.from ∷ s.to ∷ []) ((at s.from < at s.to)
-            × All (λ a. (at (span_of a).from ≡ at s.from) × (at (span_of a).to ≡ at s.to) → ⊥) before.now)) }
-    {
-        self.check_offset(span.line, &span.from, offsets)?;
-        self.check_offset(span.line, &span.to, offsets)?;
-        let (from, to) = (span.from.moment(), span.to.moment());
-        let words = [Text(b"it has no time, or is one before it")];
-        self.unless(is_span(before, from, to), span.line, "Span", &words)?;
         Ok(())
     }
 
@@ -488,7 +435,7 @@ impl<'s, W: Sink> Teller<'s, W> {
         Ok(())
     }
 
-    // Checks the runs of a place.
+    // Checks that each run has time, begins after those before it have ended, and is of a type that counts the use.
     fn check_runs<'a, A: Allocator + Copy>(
         &mut self,
         house: &House<'a, A>,
@@ -498,35 +445,19 @@ impl<'s, W: Sink> Teller<'s, W> {
         ensures { Checks result self.old.counts self.new.counts
             (AreRuns (house_of house.now) name.now (place_of place.now)) }
     {
-        let runs = place.runs.as_slice();
+        let (runs, allowed) = (place.runs.as_slice(), house.allowed.as_slice());
         'runs: for (i, run) in runs.iter().enumerate() {
-            self.check_run(house, (place.used, name), &runs[..i], run)?;
+            let words = [Text(b"the meters' times aren't in order")];
+            self.unless(is_after_all(&runs[..i], run), run.line, "Moment", &words)?;
+            let text = run.identity.text();
+            self.unless_counted(
+                is_counted(allowed, place.used, name, run),
+                run.line,
+                name,
+                &text[16..],
+            )?;
         }
         Ok(())
-    }
-
-    // Checks that a run has time, begins after the one before it has ended, and is of a type that counts the use.
-    fn check_run<'a, A: Allocator + Copy>(
-        &mut self,
-        house: &House<'a, A>,
-        used: (u64, &[u8]),
-        before: &[Run<'a>],
-        run: &Run<'a>,
-    ) -> Result<(), IoFault>
-        ensures { let r = run_of run.now in Checks result self.old.counts self.new.counts
-            (((over : ℕ) → r.over ≡ Some over → r.begin < over) × All (λ a. IsOver a.end r.begin) before.now
-            × (IsAllowed (house_of house.now) used.entry.0 r ⊎ IsType used.entry.1.now r)) }
-    {
-        let words = [Text(b"the meters' times aren't in order")];
-        self.unless(is_after_all(before, run), run.line, "Moment", &words)?;
-        let allowed = house.allowed.as_slice();
-        let text = run.identity.text();
-        self.unless_counted(
-            is_counted(allowed, used.0, used.1, run),
-            run.line,
-            used.1,
-            &text[16..],
-        )
     }
 
     // Prints that a device type doesn't count a use, unless it does.
@@ -665,36 +596,17 @@ impl<'s, W: Sink> Teller<'s, W> {
         let (mut reached, end) = time;
         let parts = window.parts.as_slice();
         'parts: for part in parts {
-            self.check_part(house, place.flat, part, (reached, end))?;
+            let words = [Text(b"not adjacent, or beyond the span or the place's time")];
+            self.unless(is_adjacent(part, reached, end), part.line, "Part", &words)?;
+            let user = Number(part.user.unwrap_or(0));
+            let words = [Text(b"user "), user, Text(b" is of another flat")];
+            let is_user = is_user_of(&house.users, place.flat, part.user);
+            self.unless(is_user, part.line, "Part", &words)?;
             reached = part.to;
         }
         let words = [Text(b"the parts don't reach the end")];
         self.unless(reached == end, window.line, "Part", &words)?;
         Ok(())
-    }
-
-    // Checks that a part begins where the one before it ended, ends within the time, and is of a user of the flat.
-    fn check_part<'a, A: Allocator + Copy>(
-        &mut self,
-        house: &House<'a, A>,
-        flat: &[u8],
-        part: &Part,
-        time: (u64, u64),
-    ) -> Result<(), IoFault>
-        ensures { Checks result self.old.counts self.new.counts ((part.now.from ≡ time.0)
-            × (part.now.from < part.now.to) × (part.now.to ≤ time.1)
-            × IsUserOf (house_of house.now) flat.now part.now.user) }
-    {
-        let words = [Text(b"not adjacent, or beyond the span or the place's time")];
-        self.unless(is_adjacent(part, time.0, time.1), part.line, "Part", &words)?;
-        let user = Number(part.user.unwrap_or(0));
-        let words = [Text(b"user "), user, Text(b" is of another flat")];
-        self.unless(
-            is_user_of(&house.users, flat, part.user),
-            part.line,
-            "Part",
-            &words,
-        )
     }
 
     // Checks that the values that decide a common end of two windows are the same.

@@ -6,7 +6,6 @@ ghost use Rattle.std.specs.Prelude.{◌≡◌, false, IsTrue, OnOk};
 ghost use Rattle.mbdc_audit.specs.Walk.{Checks, is_clean};
 
 use crate::evidence::Refusal;
-use crate::fault::AuditFault;
 use crate::teller::Piece::{Number, Text};
 use mbdc_io::{IoFault, Sink, put_number};
 
@@ -154,25 +153,6 @@ impl<'s, W: Sink> Teller<'s, W> {
                 Number(counts.struck),
                 Text(b", places "),
                 Number(places),
-                Text(b"\n"),
-            ],
-        )
-    }
-
-    /// Prints the number and the fault of a line.
-    pub fn put_fault(&mut self, line: u64, fault: AuditFault) -> Result<(), IoFault>
-        ensures { self.new.counts ≡ self.old.counts }
-    {
-        let (number, name) = fault.told();
-        put_pieces(
-            self.out,
-            &[
-                Text(b"LINE "),
-                Number(line),
-                Text(b" FAULT "),
-                Number(u64::from(number)),
-                Text(b" "),
-                Text(name.as_bytes()),
                 Text(b"\n"),
             ],
         )

@@ -15,7 +15,7 @@ ghost use Rattle.mbdc_audit.specs.Totals.{AreBases, HasNoPart, IsIndex, basis_mo
 ghost use Rattle.mbdc_audit.specs.Totals.{has_own, is_filled, is_known, is_window_own, joined};
 ghost use Rattle.mbdc_audit.specs.Totals.{no_total, place_sum, share_in, total_of, total_with};
 ghost use Rattle.mbdc_audit.specs.View.{house_of, key_of, span_of};
-ghost use Rattle.mbdc_audit.specs.Walk.{AreGradedAll, holder_of, is_held_part, scale_in, sum_by_holder, texts_beside};
+ghost use Rattle.mbdc_audit.specs.Walk.{AreGradedAll, holder_of, scale_in, sum_by_holder, texts_beside};
 
 use crate::exact::Exact;
 use crate::fault::{AuditFault, Stop};
@@ -124,19 +124,6 @@ impl<'a, A: Allocator + Copy> Place<'a, A> {
     }
 }
 
-impl Holder<'_> {
-    // Whether a part of a flat is this holder's.
-    fn has(self, flat: &[u8], part: &Part) -> bool
-        ensures { result ≡ is_held_part (holder_of self.entry) flat.now part.now }
-    {
-        match self {
-            Holder::User(user) => part.user == Some(user),
-            Holder::Flat(name) => name == flat,
-            Holder::House => true,
-        }
-    }
-}
-
 // What parts consumed and their worst mark, with a part more.
 fn joined(part: &Part, later: Option<(u128, Grade)>) -> Result<(u128, Grade), AuditFault>
     ensures { IfOk result (λ s. s ≡ joined part.now later) }
@@ -163,7 +150,12 @@ fn share(
         return Ok(None);
     };
     let later = share(holder, flat, rest)?;
-    if holder.has(flat, part) {
+    let is_held = match holder {
+        Holder::User(user) => part.user == Some(user),
+        Holder::Flat(name) => name == flat,
+        Holder::House => true,
+    };
+    if is_held {
         Ok(Some(joined(part, later)?))
     } else {
         Ok(later)

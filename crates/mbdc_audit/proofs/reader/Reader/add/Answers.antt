@@ -1,5 +1,5 @@
-use Rattle.std.proofs.Common.{refl}
-use Rattle.mbdc_audit.specs.File.{closes, totals}
+use Rattle.std.proofs.Common.{refl, sym}
+use Rattle.mbdc_audit.specs.File.{begins, closes, totals}
 use Rattle.mbdc_audit.proofs.Table.{meter_identity, text_fits}
 use Rattle.mbdc_audit.proofs.Words.{fact_word, number_word, value_word}
 use Rattle.mbdc_audit.proofs.reader.Reader.add.Goals as goal
@@ -24,3 +24,6 @@ returns-in-Totals-clause-ok g c = record { said = totals; may = tt; says = c.in-
 
 pub returns-in-End-clause-ok : goal.returns-in-End-clause-ok
 returns-in-End-clause-ok g c = record { said = closes; may = tt; says = c.in-End.is; with_it = refl }
+
+pub returns-in-Audit-clause-ok : goal.returns-in-Audit-clause-ok
+returns-in-Audit-clause-ok g c = record { said = begins c.field-self.result.now; may = tt; says = (c.in-Audit.is, sym c.field-self.ensures); with_it = refl }

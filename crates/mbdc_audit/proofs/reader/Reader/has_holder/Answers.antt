@@ -1,4 +1,8 @@
-use Rattle.std.proofs.Common.{◌↔◌, inl, inr, refl, sym, ap, subst, ◌∙◌}
+use Rattle.std.proofs.Common.{◌↔◌, inl, inr, refl, rules, tests, sym, ap, subst, ◌∙◌}
+use Rattle.std.proofs.lemmas.Iterator.{YieldsList-from_slice}
+use Rattle.std.proofs.lemmas.Iterator.Search.{any_from_yields_List}
+use Rattle.std.specs.Str.{bytes_eq}
+use Rattle.mbdc_audit.specs.declared.house.User as user_type
 use Rattle.std.specs.Prelude.{IsTrue, is_some}
 use Rattle.std.proofs.lemmas.Bool.{false≢true}
 use Rattle.mbdc_audit.specs.declared.line.Word.{Word}
@@ -8,26 +12,34 @@ use Rattle.mbdc_audit.proofs.Asked.{who_user}
 use Rattle.mbdc_audit.proofs.Facts.{any_flat, flat_any, user_found}
 use Rattle.mbdc_audit.proofs.reader.Reader.has_holder.Goals as goal
 
-pub returns-then-is_lived : goal.returns-then-is_lived
-returns-then-is_lived g c =
+pub returns-then-any : goal.returns-then-any
+returns-then-any g c =
     let h = house_of c.args.self.now.house in
     let k = key_of c.args.number.now in
-    subst (λ (w : Word). IsTrue c.is_lived.result ↔ IsWho w h k) (sym c.in-OfFlat.is) (
-      λ e. inl (flat_any user_of (λ u. u.flat.now) (λ u. u.flat) (λ u. refl) c.args.self.now.house.users.items k.flat (sym c.is_lived.ensures ∙ e)),
-      λ who. c.if-is_lived.true,
+    let us = c.args.self.now.house.users.items in
+    let lived = any_from_yields_List (λ (u : user_type.User). bytes_eq u.flat.now k.flat) _ _ c.any.result c.any.ensures.ran
+    (YieldsList-from_slice us cc) (λ x b q k. search (rules, tests)) in
+    subst (λ (w : Word). IsTrue c.any.result ↔ IsWho w h k) (sym c.in-OfFlat.is) (
+      λ e. inl (flat_any user_of (λ u. u.flat.now) (λ u. u.flat) (λ u. refl) us k.flat (sym lived ∙ e)),
+      λ who. c.if-any.true,
     )
 
-pub returns-else-is_lived : goal.returns-else-is_lived
-returns-else-is_lived g c =
+pub returns-else-any : goal.returns-else-any
+returns-else-any g c =
     let h = house_of c.args.self.now.house in
     let k = key_of c.args.number.now in
-    subst (λ (w : Word). IsTrue c.is_placed.result ↔ IsWho w h k) (sym c.in-OfFlat.is) (
-      λ e. inr (flat_any place_of (λ p. p.flat.now) (λ p. p.flat) (λ p. refl) c.args.self.now.house.places.items k.flat (sym c.is_placed.ensures ∙ e)),
+    let us = c.args.self.now.house.users.items in
+    let ps = c.args.self.now.house.places.items in
+    let lived = any_from_yields_List (λ (u : user_type.User). bytes_eq u.flat.now k.flat) _ _ c.any.result c.any.ensures.ran
+    (YieldsList-from_slice us cc) (λ x b q k. search (rules, tests)) in
+    let placed = any_from_yields_List (λ p. bytes_eq p.flat.now k.flat) _ _ c.any-else-any.result c.any-else-any.ensures.ran
+    (YieldsList-from_slice ps cc) (λ x b q k. search (rules, tests)) in
+    subst (λ (w : Word). IsTrue c.any-else-any.result ↔ IsWho w h k) (sym c.in-OfFlat.is) (
+      λ e. inr (flat_any place_of (λ p. p.flat.now) (λ p. p.flat) (λ p. refl) ps k.flat (sym placed ∙ e)),
       λ who. elim who [
-        | inl lived ↦ absurd (false≢true (sym c.if-is_lived.false ∙ (c.is_lived.ensures
-            ∙ any_flat user_of (λ u. u.flat.now) (λ u. u.flat) (λ u. refl) c.args.self.now.house.users.items k.flat lived)))
-        | inr placed ↦ c.is_placed.ensures
-            ∙ any_flat place_of (λ p. p.flat.now) (λ p. p.flat) (λ p. refl) c.args.self.now.house.places.items k.flat placed
+        | inl it ↦ absurd (false≢true (sym c.if-any.false ∙ (lived
+            ∙ any_flat user_of (λ u. u.flat.now) (λ u. u.flat) (λ u. refl) us k.flat it)))
+        | inr it ↦ placed ∙ any_flat place_of (λ p. p.flat.now) (λ p. p.flat) (λ p. refl) ps k.flat it
       ],
     )
 

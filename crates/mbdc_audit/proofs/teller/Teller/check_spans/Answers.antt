@@ -15,7 +15,10 @@ pub spans-preserved : goal.spans-preserved
 spans-preserved g c =
     let below : c.spans.i < length c.as_slice-spans.result.now = omega arith in
     walks_at (λ s. (span_of s).from ∷ (span_of s).to ∷ []) c.as_slice-spans.result.now c.spans.i _ below
-    (spans_at c.as_slice-spans.result.now c.spans.i _ below) c.spans.invariant c.in_ok-check_span.ensures
+    (spans_at c.as_slice-spans.result.now c.spans.i _ below) c.spans.invariant
+    (walks_same (λ r. r.1, λ q. ((tt, tt), q))
+    (walks_then (walks_then c.in_ok-check_offset.ensures c.in_ok-check_offset-2.ensures)
+    (walks_by (get nat_cmp c.check_offset-in-spans.new.offsets) (same c.in_ok-unless.ensures c.is_span.ensures))))
 
 pub returns : goal.returns
 returns g c =
@@ -26,4 +29,4 @@ returns g c =
     (walks_same (are_spans (house_of c.args.house.now) c.as_slice-spans.result.now is)
     (walks_then (walks_all (λ s. (span_of s).from ∷ (span_of s).to ∷ []) c.as_slice-spans.result.now c.spans.i past
     (both (all_full HasTime c.as_slice-spans.result.now c.spans.i past) (pairs_full AreOther c.as_slice-spans.result.now c.spans.i past)) c.spans.invariant)
-    (walks_by (get nat_cmp c.spans.offsets) (same c.in_ok-unless.ensures c.is_labelled.ensures))))
+    (walks_by (get nat_cmp c.spans.offsets) (same c.in_ok-unless-2.ensures c.is_labelled.ensures))))

@@ -6,7 +6,7 @@ use Rattle.mbdc_audit.specs.View.{house_of, place_of}
 use Rattle.mbdc_audit.specs.Walk.{AreGradedAll}
 use Rattle.mbdc_audit.proofs.Judge.{Only}
 use Rattle.mbdc_audit.proofs.Nested.{AreNumbers}
-use Rattle.mbdc_audit.proofs.teller.Teller.judge_places.Given as goal
+use Rattle.mbdc_audit.proofs.teller.Teller.check_numbers.Given as goal
 
 -- the places so far are judged
 abbrev pub invariant-places : goal.invariant-places
