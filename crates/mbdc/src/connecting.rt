@@ -40,6 +40,7 @@ where
     let mut linker = Linker {
         rt: host.rt,
         has_lines: false,
+        begun: None,
     };
     match reach_all(host.rt.alloc(), links, &mut linker) {
         Err(Unconnected::Link(missed)) => Err(host.why.link(None, missed.why)),
@@ -57,20 +58,16 @@ pub fn reached<'a, R>(host: &Host<'_, R>, links: &Links<'_>, again: bool) -> Con
 where
     R: Files<File = File> + Net<Stream = TcpStream> + Clock + Copy + Eprint + AllocGlobal,
 {
-    let linker = Linker {
+    let mut linker = Linker {
         rt: host.rt,
         has_lines: true,
-    };
-    let mut patient = Patient {
-        rt: host.rt,
         begun: if again {
             Instant::now(host.rt).ok()
         } else {
             None
         },
-        linker,
     };
-    let peers = reach_all(host.rt.alloc(), &links.links, &mut patient);
+    let peers = reach_all(host.rt.alloc(), &links.links, &mut linker);
     host.why.is_named.set(peers.is_err());
     links_of(host.why, peers)
 }
@@ -107,20 +104,6 @@ where
     Ok(buses)
 }
 
-// Says on standard error why a line was given up, if it was: what is wrong on a bus where only such bytes come.
-fn say_why<R: Eprint>(host: &Host<'_, R>, line: u8, why: Option<GivenUp>) {
-    let words = match why {
-        None => return,
-        Some(GivenUp::Silent) => "nobody answers",
-        Some(GivenUp::Noisy(0xFF)) =>
-            "nobody answers, and FF comes: a break, or an overload of the bus",
-        Some(GivenUp::Noisy(0x00)) => "nobody answers, and 00 comes: a short circuit of the bus",
-        Some(GivenUp::Noisy(_)) => "nobody answers, and bytes come: another speed, or noise",
-        Some(GivenUp::Loud) => "bytes keep coming: another master, or noise",
-    };
-    let _ = eprint!(host.rt; "mbdc: gateway: line {line}: {words}\n");
-}
-
 /// Says on standard error which lines were given up and why, and gives the terminals of links back to other programs,
 /// at the end of the command.
 pub fn released<R>(host: &Host<'_, R>, peers: &[Option<Peer<R>>])
@@ -130,13 +113,26 @@ where
     let mut line: u8 = 0;
     for peer in peers {
         line = line.saturating_add(1);
-        if let Some(peer) = peer {
-            say_why(host, line, peer.given_up());
-        }
+        let Some(peer) = peer else {
+            continue;
+        };
+        // What is wrong on a bus where only such bytes come.
+        let words = match peer.given_up() {
+            None => continue,
+            Some(GivenUp::Silent) => "nobody answers",
+            Some(GivenUp::Noisy(0xFF)) =>
+                "nobody answers, and FF comes: a break, or an overload of the bus",
+            Some(GivenUp::Noisy(0x00)) =>
+                "nobody answers, and 00 comes: a short circuit of the bus",
+            Some(GivenUp::Noisy(_)) => "nobody answers, and bytes come: another speed, or noise",
+            Some(GivenUp::Loud) => "bytes keep coming: another master, or noise",
+        };
+        let _ = eprint!(host.rt; "mbdc: gateway: line {line}: {words}\n");
     }
     let mut linker = Linker {
         rt: host.rt,
         has_lines: true,
+        begun: None,
     };
     release_all::<LinkName<'_>, Peer<R>, io::Error, Linker<'_, R>>(peers, &mut linker);
 }
@@ -147,6 +143,8 @@ struct Linker<'r, R> {
     // The system.
     rt: &'r R,
     has_lines: bool,
+    // Since when a link by TCP that can't be connected is tried again; none where it isn't.
+    begun: Option<Instant>,
 }
 
 impl<'n, R> Connector<LinkName<'n>, Peer<R>, io::Error> for Linker<'_, R>
@@ -165,10 +163,15 @@ where
     // The host isn't found or doesn't accept the connection within 10 s; the terminal can't be opened, or another
     // program uses it; or out of memory.
     fn connect(&mut self, name: &LinkName<'n>) -> io::Result<Peer<R>> {
+        let (rt, begun) = (self.rt, self.begun);
         match *name {
-            LinkName::Tcp(place) => Ok(Peer::Tcp(Socket::new(self.rt, place)?)),
-            LinkName::Serial(path) => Ok(Peer::Serial(Held::open(self.rt, path)?)),
-            LinkName::Blocks(place) => Ok(Peer::Blocks(Connection::new(self.rt, place)?)),
+            LinkName::Tcp(place) => {
+                Ok(Peer::Tcp(patiently(rt, place, begun, || Socket::new(rt, place))?))
+            }
+            LinkName::Serial(path) => Ok(Peer::Serial(Held::open(rt, path)?)),
+            LinkName::Blocks(place) => {
+                Ok(Peer::Blocks(patiently(rt, place, begun, || Connection::new(rt, place))?))
+            }
         }
     }
 
@@ -195,74 +198,36 @@ where
     }
 }
 
-// Tries the links by TCP of a connector again, while a minute since it began isn't over. What is connected is any, for
-// the borrow checker doesn't cover links.
-#[derive(Drop)]
-struct Patient<'r, R, C: Drop> {
-    // The system.
-    rt: &'r R,
-    // When it began; none where nothing is tried again.
-    begun: Option<Instant>,
-    linker: C,
-}
-
-impl<'n, P, R, C> Connector<LinkName<'n>, P, io::Error> for Patient<'_, R, C>
+// Connects what has that name, and tries again while a minute since it began isn't over, which standard error says.
+// What is connected is any, for the borrow checker doesn't cover links.
+fn patiently<T, R, F>(rt: &R, place: &str, begun: Option<Instant>, connect: F) -> io::Result<T>
 where
-    P: Drop,
+    T: Drop,
     R: Clock + Eprint + AllocGlobal,
-    C: Connector<LinkName<'n>, P, io::Error> + Drop,
+    F: Fn() -> io::Result<T>,
+    requires { F.IsAlwaysCallable connect }
 {
-    ghost use Rattle.std.specs.Prelude.{⊤};
-
-    ghost tries = { λ _ _ _ _. ⊤ };
-
-    ghost says = { λ _ _ _. ⊤ };
-
-    ghost releases = { λ _ _ _. ⊤ };
-
-    fn connect(&mut self, name: &LinkName<'n>) -> io::Result<P> {
-        let mut error = match self.linker.connect(name) {
-            Ok(peer) => return Ok(peer),
-            Err(error) => error,
-        };
-        let (LinkName::Tcp(place) | LinkName::Blocks(place)) = *name else {
-            return Err(error);
-        };
-        let Some(begun) = self.begun else {
-            return Err(error);
-        };
-        say_again(self.rt, place, &error);
-        for _ in 0..MOST_TRIES {
-            match begun.elapsed(self.rt) {
-                Ok(spent) if spent < Duration::from_secs(AGAIN) => {}
-                _ => return Err(error),
-            }
-            poll(&mut [], PAUSE);
-            match self.linker.connect(name) {
-                Ok(peer) => return Ok(peer),
-                Err(again) => error = again,
-            }
-        }
-        Err(error)
-    }
-
-    fn say(&mut self, line: u8, error: &io::Error)
-        ensures { ⊤ }
-    {
-        self.linker.say(line, error);
-    }
-
-    fn release(&mut self, peer: &P)
-        ensures { ⊤ }
-    {
-        self.linker.release(peer);
-    }
-}
-
-// Says on standard error that the link of this name is tried again.
-fn say_again<R: Eprint + AllocGlobal>(rt: &R, place: &str, error: &io::Error) {
+    let mut error = match connect() {
+        Ok(link) => return Ok(link),
+        Err(error) => error,
+    };
+    let Some(begun) = begun else {
+        return Err(error);
+    };
     if let Ok(said) = format!(in rt.alloc(); "{error}") {
         let words = without_number(said.as_str());
         let _ = eprint!(rt; "mbdc: gateway: {place}: {words}; it is tried again for a minute\n");
     }
+    for _ in 0..MOST_TRIES {
+        match begun.elapsed(rt) {
+            Ok(spent) if spent < Duration::from_secs(AGAIN) => {}
+            _ => return Err(error),
+        }
+        poll(&mut [], PAUSE);
+        match connect() {
+            Ok(link) => return Ok(link),
+            Err(again) => error = again,
+        }
+    }
+    Err(error)
 }

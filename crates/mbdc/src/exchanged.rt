@@ -54,7 +54,8 @@ impl Missing {
         let mut lines = [none; LINES];
         if let Some(house) = house {
             for (_, row) in house.meters() {
-                if let Some(found) = at_line(&mut lines, row.line()) {
+                // Lines are numbered from 1.
+                if let Some(found) = lines.get_mut(usize::from(row.line()).wrapping_sub(1)) {
                     found.meters = found.meters.saturating_add(1);
                 }
             }
@@ -63,50 +64,6 @@ impl Missing {
             lines: Cell::new(lines),
         }
     }
-
-    // Takes that a meter of a line is missing.
-    fn add(&self, line: u8, meter: Identity) {
-        let mut lines = self.lines.get();
-        if let Some(found) = at_line(&mut lines, line) {
-            found.missing = found.missing.saturating_add(1);
-            found.first = Some(found.first.unwrap_or(meter));
-        }
-        self.lines.set(lines);
-    }
-
-    // Whether some meter of this line is missing.
-    fn is_short(&self, line: u8) -> bool {
-        let mut lines = self.lines.get();
-        matches!(at_line(&mut lines, line), Some(found) if found.missing > 0)
-    }
-
-    // The first meter of a line on which all are missing.
-    fn deserted(&self, line: u8) -> Option<Identity> {
-        let mut lines = self.lines.get();
-        let found = at_line(&mut lines, line)?;
-        if found.missing == found.meters {
-            found.first
-        } else {
-            None
-        }
-    }
-
-    // Whether lines may be exchanged: all meters of one are missing, and some of another one.
-    fn is_suspicious(&self) -> bool {
-        let (mut short, mut deserted) = (0usize, 0usize);
-        for found in self.lines.get() {
-            if found.missing > 0 {
-                short = short.saturating_add(1);
-                deserted = deserted.saturating_add(usize::from(found.missing == found.meters));
-            }
-        }
-        short > 1 && deserted > 0
-    }
-}
-
-// What is known of a line, from 1.
-fn at_line(lines: &mut [Found; LINES], line: u8) -> Option<&mut Found> {
-    lines.get_mut(usize::from(line).checked_sub(1)?)
 }
 
 /// Hands the events of a poll on to its notes, and keeps who is missing.
@@ -128,7 +85,12 @@ impl<J: Notes + Drop> Notes for Attending<'_, J> {
         } = event
             && matches!(why, Why::NoAnswer | Why::Stranger)
         {
-            self.missing.add(*line, *meter);
+            let mut lines = self.missing.lines.get();
+            if let Some(found) = lines.get_mut(usize::from(*line).wrapping_sub(1)) {
+                found.missing = found.missing.saturating_add(1);
+                found.first = Some(found.first.unwrap_or(*meter));
+            }
+            self.missing.lines.set(lines);
         }
         self.notes.note(event);
     }
@@ -147,11 +109,16 @@ pub fn look_for_missing<R>(
 where
     R: Files<File = File> + Net<Stream = TcpStream> + Clock + Copy + Eprint + AllocGlobal,
 {
-    if !missing.is_suspicious() {
-        return;
-    }
-    if let Ok(observers) = tracers_of(host, trace, peers.len()) {
-        look_over(host, peers, observers, missing, patience);
+    let lines = missing.lines.get();
+    let short = lines.iter().filter(|found| found.missing > 0).count();
+    let is_deserted = lines
+        .iter()
+        .any(|found| found.missing > 0 && found.missing == found.meters);
+    if short > 1
+        && is_deserted
+        && let Ok(observers) = tracers_of(host, trace, peers.len())
+    {
+        look_over(host, peers, observers, &lines, patience);
     }
 }
 
@@ -161,7 +128,7 @@ fn look_over<O, R>(
     host: &Host<'_, R>,
     peers: &[Option<Peer<R>>],
     observers: Vec<O>,
-    missing: &Missing,
+    lines: &[Found; LINES],
     patience: Option<u16>,
 )
 where
@@ -170,33 +137,39 @@ where
 {
     let patience = Some(patience.unwrap_or(PATIENCE));
     if let Ok(buses) = buses_of(host, peers, observers, patience) {
-        look_on(host, buses, Waiter, missing);
+        look_on(host, buses, Waiter, lines);
     }
 }
 
 // Looks on each of these buses, the first of which is that of line 1.
-fn look_on<B, P, R>(host: &Host<'_, R>, buses: Vec<B>, pause: P, missing: &Missing)
+fn look_on<B, P, R>(host: &Host<'_, R>, buses: Vec<B>, pause: P, lines: &[Found; LINES])
 where
     B: HalfBus + Drop,
     P: Pause<B> + Copy + Drop,
     R: Eprint,
 {
     let mut line = 0u8;
-    for bus in buses {
+    for (bus, found) in buses.into_iter().zip(lines) {
         line = line.saturating_add(1);
-        if missing.is_short(line) {
-            look_on_line(host, &mut Both { bus, pause }, line, missing);
+        if found.missing > 0 {
+            look_on_line(host, &mut Both { bus, pause }, line, lines);
         }
     }
 }
 
-// Looks on the bus of this line for a meter of each deserted one.
-fn look_on_line<B: Bus, R: Eprint>(host: &Host<'_, R>, bus: &mut B, line: u8, missing: &Missing) {
+// Looks on the bus of this line for a meter of each other one on which all are missing.
+fn look_on_line<B: Bus, R: Eprint>(
+    host: &Host<'_, R>,
+    bus: &mut B,
+    line: u8,
+    lines: &[Found; LINES],
+) {
     let mut own = 0u8;
-    for _ in 0..LINES {
+    for found in lines {
         own = own.saturating_add(1);
         if own != line
-            && let Some(meter) = missing.deserted(own)
+            && found.missing == found.meters
+            && let Some(meter) = found.first
             && answers(bus, &meter)
         {
             let text = meter.text();

@@ -70,13 +70,14 @@ impl<'h, 'i, R: Files<File = File> + Clock + Eprint + AllocGlobal> Noting<'h, 'i
             Some(_) => journal_lines(self.rt, self.image)?,
             None => None,
         };
-        let poll = match (&journal, &self.house) {
-            (Some(lines), Some(house)) => last_poll(own_lines(
-                lines.as_slice(),
-                house.next_serial(),
-            )),
-            _ => "",
+        let own = match (&journal, &self.house) {
+            (Some(lines), Some(house)) => own_lines(lines.as_slice(), house.next_serial()),
+            _ => b"".as_slice(),
         };
+        // The lines of the last poll that came to its end.
+        let own = str::from_utf8(own).unwrap_or_default();
+        let begun = own.rsplit_once(END).map_or("", |(begun, _)| begun);
+        let poll = begun.rsplit_once(END).map_or(begun, |(_, poll)| poll);
         let noted = read_journal(alloc, poll.as_bytes(), now)?;
         let mut doubts = Vec::new(alloc);
         for line in 1..=lines {
@@ -145,18 +146,6 @@ impl<R: Files<File = File> + Clock + Eprint + AllocGlobal> Notes for Noting<'_, 
         {
             self.append(&line, false);
         }
-    }
-}
-
-// The lines of the last poll that came to its end.
-fn last_poll(lines: &[u8]) -> &str {
-    let text = str::from_utf8(lines).unwrap_or_default();
-    let Some((before, _)) = text.rsplit_once(END) else {
-        return "";
-    };
-    match before.rsplit_once(END) {
-        Some((_, poll)) => poll,
-        None => before,
     }
 }
 

@@ -80,20 +80,16 @@ fn key_of(row: &[u8]) -> FixedSink<KEY> {
     key
 }
 
-// The width of each column.
+// The width of each column: that of its widest cell.
 fn widths_of(rows: &[&[u8]]) -> Widths {
     let mut widths = [0; COLUMNS];
-    for row in rows {
-        widen(&mut widths, row);
+    for (column, width) in widths.iter_mut().enumerate() {
+        let cells = rows
+            .iter()
+            .filter_map(|row| row.split(|byte| *byte == TAB).nth(column));
+        *width = cells.map(|cell| cell.len()).max().unwrap_or_default();
     }
     widths
-}
-
-// Makes the columns as wide as the cells of a row.
-fn widen(widths: &mut Widths, row: &[u8]) {
-    for (width, cell) in widths.iter_mut().zip(row.split(|byte| *byte == TAB)) {
-        *width = (*width).max(cell.len());
-    }
 }
 
 // Writes a row: each cell in its column, or from the first one that doesn't fit on a second line.

@@ -1,9 +1,8 @@
 //! The trace of what goes over the bus lines, where one is asked for.
 
-use libc::types::rlimit;
 use mbdc_bus::trace::{Observer, TraceFile, TraceLines, Tracer};
 use mbdc_ending::Ending;
-use mbdc_files::Host;
+use mbdc_files::{Host, file_limit};
 use std::cell::Cell;
 use std::fs::File;
 use std::rt::{Clock, Files};
@@ -11,9 +10,6 @@ use std::{fs, io};
 
 // The longest line of a trace in bytes.
 const LINE: u64 = 700;
-
-// The limit of a file's length, of Linux.
-const RLIMIT_FSIZE: i32 = 1;
 
 // Standard error, as Linux shows it to this process.
 const ERRORS: &str = "/proc/self/fd/2";
@@ -100,17 +96,11 @@ where
     let Some(name) = name else {
         return Ok(None);
     };
-    let mut limit = rlimit {
-        rlim_cur: u64::MAX,
-        rlim_max: u64::MAX,
-    };
-    // A limit that can't be asked for stays none.
-    let _ = libc::getrlimit(RLIMIT_FSIZE, &mut limit);
     Ok(Some(Trace {
         rt: host.rt,
         file: TraceFile::open(host.rt, name)?,
         name,
-        limit: limit.rlim_cur,
+        limit: file_limit(),
         is_full: Cell::new(false),
     }))
 }

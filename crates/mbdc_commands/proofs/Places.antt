@@ -1,6 +1,6 @@
 -- A place has one host and one port: no port has a colon.
-use Rattle.std.proofs.Common.{◌≡◌, ◌≢◌, ℕ, zero, suc, ◌+◌, ◌-◌, ◌<◌, ◌≤◌, List, [], ◌∷◌, ◌++◌, length, get_or, take, drop, arith, false, eqb, Some, None, sym, refl, subst, ◌∙◌, inl, inr, lit<}
-use Rattle.std.specs.Str.Parse.{AllDigits, without_leading_plus}
+use Rattle.std.proofs.Common.{◌≡◌, ◌≢◌, ℕ, zero, suc, ◌+◌, ◌-◌, ◌<◌, ◌≤◌, List, [], ◌∷◌, ◌++◌, length, get_or, take, drop, arith, Some, None, sym, refl, subst, ◌∙◌, inl, inr, lit<}
+use Rattle.std.specs.Str.Parse.{AllDigits}
 use Rattle.std.specs.Str.Pattern.{RFindsChar}
 use Rattle.std.proofs.lemmas.Bool.{cases_lt}
 use Rattle.std.proofs.lemmas.Bool.Decides.{nat_tests}
@@ -59,9 +59,6 @@ split_at_last s front back i j found is_front is_back =
     (whole, λ k short. rw is_back (NoCharPasses-char 58 (drop j s) k found.0 small (subst (λ l. k < length l) is_back short)))
 
 -- so these are host and port of the place, where it is one
-pub place_at : (s front back : List ℕ) → s ≡ front ++ (58 ∷ back) → 0 < length front → IsPort back → IsPlace s
-place_at s front back whole named port = (front, back, record { spelled = whole; named = named; port_is = port })
-
 pub only_place : (s front back : List ℕ) → s ≡ front ++ (58 ∷ back) → ((k : ℕ) → k < length back → get_or back k 0 ≢ 58)
     → (0 < length front → IsPort back → ⊥) → IsPlace s → ⊥
 only_place s front back whole clear neither place =
@@ -79,11 +76,3 @@ none_without_colon s found place =
     let parts = place.2 in
     let long : length s ≡ length place.0 + suc (length place.1) = rw parts.spelled (length-append place.0 (58 ∷ place.1)) in
     NoCharPasses-char 58 s (length place.0) found small (omega arith) (rw parts.spelled (get_or-append_seam place.0 58 place.1 0))
-
--- a plus is no digit
-pub plus_first : (s : List ℕ) → get_or s 0 0 ≡ 43 → IsPort s → ⊥
-plus_first [] e port = let some = port.digits.0 in omega arith
-plus_first (c ∷ cs) e port = let low = port.digits.1.0 in absurd (grind (arith, nat_tests, low, e))
-
-pub no_plus : (s : List ℕ) → eqb (get_or s 0 0) 43 ≡ false → without_leading_plus s ≡ s
-no_plus s e = rw e refl

@@ -1,9 +1,8 @@
 //! How a poll and a script end.
 
 ghost use Rattle.std.specs.Prelude.{◌≡◌};
-ghost use Rattle.mbdc_commands.specs.Ending.{EndsBy, PollEnds, look_ended, run_result};
+ghost use Rattle.mbdc_commands.specs.Ending.{PollEnds, look_ended, run_result};
 
-use dc_core::CommitFault;
 use mbdc_ending::{Ending, ProgramFault, STREAM, ending_of};
 use mbdc_log::OpenFault;
 use mbdc_poll::Outcome;
@@ -18,20 +17,13 @@ pub fn poll_ending<'a>(
     ensures { PollEnds outcome is_printed image.now result }
 {
     match outcome {
-        Ok(outcome) => ending_by(outcome.fault, is_printed, outcome.failed == 0),
+        Ok(outcome) => match outcome.fault {
+            Some(fault) => Ending::Disk(fault),
+            None if !is_printed => Ending::File(STREAM),
+            None if outcome.failed == 0 => Ending::Clean,
+            None => Ending::Faulty,
+        },
         Err(fault) => ending_of(Err(fault), image),
-    }
-}
-
-// The ending of a poll that went through all its meters, or whose commit failed.
-fn ending_by<'a>(fault: Option<CommitFault>, is_printed: bool, is_read: bool) -> Ending<'a>
-    ensures { EndsBy fault is_printed is_read result }
-{
-    match fault {
-        Some(fault) => Ending::Disk(fault),
-        None if !is_printed => Ending::File(STREAM),
-        None if is_read => Ending::Clean,
-        None => Ending::Faulty,
     }
 }
 

@@ -5,7 +5,7 @@ ghost use Rattle.std.specs.Io.KnownBytes.{Keeps};
 ghost use Rattle.std.specs.Io.Buffered.{line_writer_contents};
 ghost use Rattle.mbdc_poll.specs.Printed.{events_as};
 ghost use Rattle.mbdc_poll.specs.Telling.{TakesAll};
-ghost use Rattle.mbdc_commands.specs.Bytes.{IsPrinted, IsWrittenOut};
+ghost use Rattle.mbdc_commands.specs.Bytes.{IsPrinted};
 ghost use Rattle.mbdc_commands.specs.Guard.{Guards};
 ghost use Rattle.mbdc_ending.specs.Unopened.{Stands};
 ghost use Rattle.mbdc_commands.specs.PollOver.{ArePolled, PollLeaves, PollsOver};
@@ -106,6 +106,7 @@ where
         IsPrinted O.contents out result.2 (events_as printing.form events)))
         disk result.0 result.1 }
 {
+    events_are_printed::<KnownSink<LineWriter<O>, K>>();
     let Ok(out) = LineWriter::new(alloc, out) else {
         return (disk, Err(ProgramFault::NoMemory), false);
     };
@@ -116,38 +117,10 @@ where
         out,
         form: printing.form,
     };
-    poll_lines(alloc, disk, plan, timer, &progress, printer, notes)
-}
-
-// Reads the meters of the plan and prints their events.
-fn poll_lines<'p, 'h, D, B, W, R, O, J, K>(
-    alloc: Global,
-    disk: D,
-    plan: Plan<'_, Global, B>,
-    timer: HostTimer<'p, 'h, R, W>,
-    progress: &'p Progress<'h, R>,
-    printer: Printer<KnownSink<LineWriter<O>, K>>,
-    notes: J,
-) -> (D, Result<Outcome, ProgramFault>, bool)
-where
-    D: Disk + Drop,
-    B: HalfBus + Drop,
-    W: Waits<B> + Drop,
-    R: Clock + Eprint,
-    O: Write + Drop,
-    J: Notes + Drop,
-    K: Known,
-    requires tries { 0 < plan.tries }
-    requires well { printer.out.sink.failures ≡ 0 }
-    requires stands { Stands D.Disk disk }
-    ensures { PollLeaves D.Disk (ArePolled R B.HalfBus plan.entry.buses.items plan.entry.only.now
-        plan.entry.tries timer.entry.waits (λ events. IsWrittenOut O.contents K.writes
-        (line_writer_contents O.contents printer.out.sink.writer) result.2 (events_as printer.form events)))
-        disk result.0 result.1 }
-{
-    events_are_printed::<KnownSink<LineWriter<O>, K>>();
-    let explains = matches!(printer.form, Form::Text);
-    let (disk, outcome, done) = poll(alloc, disk, plan, timer, progress, printer, notes, explains);
+    let explains = matches!(printing.form, Form::Text);
+    let (disk, outcome, done) = poll(
+        alloc, disk, plan, timer, &progress, printer, notes, explains,
+    );
     let is_printed = is_printed(done.has_failed, done.teller.out);
     (disk, outcome, is_printed)
 }

@@ -1,49 +1,34 @@
 //! A copy of an image as it is at one instant: in memory, and by the command `copy` in a new file.
 
 ghost use Rattle.std.specs.Prelude.{◌≡◌, ◌⊎◌, IfErr, OnOk};
-ghost use Rattle.mbdc_ending.specs.declared.ending.Ending.TheVariants.{Open};
+ghost use Rattle.mbdc_ending.specs.declared.ending.Ending.TheVariants.{Memory, Open};
 ghost use Rattle.mbdc_log.specs.declared.fault.OpenFault.TheVariants.{Device};
 ghost use Rattle.mbdc_files.specs.Copied.{IsCopied, IsUncopied};
 ghost use Rattle.mbdc_files.specs.Formatted.{IsUnmade};
 
 use crate::host::Host;
-use crate::looking::{LookedAt, ROUNDS, ending_of_sample};
+use crate::image_file::{ImageFile, Role};
+use crate::looking::{LookedAt, ROUNDS};
 use crate::shelf::Shelf;
 use dc_roots::{RootFault, choose};
-use dc_sectors::snapshot::{Sample, SampleFault};
+use dc_sectors::snapshot::Sample;
 use dc_sectors::{Disk, ReadFault, Sector};
-use libc::EIO;
 use mbdc_ending::Ending;
 use mbdc_log::{FEWEST_SECTORS, OpenFault};
 use std::alloc::Global;
 use std::cell::Cell;
-use std::fs::{File, Metadata, OpenFile};
-use std::io;
-use std::io::ErrorKind;
-use std::os::fd::{AsRawFd, RawFd};
-use std::os::unix::fs::FileExt;
+use std::fs::{File, OpenFile};
 use std::rt::Files;
-
-// Number of bytes of a sector.
-const SECTOR: u64 = 512;
-
-/// An image as it was at one instant. It is read and written as a file; what is written stays in memory.
-#[derive(Drop)]
-pub struct Copied {
-    sectors: Vec<Cell<Sector>, Global>,
-    facts: Metadata,
-    fd: RawFd,
-}
 
 /// Copies the image in that file, while another program may write it: a look at all its sectors.
 ///
 /// # Errors
 /// The ending of the command: the file can't be opened or read or holds no image, it changed within each look for two
 /// seconds, or out of memory.
-pub fn copy_image<'a, R: Files<File = File> + AllocGlobal>(
-    host: &Host<'_, R>,
+pub fn copy_image<'h, 'a, R: Files<File = File> + AllocGlobal>(
+    host: &Host<'h, R>,
     name: &'a str,
-) -> Result<Copied, Ending<'a>>
+) -> Result<ImageFile<'h, 'h, R>, Ending<'a>>
     ensures { IfErr result (λ ending. IsUncopied ending name.now) }
 {
     let looked = LookedAt::open(host, name)?;
@@ -54,38 +39,38 @@ pub fn copy_image<'a, R: Files<File = File> + AllocGlobal>(
     }
     for _ in 0..ROUNDS {
         let mut sample = Sample::new(host.rt.alloc(), looked.disk(name)?);
-        let sectors = match read_all(host.rt.alloc(), &mut sample) {
-            Ok(sectors) => sectors,
-            Err(fault) => return Err(ending_of_sample(fault)),
-        };
+        let sectors = read_all(host.rt.alloc(), &mut sample)?;
         if looked.stands(sample, name)? {
-            match looked.file.metadata() {
-                Ok(facts) => return Ok(Copied {
-                    sectors,
-                    facts,
-                    fd: looked.file.as_raw_fd(),
+            return match looked.file.try_clone() {
+                Ok(file) => Ok(ImageFile {
+                    file,
+                    rt: host.rt,
+                    why: host.why,
+                    role: Role::Copied(sectors),
                 }),
-                Err(error) => return Err(host.why.file(name, error)),
-            }
+                Err(error) => Err(host.why.file(name, error)),
+            };
         }
     }
     Err(looked.busy(name))
 }
 
 // Reads all sectors of a disk.
-fn read_all<D: Disk>(
+fn read_all<'a, D: Disk>(
     alloc: Global,
     disk: &mut D,
-) -> Result<Vec<Cell<Sector>, Global>, SampleFault> {
+) -> Result<Vec<Cell<Sector>, Global>, Ending<'a>>
+    ensures { IfErr result (λ ending. (ending ≡ Open Device) ⊎ (ending ≡ Memory)) }
+{
     let mut cells = Vec::new(alloc);
     'sectors: for n in 0..disk.count() {
         let content = match disk.read(n) {
             Ok(bytes) => Sector::Bytes(bytes),
             Err(ReadFault::Unreadable) => Sector::Unreadable,
-            Err(ReadFault::Failed) => return Err(SampleFault::Failed),
+            Err(ReadFault::Failed) => return Err(Ending::Open(OpenFault::Device)),
         };
         if cells.push(Cell::new(content)).is_err() {
-            return Err(SampleFault::NoMemory);
+            return Err(Ending::Memory);
         }
     }
     Ok(cells)
@@ -146,58 +131,5 @@ fn copy_sectors<'a, C: Disk, D: Disk>(
     match new.sync() {
         Ok(()) => Ok(()),
         Err(_) => Err(Ending::File(name)),
-    }
-}
-
-impl FileExt for Copied {
-    fn read_at(&self, room: &mut [u8], place: u64) -> io::Result<usize> {
-        let Some(cell) = self.sectors.get((place / SECTOR) as usize) else {
-            return Ok(0);
-        };
-        match cell.get() {
-            Sector::Bytes(bytes) if room.len() == bytes.len() => {
-                room.copy_from_slice(&bytes);
-                Ok(512)
-            }
-            Sector::Bytes(_) => Ok(0),
-            Sector::Unreadable => Err(io::Error::from_raw_os_error(EIO)),
-        }
-    }
-
-    fn write_at(&self, bytes: &[u8], place: u64) -> io::Result<usize> {
-        let Some(cell) = self.sectors.get((place / SECTOR) as usize) else {
-            return Ok(0);
-        };
-        let mut written = [0; 512];
-        if bytes.len() != written.len() {
-            return Ok(0);
-        }
-        written.copy_from_slice(bytes);
-        cell.set(Sector::Bytes(written));
-        Ok(512)
-    }
-}
-
-impl AsRawFd for Copied {
-    fn as_raw_fd(&self) -> RawFd {
-        self.fd
-    }
-}
-
-impl OpenFile for Copied {
-    fn metadata(&self) -> io::Result<Metadata> {
-        Ok(self.facts.clone()?)
-    }
-
-    fn set_len(&self, _size: u64) -> io::Result<()> {
-        Err(io::Error::from(ErrorKind::Unsupported))
-    }
-
-    fn sync_all(&self) -> io::Result<()> {
-        Ok(())
-    }
-
-    fn sync_data(&self) -> io::Result<()> {
-        Ok(())
     }
 }

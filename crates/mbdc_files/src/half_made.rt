@@ -3,11 +3,11 @@
 ghost use Rattle.std.specs.Prelude.{IfErr};
 ghost use Rattle.mbdc_files.specs.Formatted.{IsUnmade};
 
-use crate::copied::{Copied, copy_image};
+use crate::copied::copy_image;
 use crate::host::Host;
 use crate::image::{OTHER_LENGTH, is_same_file, lock, refused, within_limit};
+use crate::image_file::{ImageFile, Role};
 use crate::shelf::Shelf;
-use crate::why::Noted;
 use crate::zeros::zeros_at;
 use dc_sectors::{Disk, FileDisk};
 use mbdc_ending::Ending;
@@ -103,16 +103,16 @@ impl<'h, R: Files<File = File> + AllocGlobal> Shelf for Host<'h, R> {
 
     type Draft = HalfMade;
 
-    type New = FileDisk<Noted<'h, File>>;
+    type New = FileDisk<ImageFile<'h, 'h, R>>;
 
-    type Old = FileDisk<Copied>;
+    type Old = FileDisk<ImageFile<'h, 'h, R>>;
 
     // What the system's files hold is in no contract.
     ghost copied = { λ _ _ _. ⊤ };
 
     ghost named = { λ _ _ _. ⊤ };
 
-    fn copy<'a>(&self, image: &'a str) -> Result<FileDisk<Copied>, Ending<'a>> {
+    fn copy<'a>(&self, image: &'a str) -> Result<FileDisk<ImageFile<'h, 'h, R>>, Ending<'a>> {
         let copy = copy_image(self, image)?;
         match FileDisk::lenient(copy) {
             Ok(disk) => Ok(disk),
@@ -125,29 +125,30 @@ impl<'h, R: Files<File = File> + AllocGlobal> Shelf for Host<'h, R> {
         name: &'a str,
         sectors: u32,
         takes_zeros: bool,
-    ) -> Result<(HalfMade, FileDisk<Noted<'h, File>>), Ending<'a>> {
+    ) -> Result<(HalfMade, FileDisk<ImageFile<'h, 'h, R>>), Ending<'a>> {
         let length = 512 * u64::from(sectors);
         if let Err(error) = within_limit(length) {
             return Err(self.why.file(name, error));
         }
         let draft = match fs::symlink_metadata(self.rt, name) {
-            Ok(seen) => {
-                if !takes_zeros {
-                    return Err(
-                        self.why
-                            .file(name, io::Error::from(ErrorKind::AlreadyExists)),
-                    );
-                }
-                HalfMade {
-                    file: zeros_at(self, name, &seen, length)?,
-                    name: None,
-                }
+            Ok(_) if !takes_zeros => {
+                let error = io::Error::from(ErrorKind::AlreadyExists);
+                return Err(self.why.file(name, error));
             }
+            Ok(seen) => HalfMade {
+                file: zeros_at(self, name, &seen, length)?,
+                name: None,
+            },
             Err(error) if error.kind() == ErrorKind::NotFound => new_at(self, name, length)?,
             Err(error) => return Err(self.why.file(name, error)),
         };
         let disk = match draft.file.try_clone() {
-            Ok(file) => FileDisk::new(Noted::new(file, self.why)),
+            Ok(file) => FileDisk::new(ImageFile {
+                file,
+                rt: self.rt,
+                why: self.why,
+                role: Role::Plain,
+            }),
             Err(error) => Err(error),
         };
         let error = match disk {
@@ -166,7 +167,7 @@ impl<'h, R: Files<File = File> + AllocGlobal> Shelf for Host<'h, R> {
     fn end<'a>(
         &self,
         draft: HalfMade,
-        _made: &FileDisk<Noted<'h, File>>,
+        _made: &FileDisk<ImageFile<'h, 'h, R>>,
         name: &'a str,
     ) -> Result<(), Ending<'a>> {
         let linked = draft.link(self.rt, name);

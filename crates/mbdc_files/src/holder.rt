@@ -38,33 +38,25 @@ pub fn holder_of<R: Files<File = File>>(rt: &R, name: &str) -> Option<u32> {
 /// line that was cut counts for nothing. What the system shows is in no contract.
 pub fn holder_in(locks: &str, device: u64, inode: u64) -> Option<u32> {
     let (whole, _) = locks.rsplit_once('\n')?;
-    for line in whole.lines() {
-        let process = process_in(line, device, inode);
-        if process.is_some() {
-            return process;
+    whole.lines().find_map(|line| {
+        // A line of one that waits has `->` before the kind.
+        let mut words = line.split_whitespace().skip(1);
+        if words.next() != Some("FLOCK") {
+            return None;
         }
-    }
-    None
-}
-
-// The process of a line, if it holds a lock of this file. A line of one that waits has `->` before the kind.
-fn process_in(line: &str, device: u64, inode: u64) -> Option<u32> {
-    let mut words = line.split_whitespace().skip(1);
-    if words.next() != Some("FLOCK") {
-        return None;
-    }
-    let mut words = words.skip(2);
-    let process = words.next()?.parse::<u32>().ok()?;
-    let mut place = words.next()?.split(':');
-    let major = u64::from_str_radix(place.next()?, 16).ok()?;
-    let minor = u64::from_str_radix(place.next()?, 16).ok()?;
-    let number = place.next()?.parse::<u64>().ok()?;
-    // The two numbers of a device, as the C library splits them.
-    let is_of_device = major == ((device >> 8) & 0xFFF) | ((device >> 32) & 0xFFFF_F000)
-        && minor == (device & 0xFF) | ((device >> 12) & 0xFFFF_FF00);
-    if process > 0 && number == inode && is_of_device {
-        Some(process)
-    } else {
-        None
-    }
+        let mut words = words.skip(2);
+        let process = words.next()?.parse::<u32>().ok()?;
+        let mut place = words.next()?.split(':');
+        let major = u64::from_str_radix(place.next()?, 16).ok()?;
+        let minor = u64::from_str_radix(place.next()?, 16).ok()?;
+        let number = place.next()?.parse::<u64>().ok()?;
+        // The two numbers of a device, as the C library splits them.
+        let is_of_device = major == ((device >> 8) & 0xFFF) | ((device >> 32) & 0xFFFF_F000)
+            && minor == (device & 0xFF) | ((device >> 12) & 0xFFFF_FF00);
+        if process > 0 && number == inode && is_of_device {
+            Some(process)
+        } else {
+            None
+        }
+    })
 }

@@ -93,8 +93,8 @@ pub fn within_limit(length: u64) -> io::Result<()>
     Ok(())
 }
 
-/// The greatest length of a file that this process may write (`ulimit -f`).
-pub(crate) fn file_limit() -> u64 {
+/// The greatest length of a file that this process may write (`ulimit -f`); `u64::MAX` where it can't be asked for.
+pub fn file_limit() -> u64 {
     let mut limit = rlimit {
         rlim_cur: u64::MAX,
         rlim_max: u64::MAX,

@@ -98,18 +98,11 @@ impl<'h, R: Files<File = File> + Eprint + AllocGlobal> Journal<'h, R> {
             return Ok(false);
         };
         let said = said_in(line.trim_ascii_end());
-        let mut rest = lines.as_slice();
-        for _ in 0..lines.len() {
-            if rest.is_empty() {
-                break;
-            }
-            let (line, after) = first_line(rest);
-            if said_in(line) == said {
-                return Ok(true);
-            }
-            rest = after;
-        }
-        Ok(false)
+        Ok(
+            lines
+                .split(|byte| *byte == b'\n')
+                .any(|line| said_in(line) == said),
+        )
     }
 
     fn put(&mut self, line: &[u8]) -> io::Result<()> {
@@ -246,7 +239,13 @@ pub fn own_lines(lines: &[u8], next_serial: u64) -> &[u8] {
             break;
         }
         let (line, after) = first_line(rest);
-        match serial_in(line) {
+        // That of a line of a reading.
+        let serial = str::from_utf8(line).ok().and_then(|line| {
+            let (_, after) = line.split_once("\"serial\":")?;
+            let end = after.find(|it: char| !it.is_ascii_digit())?;
+            after.get(..end)?.parse::<u64>().ok()
+        });
+        match serial {
             Some(serial) if serial >= next_serial => is_own = false,
             Some(_) if !is_own => {
                 own = rest;
@@ -257,11 +256,4 @@ pub fn own_lines(lines: &[u8], next_serial: u64) -> &[u8] {
         rest = after;
     }
     if is_own { own } else { rest }
-}
-
-// The serial of a line of a reading.
-fn serial_in(line: &[u8]) -> Option<u64> {
-    let (_, after) = str::from_utf8(line).ok()?.split_once("\"serial\":")?;
-    let end = after.find(|it: char| !it.is_ascii_digit())?;
-    after.get(..end)?.parse().ok()
 }

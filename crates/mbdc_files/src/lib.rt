@@ -2,8 +2,8 @@
 //!
 //! [`open_image`] opens an image for one program that changes it; its first read goes to the drive. [`open_disk`] makes
 //! a disk of it, which fails once the file has lost its name. [`LookedAt`] is an image that is looked at, also while a
-//! program changes it: what a look reads is of one instant ([`LookDisk`]); [`copy_image`] copies all of it
-//! ([`Copied`]). [`hold`] gives each closed standard stream to `/dev/null`, so that no image gets its number.
+//! program changes it: what a look reads is of one instant ([`LookDisk`]); [`copy_image`] copies all of it into memory.
+//! [`hold`] gives each closed standard stream to `/dev/null`, so that no image gets its number.
 //!
 //! A [`Shelf`] has the files in which images are made. [`format_image`] makes an image in a file of its own
 //! ([`HalfMade`]), which gets the name once it is whole; no file that holds anything but zeros is touched.
@@ -12,9 +12,8 @@
 //! [`Journal`] appends lines to the file beside an image, whose failures change nothing of a command. [`journal_lines`]
 //! reads them, and [`own_lines`] are those of this image. What is no journal is neither read nor written.
 //!
-//! A [`Host`] is the system as the commands see it, with the record of its failed calls ([`Why`]). A
-//! [`Noted`] file or input puts its failed calls there, as [`Output`] does. [`holder_of`] names the process that has a
-//! file locked.
+//! A [`Host`] is the system as the commands see it, with the record of its failed calls ([`Why`]). An [`ImageFile`], a
+//! [`Noted`] input and [`Output`] put their failed calls there. [`holder_of`] names the process that has a file locked.
 //!
 //! No contract states what a file or a cell holds and what a lock does; the tests use real files. Contracts state what
 //! [`format_image`] and [`back_up`] have made of a [`Shelf`] at status 0, how they end otherwise, the kind of this
@@ -36,12 +35,12 @@ mod streams;
 mod why;
 mod zeros;
 
-pub use copied::{Copied, back_up, copy_image};
+pub use copied::{back_up, copy_image};
 pub use format::format_image;
 pub use half_made::HalfMade;
 pub use holder::{holder_in, holder_of};
 pub use host::Host;
-pub use image::{open_image, open_to_look, refused};
+pub use image::{file_limit, open_image, open_to_look, refused};
 pub use image_file::{ImageFile, open_disk};
 pub use journal::{Journal, journal_lines, own_lines};
 pub use looking::{LookDisk, LookedAt, ROUNDS};

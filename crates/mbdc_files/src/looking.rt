@@ -1,15 +1,14 @@
 //! The file of an image that is looked at. Another program may write it meanwhile.
 
-ghost use Rattle.std.specs.Prelude.{◌≡◌, ◌⊎◌, [], IfErr, IfOk};
+ghost use Rattle.std.specs.Prelude.{[], IfErr, IfOk};
 ghost use Rattle.mbdc_ending.specs.Outcome.{IsOfFile};
-ghost use Rattle.mbdc_ending.specs.declared.ending.Ending.TheVariants.{Open, Memory};
-ghost use Rattle.mbdc_log.specs.declared.fault.OpenFault.TheVariants.{Device};
 ghost use Rattle.dc_sectors.specs.File.{IsOpened};
 ghost use Rattle.mbdc_files.specs.Copied.{IsOfCopy};
 
 use crate::host::Host;
 use crate::image::{PAUSE, drop_cached, open_to_look};
-use crate::why::{Noted, Why};
+use crate::image_file::{ImageFile, Role};
+use crate::why::Why;
 use dc_sectors::snapshot::{Sample, SampleFault};
 use dc_sectors::{FileDisk, Logged};
 use libc::net::poll;
@@ -29,30 +28,29 @@ pub const ROUNDS: u32 = 100;
 const PATIENCE: i64 = 2000;
 
 /// What a look reads of an image, as a disk.
-pub type LookDisk<'h> = Sample<Global, Logged<Noted<'h, File>>>;
+pub type LookDisk<'h, R> = Sample<Global, Logged<ImageFile<'h, 'h, R>>>;
 
 /// The file of an image that is looked at.
 #[derive(Drop)]
-pub struct LookedAt<'h> {
+pub struct LookedAt<'h, R> {
     pub(crate) file: File,
-    pub(crate) why: &'h Why,
+    rt: &'h R,
+    why: &'h Why,
     begun: i64,
 }
 
-impl<'h> LookedAt<'h> {
+impl<'h, R: Files<File = File>> LookedAt<'h, R> {
     /// Opens the file.
     ///
     /// # Errors
     /// The ending of the command: it can't be opened.
-    pub fn open<'a, R: Files<File = File>>(
-        host: &Host<'h, R>,
-        name: &'a str,
-    ) -> Result<LookedAt<'h>, Ending<'a>>
+    pub fn open<'a>(host: &Host<'h, R>, name: &'a str) -> Result<LookedAt<'h, R>, Ending<'a>>
         ensures { IfErr result (λ ending. IsOfFile ending name.now) }
     {
         match open_to_look(host.rt, name) {
             Ok(file) => Ok(LookedAt {
                 file,
+                rt: host.rt,
                 why: host.why,
                 begun: milliseconds(),
             }),
@@ -65,7 +63,7 @@ impl<'h> LookedAt<'h> {
     ///
     /// # Errors
     /// The ending of the command: a call of the file failed.
-    pub fn disk<'a>(&self, name: &'a str) -> Result<FileDisk<Noted<'h, File>>, Ending<'a>>
+    pub fn disk<'a>(&self, name: &'a str) -> Result<FileDisk<ImageFile<'h, 'h, R>>, Ending<'a>>
         ensures opened { IfOk result (λ disk. IsOpened [] disk) }
         ensures failed { IfErr result (λ ending. IsOfFile ending name.now) }
     {
@@ -76,7 +74,13 @@ impl<'h> LookedAt<'h> {
             Ok(file) => file,
             Err(error) => return Err(self.why.file(name, error)),
         };
-        match FileDisk::lenient(Noted::new(file, self.why)) {
+        let file = ImageFile {
+            file,
+            rt: self.rt,
+            why: self.why,
+            role: Role::Plain,
+        };
+        match FileDisk::lenient(file) {
             Ok(disk) => Ok(disk),
             Err(error) => Err(self.why.file(name, error)),
         }
@@ -88,18 +92,28 @@ impl<'h> LookedAt<'h> {
     /// # Errors
     /// The ending of the command: a call of the file failed, out of memory, or the file changed within each look for
     /// two seconds.
-    pub fn stands<'a>(&self, sample: LookDisk<'h>, name: &'a str) -> Result<bool, Ending<'a>>
+    pub fn stands<'a>(&self, sample: LookDisk<'h, R>, name: &'a str) -> Result<bool, Ending<'a>>
         ensures { IfErr result (λ ending. IsOfCopy ending name.now) }
     {
-        match sample.stands() {
-            (Ok(true), _) if self.is_durable() => Ok(true),
-            (Ok(_), _) if milliseconds().saturating_sub(self.begun) < PATIENCE => {
-                poll(&mut [], PAUSE);
-                Ok(false)
+        let (stood, _disk) = sample.stands();
+        let is_same = match stood {
+            Ok(is_same) => is_same,
+            Err(SampleFault::Failed) => return Err(Ending::Open(OpenFault::Device)),
+            Err(SampleFault::NoMemory) => return Err(Ending::Memory),
+        };
+        // What was written up to now is made durable. A drive that takes no syncs isn't written.
+        let stands = is_same
+            && match self.file.sync_data() {
+                Ok(()) => true,
+                Err(error) => error.kind() == ErrorKind::InvalidInput,
+            };
+        if !stands {
+            if milliseconds().saturating_sub(self.begun) >= PATIENCE {
+                return Err(self.busy(name));
             }
-            (Ok(_), _) => Err(self.busy(name)),
-            (Err(fault), _) => Err(ending_of_sample(fault)),
+            poll(&mut [], PAUSE);
         }
+        Ok(stands)
     }
 
     /// The ending of a look in which the file changed each time.
@@ -108,24 +122,6 @@ impl<'h> LookedAt<'h> {
     {
         let error = io::Error::new(ErrorKind::WouldBlock, "it changed at each reading");
         self.why.file(name, error)
-    }
-
-    // Makes durable what was written up to now. A drive that takes no syncs isn't written.
-    fn is_durable(&self) -> bool {
-        match self.file.sync_data() {
-            Ok(()) => true,
-            Err(error) => error.kind() == ErrorKind::InvalidInput,
-        }
-    }
-}
-
-/// The ending of a look that couldn't be made.
-pub(crate) fn ending_of_sample<'a>(fault: SampleFault) -> Ending<'a>
-    ensures { (result ≡ Open Device) ⊎ (result ≡ Memory) }
-{
-    match fault {
-        SampleFault::Failed => Ending::Open(OpenFault::Device),
-        SampleFault::NoMemory => Ending::Memory,
     }
 }
 

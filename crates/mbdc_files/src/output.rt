@@ -47,25 +47,6 @@ impl<'h, W: Write + Drop, R: Files<File = File>> Output<'h, W, R> {
             has_given_up: false,
         }
     }
-
-    // Why nothing is written.
-    fn refusal(&mut self) -> Option<io::Error> {
-        let mut output = [pollfd {
-            fd: OUTPUT,
-            events: POLLOUT,
-            revents: 0,
-        }];
-        // One that takes bytes takes a piece within the time.
-        if self.goes_on && (self.has_given_up || poll(&mut output, PATIENCE) == 0) {
-            self.has_given_up = true;
-            return Some(io::Error::new(ErrorKind::TimedOut, "nothing takes it for five seconds"));
-        }
-        if is_full(self.rt, OUTPUT) {
-            let words = "it is as long as the limit of files (ulimit -f)";
-            return Some(io::Error::new(ErrorKind::FileTooLarge, words));
-        }
-        None
-    }
 }
 
 impl<W: Write + Drop, R: Files<File = File>> Write for Output<'_, W, R> {
@@ -75,9 +56,22 @@ impl<W: Write + Drop, R: Files<File = File>> Write for Output<'_, W, R> {
         } else {
             bytes
         };
-        let answer = match self.refusal() {
-            Some(error) => Err(error),
-            None => self.inner.write(piece),
+        let mut output = [pollfd {
+            fd: OUTPUT,
+            events: POLLOUT,
+            revents: 0,
+        }];
+        // One that takes bytes takes a piece within the time.
+        if self.goes_on && !self.has_given_up {
+            self.has_given_up = poll(&mut output, PATIENCE) == 0;
+        }
+        let answer = if self.has_given_up {
+            Err(io::Error::new(ErrorKind::TimedOut, "nothing takes it for five seconds"))
+        } else if is_full(self.rt, OUTPUT) {
+            let words = "it is as long as the limit of files (ulimit -f)";
+            Err(io::Error::new(ErrorKind::FileTooLarge, words))
+        } else {
+            self.inner.write(piece)
         };
         if let Err(error) = answer {
             self.why.note(error);

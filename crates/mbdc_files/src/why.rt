@@ -1,20 +1,13 @@
 //! Why a run failed: the system's message for the failed call.
 
-ghost use Rattle.std.specs.Prelude.{◌≡◌, true, false};
+ghost use Rattle.std.specs.Prelude.{◌≡◌};
 ghost use Rattle.mbdc_ending.specs.Outcome.{EndsAs, IsOfFile};
 
 use crate::image::refused;
-use libc::EIO;
 use mbdc_ending::{Ending, ProgramFault, ending_of};
 use std::cell::Cell;
-use std::fs::{File, Metadata, OpenFile};
 use std::io;
 use std::io::{ErrorKind, Read};
-use std::os::fd::{AsRawFd, RawFd};
-use std::os::unix::fs::FileExt;
-
-// Number of bytes of a sector.
-const SECTOR: u64 = 512;
 
 // The text between the system's message and its error number.
 const NUMBERED: &str = " (os error ";
@@ -70,7 +63,8 @@ impl Why {
         }
     }
 
-    fn note_disk(&self, sector: Option<u64>, error: io::Error) {
+    /// Notes a failed call of an image's file.
+    pub(crate) fn note_disk(&self, sector: Option<u64>, error: io::Error) {
         self.disk.set(Some(DiskReason { sector, error }));
         self.note(error);
     }
@@ -109,7 +103,7 @@ impl Why {
     }
 }
 
-/// A file or an input whose failed calls are noted.
+/// An input whose failed calls are noted.
 #[derive(Drop)]
 pub struct Noted<'w, T: Drop> {
     inner: T,
@@ -117,39 +111,11 @@ pub struct Noted<'w, T: Drop> {
 }
 
 impl<'w, T: Drop> Noted<'w, T> {
-    /// Wraps the file or input; its failed calls are noted in `why`.
+    /// Wraps the input; its failed calls are noted in `why`.
     pub fn new(inner: T, why: &'w Why) -> Self
         ensures { result.inner ≡ inner }
     {
         Noted { inner, why }
-    }
-}
-
-// The calls of a disk.
-impl Noted<'_, File> {
-    // Notes a call that failed.
-    pub(crate) fn noted<V: Drop>(&self, answer: io::Result<V>) -> io::Result<V> {
-        if let Err(error) = answer {
-            self.why.note_disk(None, error);
-        }
-        answer
-    }
-
-    // A read or a write at that place. One that transfers less than it was asked to, as at the end
-    // of the file or of the room, fails too.
-    fn whole(&self, answer: io::Result<usize>, asked: usize, at: u64) -> io::Result<usize>
-        ensures { result ≡ answer }
-    {
-        let sector = Some(at / SECTOR);
-        match answer {
-            Ok(n) if n < asked => {
-                let error = io::Error::new(ErrorKind::WriteZero, "only a part of the sector");
-                self.why.note_disk(sector, error);
-            }
-            Ok(_) => {}
-            Err(error) => self.why.note_disk(sector, error),
-        }
-        answer
     }
 }
 
@@ -160,50 +126,5 @@ impl<T: Read + Drop> Read for Noted<'_, T> {
             self.why.note(error);
         }
         answer
-    }
-}
-
-impl FileExt for Noted<'_, File> {
-    fn read_at(&self, room: &mut [u8], at: u64) -> io::Result<usize> {
-        let answer = self.inner.read_at(room, at);
-        if let Err(error) = answer
-            && error.raw_os_error() == Some(EIO)
-        {
-            self.why.has_unreadable.set(true);
-        }
-        self.whole(answer, room.len(), at)
-    }
-
-    fn write_at(&self, bytes: &[u8], at: u64) -> io::Result<usize> {
-        self.whole(self.inner.write_at(bytes, at), bytes.len(), at)
-    }
-}
-
-impl AsRawFd for Noted<'_, File> {
-    ghost use Rattle.std.specs.Prelude.{Some};
-    ghost use Rattle.std.specs.Fd.{file_raw_fd};
-
-    ghost raw_fd = { λ noted. Some (file_raw_fd noted.inner) };
-
-    fn as_raw_fd(&self) -> RawFd {
-        self.inner.as_raw_fd()
-    }
-}
-
-impl OpenFile for Noted<'_, File> {
-    fn metadata(&self) -> io::Result<Metadata> {
-        self.inner.metadata()
-    }
-
-    fn set_len(&self, size: u64) -> io::Result<()> {
-        self.inner.set_len(size)
-    }
-
-    fn sync_all(&self) -> io::Result<()> {
-        self.noted(self.inner.sync_all())
-    }
-
-    fn sync_data(&self) -> io::Result<()> {
-        self.noted(self.inner.sync_data())
     }
 }

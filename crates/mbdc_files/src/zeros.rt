@@ -5,7 +5,7 @@ ghost use Rattle.mbdc_files.specs.Formatted.{IsUnmade};
 
 use crate::host::Host;
 use crate::image::{NO_FILE, OTHER_LENGTH, is_same_file, open_image, refused};
-use crate::why::Noted;
+use crate::image_file::{ImageFile, Role};
 use dc_roots::{RootFault, choose};
 use dc_sectors::{Disk, FileDisk};
 use mbdc_ending::Ending;
@@ -49,10 +49,26 @@ fn zeros_in<R: Files<File = File>>(
     if !is_same_file(&file.metadata()?, seen) {
         return Err(io::Error::new(ErrorKind::NotFound, "another file came under that name"));
     }
-    if is_blank(&file, length)? {
+    if file.metadata()?.len() != length {
+        return Err(refused(OTHER_LENGTH));
+    }
+    let mut sector = [0; 512];
+    for place in 0..length / 512 {
+        file.read_exact_at(&mut sector, 512 * place)?;
+        if sector != [0; 512] {
+            break;
+        }
+    }
+    // It holds only zeros, as `truncate` makes it.
+    if sector == [0; 512] {
         return Ok(Ok(file));
     }
-    let mut disk = FileDisk::new(Noted::new(file, host.why))?;
+    let mut disk = FileDisk::new(ImageFile {
+        file,
+        rt: host.rt,
+        why: host.why,
+        role: Role::Plain,
+    })?;
     if disk.count() <= 2 {
         return Err(refused(OTHER_CONTENT));
     }
@@ -61,19 +77,4 @@ fn zeros_in<R: Files<File = File>>(
         Err(RootFault::Device) => Ok(Err(FormatFault::Device)),
         Err(RootFault::NoRoot(_) | RootFault::Worn) => Err(refused(OTHER_CONTENT)),
     }
-}
-
-// Whether a file of that length holds only zeros, as `truncate` makes it.
-fn is_blank(file: &File, length: u64) -> io::Result<bool> {
-    if file.metadata()?.len() != length {
-        return Err(refused(OTHER_LENGTH));
-    }
-    for place in 0..length / 512 {
-        let mut sector = [1; 512];
-        file.read_exact_at(&mut sector, 512 * place)?;
-        if sector != [0; 512] {
-            return Ok(false);
-        }
-    }
-    Ok(true)
 }

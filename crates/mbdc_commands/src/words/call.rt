@@ -29,49 +29,47 @@ const SECONDARY: &str = "S";
 /// # Errors
 /// [`WordsFault`]: they name no task. Help and the version are such, too.
 pub fn call_of<'a>(alloc: Global, words: &'a [String]) -> Result<Call<'a>, WordsFault> {
-    let matches = program(alloc)?.try_get_matches_from(words)?;
+    let Ok(program) = program(alloc) else {
+        return Err(WordsFault::NoMemory);
+    };
+    let matches = match program.try_get_matches_from(words) {
+        Ok(matches) => matches,
+        Err(error) => return Err(WordsFault::Clap(error)),
+    };
+    let task = match matches.subcommand() {
+        None => Task::Lines {
+            engine: Engine::Decode(Form::Text),
+            file: None,
+        },
+        Some((name, inner)) => match name {
+            "decode" | "fold" | "audit" => lines_task(name, inner),
+            "demo" => Task::Demo,
+            "scan" | "read" | "address" => bus_task(name, inner)?,
+            _ => image_task(alloc, name, inner)?,
+        },
+    };
     Ok(Call {
-        task: task_of(alloc, &matches)?,
+        task,
         is_verbose: matches.get_flag("VERBOSE"),
     })
 }
 
-fn task_of<'a>(alloc: Global, matches: &ArgMatches<'a>) -> Result<Task<'a>, WordsFault> {
-    let Some((name, inner)) = matches.subcommand() else {
-        return Ok(Task::Lines {
-            engine: Engine::Decode(Form::Text),
-            file: None,
-        });
+// The tasks over lines. Words that the command doesn't have are absent.
+fn lines_task<'a>(name: &str, inner: &ArgMatches<'a>) -> Task<'a> {
+    let engine = match name {
+        "fold" => Engine::Fold,
+        "audit" if inner.get_flag("FILL") => Engine::Fill,
+        "audit" => Engine::Audit,
+        _ if inner.get_flag("JSON") => Engine::Decode(Form::Json),
+        _ if inner.get_flag("EXPLAIN") => Engine::Decode(Form::Table),
+        _ => Engine::Decode(Form::Text),
     };
-    match name {
-        "decode" => Ok(Task::Lines {
-            engine: decoder_of(inner),
-            file: input_of(inner),
-        }),
-        "fold" => Ok(Task::Lines {
-            engine: Engine::Fold,
-            file: input_of(inner),
-        }),
-        "audit" => Ok(Task::Lines {
-            engine: if inner.get_flag("FILL") {
-                Engine::Fill
-            } else {
-                Engine::Audit
-            },
-            file: input_of(inner),
-        }),
-        "demo" => Ok(Task::Demo),
-        "scan" | "read" | "address" => bus_task(name, inner),
-        _ => image_task(alloc, name, inner),
-    }
-}
-
-// The file of lines; - and no word are standard input.
-fn input_of<'a>(inner: &ArgMatches<'a>) -> Option<&'a str> {
-    match inner.get_str("FILE") {
+    // - and no word are standard input.
+    let file = match inner.get_str("FILE") {
         Some(DASH) => None,
         file => file,
-    }
+    };
+    Task::Lines { engine, file }
 }
 
 // The name of a file that can't be standard input.
@@ -82,24 +80,20 @@ fn file_of<'a>(inner: &ArgMatches<'a>, id: &str) -> Result<&'a str, WordsFault> 
     }
 }
 
-fn decoder_of(inner: &ArgMatches<'_>) -> Engine {
-    Engine::Decode(match (inner.get_flag("JSON"), inner.get_flag("EXPLAIN")) {
-        (true, _) => Form::Json,
-        (false, true) => Form::Table,
-        (false, false) => Form::Text,
-    })
-}
-
-// The tasks over one bus. Words that the command doesn't have are absent.
+// The tasks over one bus.
 fn bus_task<'a>(name: &str, inner: &ArgMatches<'a>) -> Result<Task<'a>, WordsFault> {
     let link = LinkName::parse(inner.get_str("LINK").unwrap_or_default())?;
     let work = match name {
         "scan" if inner.get_flag("PRIMARY") => Work::Search(Scan::Primary),
         "scan" => Work::Search(Scan::Wildcards(inner.get_one("BUDGET").unwrap_or_default())),
-        "address" => Work::Address(
-            reached_by(inner.get_str("OLD").unwrap_or_default())?,
-            inner.get_one("NEW").unwrap_or_default(),
-        ),
+        "address" => {
+            let reached = match meter_of(inner.get_str("OLD").unwrap_or_default()) {
+                Some(MeterName::Identity(meter)) => Target::Meter(meter),
+                Some(MeterName::Address(address)) => Target::Address(address),
+                Some(MeterName::Number(_)) | None => return Err(WordsFault::Reached),
+            };
+            Work::Address(reached, inner.get_one("NEW").unwrap_or_default())
+        }
         _ => {
             let meter = inner.get_str("METER").unwrap_or_default();
             Work::Read(meter_of(meter).ok_or(WordsFault::Meter)?)
@@ -116,15 +110,6 @@ fn bus_task<'a>(name: &str, inner: &ArgMatches<'a>) -> Result<Task<'a>, WordsFau
         patience: inner.get_one("PATIENCE").unwrap_or_default(),
         trace: inner.get_str("TRACE"),
     }))
-}
-
-// The meter that gets an address.
-fn reached_by(word: &str) -> Result<Target, WordsFault> {
-    match meter_of(word) {
-        Some(MeterName::Identity(meter)) => Ok(Target::Meter(meter)),
-        Some(MeterName::Address(address)) => Ok(Target::Address(address)),
-        Some(MeterName::Number(_)) | None => Err(WordsFault::Reached),
-    }
 }
 
 // The tasks over an image.
@@ -181,24 +166,22 @@ fn order_task<'a>(
         None => None,
     };
     let turn = match (name, flat) {
-        ("swap", flat) => swap_of(inner, flat)?,
+        ("swap", flat) => {
+            let new = inner.get_str("NEWMETER").unwrap_or_default();
+            let new = identity_of(new.as_bytes()).ok_or(WordsFault::Meter)?;
+            let address = match inner.get_str("ADDRESS").unwrap_or(SECONDARY) {
+                SECONDARY => None,
+                word => {
+                    let number = word.parse::<u8>().ok().ok_or(WordsFault::Address)?;
+                    Some(Primary::new(number).ok_or(WordsFault::Address)?)
+                }
+            };
+            Turn::Swap { new, address, flat }
+        }
         (_, Some(flat)) => Turn::Move(flat),
         (_, None) => Turn::Out,
     };
     Ok(Task::Order(OrderTask { image, meter, turn }))
-}
-
-fn swap_of(inner: &ArgMatches<'_>, flat: Option<Flat>) -> Result<Turn, WordsFault> {
-    let new = inner.get_str("NEWMETER").unwrap_or_default();
-    let new = identity_of(new.as_bytes()).ok_or(WordsFault::Meter)?;
-    let address = match inner.get_str("ADDRESS").unwrap_or(SECONDARY) {
-        SECONDARY => None,
-        word => {
-            let number = word.parse::<u8>().ok().ok_or(WordsFault::Address)?;
-            Some(Primary::new(number).ok_or(WordsFault::Address)?)
-        }
-    };
-    Ok(Turn::Swap { new, address, flat })
 }
 
 fn status_task<'a>(image: &'a str, inner: &ArgMatches<'a>) -> Result<Task<'a>, WordsFault> {
@@ -243,7 +226,10 @@ fn poll_task<'a>(
 ) -> Result<Task<'a>, WordsFault> {
     let mut only = Vec::new(alloc);
     for word in inner.get_strs("ONLY").unwrap_or_default() {
-        only.push(Named::parse(word.as_bytes()).ok_or(WordsFault::Meter)?)?;
+        let named = Named::parse(word.as_bytes()).ok_or(WordsFault::Meter)?;
+        if only.push(named).is_err() {
+            return Err(WordsFault::NoMemory);
+        }
     }
     let links = links_of(inner)?;
     if links.is_empty() {

@@ -1,7 +1,6 @@
 //! Mistakes in the words of the command line.
 
 use clap::Error;
-use std::alloc::{AllocError, AllocFailed};
 
 /// The mistake in the word of a link.
 #[derive(Clone, Copy)]
@@ -56,26 +55,8 @@ pub enum WordsFault {
     NoMemory,
 }
 
-impl From<Error> for WordsFault {
-    fn from(error: Error) -> Self {
-        WordsFault::Clap(error)
-    }
-}
-
 impl From<LinkFault> for WordsFault {
     fn from(fault: LinkFault) -> Self {
         WordsFault::Link(fault)
-    }
-}
-
-impl From<AllocError> for WordsFault {
-    fn from(_: AllocError) -> Self {
-        WordsFault::NoMemory
-    }
-}
-
-impl<T: Drop> From<AllocFailed<T>> for WordsFault {
-    fn from(_: AllocFailed<T>) -> Self {
-        WordsFault::NoMemory
     }
 }

@@ -1,6 +1,6 @@
 //! The name of a link: how a bus line is reached.
 
-ghost use Rattle.std.specs.Prelude.{◌≡◌, ◌++◌, IfOk, IfErr, MatchOption, MatchResult, codes};
+ghost use Rattle.std.specs.Prelude.{◌≡◌, ◌++◌, ◌↔◌, IfOk, IfErr, IsTrue, MatchResult, codes};
 ghost use Rattle.mbdc_commands.specs.Link.{word_of, IsLink, IsMistake, IsPlace, IsPort};
 
 use crate::words::fault::LinkFault;
@@ -63,31 +63,21 @@ fn with_port(place: &str) -> Result<&str, LinkFault>
     ensures { MatchResult result (λ same. (same.now ≡ place.now) × IsPlace place.now)
         (λ fault. (fault ≡ LinkFault.Port) × ¬ (IsPlace place.now)) }
 {
-    match port_of(place) {
-        Some(_) => Ok(place),
-        None => Err(LinkFault::Port),
-    }
-}
-
-// The port of a place.
-fn port_of(place: &str) -> Option<u16>
-    ensures { MatchOption result (¬ (IsPlace place.now)) (λ _. IsPlace place.now) }
-{
     match place.rsplit_once(':') {
-        Some((host, port)) if !host.is_empty() => port_number(port),
-        _ => None,
+        Some((host, port)) if !host.is_empty() && is_port(port) => Ok(place),
+        _ => Err(LinkFault::Port),
     }
 }
 
-// The number that a port is.
-fn port_number(port: &str) -> Option<u16>
-    ensures { MatchOption result (¬ (IsPort port.now)) (λ _. IsPort port.now) }
+// Whether a port is a number from 1 to 65535, without a sign.
+fn is_port(port: &str) -> bool
+    ensures { IsTrue result ↔ IsPort port.now }
 {
     if port.starts_with('+') {
-        return None;
+        return false;
     }
     match port.parse::<u16>() {
-        Ok(0) | Err(_) => None,
-        Ok(number) => Some(number),
+        Ok(0) | Err(_) => false,
+        Ok(_) => true,
     }
 }

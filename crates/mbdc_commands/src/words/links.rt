@@ -50,16 +50,6 @@ impl<'a> Links<'a> {
         let (line, link) = word.split_once('=').ok_or(LinkFault::NoLine)?;
         let place = place_of(line).ok_or(LinkFault::NoLine)?;
         let link = LinkName::parse(link)?;
-        self.put(place, link)
-    }
-
-    fn put(&mut self, place: usize, link: LinkName<'a>) -> Result<(), LinkFault>
-        requires { place ≤ 7 }
-        ensures added { OnOk result (Adds place link.entry self.old.links self.new.links) }
-        ensures refused { IfErr result (λ fault. (fault ≡ LinkFault.Twice)
-            × IsTaken place self.old.links) }
-        ensures kept { OnErr result (self.new ≡ self.old) }
-    {
         if self.links[place].is_some() {
             return Err(LinkFault::Twice);
         }

@@ -37,7 +37,7 @@ fn command_of<'a>(alloc: Global, row: &CommandRow) -> Result<Command<'a>, AllocE
 /// The program, as `clap` reads its words.
 pub(crate) fn program<'a>(alloc: Global) -> Result<Command<'a>, AllocError> {
     let mut commands = Vec::new(alloc);
-    for row in [lines(), reading(), images(), bus()].into_iter().flatten() {
+    for row in [LINES, READING, IMAGES, BUS].into_iter().flatten() {
         commands.push(command_of(alloc, row)?)?;
     }
     let verbose = arg_of(alloc, &VERBOSE)?;
@@ -207,13 +207,9 @@ const AS_LINES: Row = Row {
     ..FLAG
 };
 
-// ---- the commands, in groups: a proof that names a constant reads all of it, and the checker's steps have a limit
+// ---- the commands, in groups
 
 // Commands over lines.
-fn lines() -> &'static [CommandRow] {
-    LINES
-}
-
 const LINES: &[CommandRow] = &[
     CommandRow {
         name: "decode",
@@ -270,10 +266,6 @@ const LINES: &[CommandRow] = &[
 ];
 
 // Commands that make an image and read meters into it.
-fn reading() -> &'static [CommandRow] {
-    READING
-}
-
 const READING: &[CommandRow] = &[
     CommandRow {
         name: "format",
@@ -352,10 +344,6 @@ const READING: &[CommandRow] = &[
 ];
 
 // Commands that change, copy or look at an image.
-fn images() -> &'static [CommandRow] {
-    IMAGES
-}
-
 const IMAGES: &[CommandRow] = &[
     CommandRow {
         name: "fit",
@@ -482,10 +470,6 @@ const IMAGES: &[CommandRow] = &[
 ];
 
 // Commands without an image, over one bus.
-fn bus() -> &'static [CommandRow] {
-    BUS
-}
-
 const BUS: &[CommandRow] = &[
     CommandRow {
         name: "scan",
