@@ -25,10 +25,11 @@ FORMAT = "audit,2"  # what a file begins with
 
 
 class Printed(NamedTuple):
-    """A number as it is printed, with a point; `-` where there is none; its mark; and its line in a sheet's file."""
+    """A number as it is printed, with a point; `-` where there is none; its mark; and its line in a sheet's file, from
+    1."""
     text: str
     mark: str
-    line: str = ""
+    line: int = 0
 
     @property
     def is_number(self) -> bool:
@@ -170,30 +171,30 @@ class Reader:
         self.found: Dict[Tuple[Optional[int], Key], Published] = {}
         self.months: Dict[str, str] = {}  # by span
         self.flats: Dict[str, str] = {}  # by user
-        self.facts: Dict[Tuple[str, ...], str] = {}  # what is declared, by its other fields
+        self.facts: Dict[Tuple[str, ...], Tuple[str, int]] = {}  # what is declared, and where, by its other fields
         self.parts: Dict[Tuple[str, str], str] = {}  # the user of each
         self.place: Tuple[str, str, int] = ("", "", 0)
-        self.at = ""  # the place's number in the file
+        self.line = 0  # its number in the file
 
     def read(self, lines: List[str]) -> List[Published]:
         """What the lines publish, each key once."""
-        for line in lines:
+        for self.line, line in enumerate(lines, 1):
             kind, *fields = line.split(",")
             take: Optional[Callable[..., None]] = getattr(self, f"take_{kind}", None)
             if kind in BESIDE:
                 self.take_beside(kind, *fields)
             elif kind in FACTS:
-                self.facts[(kind, *fields[:-1])] = fields[-1]
+                self.facts[(kind, *fields[:-1])] = fields[-1], self.line
             elif take is not None:
                 take(*fields)
         return list(self.found.values())
 
-    def put(self, user: str, key: Key, text: str, mark: str, _: str = "") -> None:
-        """A number of a user, or of nobody, and the key of its line."""
+    def put(self, user: str, key: Key, text: str, mark: str, _: int = 0) -> None:
+        """A number of a user, or of nobody, and where it is declared, if it is."""
         tenancy = None if user == NONE else int(user)
         self.found.setdefault((tenancy, key), (tenancy, key, text, mark))
 
-    def put_of(self, user: str, use: str, what: str, text: str, mark: str, line: str, unit: str = "") -> None:
+    def put_of(self, user: str, use: str, what: str, text: str, mark: str, unit: str = "", line: int = 0) -> None:
         """A number of a user, if there is one."""
         if text != NONE:
             self.put(user, use_key(self.flats[user], use, what, unit), text, mark, line)
@@ -203,7 +204,7 @@ class Reader:
         what = {"mean": "average", "change": f"change {then}", "carbon": "co2"}.get(kind, kind)
         is_declared = kind == "mean" and ("average", use, fields[2], NOW) in self.facts
         self.put_of(user, use, what, fields[-1], DECLARED if is_declared else BESIDE[kind],
-                    ",".join((kind, span, *fields[:-1])), SHOWN_UNITS[fields[2]] if kind == "mean" else "")
+                    SHOWN_UNITS[fields[2]] if kind == "mean" else "")
 
     def take_span(self, span: str, day: str, *_: str) -> None:
         self.months[span] = f"{(datetime.date.fromisoformat(day) + DAY):%Y-%m}"
@@ -211,30 +212,27 @@ class Reader:
     def take_user(self, user: str, flat: str, _: str) -> None:
         self.flats[user] = flat
 
-    def take_place(self, at: str, flat: str, use: str, _: str) -> None:
+    def take_place(self, _: str, flat: str, use: str, __: str) -> None:
         number, self.runs = next(self.places)
-        self.at, self.place, self.parts = at, (flat, use, number), {}
+        self.place, self.parts = (flat, use, number), {}
 
     def take_part(self, _: str, begins: str, ends: str, user: str) -> None:
         self.parts[begins, ends] = user
 
-    def take_shown(self, span: str, begins: str, ends: str, unit: str, text: str, mark: str) -> None:
+    def take_shown(self, _: str, begins: str, ends: str, unit: str, text: str, mark: str) -> None:
         flat, use, number = self.place
         self.put(self.parts.get((begins, ends), NONE),
-                 Key("place", flat, use, number, f"{begins} {ends}", SHOWN_UNITS.get(unit, unit)), text, mark,
-                 f"shown,{self.at},{span},{begins},{ends},{unit}")
+                 Key("place", flat, use, number, f"{begins} {ends}", SHOWN_UNITS.get(unit, unit)), text, mark)
 
     def take_value(self, run: str, moment: str, text: str, _: str) -> None:
         self.put(NONE, reading_key(self.runs[int(run) - 1], int(moment)), text, "reading")
 
     def take_of_user(self, span: str, user: str, use: str, of_file: str, text: str, mark: str) -> None:
-        self.put(user, use_key(self.flats[user], use, f"month {self.months[span]}", SHOWN_UNITS[of_file]), text, mark,
-                 f"of_user,{span},{user},{use},{of_file}")
+        self.put(user, use_key(self.flats[user], use, f"month {self.months[span]}", SHOWN_UNITS[of_file]), text, mark)
         if span == NOW:
             for what, *fields in (("price", of_file), *((("factor",), ("co2",)) if of_file == "kWh" else ())):
-                fact = (what, use, *fields, span)
-                self.put_of(user, use, "emission" if what == "co2" else what, self.facts.get(fact, NONE), DECLARED,
-                            ",".join(fact))
+                declared, line = self.facts.get((what, use, *fields, span), (NONE, 0))
+                self.put_of(user, use, "emission" if what == "co2" else what, declared, DECLARED, line=line)
 
     def take_of_flat(self, _: str, flat: str, use: str, __: str, text: str, mark: str) -> None:
         self.put(NONE, Key("flat", flat, use), text, mark)
@@ -272,11 +270,11 @@ class Facts(Reader):
         self.read(lines)
         self.nobodys = {it[1:] for it in self.all}
 
-    def put(self, user: str, key: Key, text: str, mark: str, _: str = "") -> None:
+    def put(self, user: str, key: Key, text: str, mark: str, _: int = 0) -> None:
         self.all.add((None if user == NONE else int(user), key, text, mark))
 
-    def take_place(self, at: str, flat: str, use: str, _: str) -> None:
-        self.at, self.place, self.parts = at, (flat, use, 0), {}
+    def take_place(self, _: str, flat: str, use: str, __: str) -> None:
+        self.place, self.parts = (flat, use, 0), {}
 
     def take_meter(self, run: str, identity: str, *_: str) -> None:
         self.meters[run] = identity
@@ -297,7 +295,7 @@ class Facts(Reader):
 
 
 class Own(Facts):
-    """The numbers of a sheet's own file by the sheet's keys, each with the key of its line."""
+    """The numbers of a sheet's own file by the sheet's keys, each with its line."""
 
     def __init__(self, sheet: Sheet, lines: List[str]) -> None:
         places = [(use.use, place) for use in sheet.uses for place in use.places]
@@ -307,8 +305,8 @@ class Own(Facts):
                         for _, place in places for it in place.readings if it.run is not None}
         super().__init__(lines)
 
-    def put(self, user: str, key: Key, text: str, mark: str, line: str = "") -> None:
-        self.numbers.setdefault(key, Printed(text, mark, line))
+    def put(self, user: str, key: Key, text: str, mark: str, line: int = 0) -> None:
+        self.numbers.setdefault(key, Printed(text, mark, line or self.line))
 
     def take_part(self, span: str, begins: str, ends: str, user: str) -> None:
         super().take_part(span, begins, ends, user)
@@ -319,10 +317,10 @@ class Own(Facts):
     def take_value(self, run: str, moment: str, text: str, unit: str) -> None:
         found = self.of_runs.get((self.meters[run], moment, (text, unit)))
         if found is not None:
-            self.put(NONE, reading_key(found, int(moment)), text, "value", f"value,{self.at},{run},{moment},{unit}")
+            self.put(NONE, reading_key(found, int(moment)), text, "value")
 
     def take_as(self, use: str, kind: str, why: str) -> None:
-        self.numbers[Key("as", use=use, unit=kind)] = Printed(why, "as", f"as,{use},{kind}")
+        self.numbers[Key("as", use=use, unit=kind)] = Printed(why, "as")
 
 
 def file_of(cursor: Cursor, audit: Optional[int]) -> Optional[List[str]]:

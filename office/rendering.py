@@ -6,7 +6,6 @@ import functools
 import hashlib
 import importlib
 import importlib.util
-import itertools
 import os
 import pathlib
 import re
@@ -25,7 +24,6 @@ from sheet_data import MARKED, MONTHS, Number, Sheet, Use
 WIDTH, HEIGHT = 650, 130  # pixels: letters of 11 have 8 points
 TOP, BOTTOM, LEFT = 24, 36, 8
 GAP = 8
-PLACES = 13
 QUIET = 4  # modules around a code
 
 
@@ -46,7 +44,7 @@ Chart = NamedTuple("Chart", [("width", float), ("height", int), ("base", int), (
 def chart_of(bars: List[Bar]) -> Chart:
     """The bars from the left, the highest as high as the chart; thirteen of them are WIDTH."""
     most = max((bar.value for bar in bars if bar.value is not None), default=decimal.Decimal())
-    step, base = (WIDTH - 2 * LEFT) / PLACES, HEIGHT - BOTTOM
+    step, base = (WIDTH - 2 * LEFT) / MONTHS, HEIGHT - BOTTOM
     shapes = []
     for place, bar in enumerate(bars):
         height = float(bar.value / most) * (base - TOP) if bar.value is not None and most > 0 else 0.0
@@ -63,18 +61,11 @@ def code_of(link: str) -> Optional[Code]:
     """The code of a link; None where there is no library."""
     if importlib.util.find_spec("qrcode") is None:
         return None
-    qrcode: Any = importlib.import_module("qrcode")
-    made = qrcode.QRCode(error_correction=qrcode.constants.ERROR_CORRECT_L, border=0)
+    qrcode, svg = (importlib.import_module(it) for it in ("qrcode", "qrcode.image.svg"))  # type: Any, Any
+    made = qrcode.QRCode(error_correction=qrcode.constants.ERROR_CORRECT_L, border=QUIET)
     made.add_data(link)
-    made.make(fit=True)
-    lines: List[List[bool]] = made.get_matrix()
-    return Code("".join(path_of(y, line) for y, line in enumerate(lines, QUIET)), len(lines) + 2 * QUIET, link)
-
-
-def path_of(y: int, line: List[bool]) -> str:
-    """The dark modules of a row, a rectangle for each run of them."""
-    runs = [list(run) for _, run in itertools.groupby(enumerate(line, QUIET), lambda it: it[1])]
-    return "".join(f"M{run[0][0]} {y}h{len(run)}v1h-{len(run)}z" for run in runs if run[0][1])
+    image = made.make_image(svg.SvgPathImage)
+    return Code(image.path.get("d"), image.width + 2 * QUIET, link)
 
 LONGEST_GAP = datetime.timedelta(hours=48)  # between the readings around an end of what counts as measured
 Sentences = Iterator[Tuple[Use, Markup]]
@@ -92,7 +83,7 @@ def fixed(kind: str, text: object) -> Markup:
 
 def wrote(text: object) -> Markup:
     """What people wrote."""
-    return Markup('<bdi><address data-fixed="contact">{}</address></bdi>').format(shown(text))
+    return Markup('<bdi><address data-fixed="contact">{}</address></bdi>').format(plain(text))
 
 
 def name_of(use: str, words: Catalogue) -> object:
@@ -135,21 +126,14 @@ class Said(NamedTuple):
             if sentences:
                 yield use, Markup(", ").join(sentences)
 
-    def weather(self) -> Sentences:
-        """Of each use for heating: what the month of last year would have been in this month's weather."""
+    def beside(self, what: str, word: str) -> Sentences:
+        """Of each use: what the month of last year would have been in this month's weather; the emissions of the user's
+        own consumption, in kg; what it costs, by the exact amount, without fixed costs."""
         then = fixed("date", self.words.month(later_month(self.sheet.month, -12)))
-        for use, amount in self.known("weather"):
-            yield use, self.sentence("weather", then=then, amount=amount, unit=self.words.word(use.unit))
-
-    def carbon(self) -> Sentences:
-        """The emissions of a user's own consumption, in kg."""
-        yield from ((use, self.sentence("own_co2", amount=amount)) for use, amount in self.known("co2"))
-
-    def costs(self) -> Sentences:
-        """What the month's consumption costs, by the exact amount, without fixed costs."""
         prices = {use.use: price for use, price in self.known("price")}
-        for use, amount in self.known("cost"):
-            yield use, self.sentence("cost", amount=amount, price=prices[use.use], unit=self.words.word(use.unit))
+        for use, amount in self.known(what):
+            yield use, self.sentence(word, then=then, amount=amount, price=prices.get(use.use),
+                                     unit=self.words.word(use.unit))
 
     def factors(self) -> Sentences:
         """By which factor an amount is in kWh."""
@@ -169,7 +153,7 @@ class Said(NamedTuple):
         """Of each use why a meter counts it, where its device type doesn't say so."""
         uses = {use.use: use for use in self.sheet.uses}
         for key in (key for key in self.numbers if key.kind == "as" and key.use in uses):
-            yield uses[key.use], self.sentence("decided", use=name_of(key.use, self.words), why=self.number(key))
+            yield uses[key.use], self.sentence("decided", use=name_of(key.use, self.words), why=wrote(self.numbers[key].text))
 
     def estimates(self) -> Sentences:
         """How each estimated number of the month was made."""
@@ -203,10 +187,10 @@ class Said(NamedTuple):
 
 
 TEMPLATES = pathlib.Path(__file__).resolve().parent / "templates"
-LONGEST = 300  # characters of what people wrote
 SOURCES = {"telegrams": "readings", "put": "by hand", "estimates": "estimated"}  # of the audit's last line, by its word
 ESTIMATED = "estimated"
-SAID = ("changes", "weather", "carbon", "costs", "estimates", "factors", "decided")
+SAID = ("changes", "estimates", "factors", "decided")
+BESIDE = {"weather": ("weather", "weather"), "carbon": ("co2", "own_co2"), "costs": ("cost", "cost")}
 STYLES = ("page.css", "dark.css")  # which add no text to a page
 PAPER = (*STYLES, "paper.css")
 COUNTS = re.compile(r" \([^()]*\)")  # which a sheet doesn't say: they are in no file
@@ -228,14 +212,9 @@ def style(*files: str) -> Markup:
     return Markup("".join((TEMPLATES / it).read_text(encoding="utf-8") for it in files))
 
 
-def shown(text: object) -> str:
-    """What people wrote, in one line, without control and direction characters."""
-    return plain(text, LONGEST)
-
-
 def html_of(name: str, words: Catalogue, styles: Tuple[str, ...] = PAPER, **values: Any) -> str:
     template = environment().get_template(name)
-    return str(template.render(words=words, style=style(*styles), plain=shown, marked=MARKED, **values))
+    return str(template.render(words=words, style=style(*styles), plain=plain, marked=MARKED, **values))
 
 
 # A number as the reader writes it, its mark, and the attributes of its element.
@@ -254,7 +233,7 @@ def printed_in(numbers: Numbers, words: Catalogue) -> Callable[..., Optional[Sho
 def attributes(it: Printed, key: Key) -> Markup:
     """Which line of the sheet's file has a number; of an earlier month, which is copied, the month."""
     if it.line:
-        return Markup(' data-key="{}" data-text="{}" data-mark="{}"').format(it.line, it.text, it.mark)
+        return Markup(' data-line="{}"').format(it.line)
     return Markup(' data-fixed="{}"').format(key.period) if key.kind == "month" and it.is_number else Markup()
 
 
@@ -279,7 +258,9 @@ def sheet_html(sheet: Sheet, published: Printable, options: Any, evidence: Optio
         begins=min(month.begins for month in months), ends=max(month.ends for month in months),
         charts=charts_of(sheet, numbers, words), last_of=lambda month: (next_month(month) - DAY),
         is_estimated=any(it is not None and it.mark == ESTIMATED for it in estimated),
-        corrected=sentences.corrected(), said={name: list(getattr(sentences, name)()) for name in SAID},
+        corrected=sentences.corrected(), said={
+            **{name: list(getattr(sentences, name)()) for name in SAID},
+            **{name: list(sentences.beside(*of)) for name, of in BESIDE.items()}},
         emission=sentences.emission(), wrote=wrote, fixed=fixed, name_of=lambda use: name_of(use, words),
         part=lambda month, of: part_of(month, of, words), decoder=options.decoder, is_paper=is_paper,
         code=code_of(link) if link else None)
@@ -314,15 +295,11 @@ def part_of(number: Number, month: datetime.date, words: Catalogue) -> str:
 
 
 def charts_of(sheet: Sheet, numbers: Numbers, words: Catalogue) -> List[Tuple[Use, Chart]]:
-    """The charts of the uses that have one."""
+    """The charts of the uses that have one: the last thirteen months, from the first on of which there is something to
+    say."""
+    months = [later_month(sheet.month, number - MONTHS + 1) for number in range(MONTHS)]
     return [(use, chart_of([bar_of(numbers, month_key(sheet.user.flat, use, month), month, words)
-                            for month in charted(use, sheet.month)])) for use in sheet.uses if use.is_charted]
-
-
-def charted(use: Use, last: datetime.date) -> List[datetime.date]:
-    """The last thirteen months, from the first on of which there is something to say."""
-    months = [later_month(last, number - MONTHS + 1) for number in range(MONTHS)]
-    return [month for month in months if month >= min(use.months)]
+                            for month in months if month >= min(use.months)])) for use in sheet.uses if use.is_charted]
 
 
 def bar_of(numbers: Numbers, key: Key, month: datetime.date, words: Catalogue) -> Bar:

@@ -29,15 +29,17 @@ const ZONES = [Intl.DateTimeFormat().resolvedOptions().timeZone, "Europe/Berlin"
 const WORDS = {
   en: {
     title: "Audit a sheet", about: "Computes the numbers of a sheet again, from the telegrams in its audit file. Nothing leaves this page.",
-    file: "The audit file: choose it, or drop it on this page", input: "Or its text", audit: "Audit", other: "Deutsch", program: "What mbdc audit prints",
-    proved: "The audit is the module of mbdc audit. It is proved that it says that all holds only of a file in which all holds. This page's own words, the "
-      + "table of what is in the file, and the module's heap and translation are not proved.",
+    file: "The audit file, and the sheet (its page) to compare with it: choose them, or drop them on this page", input: "Or its text", audit: "Audit", other: "Deutsch", program: "What mbdc audit prints",
+    proved: "The audit is the module of mbdc audit. It is proved that it says that all holds only of a file in which all holds, and that a sheet shows the "
+      + "file's numbers only of one that does. This page's own words, the table of what is in the file, and the module's heap and translation are not proved.",
     refused: "This page needs Chrome or Edge 93, Firefox 92, Safari 15.4, or later.",
     right: (n) => (n === 1 ? "The number is right." : `All ${n} numbers are right.`),
     wrong: (n, all, which) => `${n} of ${all} numbers ${n === 1 ? "is" : "are"} wrong: ${which}.`,
     unproved: (n) => `${n} ${n === 1 ? "reading has" : "readings have"} no evidence.`,
     broken: (n, which) => `${n} ${n === 1 ? "rule is" : "rules are"} broken: ${which}.`,
     unreadable: (line, fault) => `Line ${line} can't be audited (${fault}), and nothing after it.`,
+    sheet: "The sheet shows the file's numbers, and no others.",
+    places: (n) => `${n} ${n === 1 ? "place of the sheet isn't" : "places of the sheet aren't"} the file's.`,
     noMemory: "The browser has no memory for this file.", tooLong: "Too much is printed of this file.", unread: "The file can't be read.",
     hash: (text) => `SHA-256 of the file: ${text}.`, same: "It is the file that the sheet names.", another: "It is not the file that the sheet names.",
     noHash: "not computed by this browser here", waiting: "Choose the file that the sheet names.",
@@ -52,15 +54,17 @@ const WORDS = {
   },
   de: {
     title: "Ein Blatt prüfen", about: "Rechnet die Zahlen eines Blatts aus den Telegrammen in seiner Prüfdatei nach. Nichts verlässt diese Seite.",
-    file: "Die Prüfdatei: wählen, oder auf diese Seite ziehen", input: "Oder ihr Text", audit: "Prüfen", other: "English", program: "Was mbdc audit druckt",
-    proved: "Die Prüfung ist das Modul von mbdc audit. Bewiesen ist, dass es nur von einer Datei sagt, alles stimme, in der alles stimmt. Die Wörter dieser "
-      + "Seite, die Tabelle dessen, was in der Datei steht, Speicher und Übersetzung des Moduls sind nicht bewiesen.",
+    file: "Die Prüfdatei, und das Blatt (seine Seite), um beide zu vergleichen: wählen, oder auf diese Seite ziehen", input: "Oder ihr Text", audit: "Prüfen", other: "English", program: "Was mbdc audit druckt",
+    proved: "Die Prüfung ist das Modul von mbdc audit. Bewiesen ist, dass es nur von einer Datei sagt, alles stimme, in der alles stimmt, und dass ein Blatt die "
+      + "Zahlen der Datei zeige, nur von einem, das es tut. Die Wörter dieser Seite, die Tabelle dessen, was in der Datei steht, Speicher und Übersetzung des Moduls sind nicht bewiesen.",
     refused: "Diese Seite braucht Chrome oder Edge 93, Firefox 92, Safari 15.4 oder neuer.",
     right: (n) => (n === 1 ? "Die Zahl stimmt." : `Alle ${n} Zahlen stimmen.`),
     wrong: (n, all, which) => `${n} von ${all} Zahlen ${n === 1 ? "ist" : "sind"} falsch: ${which}.`,
     unproved: (n) => `${n} ${n === 1 ? "Ablesung ist" : "Ablesungen sind"} nicht belegt.`,
     broken: (n, which) => `${n} ${n === 1 ? "Regel ist" : "Regeln sind"} verletzt: ${which}.`,
     unreadable: (line, fault) => `Zeile ${line} ist nicht prüfbar (${fault}), und nichts danach.`,
+    sheet: "Das Blatt zeigt die Zahlen der Datei, und keine anderen.",
+    places: (n) => `${n} ${n === 1 ? "Stelle des Blatts ist" : "Stellen des Blatts sind"} nicht die der Datei.`,
     noMemory: "Der Browser hat keinen Speicher für diese Datei.", tooLong: "Zu dieser Datei wird zu viel gedruckt.", unread: "Die Datei ist nicht lesbar.",
     hash: (text) => `SHA-256 der Datei: ${text}.`, same: "Es ist die Datei, die das Blatt nennt.", another: "Es ist nicht die Datei, die das Blatt nennt.",
     noHash: "von diesem Browser hier nicht berechnet", waiting: "Wählen Sie die Datei, die das Blatt nennt.",
@@ -85,16 +89,17 @@ async function start() {
   exported = (await WebAssembly.instantiate(bytes, {})).instance.exports;
 }
 
-// What the module prints of a file, and its verdict.
-function audited(file) {
-  const room = GROWTH * file.length + LEAST;
-  const rooms = [file.length, room, 8].map((size) => exported.mbdc_take(BigInt(size)));
+// What a call of the module prints of these files, and its verdict.
+function judged(call, ...files) {
+  const room = GROWTH * files.reduce((sum, file) => sum + file.length, 0) + LEAST;
+  const rooms = [...files.map((file) => file.length), room, 8].map((size) => exported.mbdc_take(BigInt(size)));
   let verdict = "noMemory";
   let printed = "";
   if (!rooms.includes(0n)) {
-    const [from, to, size] = rooms;
-    new Uint8Array(memory(), Number(from), file.length).set(file);
-    verdict = VERDICTS[Number(exported.mbdc_audit(from, BigInt(file.length), to, BigInt(room), size))];
+    const [to, size] = rooms.slice(files.length);
+    files.forEach((file, n) => new Uint8Array(memory(), Number(rooms[n]), file.length).set(file));
+    const given = files.flatMap((file, n) => [rooms[n], BigInt(file.length)]);
+    verdict = VERDICTS[Number(call(...given, to, BigInt(room), size))];
     const count = Number(new DataView(memory()).getBigUint64(Number(size), true));
     printed = new TextDecoder().decode(new Uint8Array(memory(), Number(to), count));
   }
@@ -106,6 +111,7 @@ function audited(file) {
 
 let language = (navigator.language ?? "en").toLowerCase().startsWith("de") ? "de" : "en";
 let last = null; // the file that was audited, and what was found
+let waiting = null; // a sheet whose file isn't there yet
 let named = ""; // the hash that the sheet's link names
 const $ = (id) => document.getElementById(id);
 const local = (number) => (language === "de" ? number.replace(".", ",") : number);
@@ -216,6 +222,13 @@ function found({ verdict, printed }, wrong) {
     ...(rules ? [words.broken(rules, broken)] : [])].join(" ");
 }
 
+// What the comparison of a sheet found.
+function comparison({ verdict, printed }) {
+  const words = WORDS[language];
+  const said = { right: words.sheet, wrong: words.places(printed.split("\n").length - 1) };
+  return said[verdict] ?? words[verdict];
+}
+
 function show() {
   const words = WORDS[language];
   const lines = last.text.split("\n");
@@ -224,12 +237,15 @@ function show() {
   const differs = last.printed.matchAll(/^DIFFERS line (\d+): .*, computed (.*)$/gm);
   const wrong = new Map(Array.from(differs, ([, line, computed]) => [Number(line), computed]));
   const isAnother = named && last.hash && last.hash !== named;
-  const said = [isAnother ? words.another : "", found(last, rows.filter((row) => wrong.has(row.line))),
+  const { sheet } = last; // that is compared with it, if one is
+  const compared = sheet ? judged(exported.mbdc_sheet, sheet, last.bytes) : { verdict: "right", printed: "" };
+  const isFine = last.verdict === "right" && compared.verdict === "right" && !isAnother;
+  const said = [isAnother ? words.another : "", found(last, rows.filter((row) => wrong.has(row.line))), sheet ? comparison(compared) : "",
     rows.length > SHOWN ? words.more(rows.length - SHOWN) : ""];
   $("said").textContent = said.filter(Boolean).join(" ");
-  $("said").className = last.verdict === "right" && !isAnother ? "good" : "bad";
-  $("printed").textContent = last.printed;
-  $("program").open = last.verdict !== "right";
+  $("said").className = isFine ? "good" : "bad";
+  $("printed").textContent = last.printed + compared.printed;
+  $("program").open = !isFine;
   $("hash").textContent = words.hash(last.hash ?? words.noHash) + (last.hash && last.hash === named ? ` ${words.same}` : "");
   $("table").replaceChildren(tableShown(rows, zone, wrong));
   $("found").hidden = false;
@@ -239,14 +255,24 @@ function show() {
 async function audit(bytes) {
   const digest = crypto.subtle ? new Uint8Array(await crypto.subtle.digest("SHA-256", bytes)) : null;
   const hash = digest && Array.from(digest, (byte) => byte.toString(16).padStart(2, "0")).join("");
-  last = { text: new TextDecoder().decode(bytes), hash, ...audited(bytes) };
+  last = { text: new TextDecoder().decode(bytes), bytes, hash, sheet: waiting, ...judged(exported.mbdc_audit, bytes) };
+  waiting = null;
   show();
 }
 
-async function auditFile(file) {
-  if (!file) return;
+// Takes an audit file, a sheet, or both.
+async function auditFiles(files) {
   try {
-    await audit(new Uint8Array(await file.arrayBuffer()));
+    const texts = await Promise.all(Array.from(files, async (file) => new Uint8Array(await file.arrayBuffer())));
+    const isSheet = (bytes) => bytes[0] === "<".charCodeAt(0);
+    const [file, page] = [texts.find((bytes) => !isSheet(bytes)), texts.find(isSheet)];
+    waiting = page ?? waiting;
+    if (file) await audit(file);
+    else if (last && page) {
+      last.sheet = page;
+      waiting = null;
+      show();
+    } else if (page) $("said").textContent = WORDS[language].waiting;
   } catch (fault) {
     if (!(fault instanceof DOMException)) throw fault;
     $("said").textContent = WORDS[language].unread;
@@ -283,9 +309,9 @@ async function main() {
     return;
   }
   $("form").addEventListener("submit", (event) => { event.preventDefault(); audit(new TextEncoder().encode($("input").value)); });
-  $("file").addEventListener("change", () => auditFile($("file").files[0]));
+  $("file").addEventListener("change", () => auditFiles($("file").files));
   addEventListener("dragover", (event) => event.preventDefault());
-  addEventListener("drop", (event) => { event.preventDefault(); auditFile(event.dataTransfer.files[0]); });
+  addEventListener("drop", (event) => { event.preventDefault(); auditFiles(event.dataTransfer.files); });
   $("language").addEventListener("click", () => { language = language === "en" ? "de" : "en"; speak(); });
   addEventListener("hashchange", () => openLink(location.hash.slice(1)));
   document.documentElement.dataset.ready = "yes";

@@ -14,7 +14,7 @@ from people.truth import (DECIMALS, DISTURBED, ESTIMATED, HAND, HELD, MISSING, P
 WORDS = {"de": {ESTIMATED: "geschätzt", HAND: "abgelesen", PROVISIONAL: "vorläufig:", MISSING: "nicht gelesen",
                 DISTURBED: "ein Zählerstand wird geprüft", HELD: "auffällig hoch", "before": "eingezogen",
                 "none": "kein Wert", "only": "nur"},
-         "en": {ESTIMATED: "estimated", HAND: "person", PROVISIONAL: "provisional:", MISSING: "wasn't read",
+         "en": {ESTIMATED: "estimated", HAND: "person", PROVISIONAL: "provisional:", MISSING: "wasn’t read",
                 DISTURBED: "a reading is being checked", HELD: "unusually high", "before": "moved in",
                 "none": "no value", "only": "only"}}
 MONTHS = {"de": "Jan Feb Mär Apr Mai Jun Jul Aug Sep Okt Nov Dez".split(),
@@ -27,14 +27,14 @@ NUMBER = re.compile(r"-?[\d.,]*\d")
 class Page(html.parser.HTMLParser):
     """The cells of a page by use and column, the texts of its charts, and the rows of its readings."""
 
-    def __init__(self, path: pathlib.Path) -> None:
+    def __init__(self, text: str) -> None:
         super().__init__(convert_charrefs=True)
         self.cells: Dict[Tuple[str, str], str] = {}
         self.charts: List[str] = []
         self.readings: List[List[str]] = []
         self.heads: List[str] = []  # of the rows
         self.use, self.flat, self.at = "", "", None  # type: str, str, Any
-        self.feed(path.read_text(encoding="utf-8"))
+        self.feed(text)
         self.close()
 
     def handle_starttag(self, tag: str, attrs: Any) -> None:
@@ -109,7 +109,7 @@ class Checker:
 
     def sheet(self, path: pathlib.Path, house: House, flat: str, user: User, month: datetime.date) -> None:
         """Every number of a user's sheet."""
-        page, where = Page(path), f"{house.name} {flat} {user.name} {month}"
+        page, where = Page(path.read_text(encoding="utf-8")), f"{house.name} {flat} {user.name} {month}"
         for use in sorted({place.use for place in house.places if place.flat == flat}):
             unit = self.truth.unit(house.name, use)
             for shown in (month, shifted(month, -1), shifted(month, -12)):
@@ -164,7 +164,7 @@ class Checker:
 
     def house(self, path: pathlib.Path, house: House, month: datetime.date) -> None:
         """The flats of a house page, that they add up to the house, and what each meter stands at."""
-        page = Page(path)
+        page = Page(path.read_text(encoding="utf-8"))
         office = User("", "de", month, None)
         for use in sorted({place.use for place in house.places}):
             unit, where = self.truth.unit(house.name, use), f"{house.name} {use} {month}"

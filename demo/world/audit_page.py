@@ -12,17 +12,24 @@ from world.cases import until, wants
 
 ROOT = pathlib.Path(__file__).resolve().parent.parent.parent
 SECONDS = 60
-# The file that the tests in code have, too
+# The file and the page that the tests in code have, too
 EXAMPLE = re.findall(r'EXAMPLE: &\[u8\] = b"(.*?)"', (ROOT / "tests/audit/file.test").read_text(encoding="utf-8"), re.DOTALL)[0]
+PAGE = re.findall(r'PAGE: &str = "(.*?)";', (ROOT / "tests/audit/sheet.test").read_text(encoding="utf-8"), re.DOTALL)[0].replace('\\"', '"')
+
+
+def dropped(*contents: bytes) -> str:
+    """A script that drops these files."""
+    coded = [base64.b64encode(content).decode() for content in contents]
+    return (f"const transfer = new DataTransfer(); for (const coded of {json.dumps(coded)}) transfer.items.add(new File("
+            "[Uint8Array.from(atob(coded), (it) => it.charCodeAt(0))], '2026-10'));"
+            "dispatchEvent(new DragEvent('drop', { dataTransfer: transfer }));")
 
 
 def audited(browser: Browser, content: bytes, is_file: bool = False) -> tuple[str, str]:
     """Audits a file as who drops it does, or as text. Returns the page's verdict and what it prints."""
     script = "last = null; document.getElementById('said').textContent = ''; "
     if is_file:
-        script += (f"const bytes = Uint8Array.from(atob('{base64.b64encode(content).decode()}'), (it) => it.charCodeAt(0));"
-                   "const transfer = new DataTransfer(); transfer.items.add(new File([bytes], '2026-10.audit'));"
-                   "dispatchEvent(new DragEvent('drop', { dataTransfer: transfer }));")
+        script += dropped(content)
     else:
         script += f"document.getElementById('input').value = {json.dumps(content.decode())}; document.getElementById('form').requestSubmit();"
     browser.run(script)
@@ -67,6 +74,23 @@ def numbers(browser: Browser) -> None:
     audited(browser, EXAMPLE.replace("span,1,", "as,cold water,06,no other meter\nspan,1,").encode())
     row = browser.run("return Array.from(document.querySelectorAll('tbody tr')[7].cells, (it) => it.textContent);")
     wants(row == ["device type 06", "cold water", "", "no other meter ", "declared, not audited"], f"{row}")
+
+
+def sheets(browser: Browser) -> None:
+    """A sheet is compared with its file, whichever comes first, or both together."""
+    browser.open()
+    right, wrong, file = PAGE.encode(), PAGE.replace("9,31", "9,32").encode(), EXAMPLE.encode()
+    browser.run(dropped(right))
+    until(browser.said, SECONDS, "the page says nothing")
+    wants(browser.said() == "Choose the file that the sheet names.", browser.said())
+    for files, said, kind in (((file,), "All 5 numbers are right. The sheet shows the file's numbers, and no others.", "good"),
+                              ((wrong, file), "All 5 numbers are right. 1 place of the sheet isn't the file's.", "bad"),
+                              ((right,), "All 5 numbers are right. The sheet shows the file's numbers, and no others.", "good")):
+        browser.run(f"document.getElementById('said').textContent = ''; {dropped(*files)}")
+        until(browser.said, SECONDS, "the page says nothing")
+        wants((browser.said(), browser.run("return document.getElementById('said').className;")) == (said, kind), browser.said())
+    audited(browser, file, True)
+    wants(browser.said() == "All 5 numbers are right.", "the sheet of another file is compared")
 
 
 def hostile(browser: Browser) -> None:
@@ -116,4 +140,4 @@ def looks(browser: Browser, folder: Optional[pathlib.Path]) -> None:
             browser.keep_picture(folder / f"audit-{language}-{scheme}-{width}.png", width)
 
 
-CASES = [links, numbers, hostile, keyboard]
+CASES = [links, numbers, sheets, hostile, keyboard]

@@ -8,10 +8,9 @@ from typing import List, Tuple
 
 import pytest
 from conftest import Office
-from page_check import faults
 from supplied import ALLOCATOR, COLD, HEAT, WATER, Supplied, at
 from test_schema import refused
-from test_sheets import Page, published, sheet_of
+from test_sheets import Page, faults, published, sheet_of
 
 import program
 import rendering
@@ -25,19 +24,15 @@ SINCE = at("2023-12-01T00:00")
 NAMES = re.compile(r"\d{1,2} [A-Z][a-z]{2} \d{4}(, \d{2}:\d{2})?|\b20\d{2}\b|(meters|hand|estimates|audit) \(?\d+|"
                    r"\d{8}\.PAD\.01\.\d{2}|Elm Street 1|\bA\d\b|elm-\d|(Heating|allocators|water) [23]\b")
 CHEATS = (  # what is in a page once at least, what stands there instead, and what is wrong then
-    ('data-user="1"', 'data-user="2"', "MAIN"), ('data-label="2025-01"', 'data-label="2025-02"', "MAIN"),
-    ("<h2", "<h2>9</h2><h2", "DIGITS 9"), ("<h2", "<h2>&#57;</h2><h2", "DIGITS 9"),
-    ("<h2", "<h2>\uff19</h2><h2", "DIGITS"), ("<h2", '<h2 title="9"', "DIGITS title"),
-    ("<style>", "<style>h2::after { content: '9' }", "DIGITS"), ("<h2", "<!-- 9 --><h2", "COMMENT"),
-    ("<h2", "<script></script><h2", "ELEMENT script"), ("<h2", '<p data-fixed="contact">9</p><h2', "DIGITS contact"),
-    ("<h2", '<b data-fixed="date">99,5</b><h2', "DIGITS date"), ("<h2", '<b data-fixed="hash">9</b><h2', "DIGITS hash"),
-    ("<h2", '<b data-fixed="2024-12">9</b><h2', "DIGITS 2024-12"),
-    ("<h2", '<b data-fixed="identity">00000099.PAD.01.04</b><h2', "DIGITS identity"),
-    (">333,6<", ">333,7<", "DIFFERS page of_user,1,1,heat,kWh"), (">333,6<", ">333,6 5<", "DIFFERS page"),
-    (">3.307,50<", ">3,307.50<", "DIFFERS"), ('"change">-4<', '"change">4<', "DIFFERS page change"),
-    ('data-text="333.6"', 'data-text="333.7"', "DIFFERS"), ('data-mark="hand"', 'data-mark="measured"', "DIFFERS"),
-    ('"of_user,2,1,heat,kWh"', '"of_user,9,1,heat,kWh"', "UNKNOWN of_user,9,1"),
-    ('data-key="carbon,1,1,heat"', 'data-key="carbon,1,1,allocator"', "LACKS carbon,1,1,heat"))
+    ('data-user="1"', 'data-user="2"', "Line"), ('data-label="2025-01"', 'data-label="2025-02"', "Main"),
+    ("<h2", "<h2>9</h2><h2", "Digits"), ("<h2", "<h2>&#57;</h2><h2", "Digits"),
+    ("<h2", "<h2>\uff19</h2><h2", "Digits"), ("<h2", '<h2 title="9"', "Element"),
+    ("<style>", "<style>h2::after { content: '9' }", "Digits"), ("<h2", "<!-- 9 --><h2", "Element"),
+    ("<h2", "<script></script><h2", "Element"), ("<h2", '<p data-fixed="contact">9</p><h2', "Fixed"),
+    ("<h2", '<b data-fixed="date">99,5</b><h2', "Element"), ("<h2", '<p data-fixed="date">99,5</p><h2', "Fixed"),
+    ("<h2", '<p data-fixed="hash">9</p><h2', "Fixed"), ("<h2", '<p data-fixed="2024-12">9</p><h2', "Fixed"),
+    ("<h2", '<p data-fixed="identity">00000099.PAD.01.04</p><h2', "Fixed"), (">333,6<", ">333,7<", "Number"),
+    (">333,6<", ">333,6 5<", "Number"), (">3.307,50<", ">3,307.50<", "Number"), (">-4<", ">4<", "Number"))
 
 
 @pytest.fixture
@@ -89,20 +84,22 @@ def test_a_key_says_what_its_line_says() -> None:
 
 
 def test_each_digit_was_accepted(office: Office, elm: Supplied, tmp_path: pathlib.Path) -> None:
-    """Of all sheets, in both languages: a number is a line of the sheet's own file, and no other digit stands there
-    (page_check says when); of the house's page: it is published, or in a date or a name."""
+    """Of all sheets, in both languages: a number is that of a line of the sheet's own file, and no other digit stands
+    there; of the house's page: it is published, or in a date or a name."""
     furnish(office, elm)
     office.sql("UPDATE tenancies SET language = 'en' WHERE id % 2 = 0")
     audit_months(office, elm)
     assert office.run("sheets", "2025-01", "--out", str(tmp_path), "--pdf", "none", "--language", "en").status == 0
     pages = [sheet_of(office, tmp_path, tenancy) for tenancy in (1, 2, 3, 4)]
     for path in pages:
-        lines = path.with_suffix(".audit").read_text(encoding="ascii").splitlines()
-        assert not faults(path.read_text(encoding="utf-8"), lines), path
-    text, file = (pages[0].with_suffix(it).read_text(encoding="utf-8") for it in (".html", ".audit"))
-    for right, wrong, fault in CHEATS:
-        found = faults(text.replace(right, wrong, 1), file.splitlines())
-        assert right in text and any(it.startswith(fault) for it in found), (wrong, found)
+        assert not faults(path), path
+    text, lines = (pages[0].with_suffix(it).read_text(encoding="utf-8") for it in (".html", ".audit"))
+    carbon = 1 + next(at for at, line in enumerate(lines.splitlines()) if line.startswith("carbon,1,1,heat,"))
+    named = f'data-line="{carbon}"'
+    for right, wrong, fault in (*CHEATS, (named, named.replace(str(carbon), "1"), "Line")):
+        found = faults(pages[0], text.replace(right, wrong, 1))
+        assert right in text and any(it.endswith(f" {fault}") for it in found), (wrong, found)
+    assert f"PAGE lacks line {carbon}" in faults(pages[0], text.replace(named, "id=\"x\""))
     known = {Catalogue("en", "UTC").printed(row[0]) for row in office.sql("SELECT text FROM published UNION SELECT"
              " unnest(string_to_array(mark, ' ')) FROM published WHERE kind = 'house'")}
     seen = NAMES.sub(" ", " ".join(Page((tmp_path / "houses/elm-1.html").read_text(encoding="utf-8")).seen))
@@ -111,11 +108,21 @@ def test_each_digit_was_accepted(office: Office, elm: Supplied, tmp_path: pathli
 
 
 def test_what_is_stored(office: Office, elm: Supplied, tmp_path: pathlib.Path) -> None:
-    """The file, its hash, the program and its hash; the file lies beside the sheets; the same numbers are one audit."""
-    elm.tenancy("A1", "2023-01-01", None)
+    """Nothing goes out without an audit: the file, its hash, the program and its hash; the file lies beside the sheets;
+    the same numbers are one audit."""
+    tenancy = elm.tenancy("A1", "2023-01-01", None)
     elm.months()
+    for query in ("SELECT release_month('elm-1', '2025-01-01')", "SELECT release_bill('elm-1',"
+                  " '[2025-01-01,2025-02-01)')",
+                  f"INSERT INTO sheets (tenancy, month, form, path, sha256) VALUES ({tenancy}, '2025-01-01', 'html',"
+                  " 'x', 'x')"):
+        assert '"has_an_audit"' in refused(office, query), query
+    assert office.run("bill", "elm-1", "2025-01").status == 5
     published(office)
     published(office)
+    for query in ("UPDATE audits SET says = 'numbers 1, differ 0, refused 0,'", "DELETE FROM audits", "UPDATE audits"
+                  " SET file = 'x'"):
+        assert "is out" in refused(office, query), query
     file, sha256, program, program_sha256, says = office.sql("SELECT file, sha256, program, program_sha256, says FROM"
                                                              " audits")[0]
     assert hashlib.sha256(bytes(file)).hexdigest() == sha256 and program.startswith("mbdc ")
@@ -126,6 +133,10 @@ def test_what_is_stored(office: Office, elm: Supplied, tmp_path: pathlib.Path) -
     assert office.sql("SELECT DISTINCT s.audit = a.id FROM sheets s, audits a") == [(True,)]
     lines = bytes(file).decode().splitlines()
     assert lines[0] == "audit,2,2025-01" and lines[-1] == "end" and sum(line.startswith("span,") for line in lines) == 3
+    for columns in ("convert_to('other', 'UTF8'), sha256", "file, repeat('0', 64)", "NULL, sha256"):
+        query = ("INSERT INTO audits (house, month, version, file, sha256, program, program_sha256, says)"
+                 f" SELECT house, month, version, {columns}, program, program_sha256, says FROM audits")
+        assert re.search("is_its_file|without its file", refused(office, query, role="publisher")), columns
     elm.month("2025-01")  # computed anew: what was accepted says nothing of it
     assert office.run("sheets", "2025-01", "--out", str(tmp_path), "--pdf", "none").status == 5
     assert office.sql("SELECT count(*) FROM audits_now") == [(0,)]
@@ -203,21 +214,6 @@ def test_an_average_over_several_houses(office: Office, elm: Supplied, tmp_path:
     assert office.run("sheets", "2025-01", "--out", str(tmp_path), "--pdf", "none").status == 0
     assert "It covers several houses. Your property manager states it;" in sheet_of(office, tmp_path,
                                                                                     tenancy).read_text(encoding="utf-8")
-
-
-def test_nothing_goes_out_without_an_audit(office: Office, elm: Supplied) -> None:
-    tenancy = elm.tenancy("A1", "2023-01-01", None)
-    elm.months()
-    for query in ("SELECT release_month('elm-1', '2025-01-01')", "SELECT release_bill('elm-1',"
-                  " '[2025-01-01,2025-02-01)')",
-                  f"INSERT INTO sheets (tenancy, month, form, path, sha256) VALUES ({tenancy}, '2025-01-01', 'html',"
-                  " 'x', 'x')"):
-        assert '"has_an_audit"' in refused(office, query), query
-    assert office.run("bill", "elm-1", "2025-01").status == 5
-    published(office)
-    for query in ("UPDATE audits SET says = 'numbers 1, differ 0, refused 0,'", "DELETE FROM audits", "UPDATE audits"
-                  " SET file = 'x'"):
-        assert "is out" in refused(office, query), query
 
 
 def test_a_draft_says_so(office: Office, elm: Supplied, tmp_path: pathlib.Path) -> None:
@@ -352,8 +348,8 @@ def test_a_number_that_its_audit_file_does_not_have(office: Office, elm: Supplie
         elm.month(month)
         published(office, month)
     assert office.run("publish", "elm-1", "2025-01", "--bill").status == 0
-    office.sql("INSERT INTO published (audit, house, month, version, tenancy, kind, use, text, mark) SELECT audit, house,"
-               " month, version, tenancy, 'chart', use, '1', mark FROM published WHERE kind = 'month' AND"
+    office.sql("INSERT INTO published (audit, house, month, version, tenancy, kind, use, text, mark) SELECT audit,"
+               " house, month, version, tenancy, 'chart', use, '1', mark FROM published WHERE kind = 'month' AND"
                " month = '2025-01-01' LIMIT 1")  # as an office of 0.2.0 has it
     assert office.run(*words).status == 0
     files = {path: path.stat().st_mtime_ns for path in tmp_path.rglob("*.*")}
@@ -384,20 +380,8 @@ def test_a_number_that_its_audit_file_does_not_have(office: Office, elm: Supplie
     assert "A1,heat" in office.run("bill", "elm-1", "2025-01").printed
 
 
-def test_an_audit_is_its_file(office: Office, elm: Supplied) -> None:
-    elm.month("2025-01")
-    published(office, "2025-01")
-    for columns in ("convert_to('other', 'UTF8'), sha256", "file, repeat('0', 64)", "NULL, sha256"):
-        query = ("INSERT INTO audits (house, month, version, file, sha256, program, program_sha256, says)"
-                 f" SELECT house, month, version, {columns}, program, program_sha256, says FROM audits")
-        assert re.search("is_its_file|without its file", refused(office, query, role="publisher")), columns
-
-
 @pytest.mark.parametrize("counts, german, english", [
-    ((4, 0, 0), "Telegrammen der Zähler (4).", "telegrams of the meters (4)."),
     ((0, 4, 0), "von Hand eingetragenen Werten (4).", "values put by hand (4)."),
-    ((3, 1, 0), "Telegrammen der Zähler (3) und von Hand eingetragenen Werten (1).", "telegrams of the meters (3) and"
-     " values put by hand (1)."),
     ((3, 1, 2), "Telegrammen der Zähler (3), von Hand eingetragenen Werten (1) und Schätzungen (2).",
      "telegrams of the meters (3), values put by hand (1) and estimates (2).")])
 def test_a_sheet_says_what_its_audit_counted(counts: Tuple[int, int, int], german: str, english: str) -> None:

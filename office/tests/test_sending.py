@@ -6,10 +6,9 @@ import subprocess
 
 import pytest
 from conftest import Office, sendmail
-from page_check import faults
 from supplied import HEAT, Supplied
 from test_schema import refused
-from test_sheets import HOSTILE, checked, sheet_of
+from test_sheets import HOSTILE, checked, faults, sheet_of
 
 LINK = ("--link", "https://office.example/sheets")
 
@@ -96,7 +95,7 @@ def test_a_corrected_sheet_says_what_changed_and_why(office: Office, elm: Suppli
     old_path = sheet_of(office, out, tenancy, "2025-01.1")
     old = old_path.read_text(encoding="utf-8")
     assert 'Replaced by version <bdi><address data-fixed="contact">2</address></bdi>.</div>' in old
-    assert not faults(old, old_path.with_suffix(".audit").read_text(encoding="ascii").splitlines())
+    assert not faults(old_path)
     assert checked(old).cells["heat", "2025-01-01"].split() == ["310.0"]
     assert sent(office) == "A1 2 sent weber@example.org"
     assert "Corrected consumption information January 2025" in max(tmp_path.glob("mail.*"),

@@ -2,14 +2,15 @@
 
 import datetime
 import hashlib
-import html.parser
 import pathlib
 import re
 import subprocess
-from typing import Any, Dict, List, Optional, Tuple
+import tempfile
+from typing import Any, List
 
 import pytest
 from conftest import OFFICE, Office
+from people import pages
 from supplied import ALLOCATOR, COLD, HEAT, WATER, Supplied, at
 
 from program import audited
@@ -18,41 +19,29 @@ HOSTILE = ("O'Brien \"<script>alert(1)</script>\" {{ 1000003*7 }} \u202eevil\u20
            " 'DROP TABLE readings; --")
 
 
-class Page(html.parser.HTMLParser):
-    """The cells of a page's tables by use and month, its links, ids and tags, and what a reader sees."""
+class Page(pages.Page):
+    """A page, also with its links, ids and tags, and what a reader sees."""
 
     def __init__(self, text: str) -> None:
-        super().__init__(convert_charrefs=True)
-        self.cells: Dict[Tuple[str, str], str] = {}
         self.links: List[str] = []
         self.ids: List[str] = []
         self.wanted: List[str] = []
         self.tags: List[str] = []
         self.seen: List[str] = []
-        self.use, self.cell = "", None  # type: Tuple[str, Optional[Tuple[str, str]]]
-        self.feed(text)
-        self.close()
+        super().__init__(text)
 
     def handle_starttag(self, tag: str, attrs: Any) -> None:
+        super().handle_starttag(tag, attrs)
         of = dict(attrs)
         self.tags.append(tag)
-        if tag == "tr":
-            self.use = of.get("data-use", "")
-        if tag in ("td", "th"):
-            self.cell = (self.use, of["data-month"]) if "data-month" in of else None
         if tag == "a":
             self.links.append(of.get("href", ""))
         self.ids += [of["id"]] if "id" in of else []
         self.wanted += of.get("aria-labelledby", "").split()
 
-    def handle_endtag(self, tag: str) -> None:
-        if tag == "td":
-            self.cell = None
-
     def handle_data(self, data: str) -> None:
+        super().handle_data(data)
         self.seen += [data.strip()] if self.tags[-1:] != ["style"] else []
-        if self.cell is not None:
-            self.cells[self.cell] = self.cells.get(self.cell, "") + data
 
 
 def checked(text: str) -> Page:
@@ -99,7 +88,7 @@ def elm(office: Office) -> Supplied:
         made.days(made.meter(number, HEAT, flat, area=40 + 10 * number, since=at("2023-12-01T00:00")), "2023-12-29",
                   403, 1_000_000, 10_000 * number)
         water = made.meter(10 + number, WATER, flat, area=40 + 10 * number)
-        made.values(water, {"2023-12-31": 1, "2024-01-31": 3, "2024-11-30": 20, "2024-12-31": "22.5", "2025-01-31": 26,
+        made.values(water, {"2023-12-31": 1, "2024-01-31": 6, "2024-11-30": 20, "2024-12-31": "22.5", "2025-01-31": 26,
                             "2025-02-01": 26}, "m3")
         made.days(made.meter(20 + number, COLD, flat, area=40 + 10 * number), "2024-12-30", 40, 7, 1, "m3")
     office.sql("INSERT INTO factors (house, use, months, kwh_per_unit)"
@@ -113,6 +102,17 @@ def sheet_of(office: Office, out: pathlib.Path, tenancy: int, month: str = "2025
     token = office.sql("SELECT token FROM tenancies WHERE id = %s", tenancy)[0][0]
     path = f"sheets/{token}/{month}.{form}"
     return out / "ready" / path if (out / "ready" / path).exists() else out / path
+
+
+def faults(path: pathlib.Path, text: str = "") -> List[str]:
+    """What `mbdc audit --sheet` finds wrong with a sheet beside its file, or with this text in its place."""
+    with tempfile.NamedTemporaryFile("w", suffix=".html", encoding="utf-8") as page:
+        page.write(text or path.read_text(encoding="utf-8"))
+        page.flush()
+        found = audited(path.with_suffix(".audit").read_text(encoding="ascii").splitlines(), "--sheet", page.name)
+    wrong = [line for line in found.lines if line.startswith("PAGE ")]
+    assert found.holds == (not wrong)
+    return wrong
 
 
 def read_sheet(office: Office, out: pathlib.Path, tenancy: int, month: str = "2025-01") -> Page:
@@ -140,7 +140,7 @@ def test_a_sheet(office: Office, elm: Supplied, tmp_path: pathlib.Path) -> None:
     assert page.cells["heat", "2024-12-01"].split() == page.cells["heat", "2024-01-01"].split() == ["310,0"]
     assert page.cells["heat", "average"].split() == [f"{310 * 10 * 50 / (50 + 60 + 70 + 80):.1f}".replace(".", ",")]
     assert page.cells["warm water", "2025-01-01"].split() == ["437,5"]
-    assert page.cells["warm water", "2024-01-01"].split() == ["250,0"]
+    assert page.cells["warm water", "2024-01-01"].split() == ["625,0"]
     assert page.cells["cold water", "2025-01-01"].split() == ["31,00"]
     assert "nicht gelesen" in page.cells["cold water", "2024-01-01"]
     noted = office.sql("SELECT form, path, sha256, made_by FROM sheets")
@@ -288,16 +288,14 @@ def test_a_sheet_has_its_file(office: Office, elm: Supplied, tmp_path: pathlib.P
         assert len(own) >= 11 and len(days) - len(own) == (3 if tenancy == other else 1), days
 
 
-def test_a_folder_that_cannot_be_written(office: Office, elm: Supplied, tmp_path: pathlib.Path) -> None:
-    (tmp_path / "houses").write_text("a file")
-    published(office)
-    assert "houses" in office.run("sheets", "2025-01", "--out", str(tmp_path)).ok(3)
-
-
 def test_nothing_is_served_before_it_is_out(office: Office, elm: Supplied, tmp_path: pathlib.Path) -> None:
     """A page lies in ready/ until its release is committed, a corrected one too; what runs next ends a cut-off one."""
     tenancy = elm.tenancy("A1", "2023-01-01", None)
     elm.month("2025-01")
+    published(office)
+    (tmp_path / "houses").write_text("a file")
+    assert "houses" in office.run("sheets", "2025-01", "--out", str(tmp_path), "--pdf", "none").ok(3)
+    (tmp_path / "houses").unlink()
     written(office, tmp_path, "--pdf", "none")
     out = tmp_path / sheet_of(office, tmp_path, tenancy).relative_to(tmp_path / "ready")
     assert not (tmp_path / "sheets").exists() and sheet_of(office, tmp_path, tenancy) != out
@@ -320,24 +318,6 @@ def test_nothing_is_served_before_it_is_out(office: Office, elm: Supplied, tmp_p
 
 # ---- what a sheet says beside its amounts: per cent, emissions, costs, the weather, how an estimate was made
 
-@pytest.fixture
-def januaries(office: Office) -> Supplied:
-    """Three flats with two Januaries: 10 kWh a day in 2025 times the flat's number, a fifth more the year before."""
-    made = Supplied(office)
-    for number in (1, 2, 3):
-        heat = made.meter(number, HEAT, f"A{number}", since=at("2023-12-01T00:00"))
-        made.days(heat, "2023-12-29", 40, 1_000_000, 12_000 * number)
-        made.days(heat, "2024-11-25", 75, 5_000_000, 10_000 * number)
-    water = made.meter(11, WATER, "A1")
-    made.values(water, {"2024-12-31": "22.5", "2025-01-31": 26, "2025-02-01": 26}, "m3")
-    office.sql("INSERT INTO factors (house, use, months, kwh_per_unit, source) VALUES ('elm-1', 'warm water',"
-               " '[2023-01-01,)', 125, 'HeizkostenV 9')")
-    office.sql("UPDATE houses SET postcode = '10115', co2_g_per_kwh = 201.5, primary_factor = 0.7, fuel_mix ="
-               " '{\"Erdgas\": 0.85, \"Holz\": \"Rest\"}',"
-               " contact = 'Büro Ulme', advice = %s, complaints = 'Schlichtungsstelle'", HOSTILE)
-    return made
-
-
 def sentences(text: str) -> List[str]:
     return [re.sub(r"<[^>]*>", "", it).strip() for it in re.findall(r"<li>(.*?)</li>", text, re.S)]
 
@@ -349,13 +329,17 @@ def sheet(office: Office, out: pathlib.Path, tenancy: int) -> str:
     return text
 
 
-def test_what_stands_beside_the_numbers(office: Office, januaries: Supplied, tmp_path: pathlib.Path) -> None:
-    """By the exact amounts: 310 kWh against 372 and 310; 437.5 kWh of warm water."""
-    tenancy = januaries.tenancy("A1", "2023-01-01", None)
-    januaries.months()
+def test_what_stands_beside_the_numbers(office: Office, elm: Supplied, tmp_path: pathlib.Path) -> None:
+    """By the exact amounts: three times 310 kWh; 437.5 kWh of warm water against 625 and 312.5."""
+    tenancy = elm.tenancy("A1", "2023-01-01", None)
+    office.sql("UPDATE houses SET postcode = '10115', co2_g_per_kwh = 201.5, primary_factor = 0.7, fuel_mix ="
+               " '{\"Erdgas\": 0.85, \"Holz\": \"Rest\"}',"
+               " contact = 'Büro Ulme', advice = %s, complaints = 'Schlichtungsstelle'", HOSTILE)
+    elm.months()
     text = sheet(office, tmp_path, tenancy)
     said = sentences(text)
-    assert said[0] == "Heizung: -17 % gegenüber Januar 2024, so viel wie Dezember 2024 (0 %)"
+    assert said[:2] == ["Heizung: so viel wie Januar 2024 (0 %), so viel wie Dezember 2024 (0 %)",
+                        "Warmwasser: -30 % gegenüber Januar 2024, 40 % mehr als Dezember 2024"]
     assert "Heizung: 62,5 kg Kohlendioxid" in said and "Warmwasser: 88,2 kg Kohlendioxid" in said
     assert "85 %" in text and "Rest" in text and ">201,5</span> g/kWh" in text and ">125</span> kWh je m³" in text
     assert "Büro Ulme" in text and "Schlichtungsstelle" in text and "&lt;script&gt;" in text and "Kosten" not in text
@@ -370,22 +354,23 @@ def test_what_stands_beside_the_numbers(office: Office, januaries: Supplied, tmp
     said = sentences(sheet(office, tmp_path, tenancy))
     # the price of water is of another unit
     assert "Heizung: 35,50 € (11,45 Cent je kWh)" in said and sum("€" in it for it in said) == 1
-    assert "Heizung: Januar 2024 hätte beim Wetter dieses Monats 297,6 kWh gebraucht" in said
+    assert "Heizung: Januar 2024 hätte beim Wetter dieses Monats 248,0 kWh gebraucht" in said
     assert office.run("sheets", "2025-01", "--out", str(tmp_path), "--pdf", "none", "--release").status == 0
     assert office.sql("SELECT use, kind, text, mark FROM published WHERE mark IN ('cost', 'carbon', 'weather')"
                       " AND audit = (SELECT audit FROM versions) ORDER BY use, kind") == [
-        ("heat", "co2", "62.5", "carbon"), ("heat", "cost", "35.50", "cost"), ("heat", "weather", "297.6", "weather"),
+        ("heat", "co2", "62.5", "carbon"), ("heat", "cost", "35.50", "cost"), ("heat", "weather", "248.0", "weather"),
         ("warm water", "co2", "88.2", "carbon")]
 
 
-def test_how_an_estimate_was_made(office: Office, januaries: Supplied, tmp_path: pathlib.Path) -> None:
+def test_how_an_estimate_was_made(office: Office, elm: Supplied, tmp_path: pathlib.Path) -> None:
     """By flats of the house; and where readings are too far apart, between which moments."""
-    estimated, spread = januaries.tenancy("A1", "2024-06-01", None), januaries.tenancy("A2", "2024-06-01", None)
-    for flat, days in (("A1", "day > '2025-01-20'"), ("A2", "day BETWEEN '2025-01-29' AND '2025-02-03'")):
+    estimated, spread = elm.tenancy("A1", "2024-06-01", None), elm.tenancy("A2", "2024-06-01", None)
+    for flat, days in (("A1", "day > '2025-01-20'"), ("A2", "day BETWEEN '2025-01-29' AND '2025-02-02'")):
         office.sql("DELETE FROM day_values d USING fittings f, places p WHERE f.id = d.fitting AND p.id = f.place AND"
                    f" p.use = 'heat' AND p.flat = %s AND {days}", flat)
-    januaries.month("2025-01")
+    office.sql("DELETE FROM month_use WHERE month = '2024-01-01'")
+    elm.month("2025-01")
     assert office.run("estimate", "2025-01").status == 0
     assert "Heizung: geschätzt nach: Wohnungen des Hauses" in sentences(sheet(office, tmp_path, estimated))
     said = sentences(sheet_of(office, tmp_path, spread).read_text(encoding="utf-8"))
-    assert "Heizung: geschätzt: kein Messwert zwischen 28.01.2025, 24:00 und 04.02.2025, 24:00" in said
+    assert "Heizung: geschätzt: kein Messwert zwischen 28.01.2025, 24:00 und 03.02.2025, 24:00" in said

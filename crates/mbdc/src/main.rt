@@ -17,6 +17,7 @@ mod pointed;
 mod poll;
 mod rescue;
 mod script;
+mod sheet;
 mod system;
 mod table;
 mod tasks;

@@ -11,6 +11,7 @@ use crate::order::order_on_image;
 use crate::poll::poll_on_image;
 use crate::rescue::rescue_image;
 use crate::script::run_on_image;
+use crate::sheet::audit_sheet;
 use crate::system::System;
 use dc_poller::fold_lines;
 use mbdc_audit::{audit, fill};
@@ -59,6 +60,7 @@ where
             file: Some(name),
         } => work_on(host, system, *engine, name),
         Task::Lines { engine, file: None } => work_on(host, system, *engine, STREAM),
+        Task::Sheet { page, file } => audit_sheet(host, system, page, file),
         Task::Format { image, sectors } => format_image(system, image, *sectors),
         Task::Run(task) => run_on_image(host, task),
         Task::Report {

@@ -42,6 +42,10 @@ pub fn call_of<'a>(alloc: Global, words: &'a [String]) -> Result<Call<'a>, Words
             file: None,
         },
         Some((name, inner)) => match name {
+            "audit" if inner.get_str("PAGE").is_some() => Task::Sheet {
+                page: file_of(inner, "PAGE")?,
+                file: file_of(inner, "FILE")?,
+            },
             "decode" | "fold" | "audit" => lines_task(name, inner),
             "demo" => Task::Demo,
             "scan" | "read" | "address" => bus_task(name, inner)?,

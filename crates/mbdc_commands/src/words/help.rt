@@ -77,8 +77,9 @@ Printed: OK, ORDER last, REFUSED fault or SYNTAX for each; then METER ident line
 Faults: 1 Unknown, 2 Known, 3 AddressTaken, 4 Beyond, 5 Full";
 
 /// Of `audit`.
-pub const AUDIT: &str = "Example:
+pub const AUDIT: &str = "Examples:
   mbdc audit example.audit
+  mbdc audit --sheet 2026-10.html 2026-10.audit
 
 Lines of the file: what is declared of a house and its spans; then each place
   with its meters, the telegrams and other values that decide a span, its parts
@@ -90,6 +91,11 @@ Printed: AS line n, with a device type that the office chose; RULE line n, with
   values by hand, estimates and struck values. With --fill the file with what
   holds in the place of each ? (a text, also ?.0 to ?.000 for decimals; a mark;
   a count of a house), and on standard error what differs and why it is refused.
+With --sheet also PAGE line n, with what of a tenant's page isn't the file's:
+  Number (not that of the line that it names), Line (it names none that it may
+  show), Digits (they name none), Fixed (no date, identity, hash, copy of an
+  older number), Element, Main (another user or month); and PAGE lacks line n,
+  of a number of the user's that the page leaves out. Neither may be -.
 Faults: LINE n FAULT 1 Header, 2 Row, 3 Order, 6 Unit, 7 Fact (not declared, or
   twice), 8 TooMany, 9 TooLarge, 10 End, and nothing after it.
 Status: 0 where every number holds and every value has evidence, else 1";

@@ -257,6 +257,14 @@ const LINES: &[CommandRow] = &[
                 ..FLAG
             },
             Row {
+                id: "PAGE",
+                long: Some("sheet"),
+                values: &["PAGE"],
+                help: "Also compares this tenant's page with the file",
+                others: &["FILL"],
+                ..OPTION
+            },
+            Row {
                 id: "FILE",
                 help: "Lines of telegrams and published numbers",
                 ..WORD

@@ -140,6 +140,13 @@ pub enum Task<'a> {
         /// The file's name.
         file: Option<&'a str>,
     },
+    /// A tenant's page beside its audit file.
+    Sheet {
+        /// The page's file.
+        page: &'a str,
+        /// The audit file.
+        file: &'a str,
+    },
     /// An image of an empty register, in a file.
     Format {
         /// The file's name.

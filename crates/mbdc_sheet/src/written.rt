@@ -1,0 +1,93 @@
+//! Numbers as a language writes them.
+
+ghost use Rattle.std.specs.Prelude.{◌≡◌, option_map};
+ghost use Rattle.mbdc_sheet.specs.Parts.{left_parts};
+ghost use Rattle.mbdc_sheet.specs.Written.{after_decimals, grouped, has_mark, shows, stripped};
+
+use crate::parts::first_part;
+use crate::text::is_quiet;
+
+/// The marks between thousands and before decimals.
+#[derive(Clone, Copy)]
+pub(crate) struct Marks {
+    pub thousands: u8,
+    pub decimals: u8,
+}
+
+// Whether a mark stands after a digit, by how many digits follow it.
+fn has_mark(digit: u8, more: usize) -> bool
+    ensures { result ≡ has_mark digit more }
+{
+    more > 0 && more % 3 == 0 && digit != b'-'
+}
+
+/// What is left of a text after another one, with which it begins.
+pub(crate) fn strip<'t>(prefix: &[u8], text: &'t [u8]) -> Option<&'t [u8]>
+    ensures { option_map (λ t. t.now) result ≡ stripped prefix.now text.now }
+{
+    let [byte, prefix @ ..] = prefix else {
+        return Some(text);
+    };
+    let [first, text @ ..] = text else {
+        return None;
+    };
+    if byte == first {
+        strip(prefix, text)
+    } else {
+        None
+    }
+}
+
+// What is left of a text after digits with a mark before each third one.
+fn strip_grouped<'t>(mark: u8, digits: &[u8], text: &'t [u8]) -> Option<&'t [u8]>
+    ensures { option_map (λ t. t.now) result ≡ stripped (grouped mark digits.now) text.now }
+{
+    let [digit, digits @ ..] = digits else {
+        return Some(text);
+    };
+    let [first, text @ ..] = text else {
+        return None;
+    };
+    if digit != first {
+        return None;
+    }
+    if !has_mark(*digit, digits.len()) {
+        return strip_grouped(mark, digits, text);
+    }
+    match text {
+        [second, text @ ..] if *second == mark => strip_grouped(mark, digits, text),
+        _ => None,
+    }
+}
+
+// What is left of a text after the decimals of a number, if it has any.
+fn strip_decimals<'t>(mark: u8, decimals: Option<&[u8]>, text: &'t [u8]) -> Option<&'t [u8]>
+    ensures { option_map (λ t. t.now) result
+        ≡ after_decimals mark (left_parts 46 (option_map (λ d. d.now) decimals.entry)) text.now }
+{
+    let Some(decimals) = decimals else {
+        return Some(text);
+    };
+    let (decimals, _) = first_part(decimals, b'.');
+    match text {
+        [first, text @ ..] if *first == mark => strip(decimals, text),
+        _ => None,
+    }
+}
+
+/// Whether a text shows a number.
+pub(crate) fn shows(marks: Marks, number: &[u8], text: &[u8]) -> bool
+    ensures { result ≡ shows marks number.now text.now }
+{
+    if number == "-".as_bytes() {
+        return is_quiet(text);
+    }
+    let (whole, decimals) = first_part(number, b'.');
+    let Some(rest) = strip_grouped(marks.thousands, whole, text) else {
+        return false;
+    };
+    match strip_decimals(marks.decimals, decimals, rest) {
+        Some(rest) => is_quiet(rest),
+        None => false,
+    }
+}
