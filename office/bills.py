@@ -27,8 +27,7 @@ SMALLEST = "smallest"
 HELD = "held"
 PRINTED = f"""
 SELECT p.tenancy, {KEY}, p.text FROM published p
-JOIN bills b ON (b.house, b.days, b.version) = (p.house, p.days, p.version)
-WHERE (p.house, p.days, p.version) = (%s, %s, %s) AND p.audit IS NOT DISTINCT FROM b.audit ORDER BY p.id"""
+WHERE (p.house, p.days, p.version) = (%s, %s, %s) AND p.audit IS NOT DISTINCT FROM %s ORDER BY p.id"""
 OUT = "SELECT audit FROM bills WHERE (house, days, version) = (%s, %s, %s) AND out_at IS NOT NULL"
 VERSION = "SELECT version, out_at IS NOT NULL FROM bills_now WHERE (house, days) = (%s, %s)"
 ZONE = "SELECT zone FROM houses WHERE house = %s"
@@ -162,18 +161,19 @@ def printed(cursor: Cursor, house: str, days: DateRange, version: int) -> List[R
     out = row_of(cursor, OUT, house, days, version)
     if out is None:
         raise LookupError(f"version {version} of this bill isn't out")
-    return compared(cursor, house, out.audit, rows_in(rows_of(cursor, PRINTED, house, days, version)))
+    return compared(cursor, house, days, version, out.audit)
 
 
-def accepted(cursor: Cursor, house: str, days: DateRange) -> Optional[List[Row]]:
+def accepted(cursor: Cursor, house: str, days: DateRange, version: int) -> Optional[List[Row]]:
     """The rows of the present version as they were audited; None without an audit. Raises NotComputed, as compared."""
     audit = value_of(cursor, "SELECT id FROM audits_now WHERE (house, days) = (%s, %s)", house, days)
-    return None if audit is None else compared(cursor, house, audit, rows_in(
-        rows_of(cursor, f"SELECT p.tenancy, {KEY}, p.text FROM published p WHERE p.audit = %s ORDER BY p.id", audit)))
+    return None if audit is None else compared(cursor, house, days, version, audit)
 
 
-def compared(cursor: Cursor, house: str, audit: Optional[int], found: List[Row]) -> List[Row]:
-    """These rows. Raises NotComputed where one has a number that the bill's audit file, if it is kept, doesn't have."""
+def compared(cursor: Cursor, house: str, days: DateRange, version: int, audit: Optional[int]) -> List[Row]:
+    """The rows of a version by its audit. Raises NotComputed where one has a number that the audit's file, if it is
+    kept, doesn't have."""
+    found = rows_in(rows_of(cursor, PRINTED, house, days, version, audit))
     lines, zone = file_of(cursor, audit), zoneinfo.ZoneInfo(value_of(cursor, ZONE, house))
     wrong = None if lines is None else Facts(lines, lambda it: local(int(it), zone)).lacks(
         it for row in found for it in numbers_of(row))

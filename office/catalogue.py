@@ -10,10 +10,6 @@ from typing import Dict, NamedTuple, Optional, Tuple
 
 FILE = pathlib.Path(__file__).resolve().parent / "templates/words.txt"
 LANGUAGES = ("de", "en")
-MONTHS = {"de": ("Januar", "Februar", "März", "April", "Mai", "Juni", "Juli", "August", "September", "Oktober",
-                 "November", "Dezember"),
-          "en": ("January", "February", "March", "April", "May", "June", "July", "August", "September", "October",
-                 "November", "December")}
 MARKS: Dict[str, Dict[int, Optional[int]]] = {"de": str.maketrans(",.", ".,"), "en": {}}  # thousands, decimals
 DECIMALS = {"kWh": 1, "m³": 2, "HCA": 1}  # of a consumption
 PUBLISHED = re.compile(r"-?[0-9]+(\.[0-9]+)?")
@@ -69,10 +65,10 @@ class Catalogue(NamedTuple):
         return self.word(name) if name in texts() else name
 
     def month(self, month: datetime.date) -> str:
-        return f"{MONTHS[self.language][month.month - 1]} {month.year}"
+        return f"{self.word('month_names').split()[month.month - 1]} {month.year}"
 
     def short_month(self, month: datetime.date) -> str:
-        return f"{MONTHS[self.language][month.month - 1][:3]}"
+        return self.month(month)[:3]
 
     def day(self, day: datetime.date) -> str:
         if self.language == "de":
@@ -99,11 +95,6 @@ class Catalogue(NamedTuple):
         last = self.local(ends - datetime.timedelta(microseconds=1))
         return f"{self.day(self.local(begins).date())} – {self.day(last.date())}"
 
-    def number(self, number: decimal.Decimal, decimals: int) -> str:
-        """Rounded half up."""
-        rounded = number.quantize(decimal.Decimal(1).scaleb(-decimals), rounding=decimal.ROUND_HALF_UP)
-        return self.marked(f"{rounded:,f}")
-
     def printed(self, text: str) -> str:
         """A number that was published, as the reader writes it; other text as it is."""
         return self.marked(f"{decimal.Decimal(text):,f}") if PUBLISHED.fullmatch(text) else text
@@ -124,8 +115,9 @@ class Catalogue(NamedTuple):
         return text.translate(MARKS[self.language])
 
     def amount(self, number: decimal.Decimal, unit: str) -> str:
-        """A consumption in kWh, cubic metres or an allocator's units, without its unit."""
-        return self.number(number, DECIMALS[unit])
+        """A consumption in kWh, cubic metres or an allocator's units, without its unit, rounded half up."""
+        places = decimal.Decimal(1).scaleb(-DECIMALS[unit])
+        return self.marked(f"{number.quantize(places, rounding=decimal.ROUND_HALF_UP):,f}")
 
     def unit_of_reading(self, unit: str) -> str:
         """The unit that a meter's value is printed in."""

@@ -14,7 +14,7 @@ from database import Database, plain
 from periods import month_word, next_month, period_word
 from program import NotComputed
 
-LONGEST_FAULT, LONGEST_WHY = 1000, 300
+LONGEST_FAULT = 1000
 USAGE, FAILED, NO_DATABASE = 2, 3, 4
 STATUSES = "Status: 0 done, 2 usage or no such name, 3 the program failed, 4 the database wasn't reached or refused it."
 SECONDS = 3600  # a transaction may wait for a program
@@ -122,6 +122,6 @@ def refusal(sendmail: str, to: List[str], subject: str, text: str, sender: Optio
         done = subprocess.run([sendmail, "-t", "-i"], input=bytes(message), stderr=subprocess.PIPE, check=False,
                               timeout=MAIL_SECONDS)
     except Exception as fault:  # of any kind, as a header that can't be written: others get their mails
-        return plain(str(fault) or repr(fault), LONGEST_WHY)
+        return plain(str(fault) or repr(fault))
     said = done.stderr.decode(errors="replace") or done.returncode
-    return plain(f"sendmail: {said}", LONGEST_WHY) if done.returncode else ""
+    return plain(f"sendmail: {said}") if done.returncode else ""

@@ -16,6 +16,7 @@ It = TypeVar("It")
 # waits for it a little longer.
 IDLE_RUNS, GRACE = 3, 60
 ROWS_A_STATEMENT = 1000
+LONGEST = 300  # characters of what is told of a text
 
 
 class Database:
@@ -50,8 +51,7 @@ def rows_of(cursor: Cursor, query: str, *values: Any, **named: Any) -> List[Row]
 
 def row_of(cursor: Cursor, query: str, *values: Any, **named: Any) -> Optional[Row]:
     """The first row of a query, or None."""
-    cursor.execute(query, named or values or None)
-    return cursor.fetchone()
+    return next(iter(rows_of(cursor, query, *values, **named)), None)
 
 
 def value_of(cursor: Cursor, query: str, *values: Any, **named: Any) -> Any:
@@ -79,7 +79,8 @@ def insert(cursor: Cursor, into: str, found: Sequence[Sequence[Any]], conflict: 
                                        page_size=ROWS_A_STATEMENT)
 
 
-def plain(text: object, longest: int) -> str:
-    """A text that a column can hold and a terminal can show, in one line."""
+def plain(text: object, longest: int = LONGEST) -> str:
+    """A text of people or boxes as a column can hold it and a terminal can show it: in one line, without control and
+    direction characters."""
     letters = " ".join(str(text).split())
     return "".join(it if it.isprintable() else "\N{REPLACEMENT CHARACTER}" for it in letters)[:longest]

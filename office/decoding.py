@@ -10,7 +10,6 @@ from typing import Any, Dict, List, NamedTuple, Optional, Sequence
 from periods import DAY
 from program import MBDC
 
-FRAMES_A_RUN = 1500  # of at most 523 bytes each, below the 1 MiB that an input may have
 DECODE_SECONDS = 60  # at most, of one run of the decoder
 RSP_UD, CI_VARIABLE = 0x08, 0x72  # EN 13757-2 and -3
 FUNCTIONS = ("instantaneous", "maximum", "minimum", "error")
@@ -112,14 +111,12 @@ def point_of_object(record: Dict[str, Any]) -> Point:
 
 def points_of(bodies: Sequence[bytes]) -> List[List[Point]]:
     """The records of each telegram. Raises NoDecoder and Undecoded."""
-    frames: List[List[Point]] = []
-    for begin in range(0, len(bodies), FRAMES_A_RUN):
-        text = "".join(f"{frame_of(body)}\n" for body in bodies[begin:begin + FRAMES_A_RUN])
-        try:
-            frames += [[point_of_object(record) for record in json.loads(line).get("records", [])]
-                       for line in decoded(text).splitlines()]
-        except (KeyError, IndexError, StopIteration, TypeError, ValueError) as fault:
-            raise Undecoded(f"{MBDC} decode printed what can't be read: {fault!r}") from fault
+    text = "".join(f"{frame_of(body)}\n" for body in bodies)
+    try:
+        frames = [[point_of_object(record) for record in json.loads(line).get("records", [])]
+                  for line in decoded(text).splitlines()]
+    except (KeyError, IndexError, StopIteration, TypeError, ValueError) as fault:
+        raise Undecoded(f"{MBDC} decode printed what can't be read: {fault!r}") from fault
     if len(frames) != len(bodies):
         raise Undecoded(f"{len(frames)} frames were decoded of {len(bodies)}")
     return frames

@@ -18,24 +18,18 @@ from database import Cursor, Row, grouped, plain, row_of, rows_of, value_of
 from periods import DAY, next_month
 from rendering import html_of
 
-LONGEST = 300  # characters of what people and boxes wrote
-MORNING = """
-SELECT id, kind, house, address, zone, flat, subject, facts, waits, since, is_new, known_by, note, done_at, done_by,
-    ended_at
-FROM morning ORDER BY waits DESC, since DESC, id"""
+MORNING = "SELECT * FROM morning ORDER BY waits DESC, since DESC, id"
 VALUES = """
 SELECT k.item, d.id, d.day, d.at, d.value, d.unit, d.amount, d.source, NULL::numeric AS used, false AS is_marked
 FROM (VALUES %s) AS k (item, fitting, first, last) JOIN day_values d ON d.fitting = k.fitting::bigint
  AND d.day BETWEEN k.first::date AND k.last::date AND d.struck_at IS NULL ORDER BY k.item, d.day"""
 ZONE = "SELECT coalesce(mode() WITHIN GROUP (ORDER BY zone), 'UTC') FROM houses"
-COUNTS = ("SELECT at, houses, meters, read, month, ready, waiting, released, on_paper FROM mornings"
-          " ORDER BY at DESC LIMIT 1")
+COUNTS = "SELECT * FROM mornings ORDER BY at DESC LIMIT 1"
 RELEASING = "SELECT EXISTS (SELECT FROM jobs WHERE what IN ('release', 'send') AND ended_at IS NULL)"
 BEFORE, AFTER = 2, 2  # readings that are shown around a fall or a leap
 DAYS = datetime.timedelta(days=6)
 # of what is shown
 SMALLEST = {"volume": (1_000_000, "m³"), "allocation": (1000, "HCA"), "energy": (3_600_000_000, "kWh")}
-DEVICE_USES = {"0A": "cooling", "0B": "cooling", "04": "heat", "0C": "heat", "06": "warm water", "07": "cold water"}
 STATUS_BITS, APPLICATION = (4, 8, 16), 3  # of a status byte (EN 13757-3)
 SECTIONS = ("holds", "new", "open", "known", "done", "ended")
 
@@ -96,51 +90,23 @@ class Offer(NamedTuple):
         return urllib.parse.urlencode({**{name: it for name, it in self.values.items() if it is not None}, **others})
 
 
-class About:
-    """An item, with the readings behind it, and what is known for forms."""
+def offered(action: str, item: Row, readings: List[Row]) -> Optional[Offer]:
+    """A form, filled with what is known of its fields by an item and the readings behind it; none where there is no
+    reading to strike."""
+    facts, fields = item.facts, ACTIONS[action].fields
+    day = next((one for one in readings if one.is_marked), readings[-1] if readings else None)
+    if action == "strike":
+        return Offer(action, {"value": day.id}) if day else None
+    meters, month = facts.get("meters"), facts.get("month")
+    meters = meters[-2:] if isinstance(meters, list) else []  # the last two of a place; of a box it is their count
+    known = {"house": item.house, "meter": facts.get("identity"),
+             "use": "heat" if facts.get("why") == "two energies" else "-",
+             "day": day.day if day else month and next_month(datetime.date.fromisoformat(month)) - DAY,
+             "unit": day.unit if day and action != "exchange" else None, "old": facts.get("identity"),
+             **(dict(zip(("old", "new"), meters)) if len(meters) == 2 else {}),
+             **{it: facts.get(it) for it in ("box", "digits", "flat", "month", "place")}}
+    return Offer(action, {name: it for name, it in known.items() if name in fields})
 
-    def __init__(self, item: Row, readings: List[Row]) -> None:
-        self.item, self.facts = item, item.facts
-        self.day = next((one for one in readings if one.is_marked), readings[-1] if readings else None)
-
-    def offer(self, action: str, *facts: str, **values: Any) -> Offer:
-        """Of the house, with these facts."""
-        return Offer(action, {"house": self.item.house, **{it: self.facts.get(it) for it in facts}, **values})
-
-    def of_meter(self, action: str, **values: Any) -> Offer:
-        return self.offer(action, meter=self.facts.get("identity"), **values)
-
-    def put(self) -> Offer:
-        month = self.facts.get("month")
-        day = self.day.day if self.day else month and next_month(datetime.date.fromisoformat(month)) - DAY
-        return self.of_meter("put_value", day=day, unit=self.day.unit if self.day else None)
-
-    def strike(self) -> Optional[Offer]:
-        return Offer("strike", {"value": self.day.id}) if self.day else None
-
-    def exchange(self) -> Offer:
-        """Of the last two meters of a place, where they are known."""
-        meters = (self.facts.get("meters") or [])[-2:]
-        old, new = meters if len(meters) == 2 else (self.facts.get("identity"), None)
-        return self.offer("exchange", old=old, new=new)
-
-    def decide(self) -> Offer:
-        why = self.facts.get("why")
-        use = DEVICE_USES.get(str(self.facts.get("type")), "-") if why == "type" else "-"
-        return self.of_meter("decide_use", use="heat" if why == "two energies" else use)
-
-    def turn(self) -> Offer:
-        return self.of_meter("declare_counter", digits=self.facts.get("digits"))
-
-    def restart(self) -> Offer:
-        return self.of_meter("restart", unit=self.day.unit if self.day else None)
-
-
-def offered(action: str, *facts: str) -> "Does":
-    return lambda about: about.offer(action, *facts)
-
-
-Does = Callable[[About], Optional[Offer]]
 
 # ---- kinds of items: what finds them (kind, house and subject; other columns are the facts), and what can be done
 
@@ -148,14 +114,13 @@ COLLECTOR = """
 SELECT 'collector' AS kind, NULL AS house, 'office/collect' AS subject, max(ended_at) AS since
 FROM collections WHERE begun_at <= %(at)s
 HAVING coalesce(max(ended_at) < %(at)s - make_interval(hours => %(hours)s), true)"""
-OF_BOXES = "FROM boxes WHERE active AND {} IS NOT NULL ORDER BY name"
-CLOCKS = """
-SELECT 'clock' AS kind, house, name AS subject, name AS box, clock -> 'wrong' AS wrong, clock -> 'of' AS of,
-       clock -> 'first' AS first """ + OF_BOXES.format("clock")
-LATE = """
-SELECT 'late' AS kind, house, name AS subject, name AS box, late -> 'values' AS values, late -> 'meters' AS meters,
-       late -> 'first' AS first """ + OF_BOXES.format("late")
-TALKS = "SELECT 'talks' AS kind, house, name AS subject, name AS box, talks AS text " + OF_BOXES.format("talks")
+# What the collector noted at a box: in a column that has the name of its kind
+CLOCKS, LATE, TALKS = (f"""
+SELECT '{kind}' AS kind, house, name AS subject, name AS box, {facts}
+FROM boxes WHERE active AND {kind} IS NOT NULL ORDER BY name""" for kind, facts in (
+    ("clock", "clock -> 'wrong' AS wrong, clock -> 'of' AS of, clock -> 'first' AS first"),
+    ("late", "late -> 'values' AS values, late -> 'meters' AS meters, late -> 'first' AS first"),
+    ("talks", "talks AS text")))
 # Of a box that isn't collected, and of one without a meter that is heard, one item; its meters are counted there
 BOXES = """
 SELECT 'box' AS kind, b.house, s.box AS subject, s.box, s.why, s.fault, coalesce(o.count, 0) AS meters, s.since
@@ -291,7 +256,7 @@ class Kind(NamedTuple):
     """A kind of items. Its items differ by a fact, their detail: why, or the grade; its words are those of
     `item.KIND.DETAIL`, or of `item.KIND`. The other fields are by detail; the empty one is any that isn't named."""
     queries: Sequence[str] = ()  # which find it; some find other kinds, too
-    offers: Mapping[str, Sequence[Does]] = {}  # the first one first
+    offers: Mapping[str, Sequence[str]] = {}  # what can be done, the first one first
     readings: Mapping[str, bool] = {}  # which readings are shown
     over_houses: Sequence[str] = ()  # one cause may be that of many houses
     causes: Mapping[str, Sequence[str]] = {}  # the kinds of items at which it is counted
@@ -301,24 +266,25 @@ class Kind(NamedTuple):
         return str(facts.get(self.detail) or "")
 
 
-COLLECT, SEE = (offered("collect", "box"),), offered("see_number", "place", "month")
+COLLECT = ("collect",)
 KINDS: Dict[str, Kind] = {
     "collector": Kind((COLLECTOR,)),
     "box": Kind((BOXES, SILENT_BOXES), dict.fromkeys(OF_BOXES_ALL[:3], COLLECT), over_houses=OF_BOXES_ALL),
     "clock": Kind((CLOCKS,), over_houses=ANY), "late": Kind((LATE,), over_houses=ANY),
     "talks": Kind((TALKS,), {"": COLLECT}, over_houses=ANY),
-    "silent": Kind((SILENT,), {"": (About.exchange, About.put)}),
-    "error": Kind((STATES,), {"": (About.exchange, About.put)}), "power": Kind((), {"": (About.exchange,)}),
-    "no use": Kind((NO_TYPE, NO_RECORD), {"": (About.decide,), "other date": (About.exchange,)}),
-    "too large": Kind((), {"": (About.exchange,)}),
-    "disturbed": Kind((STEPS,), {"": (About.strike, About.put, About.restart)}, {"": FALL}),
-    "turn": Kind((), {"": (About.turn, About.strike)}, {"": FALL}), "leap": Kind((), {}, {"": LEAP}),
+    "silent": Kind((SILENT,), {"": ("exchange", "put_value")}),
+    "error": Kind((STATES,), {"": ("exchange", "put_value")}), "power": Kind((), {"": ("exchange",)}),
+    "no use": Kind((NO_TYPE, NO_RECORD), {"": ("decide_use",), "other date": ("exchange",)}),
+    "too large": Kind((), {"": ("exchange",)}),
+    "disturbed": Kind((STEPS,), {"": ("strike", "put_value", "restart")}, {"": FALL}),
+    "turn": Kind((), {"": ("declare_counter", "strike")}, {"": FALL}), "leap": Kind((), {}, {"": LEAP}),
     "no consumption": Kind((STILL,)), "night": Kind((NIGHT,)),
-    "changed": Kind((CHANGES,), {"": (offered("correct_month", "month"), offered("leave_month", "month")), "bill": ()}),
-    "not sent": Kind((NOT_SENT,), {"": (offered("address", "flat"), offered("send", "month"))}, over_houses=ANY),
+    "changed": Kind((CHANGES,), {"": ("correct_month", "leave_month"), "bill": ()}),
+    "not sent": Kind((NOT_SENT,), {"": ("address", "send")}, over_houses=ANY),
     "audit": Kind((REFUSED,), over_houses=ANY), "no number": Kind((NO_NUMBER,), {
-        "missing": (About.put,), "disturbed": (About.strike, About.put), "unclear": (About.exchange,),
-        "held": (SEE, About.strike), "provisional": (About.put, SEE)}, {"held": LEAP, "disturbed": FALL}, ("many",),
+        "missing": ("put_value",), "disturbed": ("strike", "put_value"), "unclear": ("exchange",),
+        "held": ("see_number", "strike"), "provisional": ("put_value", "see_number")},
+        {"held": LEAP, "disturbed": FALL}, ("many",),
         {"missing": MISSING, "disturbed": ("disturbed", "turn", "error"), "unclear": ("no use",)}, "grade")}
 
 
@@ -329,10 +295,10 @@ def kind_of(name: str) -> Kind:
 
 def offers_of(item: Row, readings: List[Row]) -> List[Offer]:
     """What can be done about an item."""
-    kind, about = kind_of(item.kind), About(item, readings)
-    offers = kind.offers.get(kind.detail_of(item.facts), kind.offers.get("", ()))
-    found = [offer for does in offers if (offer := does(about)) is not None
-             and ("houses" not in item.facts or offer.action == "send")]  # what many houses have
+    kind = kind_of(item.kind)
+    actions = [it for it in kind.offers.get(kind.detail_of(item.facts), kind.offers.get("", ()))
+               if "houses" not in item.facts or it == "send"]  # what many houses have
+    found = [offer for it in actions if (offer := offered(it, item, readings)) is not None]
     return [*found, Offer("hand_back" if item.known_by else "take_over", {"item": item.id})]
 
 
@@ -358,7 +324,7 @@ def brief(kind: str, facts: Dict[str, Any]) -> str:
     words = Catalogue("en", "UTC")
     where = f" (flat {facts['flat']})" if facts.get("flat") else ""
     where = f" ({len(facts['houses'])} houses)" if "houses" in facts else where
-    return plain(f"{title(kind, facts, words)}{where}: {body(kind, facts, words)}", LONGEST)
+    return plain(f"{title(kind, facts, words)}{where}: {body(kind, facts, words)}")
 
 
 def values_of(facts: Dict[str, Any], words: Catalogue) -> Dict[str, str]:
@@ -367,10 +333,10 @@ def values_of(facts: Dict[str, Any], words: Catalogue) -> Dict[str, str]:
         "heard": lambda it: words.moment(datetime.datetime.fromisoformat(it)),
         "day": lambda it: words.day(datetime.date.fromisoformat(it)),
         "month": lambda it: words.month(datetime.date.fromisoformat(it)), "use": words.use,
-        "value": lambda it: words.reading(*it.split()) if re.fullmatch(r"\S+ \S+", it) else plain(it, LONGEST),
-        "fault": lambda it: words.page("fault", fault=plain(it, LONGEST)), "status": lambda it: status_words(it, words),
-        "failed": lambda it: words.use(plain(it, LONGEST)), "change": lambda it: changes(it, words)}
-    said = {key: forms.get(key, lambda it: plain(it, LONGEST))(it) for key, it in facts.items() if it not in (None, "")}
+        "value": lambda it: words.reading(*it.split()) if re.fullmatch(r"\S+ \S+", it) else plain(it),
+        "fault": lambda it: words.page("fault", fault=plain(it)), "status": lambda it: status_words(it, words),
+        "failed": lambda it: words.use(plain(it)), "change": lambda it: changes(it, words)}
+    said = {key: forms.get(key, lambda it: plain(it))(it) for key, it in facts.items() if it not in (None, "")}
     never = words.page("never_before")
     return collections.defaultdict(str, {"since": never, "heard": never, **said})
 
@@ -383,8 +349,8 @@ def status_words(status: int, words: Catalogue) -> str:
 def changes(change: Dict[str, Any], words: Catalogue) -> str:
     """The numbers of a month or bill that would be others (months.differences), or why it can't be computed."""
     if "text" in change:
-        return plain(change["text"], LONGEST)
-    parts = [words.page("change_of", place=plain(it["place"], LONGEST), out=amount_of(it["out"], it["quantity"], words),
+        return plain(change["text"])
+    parts = [words.page("change_of", place=plain(it["place"]), out=amount_of(it["out"], it["quantity"], words),
                         now=amount_of(it["now"], it["quantity"], words)) for it in change["numbers"]]
     return " ".join([*parts, words.page("more_changes", count=change["more"])] if change["more"] else parts)
 
@@ -474,13 +440,10 @@ def morning_of(cursor: Cursor, words: Catalogue) -> Morning:
         own, shown = Catalogue(words.language, item.zone or words.zone), readings.get(item.id, [])
         cards[section_of(item)].append(Card(item, title(item.kind, item.facts, own), body(item.kind, item.facts, own),
                                             shown, offers_of(item, shown), own))
-    houses = {house for item in items if item.ended_at is None for house in houses_of(item)}
+    houses = {house for item in items if item.ended_at is None
+              for house in ([item.house] if item.house else item.facts.get("houses", []))}
     return Morning(row_of(cursor, COUNTS), [(name, of_section) for name, of_section in cards.items() if of_section],
                    len(houses), value_of(cursor, RELEASING))
-
-
-def houses_of(item: Row) -> List[str]:
-    return [item.house] if item.house else list(item.facts.get("houses", []))
 
 
 def page(name: str, words: Catalogue, viewer: Optional[Viewer], **values: Any) -> str:
@@ -493,21 +456,12 @@ def morning_page(morning: Morning, words: Catalogue, viewer: Optional[Viewer], s
 
 def mail_text(morning: Morning, words: Catalogue) -> str:
     """The items in lines."""
-    lines = []
-    for name, cards in morning.sections:
-        lines += [f"{words.page(f'section_{name}')} ({len(cards)})"]
-        for card in cards:
-            where = " ".join(filter(None, (card.item.house, card.item.flat)))
-            lines += [plain(f"- {where}: {card.title}. {card.body}", LONGEST)]
-            if "houses" in card.item.facts:
-                lines += [f"  {words.page('houses')}: {', '.join(houses_of(card.item))}"]
-        lines += [""]
-    return "\n".join(lines) or words.page("nothing")
+    return page("desk_mail.txt", words, None, morning=morning).rstrip("\n")
 
 
 # ---- lines of a CSV
 
-GERMAN_DAY = re.compile(r"(\d{1,2})\.(\d{1,2})\.(\d{4})")
+GERMAN_DAY = re.compile(r"\d{1,2}\.\d{1,2}\.\d{4}")
 DONE = "SELECT id, subject, before, after FROM log WHERE id > %s ORDER BY id LIMIT 1"
 FALLBACK = "windows-1252"  # of spreadsheets that don't write UTF-8
 
@@ -529,9 +483,8 @@ def decoded(content: bytes) -> str:
         return content.decode(FALLBACK, "replace")
 
 
-def imported(cursor: Cursor, text: str, why: str) -> List[Line]:
-    """Does each line of the text; those with a fault aren't done.
-    Whoever calls it commits only where no line has one."""
+def imported(cursor: Cursor, text: str, why: str, is_wanted: bool) -> Tuple[List[Line], int]:
+    """Does each line of the text; how many have a fault. Where one has, or nothing is wanted yet, none stays done."""
     head = text.partition("\n")[0]
     separator = ";" if head.count(";") > head.count(",") else ","
     last, lines, rows = value_of(cursor, "SELECT coalesce(max(id), 0) FROM log"), [], csv.reader(
@@ -551,7 +504,10 @@ def imported(cursor: Cursor, text: str, why: str) -> List[Line]:
             lines.append(Line(rows.line_num, action, subject, *said(before, after)))
     except csv.Error as fault:
         lines.append(Line(rows.line_num, fault=str(fault)))
-    return lines
+    faults = sum(bool(line.fault) for line in lines)
+    if faults or not is_wanted:
+        cursor.connection.rollback()
+    return lines, faults
 
 
 def done(cursor: Cursor, row: List[str], why: str, separator: str) -> str:
@@ -570,9 +526,8 @@ def done(cursor: Cursor, row: List[str], why: str, separator: str) -> str:
 
 def normal(value: str, kind: str, separator: str) -> str:
     """A day and a number as the database reads them; German ones are taken, too."""
-    found = GERMAN_DAY.fullmatch(value)
-    if kind == "date" and found:
-        return str(datetime.date(int(found[3]), int(found[2]), int(found[1])))
+    if kind == "date" and GERMAN_DAY.fullmatch(value):
+        return str(datetime.datetime.strptime(value, "%d.%m.%Y").date())
     if kind == "numeric" and separator == ";":
         return value.replace(".", "").replace(",", ".") if "," in value else value
     return value
@@ -581,7 +536,7 @@ def normal(value: str, kind: str, separator: str) -> str:
 def fault_of(fault: Exception) -> str:
     """The first line of what the database says, without where."""
     primary: Optional[str] = getattr(getattr(fault, "diag", None), "message_primary", None)
-    return plain(primary or str(fault), LONGEST)
+    return plain(primary or str(fault))
 
 
 def said(before: Any, after: Any) -> List[str]:

@@ -7,10 +7,8 @@ member of `desk`; each request becomes the role of its person. Only the function
 """
 
 import contextlib
-import datetime
 import functools
 import hashlib
-import hmac
 import os
 import secrets
 import sys
@@ -19,15 +17,17 @@ from typing import Any, Dict, Iterable, Iterator, List, NamedTuple, Optional, Tu
 
 sys.dont_write_bytecode = True
 import flask
+import itsdangerous
 import psycopg2
 import psycopg2.errors
 from werkzeug.exceptions import HTTPException, RequestEntityTooLarge
 
 from catalogue import Catalogue
-from database import Cursor, Database, Row as DatabaseRow, column_of, grouped, row_of, rows_of
+from database import Cursor, Database, Row, column_of, grouped, row_of, rows_of
+from decoding import UNITS
 from desk_items import (ACTIONS, LINES, Offer, Viewer, act, decoded, fault_of, imported, in_words, morning_of,
                         morning_page, page, title, words_for)
-from sheet_data import natural
+from sheet_data import BOXES, natural
 
 MOST, FARTHEST = 500, 10**9  # rows of a page, and before it
 READER = "reader"  # a role that sees no names
@@ -41,13 +41,12 @@ FROM houses h WHERE concat_ws(' ', h.house, h.address, h.postcode) ILIKE %(like)
 ORDER BY h.house LIMIT %(most)s OFFSET %(skipped)s"""
 NAMES = "OR EXISTS (SELECT FROM tenancies t WHERE t.house = h.house AND t.person ILIKE %(like)s)"
 HOUSE = "SELECT house, address, postcode, zone, category, contact, advice, complaints FROM houses WHERE house = %s"
-BOXES = "SELECT name, collected_at, coalesce(fault, '') AS fault FROM boxes WHERE house = %s AND active ORDER BY name"
-FLATS = "SELECT flat, area_m2 FROM flats WHERE house = %s"
+FLATS = "SELECT house, flat, area_m2 FROM flats WHERE house = %s"
 USERS = """
 SELECT house, flat, person, lower(days) AS since, upper(days) - 1 AS until, language, wants, coalesce(mail, '') AS mail
 FROM tenancies WHERE house = %s AND coalesce(upper(days) > current_date - 400, true) ORDER BY flat, days"""
 METERS = """
-SELECT f.identity, p.flat, p.use, d.at, d.value::text, d.unit FROM fittings f JOIN places p ON p.id = f.place
+SELECT f.house, f.identity, p.flat, p.use, d.at, d.value::text, d.unit FROM fittings f JOIN places p ON p.id = f.place
 LEFT JOIN LATERAL (SELECT * FROM day_values k WHERE k.fitting = f.id AND k.struck_at IS NULL
                    ORDER BY k.day DESC LIMIT 1) d ON true
 WHERE f.house = %s AND upper_inf(f.during) ORDER BY p.flat, p.use, f.identity"""
@@ -70,29 +69,12 @@ WHERE concat_ws(' ', who, what, house, subject, why) ILIKE %(like)s
 ORDER BY id DESC LIMIT %(most)s OFFSET %(skipped)s"""
 
 
-class Cell(NamedTuple):
-    text: str
-    path: Optional[str] = None
-
-
-class Row(NamedTuple):
-    cells: List[Cell]
-    is_marked: bool = False
-
-
-Table = NamedTuple("Table", [("caption", str), ("heads", List[str]), ("rows", List[Row])])
-
-
 def path_of(*parts: str) -> str:
     return "/".join(urllib.parse.quote(part, safe="") for part in parts)
 
 
 def form_path(action: str, **values: Any) -> str:
     return f"do/{action}?{Offer(action, values).query()}"
-
-
-def cells(*values: object) -> List[Cell]:
-    return [it if isinstance(it, Cell) else Cell("" if it is None else str(it)) for it in values]
 
 
 class Desk(NamedTuple):
@@ -103,113 +85,61 @@ class Desk(NamedTuple):
     query: str
     first: int
 
-    def found(self, query: str, **others: str) -> List[DatabaseRow]:
+    def found(self, query: str, **others: str) -> List[Row]:
         """The rows of a page, and one more where there is a next one."""
         safe = self.query.replace("\0", "").replace("\\", "\\\\").replace("%", "\\%").replace("_", "\\_")
         skipped = min(max(self.first, 0), FARTHEST)
         return rows_of(self.cursor, query, like=f"%{safe}%", most=MOST + 1, skipped=skipped, **others)
 
-    def shown(self, here: str, heading: str, tables: List[Table], is_searched: bool = False,
-              links: Iterable[Tuple[str, str]] = ()) -> str:
+    def shown(self, name: str, here: str, heading: str, links: Iterable[Tuple[str, str]] = (),
+              is_searched: bool = False, **tables: List[Any]) -> str:
         """A page of tables, with a link to the next one where a table has more rows."""
-        has_next = any(len(it.rows) > MOST for it in tables)
+        has_next = any(len(it) > MOST for it in tables.values())
         after = urllib.parse.urlencode({"q": self.query, "from": self.first + MOST}) if has_next else ""
-        return page("desk_list.html", self.words, self.viewer, here=here, heading=heading, tables=tables, most=MOST,
-                    after=after, query=self.query if is_searched else None, links=list(links))
-
-    def heads(self, names: str) -> List[str]:
-        return [self.words.page(name) for name in names.split()]
+        return page(f"desk_{name}.html", self.words, self.viewer, here=here, heading=heading, links=links, most=MOST,
+                    after=after, query=self.query if is_searched else None, first=self.first, path_of=path_of,
+                    form_path=form_path, wanted=WANTED, in_words=in_words, **tables)
 
     def links(self, names: str, **values: Any) -> List[Tuple[str, str]]:
         """The forms that the viewer may use."""
         may = filter(self.viewer.may, names.split())
         return [(f"{self.words.action(name)} …", form_path(name, **values)) for name in may]
 
-    def moment(self, at: Any, otherwise: str = "–") -> str:
-        return self.words.moment(at) if at else otherwise
-
     def houses(self) -> str:
-        rows = [Row(cells(Cell(it.house, path_of("houses", it.house)), it.address, it.flats, it.items or "–"))
-                for it in self.found(HOUSES.format(names="" if self.viewer.role == READER else NAMES))]
+        found = self.found(HOUSES.format(names="" if self.viewer.role == READER else NAMES))
         links = [(self.words.action("house"), "do/house")] if self.viewer.may("house") else []
-        found = self.words.page("found", count=f"{self.first + len(rows[:MOST])}{'+' * (len(rows) > MOST)}")
-        table = Table(found, self.heads("house address flats items"), rows)
-        return self.shown("houses", self.words.page("houses"), [table], True, links)
+        return self.shown("houses", "houses", self.words.page("houses"), links, True, houses=found)
 
     def house(self, house: str) -> str:
-        """A house: boxes, flats with their users, meters. Raises LookupError."""
+        """A house: boxes, flats with their users where the role may see them, meters. Raises LookupError."""
         row = row_of(self.cursor, HOUSE, house)
         if row is None:
             raise LookupError(house)
         own = self._replace(words=self.words._replace(zone=row.zone))
-        tables = [of(house) for of in (own.boxes, own.flats, own.meters)]
-        tables = [it._replace(rows=it.rows[self.first:]) for it in tables]
-        links = [*own.links("house", **row._asdict()),
-                 *own.links("flat tenant address returned meter exchange put_value", house=house)]
-        return own.shown("houses", f"{house}, {row.address}", tables, False, links)
-
-    def boxes(self, house: str) -> Table:
-        never = self.words.word("never")
-        return Table(self.words.word("box"), self.heads("box collected") + [self.words.word("fault")],
-                     [Row(cells(it.name, self.moment(it.collected_at, never), it.fault))
-                      for it in rows_of(self.cursor, BOXES, house)])
-
-    def flats(self, house: str) -> Table:
-        """With the users, where the role may see them."""
         seen = rows_of(self.cursor, USERS, house) if self.viewer.role != READER else []
         users = grouped((it.flat, it) for it in seen)
-        rows = []
-        for flat, area in sorted(rows_of(self.cursor, FLATS, house), key=lambda it: natural(it.flat)):
-            edit = Cell(flat, form_path("flat", house=house, flat=flat, area=area) if self.viewer.may("flat") else None)
-            rows += [Row(cells(edit, area, *self.user_cells(user))) for user in users.get(flat, [])]
-            rows += [Row(cells(edit, area, "–", "", ""))] if flat not in users else []
-        return Table(self.words.word("flats"), [*self.heads("flat area user period"), self.words.field("wants")], rows)
-
-    def user_cells(self, it: DatabaseRow) -> List[Cell]:
-        period = f"{self.words.day(it.since)} – {self.words.day(it.until) if it.until else ''}"
-        wanted = self.words.page(WANTED[it.wants])
-        return cells(Cell(it.person, form_path("tenant", **it._asdict())), period, f"{wanted} {it.mail}".strip())
-
-    def meters(self, house: str) -> Table:
-        rows = [Row(cells(Cell(it.identity, path_of("houses", house, it.identity)), it.flat, self.words.use(it.use),
-                          self.words.reading(it.value, it.unit) if it.value else "–", self.moment(it.at)))
-                for it in rows_of(self.cursor, METERS, house)]
-        return Table(self.words.word("meters"), self.heads("meter flat use last_value moment"), rows)
+        flats = sorted(rows_of(self.cursor, FLATS, house), key=lambda it: natural(it.flat))
+        boxes, meters = (rows_of(self.cursor, query, house) for query in (BOXES, METERS))
+        links = [*own.links("house", **row._asdict()),
+                 *own.links("flat tenant address returned meter exchange put_value", house=house)]
+        return own.shown("house", "houses", f"{house}, {row.address}", links, boxes=boxes[self.first:],
+                         flats=[(it, user) for it in flats for user in users.get(it.flat, [None])][self.first:],
+                         meters=meters[self.first:])
 
     def meter(self, house: str, meter: str) -> str:
-        """The readings of a meter, each with a link to strike it. Raises LookupError."""
-        rows = []
-        for it in self.found(READINGS, house=house, meter=meter):
-            strike = Cell(self.words.action("strike"), form_path("strike", value=it.id))
-            last = (self.words.page("struck", why=it.struck_why, person=it.struck_by) if it.struck_why
-                    else strike if self.viewer.may("strike") else "")
-            value, source = self.words.reading(it.value, it.unit), self.words.word(it.source)
-            rows.append(Row(cells(self.words.moment(it.at), value, source, last), bool(it.struck_why)))
+        """The readings of a meter, each with a link to strike it."""
         links = self.links("put_value exchange restart declare_counter decide_use", house=house, meter=meter, old=meter)
-        return self.shown("houses", f"{house}, {meter}", [
-            Table(self.words.page("values"), [*self.heads("day reading source"), ""], rows)], False, links)
+        return self.shown("meter", "houses", f"{house}, {meter}", links,
+                          values=self.found(READINGS, house=house, meter=meter))
 
     def months(self) -> str:
-        sent = {it[:2]: it[2:] for it in rows_of(self.cursor, SENDING)} if self.viewer.role != READER else {}
-        rows = [Row(cells(self.words.month(it.month), it.version, f"{it.out} / {it.houses}",
-                          self.moment(it.at, self.words.page("open")), *sent.get(it[:2], ("–", "–"))))
-                for it in self.found(MONTHS)]
-        running = self.words.page("running")
-        jobs = [Row(cells(it.what, it.words, self.words.moment(it.asked_at), it.asked_by,
-                          running if it.ended_at is None else f"{it.status} {it.says}".strip()), bool(it.status))
-                for it in rows_of(self.cursor, JOBS)]
-        asked, who, result = self.heads("asked who result")
-        return self.shown("months", self.words.page("months"), [
-            Table(self.words.page("sheets_of"), self.heads("month version houses out_at sent failed"), rows),
-            Table(self.words.page("jobs"), [self.words.page("job"), "", asked, who, result], jobs)])
+        sent = {it[:2]: it for it in rows_of(self.cursor, SENDING)} if self.viewer.role != READER else {}
+        return self.shown("months", "months", self.words.page("months"), jobs=rows_of(self.cursor, JOBS),
+                          months=[(it, sent.get(it[:2])) for it in self.found(MONTHS)])
 
     def log(self) -> str:
         details = "" if self.viewer.role == READER else ", before, after"
-        rows = [Row(cells(self.words.moment(it.at), it.who, self.words.action(it.what),
-                          Cell(it.house or "", path_of("houses", it.house) if it.house else None), it.subject, it.why,
-                          *map(in_words, it[6:]))) for it in self.found(LOG.format(details=details))]
-        heads = self.heads("moment who what house subject reason" + details.replace(",", ""))
-        return self.shown("log", self.words.page("log"), [Table("", heads, rows)], True)
+        return self.shown("log", "log", self.words.page("log"), (), True, rows=self.found(LOG.format(details=details)))
 
 
 # ---- the application
@@ -228,7 +158,6 @@ LISTS = {"/houses": Desk.houses, "/houses/<house>": Desk.house, "/houses/<house>
 ITEM = "SELECT house, kind, facts FROM morning WHERE id = %s"
 VALUE = """
 SELECT f.identity, d.at, d.value::text, d.unit FROM day_values d JOIN fittings f ON f.id = d.fitting WHERE d.id = %s"""
-UNITS = ("Wh", "MWh", "J", "GJ", "m3", "HCA")
 WANTED = {"paper": "post", "link": "link", "nothing": "none_wanted"}
 # How a field is asked for: the type of an input, or what may be chosen
 INPUTS = {"date": "date", "timestamp": "datetime-local", "bigint": "hidden"}
@@ -246,30 +175,13 @@ class Refused(Exception):
         self.status, self.key = status, key
 
 
-def token_of(person: str) -> str:
+def new_token(person: str) -> str:
     """What a form carries, so that no other site can send it: who it was made for and when."""
-    said = f"{secrets.token_hex(12)}.{int(datetime.datetime.now().timestamp())}"
-    return f"{said}.{signed(person, said)}"
+    return str(signer_of(person).sign(secrets.token_hex(12)), "ascii")
 
 
-def signed(person: str, said: str) -> str:
-    return hmac.new(SECRET, f"{person}\n{said}".encode(), hashlib.sha256).hexdigest()
-
-
-def check_form(person: str) -> str:
-    """The token of a form of this page, sent from this page. Raises Refused."""
-    request = flask.request
-    site = request.headers.get("Sec-Fetch-Site")
-    origin = request.headers.get("Origin")
-    if site not in (None, "same-origin") or origin is not None and urllib.parse.urlsplit(origin).netloc != request.host:
-        raise Refused(403, "foreign")
-    token = str(request.form.get("token", ""))
-    said, _, signature = token.rpartition(".")
-    if not hmac.compare_digest(signature.encode(), signed(person, said).encode()):
-        raise Refused(403, "foreign")
-    if int(said.partition(".")[2]) < datetime.datetime.now().timestamp() - FORM_SECONDS:
-        raise Refused(409, "twice")
-    return token
+def signer_of(person: str) -> itsdangerous.TimestampSigner:
+    return itsdangerous.TimestampSigner(SECRET, salt=person, digest_method=hashlib.sha256)
 
 
 def language_of(known: str) -> str:
@@ -295,12 +207,20 @@ def desk(database: Database) -> Iterator[Desk]:
 
 
 def use_form(cursor: Cursor, person: str) -> None:
-    """Takes a form, once. Raises Refused."""
-    token = check_form(person)
+    """Takes a form of this page, sent from this page, once. Raises Refused."""
+    request = flask.request
+    site = request.headers.get("Sec-Fetch-Site")
+    origin = request.headers.get("Origin")
+    if site not in (None, "same-origin") or origin is not None and urllib.parse.urlsplit(origin).netloc != request.host:
+        raise Refused(403, "foreign")
+    token = str(request.form.get("token", ""))
     try:
+        signer_of(person).unsign(token, FORM_SECONDS)
         cursor.execute("SELECT desk.use_form(%s)", (token,))
-    except psycopg2.errors.UniqueViolation:
+    except (itsdangerous.SignatureExpired, psycopg2.errors.UniqueViolation):
         raise Refused(409, "twice") from None
+    except itsdangerous.BadSignature:
+        raise Refused(403, "foreign") from None
 
 
 def morning(database: Database) -> str:
@@ -349,7 +269,7 @@ def form(database: Database, action: str) -> Any:
             raise Refused(403, "no_right")
         about = about_of(it, given.get("item", "")[:18], given.get("value", "") if action == "strike" else "")
         text = page("desk_form.html", it.words, it.viewer, here="", action=action, about=about, fault=fault,
-                    token=token_of(it.viewer.person), fields=list(fields_of(it, action, given)),
+                    token=new_token(it.viewer.person), fields=list(fields_of(it, action, given)),
                     item=given.get("item", ""), why=given.get("why", ""))
     return text, 422 if fault else 200
 
@@ -376,16 +296,14 @@ def csv_import(database: Database) -> "str | Tuple[str, int]":
             text = decoded(file.read()) if file is not None and file.filename else flask.request.form.get("text", "")
             text = text.replace("\0", "").lstrip("\n")
             use_form(it.cursor, it.viewer.person)
-            lines = imported(it.cursor, text, "import")
-            faults = sum(bool(line.fault) for line in lines)
-            is_applied = flask.request.form.get("apply") == "yes" and not faults and bool(lines)
-            if not is_applied:
-                it.cursor.connection.rollback()
+            is_wanted = flask.request.form.get("apply") == "yes"
+            lines, faults = imported(it.cursor, text, "import", is_wanted)
+            is_applied = is_wanted and not faults and bool(lines)
             fault = it.words.page("import_faults", count=faults) if faults else ""
             said = it.words.page("applied", count=len(lines)) if is_applied else ""
         html = page("desk_import.html", it.words, it.viewer, here="import", said=said, fault=fault, lines=lines,
                     text="" if is_applied else text, is_right=bool(lines) and not fault and not is_applied,
-                    token=token_of(it.viewer.person),
+                    token=new_token(it.viewer.person),
                     forms=[(name, list(ACTIONS[action].fields)) for name, action in LINES.items()])
     return html, 422 if fault else 200
 

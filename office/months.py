@@ -109,12 +109,11 @@ def is_held(place: Place, entries: List[Value], period: Period, elsewhere: float
 HOUSES_A_TURN = 25  # whose values are in memory at once
 MONTH_USE = "month_use (month, place, part, begins, ends, tenancy, amount, grade, is_held, basis, version)"
 FROZEN = "frozen_values (month, place, version, entries, evidence, meters)"
-# Of these houses: the present version of a month, and whether it is out
 VERSIONS = """
-SELECT h.house, version_of(h.house, %(month)s) AS version, EXISTS (
-    SELECT FROM versions v WHERE (v.house, v.month, v.version) = (h.house, %(month)s, version_of(h.house, %(month)s))
-      AND v.out_at IS NOT NULL) AS is_out
-FROM houses h WHERE h.house = ANY (%(houses)s) ORDER BY h.house"""
+SELECT h.house, n.version, v.out_at IS NOT NULL AS is_out
+FROM houses h CROSS JOIN version_of(h.house, %(month)s) AS n (version)
+LEFT JOIN versions v ON (v.house, v.month, v.version) = (h.house, %(month)s, n.version)
+WHERE h.house = ANY (%(houses)s) ORDER BY h.house"""
 OPEN_ROWS = (
     "DELETE FROM {} k USING places p WHERE p.id = k.place AND k.month = %s AND k.version = version_of(p.house, %s)"
     " AND p.house = ANY (%s)")
@@ -180,13 +179,11 @@ def split(place: Place, first: datetime.date, after: datetime.date, tenancies: L
     begins = max(begin_of(first, place.zone), place.fittings[0].begins)
     ends = begin_of(after, place.zone)
     ends = min(ends, last) if last is not None else ends
-    users = [(begin_of(it.begins, place.zone), begin_of(it.ends, place.zone) if it.ends else None, it.id)
-             for it in tenancies]
-    cuts = {begins, ends, *(moment for user in users for moment in user[:2] if moment is not None)}
+    cuts = {begins, ends, *(moment for it in tenancies for moment in (it.begins, it.ends) if moment is not None)}
     if at_exchanges:
         cuts |= {fitting.begins for fitting in place.fittings}
     moments = [moment for moment in sorted(cuts) if begins <= moment <= ends]
-    parts = [Period(number, one, other, user_at(users, one))
+    parts = [Period(number, one, other, user_at(tenancies, one))
              for number, (one, other) in enumerate(zip(moments, moments[1:]), 1)]
     whole = Period(0, begins, ends, parts[0].tenancy if len(parts) == 1 else None)
     entries = place.entries()
@@ -195,9 +192,8 @@ def split(place: Place, first: datetime.date, after: datetime.date, tenancies: L
                  [whole, *parts] if len(parts) > 1 else [whole])
 
 
-def user_at(users: List[Tuple[datetime.datetime, Optional[datetime.datetime], int]],
-            moment: datetime.datetime) -> Optional[int]:
-    return next((user for begins, ends, user in users if begins <= moment and (ends is None or moment < ends)), None)
+def user_at(tenancies: List[Row], moment: datetime.datetime) -> Optional[int]:
+    return next((it.id for it in tenancies if it.begins <= moment and (it.ends is None or moment < it.ends)), None)
 
 
 def window_at(one: Split, first: datetime.date, after: datetime.date) -> Window:
@@ -210,11 +206,10 @@ def graded_periods(cursor: Cursor, splits: List[Split], first: datetime.date,
                    after: datetime.date) -> Iterator[Tuple[Split, Period, Graded]]:
     """Each period of the days from the first one to the one before `after`, with its amount and grade. Where a house's
     file is at fault, all of it is unclear. Raises NotComputed."""
-    windows = {one.place.id: window_at(one, first, after) for one in splits}
     # whose parts are nobody's: amounts and grades don't depend on it
-    nobodys = {place: window._replace(parts=[part._replace(user=None) for part in window.parts])
-               for place, window in windows.items()}
-    bodies = bodies_in(cursor, windows.values())
+    nobodys = {one.place.id: window._replace(parts=[part._replace(user=None) for part in window.parts])
+               for one in splits for window in [window_at(one, first, after)]}
+    bodies = bodies_in(cursor, nobodys.values())
     for of_house in grouped((one.place.house, one) for one in splits).values():
         writer = Writer(bodies, {})
         writer.lines += [f"{FORMAT},{first:%Y-%m}", span_line(1, first, after, of_house[0].place.zone),
@@ -247,7 +242,7 @@ def write_month(cursor: Cursor, month: datetime.date, houses: List[str]) -> Coun
     """Computes a month of these houses. Where it is open its rows are written anew; where it is out, and would be
     another now, that is noted (`changes`). Counts the grades."""
     lock(cursor, month, houses)
-    versions = {it.house: it for it in rows_of(cursor, VERSIONS, month=month, houses=houses)}
+    versions = versions_of(cursor, month, houses)
     open_houses = [house for house, it in versions.items() if not it.is_out]
     splits = splits_of(cursor, houses, month, next_month(month))
     found = list(graded_periods(cursor, splits, month, next_month(month)))
@@ -267,6 +262,11 @@ def write_month(cursor: Cursor, month: datetime.date, houses: List[str]) -> Coun
     for query in (BILLS, VOID_BILLS):
         cursor.execute(query, (houses, month, next_month(month)))
     return collections.Counter(number.grade for _, period, number in found if period.part == 0)
+
+
+def versions_of(cursor: Cursor, month: datetime.date, houses: List[str]) -> Dict[str, Row]:
+    """Of each of these houses the present version of a month, and whether it is out."""
+    return {it.house: it for it in rows_of(cursor, VERSIONS, month=month, houses=houses)}
 
 
 def days_elsewhere(cursor: Cursor, month: datetime.date, splits: List[Split]) -> Dict[int, float]:
@@ -345,10 +345,8 @@ def written(month: datetime.date, database: Database, houses: List[str]) -> Coun
 
 def computed(database: Database, month: datetime.date, houses: List[str], workers: int) -> Counts:
     """Writes a month of houses, in so many processes."""
-    counts: "collections.Counter[str]" = collections.Counter()
-    for of_turn in in_turns(database, workers, functools.partial(written, month), houses):
-        counts.update(of_turn)
-    return counts
+    none: "collections.Counter[str]" = collections.Counter()
+    return sum(in_turns(database, workers, functools.partial(written, month), houses), none)
 
 
 def counted(month: datetime.date, counts: Counts) -> str:

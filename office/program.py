@@ -15,7 +15,6 @@ from database import Cursor, insert, plain, value_of
 
 MBDC = os.environ.get("MBDC", "mbdc")  # an installed program
 SECONDS = 600  # at most, of one run
-LONGEST = 300
 HOLDS, DOES_NOT_HOLD = 0, 1
 AT_FAULT = "LINE "  # which line spells nothing
 
@@ -71,7 +70,7 @@ def program() -> Program:
     done, path = run("--version"), shutil.which(MBDC)
     if done.returncode != 0 or not done.stdout.strip() or path is None:
         raise NotComputed(f"{MBDC} doesn't say which version it is")
-    return Program(plain(done.stdout, LONGEST), hashlib.sha256(pathlib.Path(path).resolve().read_bytes()).hexdigest())
+    return Program(plain(done.stdout), hashlib.sha256(pathlib.Path(path).resolve().read_bytes()).hexdigest())
 
 
 def content_of(lines: List[str]) -> bytes:
@@ -86,7 +85,7 @@ def audited(lines: List[str], *words: str) -> Audited:
         done = run("audit", *words, str(path))
     if done.returncode not in (HOLDS, DOES_NOT_HOLD) or not done.stdout and AT_FAULT not in done.stderr:
         raise NotComputed(
-            f"{MBDC} audit ended with status {done.returncode}: {plain(done.stdout + done.stderr, LONGEST)}")
+            f"{MBDC} audit ended with status {done.returncode}: {plain(done.stdout + done.stderr)}")
     return Audited(done.stdout.split("\n")[:-1], done.stderr.split("\n")[:-1], done.returncode == HOLDS)
 
 
@@ -94,7 +93,7 @@ def filled(lines: List[str]) -> Audited:
     """An audit file with what holds in the place of each `?`. Raises AtFault, and NotComputed."""
     found = audited(lines, "--fill")
     if len(found.lines) < len(lines):
-        raise AtFault(plain("; ".join(found.says[-1:] + found.says[:-1]), LONGEST))
+        raise AtFault(plain("; ".join(found.says[-1:] + found.says[:-1])))
     return found
 
 
@@ -125,14 +124,14 @@ def publish(cursor: Cursor, of: Of, file: File) -> Optional[str]:
     except AtFault as fault:
         return str(fault)
     if not made.holds:
-        return plain("; ".join(made.says), LONGEST)
+        return plain("; ".join(made.says))
     content = content_of(made.lines)
     sha256 = hashlib.sha256(content).hexdigest()
     if value_of(cursor, IS_PRESENT, of.house, of.month, of.days, sha256, program().sha256):
         return None
     found = audited(made.lines)
     if not found.holds:
-        return plain("; ".join(found.lines[:-1] or found.lines), LONGEST)
+        return plain("; ".join(found.lines[:-1] or found.lines))
     audit = value_of(cursor, AUDIT, *of[:4], psycopg2.Binary(content), sha256, *program(), found.lines[-1])
     insert(cursor, PUBLISHED, [(audit, *of[:4], tenancy, *key, text, mark)
                                for tenancy, key, text, mark in dict.fromkeys(file.read(made.lines))])

@@ -58,7 +58,9 @@ def rising_part(moments: Sequence[Moment]) -> Set[int]:
         at = before[at]
     return found
 
-TELEGRAMS_A_TURN = 256  # whose records are in memory at once: a page may have 3,200, of 120 records each
+# Whose records are in memory at once: a page may have 3,200, of 120 records each; as frames of at most 523 bytes they
+# are below the 1 MiB that an input of the decoder may have
+TELEGRAMS_A_TURN = 256
 STATUS_BYTE = 9  # of a telegram: after identification number, manufacturer, version, medium, access number
 PERMANENT, APPLICATION, APPLICATION_ERROR = 8, 3, 2  # in it (EN 13757-3)
 STORED = "SELECT serial, identity, flat, heard, bodies FROM readings WHERE box = %s AND serial BETWEEN %s AND %s"
@@ -81,8 +83,6 @@ WRONG_CLOCK = "UPDATE boxes SET clock = %s, clock_at = now() WHERE name = %s"
 RIGHT_CLOCK = ("UPDATE boxes SET clock = NULL, clock_at = NULL WHERE name = %s"
                " AND clock_at <= coalesce(collected_at, now())")
 
-Stamped = Tuple[Reading, Optional[datetime.datetime]]  # with its moment
-NumberedPoint = Tuple[int, int, Point, Optional[str]]
 
 
 def stored(cursor: Cursor, box: str, first: int, last: int) -> Dict[int, Reading]:
@@ -100,8 +100,8 @@ def store_readings(cursor: Cursor, box: str, readings: List[Reading], window: Wi
         store_turn(cursor, box, [(reading, moment) for reading, moment, _ in turn])
 
 
-def store_turn(cursor: Cursor, box: str, turn: List[Stamped]) -> None:
-    """Stores some readings of a page."""
+def store_turn(cursor: Cursor, box: str, turn: List[Tuple[Reading, Optional[Moment]]]) -> None:
+    """Stores some readings of a page, each with its moment."""
     parts = iter(points_of([body for reading, _ in turn for body in reading.bodies]))
     points = [(reading, *row) for reading, _ in turn for row in numbered_points([next(parts) for _ in reading.bodies])]
     insert(cursor, READINGS, [(box, reading.serial, reading.identity, reading.flat, list(reading.heard), moment,
@@ -149,7 +149,7 @@ def has_error(body: bytes) -> bool:
     return bool(status & PERMANENT) or status & APPLICATION == APPLICATION_ERROR
 
 
-def numbered_points(parts: List[List[Point]]) -> List[NumberedPoint]:
+def numbered_points(parts: List[List[Point]]) -> List[Tuple[int, int, Point, Optional[str]]]:
     """The points of a reading's telegrams: part and place, both from 1, the point, and its due date or None."""
     points = [(part, place, point) for part, of_part in enumerate(parts, 1) for place, point in enumerate(of_part, 1)]
     return [(*row, day) for row, day in zip(points, due_days([point for *_, point in points]))]

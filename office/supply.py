@@ -35,8 +35,9 @@ RESTARTS = """
 SELECT fitting, at, unit, last_amount, last, first_amount, first, is_estimated, why FROM restarts
 WHERE fitting = ANY (%s) ORDER BY fitting, at"""
 TENANCIES = """
-SELECT house, flat, id, lower(days) AS begins, upper(days) AS ends FROM tenancies
-WHERE house = ANY (%s) AND days && daterange(%s, %s) ORDER BY house, flat, days"""
+SELECT t.house, t.flat, t.id, day_begins(lower(t.days), h.zone) AS begins, day_begins(upper(t.days), h.zone) AS ends
+FROM tenancies t JOIN houses h ON h.house = t.house
+WHERE t.house = ANY (%s) AND t.days && daterange(%s, %s) ORDER BY t.house, t.flat, t.days"""
 BODIES = """
 SELECT month::text, box, serial, bodies FROM readings WHERE (month, box, serial) IN (
     SELECT k.month::date, k.box, k.serial
@@ -124,14 +125,11 @@ class Fitting:
 
     def entries(self) -> List[Value]:
         """Its values in its runs: a restart ends one, and begins another."""
-        found: List[Value] = []
-        left = self.all_values()
+        moments = [it.last.at for it in self.restarts]
+        found = [value._replace(run=bisect.bisect_left(moments, value.at)) for value in self.all_values()]
         for run, restart in enumerate(self.restarts):
-            before = [value for value in left if value.at <= restart.last.at]
-            found += [value._replace(run=run) for value in (*before, restart.last)]
-            found.append(restart.first._replace(run=run + 1))
-            left = left[len(before):]
-        return [*found, *(value._replace(run=len(self.restarts)) for value in left)]
+            found += [restart.last._replace(run=run), restart.first._replace(run=run + 1)]
+        return sorted(found, key=lambda it: (it.run, it.at))
 
 
 class Place:

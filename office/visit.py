@@ -33,7 +33,7 @@ LAST_SERIAL = 2**63 - 1
 KNOWN = "SELECT command, identity, number, confirmed FROM boxes WHERE name = %s FOR NO KEY UPDATE"
 STANDING = "SELECT number, confirmed FROM boxes WHERE name = %s"
 ORDERS = "SELECT id, line, confirms, number, state, answer FROM orders WHERE box = %s AND "
-QUEUE = "INSERT INTO orders (box, key, line) VALUES (%s, %s, %s) ON CONFLICT (box, key) DO NOTHING RETURNING id"
+QUEUE = "INSERT INTO orders (box, key, line) VALUES (%s, %s, %s) ON CONFLICT (box, key) DO NOTHING"
 CONFIRM = ("INSERT INTO orders (box, line, confirms, number, state) VALUES (%s, %s, %s, %s, 'pending')" " RETURNING id")
 NUMBER = "UPDATE orders SET state = 'pending', number = %s, answer = NULL WHERE id = %s"
 END = "UPDATE orders SET state = %s, answer = %s, ended_at = now() WHERE id = %s"
@@ -108,14 +108,12 @@ class Visit:
             return [self.queue_one(cursor, line, f"{key}.{place}") for place, line in enumerate(lines, 1)]
 
     def queue_one(self, cursor: Cursor, line: str, key: str) -> int:
-        order_id = value_of(cursor, QUEUE, self.box, key, line)
-        if order_id is None:
-            order = self.order(cursor, "key = %s", key)
-            assert order is not None
-            if order.line != line:
-                raise Disagreement(f"the key {key} is that of another order: {order.line}")
-            order_id = order.id
-        return int(order_id)
+        cursor.execute(QUEUE, (self.box, key, line))
+        order = self.order(cursor, "key = %s", key)
+        assert order is not None
+        if order.line != line:
+            raise Disagreement(f"the key {key} is that of another order: {order.line}")
+        return order.id
 
     def orders(self, cursor: Cursor, where: str, *values: object) -> List[Order]:
         """The orders of the box of which that is so."""
@@ -148,13 +146,9 @@ class Visit:
                 first = self.order(cursor, QUEUED)  # (the box may have done it)
                 if first is None:
                     return None
-            self.number(cursor, first.id, known.number + 1)
+            cursor.execute(NUMBER, (known.number + 1, first.id))  # which is committed before it is sent
+            self.is_checked, self.own = True, first.id
             return first.id
-
-    def number(self, cursor: Cursor, order_id: int, number: int) -> None:
-        """Makes an order pending; it is committed before it is sent."""
-        cursor.execute(NUMBER, (number, order_id))
-        self.is_checked, self.own = True, order_id
 
     def send(self, order_id: int) -> None:
         """Sends a pending order, word for word as it stands in the table, and notes the answer."""
@@ -358,15 +352,13 @@ class Visit:
             window = rows_of(cursor, "SELECT collected_at, now() FROM boxes WHERE name = %s", self.box)[0]
             store_readings(cursor, self.box, new, Window(*window))
             if seen.readings:
-                self.store_confirm(cursor, standing.number + 1, seen.readings[-1].serial)
+                serial = seen.readings[-1].serial
+                self.own = value_of(cursor, CONFIRM, self.box, f"CONFIRM {serial}", serial, standing.number + 1)
+                self.is_checked = True
             if seen.is_all:
                 cursor.execute("UPDATE boxes SET collected_at = now(), fault = NULL, talks = NULL WHERE name = %s",
                                (self.box,))
             return len(new), seen.is_all
-
-    def store_confirm(self, cursor: Cursor, number: int, serial: int) -> None:
-        self.own = value_of(cursor, CONFIRM, self.box, f"CONFIRM {serial}", serial, number)
-        self.is_checked = True
 
     def new_readings(self, cursor: Cursor, seen: Seen, first: int) -> List[Reading]:
         """The readings shown that aren't in the database.

@@ -106,7 +106,8 @@ class FamilyHouse:
             self.wants((FAMILIES[family].shown or "PlainTextExtension") in told, f"{family}: the poll says {told}")
             use, cells = USES.get(FAMILIES[family].kind), []
             for month in MONTHS if use else ():
-                page = Page(out / f"ready/sheets/{tokens[meter.flat]}/{month:%Y-%m}.html")
+                path = out / f"ready/sheets/{tokens[meter.flat]}/{month:%Y-%m}.html"
+                page = Page(path.read_text(encoding="utf-8"))
                 cells.append(" ".join(page.cells.get((use or "", str(month)), "").split()))
                 self.cell(family, cells[-1], (next_month(month) - month).days, gaps.get(meter.name))
             print(f"{family}: polled {', '.join(told)}; {use or 'no use'}: {'; '.join(cells) or '-'}; gaps:"

@@ -83,16 +83,15 @@ class House:
     """A server with the house, ready to be computed."""
 
     def __init__(self, folder: pathlib.Path, mbdc: pathlib.Path) -> None:
+        os.environ["MBDC"] = str(mbdc)  # of conftest, which else builds one
         sys.path.insert(0, str(ROOT / "office/tests"))
         self.conftest, self.made = importlib.import_module("conftest"), importlib.import_module("test_publish")
-        self.folder, self.mbdc, self.lock = folder, mbdc, threading.Lock()
+        self.folder, self.lock = folder, threading.Lock()
         self.server = self.conftest.Server(folder)
         self.template = self.furnished(ROOT / "office", folder)
 
     def office(self, database: str, folder: pathlib.Path, programs: pathlib.Path) -> Any:
-        made = self.conftest.Office(self.server, database, folder, programs)
-        made.environment["MBDC"] = str(self.mbdc)
-        return made
+        return self.conftest.Office(self.server, database, folder, programs)
 
     def make(self, template: str) -> str:
         with self.lock:

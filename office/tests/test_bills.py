@@ -9,7 +9,6 @@ from typing import Dict, List
 
 from conftest import Office, sendmail
 from supplied import COLD, HEAT, WATER, WH, Supplied, at
-from test_sheets import published
 
 
 def billed(office: Office, *words: str, status: int = 0) -> List[Dict[str, str]]:
@@ -19,7 +18,7 @@ def billed(office: Office, *words: str, status: int = 0) -> List[Dict[str, str]]
 
 
 def test_a_bill(office: Office, elm: Supplied) -> None:
-    """A row a user and meter; the rows add up, and each names its readings."""
+    """A row a user and meter; the rows add up, and each names its readings; a hole has no number."""
     old = elm.meter(1, HEAT, "A1", since=at("2023-12-01T00:00"))
     elm.days(old, "2023-12-30", 100, 1000, 10)
     elm.days(elm.exchange(old, 2, at("2024-04-08T12:00"), 1997, 2), "2024-04-08", 300, 10, 10)
@@ -36,12 +35,8 @@ def test_a_bill(office: Office, elm: Supplied) -> None:
     quarters = [billed(office, "elm-1", f"2024-{first:02}-01..2024-{first + 2:02}-{last}")
                 for first, last in ((1, 31), (4, 30), (7, 30), (10, 31))]
     assert sum(int(row["amount"]) for rows in quarters for row in rows) == sum(int(row["amount"]) for row in rows)
-
-
-def test_a_bill_with_a_hole(office: Office, elm: Supplied) -> None:
-    elm.days(elm.meter(1, HEAT, "A1", since=at("2023-12-01T00:00")), "2023-12-30", 100, 1000, 10)
-    rows = billed(office, "elm-1", "2024", status=1)
-    assert (rows[0]["amount"], rows[0]["consumption"], rows[0]["grade"]) == ("", "", "missing")
+    hole = billed(office, "elm-1", "2025", status=1)[0]
+    assert (hole["amount"], hole["consumption"], hole["grade"]) == ("", "", "missing")
     for words in (["elm-1", "2124"], ["elm-1", "2024-02-01..2024-01-01"], ["oak-2", "2024"]):
         assert office.run("bill", *words).status == 2
 
@@ -161,29 +156,6 @@ def test_statistics(office: Office, elm: Supplied) -> None:
     office.sql("SELECT analyze_days()", role="closer")
 
 
-def test_a_user_is_forgotten(office: Office, elm: Supplied, tmp_path: pathlib.Path) -> None:
-    elm.days(elm.meter(1, HEAT, "A1"), "2024-12-30", 100, 1000, 10)
-    one, other = elm.tenancy("A1", "2024-01-01", "2025-02-10", "S. Secret"), elm.tenancy("A1", "2025-02-10", None)
-    for month in ("2025-01", "2025-02"):
-        elm.month(month)
-        published(office, month)
-        assert office.run("sheets", month, "--out", str(tmp_path), "--pdf", "none").status == 0
-    assert len(list(tmp_path.glob("**/sheets/*/*.html"))) == 3
-    early = office.run("forget", str(one))
-    assert early.status == 3 and "2025-01 of tenancy" in early.printed and "isn't out" in early.printed
-    for month in ("2025-01", "2025-02"):
-        assert office.run("sheets", month, "--out", str(tmp_path), "--pdf", "none", "--release").status == 0
-    assert office.run("forget", str(other)).status == 3
-    assert "2 sheets" in office.run("forget", str(one)).ok()
-    assert office.run("work", "--only", "erase", "--out", str(tmp_path), "--link",
-                      "https://office.example").printed.endswith(": 0 no sheets are left\n")
-    assert len(list(tmp_path.glob("**/sheets/*/*.html"))) == 1
-    assert office.sql("SELECT count(*) FROM tenancies WHERE person LIKE 'S%%'") == [(0,)]
-    assert office.sql("SELECT amount, basis FROM month_use WHERE month = '2025-01-01'") == [(310 * WH, [])]
-    assert elm.month("2025-02")[0] == ("A1", 0, 280 * WH, "measured")
-    assert office.run("forget", str(one)).status == 2
-
-
 def test_what_is_kept(office: Office, elm: Supplied) -> None:
     meter = elm.meter(1, HEAT, "A1", since=at("2020-01-01T00:00"))
     elm.days(meter, "2020-12-30", 40, 1000, 10)
@@ -201,11 +173,3 @@ def test_what_is_kept(office: Office, elm: Supplied) -> None:
     assert office.run("close", "--month", "2021-01").status == 2
     assert office.sql("SELECT amount, grade FROM month_use") == [(310 * WH, "measured")]
     assert office.run("retain", "--days", "3").status == 2
-
-
-def test_who_struck_a_value(office: Office, elm: Supplied) -> None:
-    meter = elm.meter(1, HEAT, "A1")
-    elm.values(meter, {"2025-01-31": 1300})
-    value = office.sql("SELECT put_value(%s, '2025-01-31', 1299, 'Wh', 'read at the meter')", meter, role="clerk")[0][0]
-    office.sql("SELECT strike(%s, 'a mistake')", value, role="clerk")
-    assert office.sql("SELECT struck_by, struck_why FROM day_values WHERE id = %s", value) == [("office", "a mistake")]

@@ -19,21 +19,14 @@ def fitted(office: Office) -> List[Tuple[Any, ...]]:
     return office.sql(FITTED)
 
 
-def test_a_box_gets_its_house(office: Office, box: Box) -> None:
-    """Its meters are fitted since they are in the register; another house ends that."""
+def test_orders(office: Office, box: Box) -> None:
+    """The meters of a box are fitted since they are in the register, once it gets its house; another house ends that.
+    As a collector: FIT begins a fitting, OUT ends it, MOVE does both, and after SWAP the place is the same."""
     assert fitted(office) == []
     housed(office)
     assert fitted(office) == [("A1", "cold water", 1, "11111111", True), ("A2", "cold water", 1, "22222222", True)]
     assert office.sql("SELECT bool_and(lower(f.during) = m.since) FROM fittings f JOIN meters m USING (identity)") == [
         (True,)]
-    office.sql("INSERT INTO houses (house, address) VALUES ('oak', 'Oak Street 1')")
-    office.sql("UPDATE boxes SET house = 'oak'")
-    assert [row[4] for row in fitted(office)] == [False, False, True, True]
-
-
-def test_orders(office: Office, box: Box) -> None:
-    """As a collector: FIT begins a fitting, OUT ends it, MOVE does both, and after SWAP the place is the same."""
-    housed(office)
     office.sql("ALTER ROLE office SET role = 'collector'")
     try:
         for line in (f"FIT {FIRST_HEAT} 1 3 A1", f"SWAP {FIRST_HEAT} {SECOND_HEAT} 4", "MOVE 11111111.PAD.01.07 B7",
@@ -47,6 +40,9 @@ def test_orders(office: Office, box: Box) -> None:
         "A1", "heat", 1, "33333333", False), ("A1", "heat", 1, "44444444", True),
                               ("B7", "cold water", 1, "11111111", True), ("A2", "cold water", 1, "55555555", True),
                               ("A2", "cold water", 2, "66666666", True)]
+    office.sql("INSERT INTO houses (house, address) VALUES ('oak', 'Oak Street 1')")
+    office.sql("UPDATE boxes SET house = 'oak'")
+    assert [row[4] for row in fitted(office)] == [False] * 7 + [True] * 4
 
 
 def test_a_new_contact_ends_no_fitting(office: Office, box: Box) -> None:

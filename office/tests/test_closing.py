@@ -44,10 +44,14 @@ def test_late_readings_come_to_be_values(office: Office, elm: Supplied) -> None:
 
 
 def test_the_next_month_decides_the_one_before(office: Office, elm: Supplied) -> None:
+    """And where a close failed, what it closed is computed by the next one."""
     meter = elm.meter(1, HEAT, "A1")
     for moment, value in (("2024-12-31T18:00", 1000), ("2025-01-01T18:00", 1010), ("2025-01-31T18:00", 1310)):
         elm.reads(meter, at(moment), value)
+    closed(office, status=3, MBDC="/bin/false")
+    assert office.sql("SELECT count(*) FROM to_close") == [(0,)] and months(office) == []
     assert "2025-01: 1 places: 1 missing" in closed(office)
+    assert closed(office)[1:] == []
     elm.reads(meter, at("2025-02-01T18:00"), 1322)
     assert "2025-01: 1 places: 1 provisional" in closed(office)
     elm.reads(meter, at("2025-02-02T18:00"), 1332)
@@ -74,17 +78,6 @@ def test_what_people_say_is_computed(office: Office, elm: Supplied) -> None:
     office.sql("UPDATE fittings SET unit = 'Wh', first_value = 990, during = '[2024-12-31 12:00Z,)'")
     closed(office)
     assert months(office)[0] == ("2024-12", 10 * WH, "hand")
-
-
-def test_a_close_that_fails_is_done_again(office: Office, elm: Supplied) -> None:
-    """What was closed is computed by the next one."""
-    meter = elm.meter(1, HEAT, "A1")
-    elm.reads(meter, at("2024-12-31T18:00"), 1000)
-    elm.reads(meter, at("2025-01-31T18:00"), 1310)
-    closed(office, status=3, MBDC="/bin/false")
-    assert office.sql("SELECT count(*) FROM to_close") == [(0,)] and months(office) == []
-    assert "2025-01: 1 places: 1 missing" in closed(office)
-    assert closed(office)[1:] == []
 
 
 def test_all_once_more(office: Office, elm: Supplied) -> None:

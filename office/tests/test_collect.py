@@ -27,13 +27,10 @@ def test_readings_are_stored_once_and_confirmed(office: Office, box: Box) -> Non
     assert office.sql("SELECT boxes, failed, readings, ended_at IS NOT NULL FROM collections") == [(1, 0, 250, True)]
     assert office.collect().status == 0
     assert office.sql("SELECT count(*) FROM readings") == [(250,)]
-
-
-def test_lost_and_torn_answers(office: Office, box: Box) -> None:
     box.hears(3)
-    box.faults("refuse", "torn", "", "lost")
+    box.faults("refuse", "torn", "", "lost")  # answers that are lost and torn
     office.collect("--tries", "6").ok()
-    assert box.numbers()[2:] == [(3, "CONFIRM 3")]
+    assert [line for _, line in box.numbers()[2:]] == ["CONFIRM 100", "CONFIRM 200", "CONFIRM 250", "CONFIRM 253"]
 
 
 def test_each_box_fails_for_itself(office: Office, box: Box) -> None:
@@ -72,15 +69,15 @@ def started(office: Office, *words: str) -> "subprocess.Popen[str]":
                             env=office.environment, start_new_session=True)
 
 
-def workers_of(process: "subprocess.Popen[str]") -> List[int]:
-    told = subprocess.run(["ps", "-o", "pid=", "--ppid", str(process.pid)], capture_output=True, text=True, check=False)
-    return [int(pid) for pid in told.stdout.split()]
+def begun_by(pid: int) -> Dict[int, str]:
+    """The processes that a process has begun, each with its program: of a collection its workers."""
+    told = subprocess.run(["ps", "-o", "pid=,comm=", "--ppid", str(pid)], capture_output=True, text=True, check=False)
+    return {int(number): program for number, program in (it.split(None, 1) for it in told.stdout.splitlines())}
 
 
 def is_asleep(pid: int) -> bool:
     """Whether a worker waits for a box that sleeps."""
-    told = subprocess.run(["ps", "-o", "comm=", "--ppid", str(pid)], capture_output=True, text=True, check=False)
-    return "sleep" in told.stdout
+    return "sleep" in begun_by(pid).values()
 
 
 def test_processes_that_are_killed(office: Office, box: Box) -> None:
@@ -95,7 +92,7 @@ def test_processes_that_are_killed(office: Office, box: Box) -> None:
             "SELECT count(*) FROM boxes WHERE collected_at IS NOT NULL AND confirmed = stored") != [(5,)]:
         assert time.monotonic() < end
         time.sleep(0.1)
-        asleep = [pid for pid in workers_of(process) if is_asleep(pid)]
+        asleep = [pid for pid in begun_by(process.pid) if is_asleep(pid)]
     assert len(asleep) == 1
     os.kill(asleep[0], signal.SIGKILL)
     printed, _ = process.communicate(timeout=60)
@@ -111,10 +108,10 @@ def test_a_box_that_comes_to_no_end(office: Office, box: Box) -> None:
     office.sql("INSERT INTO boxes (name, command) VALUES ('sleeps', 'sleep 100')")
     assert "sleeps: FAILED: no end within 1 s" in office.collect("--longest", "1", "sleeps").ok(1)
     process = started(office, "--workers", "1", "--longest", "8", "sleeps", "house-1")
-    while not (found := workers_of(process)):
+    while not (found := begun_by(process.pid)):
         assert process.poll() is None
         time.sleep(0.05)
-    os.kill(found[0], signal.SIGSTOP)
+    os.kill(min(found), signal.SIGSTOP)
     printed, _ = process.communicate(timeout=60)
     assert "sleeps: FAILED: no end within 8 s" in printed and "house-1: 2 readings" in printed
 
@@ -122,7 +119,7 @@ def test_a_box_that_comes_to_no_end(office: Office, box: Box) -> None:
 def test_processes_end_with_their_parent(office: Office, box: Box) -> None:
     office.sql("INSERT INTO boxes (name, command) VALUES ('sleeps', 'sleep 10')")
     process = started(office, "--workers", "2", "--tries", "1")
-    while not any(map(is_asleep, found := workers_of(process))):
+    while not any(map(is_asleep, found := begun_by(process.pid))):
         assert process.poll() is None
         time.sleep(0.05)
     process.kill()
@@ -180,16 +177,12 @@ def test_two_boxes_exchange_their_addresses_within_a_visit(office: Office, monke
     assert office.sql("SELECT count(*) FROM readings") == [(6,)]
 
 
-def test_two_names_of_one_box(office: Office, box: Box) -> None:
-    office.box("house-2")
-    (office.folder / "house-2.address").write_text("house-1\n", encoding="ascii")
-    ended = office.collect()
-    assert "house-2: STOPPED: the box of house-1 answers" in ended.printed
-
-
-def test_a_box_that_was_formatted_anew(office: Office, box: Box) -> None:
+def test_a_box_that_has_another_name_and_was_formatted_anew(office: Office, box: Box) -> None:
     box.hears(3)
     assert office.collect().status == 0
+    office.box("house-2")
+    (office.folder / "house-2.address").write_text("house-1\n", encoding="ascii")
+    assert "house-2: STOPPED: the box of house-1 answers" in office.collect("house-2").ok(1)
     new = Box(office.folder, "house-1")
     new.says(*(f"{number} {line}" for number, line in enumerate(FITS, 1)))
     new.hears(2, first=7)
@@ -197,64 +190,35 @@ def test_a_box_that_was_formatted_anew(office: Office, box: Box) -> None:
     assert office.sql("SELECT count(*) FROM readings") == [(3,)] and new.confirmed() == 0
 
 
-# A box that shows 100 more readings whenever it is asked, each as if it were its last
-ENDLESS = """#!/usr/bin/python3 -IS
-import pathlib, sys
-file = pathlib.Path(__file__).with_suffix(".state")
-number, confirmed, line = file.read_text().split(" ", 2) if file.exists() else ("0", "0", "")
-print("BOX " + "0" * 31 + "1")
-for office, *words in (line.split() for line in sys.stdin if line.startswith("OFFICE ")):
-    if words[0] == "WINDOW" and int(words[1]) <= int(confirmed):
-        print("ERR GONE", confirmed)
-    elif words[0] == "WINDOW":
-        for serial in range(int(words[1]), int(words[1]) + int(words[2])):
-            print(f"READING {serial} 11111111.PAD.01.07 A1 1\\nPART 1 1735689600 TELEGRAM")
-        print("END", words[2])
-    elif words[0] == "REGISTER":
-        print("METER 11111111.PAD.01.07 1 1 A1 0\\nEND 1")
-    elif words[0] == "999999999999999999":
-        print("ERR ORDER", number)
-    else:
-        number, confirmed = words[0], words[2]
-        print("OK", number)
-file.write_text(f"{number} {confirmed} ")
-"""
 # Runs a program, and prints the most memory that a process below it has taken, in KB
 MEASURED = ("import resource, subprocess, sys; subprocess.run(sys.argv[1:]);"
             " print(resource.getrusage(resource.RUSAGE_CHILDREN).ru_maxrss)")
 
 
 def test_boxes_that_say_too_much(office: Office, box: Box) -> None:
-    """Endlessly many lines, a line without an end, complaints without an end, a million readings: each fails for
+    """Endlessly many lines, a line without an end, complaints without an end, more readings than pages: each fails for
     itself, or is taken in parts, and none takes memory."""
-    box.hears(150)
-    endless = office.folder / "endless"
-    endless.write_text(ENDLESS.replace("TELEGRAM", telegram(1)), encoding="ascii")
-    endless.chmod(0o755)
-    for name, command in (("yes", "yes READING"), ("zeros", "cat /dev/zero"), ("errs", "sh -c 'yes error >&2'"),
-                          ("endless", str(endless))):
+    box.hears(350)
+    for name, command in (("yes", "yes READING"), ("zeros", "cat /dev/zero"), ("errs", "sh -c 'yes error >&2'")):
         office.sql("INSERT INTO boxes (name, command) VALUES (%s, %s)", name, command)
     done = subprocess.run([sys.executable, "-c", MEASURED, OFFICE / "collect", "--database", office.name, "--tries",
                            "2", "--pause", "0.01", "--timeout", "3", "--pages", "3"], env=office.environment,
                           capture_output=True, text=True, check=True)
     *lines, summary, most = done.stdout.splitlines()
     assert int(most) < 100_000, done.stdout
-    assert summary.startswith("5 boxes, 450 readings, 3 failed")
+    assert summary.startswith("4 boxes, 300 readings, 3 failed")
     said = {name: rest.strip() for name, _, rest in (line.partition(":") for line in lines)}
     assert said["yes"] == "FAILED: it says more than 3 MB at once"
     assert said["zeros"] == "FAILED: it says a line of more than 1024 bytes"
     assert said["errs"] == "FAILED: no answer within 3 s"
-    assert said["endless"].startswith("300 readings, confirmed up to 300")
-    assert said["house-1"].startswith("150 readings, confirmed up to 150")
+    assert said["house-1"].startswith("300 readings, confirmed up to 300")
     told = office.run("alarms").printed.splitlines()
-    assert ("NEW talks endless: A box says too much: it has more than 300 readings, and the rest waits for the next"
+    assert ("NEW talks house-1: A box says too much: it has more than 300 readings, and the rest waits for the next"
             " collection.") in told
     assert {"NEW box errs", "NEW box yes", "NEW talks yes"} & {line.split(":")[0] for line in told} == {
         "NEW box errs", "NEW talks yes"}
-    endless.write_text(ENDLESS.replace("TELEGRAM", telegram(1)).replace("int(words[2])", "30").replace(
-        '"END", words[2]', '"END", min(30, int(words[2]))'), encoding="ascii")
-    assert office.collect("endless").status == 0
-    assert office.sql("SELECT talks, collected_at IS NULL FROM boxes WHERE name = 'endless'") == [(None, False)]
+    assert "house-1: 50 readings, confirmed up to 350" in office.collect("house-1").ok()
+    assert office.sql("SELECT talks, collected_at IS NULL FROM boxes WHERE name = 'house-1'") == [(None, False)]
 
 
 # ---- records

@@ -258,9 +258,7 @@ def test_lists_are_taken_as_a_whole_or_not(office: Office, elm: Supplied, desk: 
     assert desk.post("/import", {"text": "flat,oak-2,A3,60\n", "apply": "yes"}, "rosa")[0] == 403
     assert desk.post("/import", {"text": "flat,oak-2,A3,60\n", "apply": "yes"})[0] == 200
     assert office.sql("SELECT area_m2::text FROM flats WHERE flat = 'A3'") == [("60",)]
-
-
-def test_a_list_goes_on(office: Office, elm: Supplied, desk: Desk) -> None:
+    # a list goes on
     office.sql("INSERT INTO houses (house, address) SELECT 'h-' || n, 'x' FROM generate_series(1, 700) n")
     first = desk.get("/houses?q=h-")[1]
     after = re.findall(r'rel="next" href="([^"]+)"', first)[0].replace("&amp;", "&")

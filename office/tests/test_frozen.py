@@ -84,11 +84,7 @@ def test_another_number_is_another_version(office: Office, january: Tuple[int, i
         (1, "310.0"), (2, "315.0")]
     assert "END changed" in office.run("alarms").printed
     assert office.run("correct", "elm-1", "2025-02", "--why", "x").status == 4
-
-
-def test_a_month_may_be_left(office: Office, january: Tuple[int, int]) -> None:
-    """Until it would be another one again."""
-    meter, _ = january
+    # a month may be left, until it would be another one again
     assert office.run("correct", "elm-1", "2025-01", "--leave", "--why", "x").status == 4
     office.sql("SELECT put_value(%s, '2025-01-31', 1319000, 'Wh', 'read')", meter)
     assert office.run("close").status == 0
@@ -97,7 +93,7 @@ def test_a_month_may_be_left(office: Office, january: Tuple[int, int]) -> None:
     assert "changed" not in office.run("alarms").printed
     office.sql("SELECT put_value(%s, '2025-01-31', 1318000, 'Wh', 'read')", meter)
     assert office.run("close").status == 0 and "NEW changed" in office.run("alarms").printed
-    assert len(rows(office)) == 1
+    assert len(rows(office)) == 2
 
 
 def test_forget_leaves_what_decides_months(office: Office, elm: Supplied, tmp_path: pathlib.Path) -> None:
@@ -121,37 +117,6 @@ def computed_again(entries: List[int], begins: int, ends: int) -> int:
     """An amount from frozen values (meter, moment, value, most, size) that lie at both ends."""
     values = dict(zip(entries[1::5], entries[2::5]))
     return values[ends] - values[begins]
-
-
-def moved(elm: Supplied) -> int:
-    """Days of 2021 with a move in February; who goes."""
-    elm.days(elm.meter(1, HEAT, "A1", since=at("2020-01-01T00:00")), "2020-12-29", 130, 1_000_000, 10_000)
-    elm.tenancy("A1", "2021-02-11", None, "B. Smith")
-    return elm.tenancy("A1", "2020-01-01", "2021-02-11", "S. Secret")
-
-
-def test_neither_retain_nor_forget_changes_a_number(office: Office, elm: Supplied, tmp_path: pathlib.Path) -> None:
-    """Of three months that are out, with a move in the second, the days and the user go, and the numbers stay."""
-    one = moved(elm)
-    elm.months("2021-01", "2021-02", "2021-03")
-    assert office.run("forget", str(one)).status == 3
-    for month in ("2021-01", "2021-02", "2021-03"):
-        released(office, tmp_path, month)
-    before = rows(office)
-    assert len(before) == 5
-    frozen = office.sql("SELECT entries FROM frozen_values WHERE month = '2021-01-01'")[0][0]
-    office.run("forget", str(one)).ok()
-    closed(office, "2021-01", "2021-02", "2021-03")
-    assert office.run("close", "--month", "2021-01").status == 0
-    assert rows(office) == before and office.sql("SELECT count(*) FROM changes") == [(0,)]
-    assert office.sql("SELECT count(tenancy) FROM published") != office.sql("SELECT count(*) FROM published")
-    assert computed_again(frozen, int(before[0][6].timestamp()), int(before[0][7].timestamp())) == before[0][4]
-    assert office.run("retain").status == 0
-    assert office.sql("SELECT count(*) FROM frozen_values WHERE month < '2022-01-01'") == [(0,)]
-    assert rows(office) == before
-    assert "were dropped" in office.run("close", "--month", "2021-01").ok(2)
-    assert "2021" not in closed(office, "2021-01", "2021-02", "2021-03")
-    assert rows(office) == before and office.sql("SELECT count(*) FROM changes") == [(0,)]
 
 
 def bill(office: Office, *words: str, status: int = 0) -> str:
@@ -205,24 +170,44 @@ def test_a_bill_that_is_out(office: Office, elm: Supplied) -> None:
     assert office.run("correct", "elm-1", "2025", "--why", "x").status == 2
 
 
-def test_neither_retain_nor_forget_changes_a_bill(office: Office, elm: Supplied, tmp_path: pathlib.Path) -> None:
-    """The user's name goes, the days go, and the numbers stay as they were printed."""
-    one = moved(elm)
-    before = bill(office, "2021-01-01..2021-03-31", "--release")
-    for month in ("2021-01", "2021-02", "2021-03"):
-        elm.month(month)
+def test_neither_retain_nor_forget_changes_a_number(office: Office, elm: Supplied, tmp_path: pathlib.Path) -> None:
+    """Of three months and a bill that are out, with a move in the second, the days, the user and the user's sheets go,
+    and the numbers stay as they were printed."""
+    elm.days(elm.meter(1, HEAT, "A1", since=at("2020-01-01T00:00")), "2020-12-29", 130, 1_000_000, 10_000)
+    one, other = elm.tenancy("A1", "2020-01-01", "2021-02-11", "S. Secret"), elm.tenancy("A1", "2021-02-11", None)
+    months, quarter = ("2021-01", "2021-02", "2021-03"), "2021-01-01..2021-03-31"
+    elm.months(*months)
+    early = office.run("forget", str(one)).ok(3)
+    assert "2021-01 of tenancy" in early and "isn't out" in early
+    billed = bill(office, quarter, "--release")
+    for month in months:
         released(office, tmp_path, month)
+    before = rows(office)
+    assert len(before) == 5 and len(list(tmp_path.glob("sheets/*/*.html"))) == 4
+    frozen = office.sql("SELECT entries FROM frozen_values WHERE month = '2021-01-01'")[0][0]
     office.sql("SELECT correct_bill('elm-1', '[2021-01-01,2021-04-01)', 'x')")
-    assert "the bill 2021-01-01..2021-03-31 of tenancy" in office.run("forget", str(one)).ok(3)
-    bill(office, "2021-01-01..2021-03-31", "--release")
-    assert office.run("forget", str(one)).status == 0
-    closed(office, "2021-01", "2021-02", "2021-03")
+    assert f"the bill {quarter} of tenancy" in office.run("forget", str(one)).ok(3)
+    bill(office, quarter, "--release")
+    assert office.run("forget", str(other)).status == 3
+    assert "2 sheets" in office.run("forget", str(one)).ok() and office.run("forget", str(one)).status == 2
+    office.run("work", "--only", "erase", "--out", str(tmp_path), "--link", "https://office.example").ok()
+    assert len(list(tmp_path.glob("**/sheets/*/*.html"))) == 2
+    assert office.sql("SELECT count(*) FROM tenancies WHERE person LIKE 'S%%'") == [(0,)]
+    closed(office, *months)
+    assert office.run("close", "--month", "2021-01").status == 0
+    assert rows(office) == before and office.sql("SELECT count(*) FROM changes") == [(0,)]
+    assert office.sql("SELECT amount, basis FROM month_use WHERE month = '2021-01-01'") == [(310_000 * WH, [])]
+    assert office.sql("SELECT count(tenancy) FROM published") != office.sql("SELECT count(*) FROM published")
+    assert computed_again(frozen, int(before[0][6].timestamp()), int(before[0][7].timestamp())) == before[0][4]
     assert office.sql("SELECT changed, is_to_check FROM bills_now") == [(None, False)]
-    after = bill(office, "2021-01-01..2021-03-31")
-    assert after == before.replace(f",{one},S. Secret,", ",,,")
+    after = bill(office, quarter)
+    assert after == billed.replace(f",{one},S. Secret,", ",,,")
     assert office.run("retain").status == 0
-    closed(office, "2021-01", "2021-02", "2021-03")
-    assert bill(office, "2021-01-01..2021-03-31") == after and "changed" not in office.run("alarms").printed
+    assert office.sql("SELECT count(*) FROM frozen_values WHERE month < '2022-01-01'") == [(0,)]
+    assert "were dropped" in office.run("close", "--month", "2021-01").ok(2)
+    assert "2021" not in closed(office, *months)
+    assert rows(office) == before and office.sql("SELECT count(*) FROM changes") == [(0,)]
+    assert bill(office, quarter) == after and "changed" not in office.run("alarms").printed
     assert "were dropped" in office.run("publish", "elm-1", "2021", "--bill").printed
     assert "no audit" in bill(office, "2021", status=5)
 

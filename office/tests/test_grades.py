@@ -37,6 +37,7 @@ def test_a_false_value_marks_both_its_steps(office: Office, elm: Supplied, day: 
 
 
 def test_a_number_is_provisional_until_the_next_step(office: Office, elm: Supplied, tmp_path: pathlib.Path) -> None:
+    """It is in no bill, and its month waits for the step after its end, or a person says why it needn't."""
     meter = elm.meter(1, HEAT, "A1")
     tenancy = elm.tenancy("A1", "2024-01-01", None)
     elm.days(meter, "2024-12-25", 38, 1000, 10)  # to 31 January
@@ -45,12 +46,26 @@ def test_a_number_is_provisional_until_the_next_step(office: Office, elm: Suppli
     written(office, tmp_path, "--pdf", "none")
     cell = read_sheet(office, tmp_path, tenancy).cells["heat", "2025-01-01"]
     assert cell.split()[:2] == ["0,3", "vorläufig:"]
+    words = ("sheets", "2025-01", "--out", str(tmp_path), "--pdf", "none", "--release")
+    assert "2025-01 waits for readings after its end: elm-1" in office.run(*words).ok(5)
+    assert office.sql("SELECT ready_houses('2025-01-01')") == []
+    assert "waits for readings" in refused(office, "SELECT release_month('elm-1', '2025-01-01')")
+    assert not (tmp_path / "sheets").exists() and sheet_of(office, tmp_path, tenancy).exists()
+    assert "no number elm-1" not in office.run("alarms", "--at", "2025-02-03T12:00+00:00").printed
+    assert "NEW no number elm-1/A1/heat/1 2025-01: No reading came after the month" in office.run(
+        "alarms", "--at", "2025-02-07T12:00+00:00").printed
     elm.values(meter, {"2025-02-01": 1380})
     assert elm.month("2025-01") == [("A1", 0, 310 * WH, "measured")]
     office.sql("DELETE FROM day_values WHERE day = '2025-01-31'")
     assert grades(elm, "2025-01") == ["provisional"]
     elm.values(meter, {"2025-02-02": 1390})
     assert grades(elm, "2025-01") == ["measured"]
+    office.sql("DELETE FROM day_values WHERE day = '2025-02-02'")
+    elm.month("2025-01")
+    published(office)
+    office.sql("SELECT desk.see_number(place, '2025-01-01', 'the meter was removed') FROM fittings")
+    assert office.sql("SELECT ready_houses('2025-01-01')") == [("elm-1",)]
+    assert office.run(*words).status == 0 and (tmp_path / "sheets").exists()
 
 
 def test_a_turn(office: Office, elm: Supplied) -> None:
@@ -77,14 +92,10 @@ def test_a_turn(office: Office, elm: Supplied) -> None:
     assert grades(elm, "2025-01") == ["disturbed"]
     elm.tells(meter, {"2025-01-30": "99999.9"}, "m3")
     assert "has digits" in refused(office, "SELECT declare_counter('elm-1', '00000001.PAD.01.07', 7)")
-
-
-def test_the_list_of_models(office: Office, elm: Supplied) -> None:
     office.sql("INSERT INTO models VALUES ('PAD', '01', '07', 8)")
-    meter = elm.meter(1, COLD, "A1")
-    elm.reads(meter, at("2025-01-30T23:00"), "99999.900")
+    elm.reads(elm.meter(2, COLD, "A2"), at("2025-01-30T23:00"), "99999.900")
     assert office.run("close").status == 0
-    assert office.sql("SELECT size FROM fittings") == [(10 ** 8 * 1000,)]
+    assert office.sql("SELECT DISTINCT size FROM fittings") == [(10 ** 8 * 1000,)]
 
 
 def read_daily(elm: Supplied, meter: int, first: str, values: List[Any], due: Any = None) -> None:
@@ -165,25 +176,6 @@ def test_a_number_is_held_until_a_person_says_why(office: Office, elm: Supplied,
     assert office.sql("SELECT grade FROM month_kwh") == [("held",)]
 
 
-def test_a_provisional_number_is_not_released(office: Office, elm: Supplied, tmp_path: pathlib.Path) -> None:
-    """It waits for the step after the month's end, or a person says why it needn't."""
-    elm.days(elm.meter(1, HEAT, "A1"), "2024-12-28", 35, 1000, 10)
-    tenancy = elm.tenancy("A1", "2024-01-01", None)
-    assert elm.month("2025-01") == [("A1", 0, 310 * WH, "provisional")]
-    published(office)
-    words = ("sheets", "2025-01", "--out", str(tmp_path), "--pdf", "none", "--release")
-    assert "2025-01 waits for readings after its end: elm-1" in office.run(*words).ok(5)
-    assert office.sql("SELECT ready_houses('2025-01-01')") == []
-    assert "waits for readings" in refused(office, "SELECT release_month('elm-1', '2025-01-01')")
-    assert not (tmp_path / "sheets").exists() and sheet_of(office, tmp_path, tenancy).exists()
-    assert "no number elm-1" not in office.run("alarms", "--at", "2025-02-03T12:00+00:00").printed
-    assert "NEW no number elm-1/A1/heat/1 2025-01: No reading came after the month" in office.run(
-        "alarms", "--at", "2025-02-07T12:00+00:00").printed
-    office.sql("SELECT desk.see_number(place, '2025-01-01', 'the meter was removed') FROM fittings")
-    assert office.sql("SELECT ready_houses('2025-01-01')") == [("elm-1",)]
-    assert office.run(*words).status == 0 and (tmp_path / "sheets").exists()
-
-
 def test_a_leap_in_an_empty_flat_is_held(office: Office, elm: Supplied) -> None:
     """Its usual day is none: what counts is a cubic metre a day or, where others are known, ten times their day."""
     empty = elm.meter(1, COLD, "A1")
@@ -218,14 +210,3 @@ def test_a_leap_in_a_house_that_is_read_weekly_is_held(office: Office, elm: Supp
     elm.tells(meter, {day: f"{150 + week * 0.7:.3f}" for week, day in enumerate(weeks) if day >= "2025-01-20"}, "m3")
     elm.month("2025-01")
     assert office.sql("SELECT flat, grade FROM month_kwh ORDER BY 1") == [("A1", "held"), ("A2", "estimated")]
-
-
-def test_a_typing_error_at_an_exchange_is_held(office: Office, elm: Supplied) -> None:
-    old = elm.meter(1, HEAT, "A1")
-    elm.days(old, "2024-12-20", 25, 1000, 10)
-    elm.days(elm.exchange(old, 2, at("2025-01-14T12:00"), 1345), "2025-01-14", 30, 5, 10)
-    elm.month("2025-01")
-    assert office.sql("SELECT is_held FROM month_use") == [(True,)]
-    office.sql("UPDATE fittings SET last_value = 1245 WHERE id = %s", old)
-    elm.month("2025-01")
-    assert office.sql("SELECT is_held FROM month_use") == [(False,)]

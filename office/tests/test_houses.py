@@ -53,8 +53,8 @@ def test_a_house_of_2000_flats(office: Office, elm: Supplied, tmp_path: pathlib.
 
 def test_a_month_without_a_reading(office: Office, elm: Supplied, tmp_path: pathlib.Path) -> None:
     """It has no number anywhere, says so, and isn't taken for nothing used; nor is anything estimated of nothing."""
-    for number in (1, 2):
-        elm.meter(number, HEAT, f"A{number}")
+    elm.meter(1, HEAT, "A1")
+    elm.values(elm.meter(2, HEAT, "A2"), {"2024-12-31": 100})
     tenancy = elm.tenancy("A1", "2024-01-01", None)
     assert office.run("close").status == 0
     assert elm.month("2025-01") == [(f"A{number}", 0, None, "missing") for number in (1, 2)]

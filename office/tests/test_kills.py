@@ -2,8 +2,6 @@
 
 Each life runs in a child process, which kills itself as it comes to one line of the office's modules, where that line
 is executed for the first time. Then the same is done again without a kill, and everything is compared.
-OFFICE_KILLS=last takes the last execution of each line too, OFFICE_KILLS=all every one, OFFICE_KILLS=10 each tenth of
-the first ones.
 """
 
 import os
@@ -12,7 +10,7 @@ import signal
 import subprocess
 import sys
 from types import FrameType
-from typing import Any, Callable, Dict, List, Optional, Tuple
+from typing import Any, Callable, List, Optional, Tuple
 
 from conftest import FITS, OFFICE, Box, Office, telegram
 
@@ -71,21 +69,6 @@ def killed_at(office: Office, turn: int) -> None:
     os.waitpid(child, 0)
 
 
-def turns_of(lines: List[Line]) -> List[int]:
-    """The turns at which the life is killed."""
-    which = os.environ.get("OFFICE_KILLS", "1")
-    if which == "all":
-        return list(range(len(lines)))
-    first: Dict[Line, int] = {}
-    last: Dict[Line, int] = {}
-    for turn, line in enumerate(lines):
-        first.setdefault(line, turn)
-        last[line] = turn
-    if which == "last":
-        return sorted({*first.values(), *last.values()})
-    return sorted(first.values())[::int(which)]
-
-
 class Table:
     """Puts a box and the database back to their beginning."""
 
@@ -125,7 +108,7 @@ def test_a_kill_at_each_line(office: Office, box: Box) -> None:
     lines: List[Line] = []
     traced(lines.append, life, office)
     table.compare(-1)
-    turns = turns_of(lines)
+    turns = [lines.index(line) for line in dict.fromkeys(lines)]
     for turn in turns:
         table.begin()
         killed_at(office, turn)

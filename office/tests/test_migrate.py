@@ -124,10 +124,10 @@ def test_each_function_is_whole(office: Office) -> None:
     """They are laid in any order, unread; here the database reads each."""
     for language, validator in (("sql", "fmgr_sql_validator"), ("plpgsql", "plpgsql_validator")):
         assert office.sql(f"SELECT count({validator}(p.oid)) > 20 {FUNCTIONS} AND lanname = %s", language) == [(True,)]
-
-
-def test_a_second_call_does_nothing(office: Office) -> None:
-    assert office.run("migrate") == Ended(0, "")
+    assert office.run("migrate") == Ended(0, "")  # a second call does nothing
+    for version in (FIRST - 1, LAST + 1):  # which is not known
+        office.sql("UPDATE schema_versions SET version = %s", version)
+        assert f"the database has version {version}" in office.run("migrate").ok(5)
 
 
 def test_a_migration_that_fails_leaves_the_version_before_it(older: Office) -> None:
@@ -137,12 +137,6 @@ def test_a_migration_that_fails_leaves_the_version_before_it(older: Office) -> N
     assert older.sql("SELECT max(version) FROM schema_versions") == [(FIRST,)] and shape(older) == before
     older.sql("DELETE FROM jobs")
     assert older.run("migrate").status == 0
-
-
-@pytest.mark.parametrize("version", (FIRST - 1, LAST + 1))
-def test_a_version_that_is_not_known(office: Office, version: int) -> None:
-    office.sql("UPDATE schema_versions SET version = %s", version)
-    assert f"the database has version {version}" in office.run("migrate").ok(5)
 
 
 # ---- a dump

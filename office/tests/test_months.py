@@ -72,7 +72,8 @@ def test_a_user_moves_in_mid_month(office: Office, elm: Supplied) -> None:
 
 
 def test_an_exchange(office: Office, elm: Supplied) -> None:
-    """SWAP ends a fitting and begins one at the same place; without their values the month is unclear."""
+    """SWAP ends a fitting and begins one at the same place; without their values the month is unclear, and a typing
+    error is held."""
     old = elm.meter(1, HEAT, "A1")
     elm.days(old, "2024-12-25", 20, 1000, 10)
     new = elm.exchange(old, 2, at("2025-01-15T11:00"), None, None)
@@ -80,8 +81,11 @@ def test_an_exchange(office: Office, elm: Supplied) -> None:
     assert fittings == [(fittings[0][0], False), (fittings[0][0], True)]
     elm.days(new, "2025-01-15", 20, 5, 10)
     assert elm.month("2025-01") == [("A1", 0, None, "unclear")]
-    office.sql("UPDATE fittings SET last_value = 1205 WHERE id = %s", old)
     office.sql("UPDATE fittings SET first_value = 0 WHERE id = %s", new)
+    for last, is_held in ((1305, True), (1205, False)):
+        office.sql("UPDATE fittings SET last_value = %s WHERE id = %s", last, old)
+        elm.month("2025-01")
+        assert office.sql("SELECT is_held FROM month_use") == [(is_held,)]
     assert elm.month("2025-01") == [("A1", 0, (1205 - 1060 + 165) * WH, "hand")]
     sources = [it["source"] for it in office.sql("SELECT basis FROM month_use")[0][0]]
     assert sources == ["stored", "removed", "fitted", "stored"]
@@ -129,12 +133,8 @@ def test_what_the_tables_refuse(office: Office, elm: Supplied) -> None:
                   "UPDATE places SET weight = -1",
                   "UPDATE fittings SET unit = 'Wh', last_value = 1",
                   "UPDATE fittings SET unit = 'Wh', first_value = 0.0000001",
-                  f"INSERT INTO day_values (fitting, day, at, value, unit, source) VALUES ({meter}, '2025-01-01',"
-                  " now(), -1, 'Wh', 'by hand')",
-                  f"INSERT INTO day_values (fitting, day, at, value, unit, source) VALUES ({meter}, '2025-01-01',"
-                  " now(), 1, 'W', 'by hand')",
-                  f"INSERT INTO day_values (fitting, day, at, value, unit, source) VALUES ({meter}, '2025-01-01',"
-                  " now(), 1, 'Wh', 'read')",
+                  *(f"INSERT INTO day_values (fitting, day, at, value, unit, source) VALUES ({meter}, '2025-01-01',"
+                    f" now(), {it})" for it in ("-1, 'Wh', 'by hand'", "1, 'W', 'by hand'", "1, 'Wh', 'read'")),
                   "INSERT INTO factors VALUES ('elm-1', 'heat', '[2025-01-01,)', 1)",
                   "INSERT INTO month_use SELECT '2025-01-01', place, 0, '2025-01-01', '2025-02-01', NULL, 5,"
                   " 'disturbed', false, '[]' FROM fittings"):
@@ -182,11 +182,3 @@ def test_a_later_reading_puts_it_out_of_force(office: Office, elm: Supplied) -> 
     elm.values(dead, {"2025-02-01": 3}, "m3")
     both = [elm.month(month)[0][2] for month in ("2025-01", "2025-02")]
     assert sum(both) == 59_000_000 and both[0] == 2_000_000 * 31 // 32
-
-
-def test_what_cannot_be_estimated(office: Office, elm: Supplied) -> None:
-    elm.meter(1, HEAT, "A1")
-    elm.values(elm.meter(2, HEAT, "A2"), {"2024-12-31": 100})
-    elm.month("2025-01")
-    ended = office.run("estimate", "2025-01")
-    assert ended.printed == "".join(f"2025-01 elm-1/A{number}/heat/1: not estimated\n" for number in (1, 2))

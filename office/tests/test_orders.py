@@ -28,19 +28,13 @@ def test_orders_are_done_once(office: Office, box: Box) -> None:
     assert "that of another order" in office.order("--key", "a", "house-1", THIRD).ok(5)
 
 
-def test_an_order_for_a_box_that_isnt_reached(office: Office, box: Box) -> None:
+def test_an_order_that_the_collection_sends(office: Office, box: Box) -> None:
+    """The box wasn't reached, or the order was put into the table alone."""
     box.faults(*["refuse"] * 3)
     assert "not answered yet" in office.order("--tries", "2", "house-1", MOVED).ok(6)
+    assert office.order("--later", "house-1", THIRD).status == 6 and box.last() == 2
     assert office.collect("--tries", "2").status == 0
-    assert box.numbers()[2:] == [(3, MOVED)]
-
-
-def test_later(office: Office, box: Box) -> None:
-    """Put into the table alone; the collection sends it."""
-    assert office.order("--later", "house-1", MOVED).status == 6
-    assert box.last() == 2
-    assert office.collect().status == 0
-    assert box.numbers()[2:] == [(3, MOVED)]
+    assert box.numbers()[2:] == [(3, MOVED), (4, THIRD)]
 
 
 def test_a_refused_number_is_used_again(office: Office, box: Box) -> None:
@@ -162,19 +156,14 @@ def test_a_pending_order_was_done_and_another_one_after_it(office: Office, box: 
 
 
 def test_a_queued_order_was_done_at_the_box(office: Office, box: Box) -> None:
-    """The technician did what the office was about to send."""
+    """The technician did what the office was about to send. Torn lines of the journal are passed over."""
     assert office.order("--later", "house-1", MOVED).status == 6
     assert box.says(f"3 {MOVED}", f"4 {SWAPPED}") == ["OK 3", "OK 4"]
+    with box.journal.open("ab") as journal:
+        journal.write(b'{"at":1,"event":"command","number":5,"line":"5 OUT 2\n\xff\n{}\n')
     assert office.collect().status == 0
     assert box.last() == 4
     assert office.sql("SELECT number, state::text FROM orders WHERE id > 2 ORDER BY id") == [(3, "done"), (4, "done")]
-
-
-def test_torn_lines_are_passed_over(office: Office, box: Box) -> None:
-    assert box.says(f"3 {SWAPPED}") == ["OK 3"]
-    with box.journal.open("ab") as journal:
-        journal.write(b'{"at":1,"event":"command","number":4,"line":"4 OUT 2\n\xff\n{}\n')
-    assert office.collect().status == 0
 
 
 Rows = List[Dict[str, object]]

@@ -39,26 +39,19 @@ def test_lines_that_are_no_commands(office: Office, box: Box) -> None:
         assert "is_a_command" in refused(office, ORDER, line), line
     for line in ("OUT x\nHEAR 1 E5", "OUT  x", "OUT ", "out x", "", "OUT " + "x" * 97):
         assert "is_a_line" in refused(office, ORDER, line), line
-
-
-def test_what_a_clerk_may_do(office: Office, box: Box) -> None:
     office.sql(ORDER, "OUT 11111111.PAD.01.07", role="clerk")
     assert office.sql("SELECT line, state::text, made_by FROM orders WHERE key = 'k'") == [
         ("OUT 11111111.PAD.01.07", "queued", "office")]  # made_by is who logged in
 
 
 def test_a_reading_is_stored_once_in_all_months(office: Office, box: Box) -> None:
+    """Also once older months are dropped."""
     box.hears(2)
     assert office.collect().status == 0
     again = ("INSERT INTO readings (month, box, serial, identity, flat, heard, bodies)"
              " VALUES ((this_month() + interval '1 month')::date, 'house-1', 2, 'x', 'x', '{now}', '{a}')")
     assert "stored before" in refused(office, again)
     assert office.sql("SELECT stored FROM boxes") == [(2,)]
-
-
-def test_old_months_are_dropped(office: Office, box: Box) -> None:
-    box.hears(2)
-    assert office.collect().status == 0
     assert office.sql("SELECT drop_months_before(this_month())") == []
     dropped = office.sql("SELECT drop_months_before((this_month() + interval '1 month')::date)")
     assert sorted(row[0].partition("_")[0] for row in dropped) == ["points", "readings"]
@@ -111,7 +104,8 @@ def test_overdue_meters(office: Office, box: Box) -> None:
 
 
 def test_stale_boxes_and_watch(office: Office, box: Box) -> None:
-    """A box that was never reached, one that failed, one without meters; and that no collection came to its end."""
+    """A box that was never reached, one that failed, one without meters; an order that waits; and that no collection
+    came to its end."""
     office.box("empty")
     office.sql("INSERT INTO boxes (name, command, made_at) VALUES ('never', 'false', now() - interval '3 days')")
     assert "collector: no collection of all boxes ended" in office.run("watch").ok(1)
@@ -124,14 +118,9 @@ def test_stale_boxes_and_watch(office: Office, box: Box) -> None:
     office.sql("DELETE FROM boxes WHERE name = 'never'")
     office.sql("UPDATE boxes SET active = false WHERE name = 'empty'")
     assert office.collect().status == 0
-    assert office.run("watch") == office.run("watch", "--hours", "1") and office.run("watch").status == 0
-    office.sql("UPDATE collections SET ended_at = ended_at - interval '27 hours'")
-    assert office.run("watch").ok(1).startswith("collector: no collection of all boxes ended in 26")
-
-
-def test_orders_that_wait_are_watched(office: Office, box: Box) -> None:
-    assert office.collect().status == 0
     office.sql(ORDER, FITS[0])
-    assert office.run("watch").status == 0
+    assert office.run("watch") == office.run("watch", "--hours", "1") and office.run("watch").status == 0
     office.sql("UPDATE orders SET made_at = made_at - interval '2 days' WHERE key = 'k'")
     assert f"order: house-1 {FITS[0]} queued" in office.run("watch").ok(1)
+    office.sql("UPDATE collections SET ended_at = ended_at - interval '27 hours'")
+    assert office.run("watch").ok(1).startswith("collector: no collection of all boxes ended in 26")
