@@ -121,7 +121,7 @@ class Office:
                     self.serials[box] += 1
                     page.append(Reading(self.serials[box], device.identity, flat, ((told.stamp or at).astimezone(UTC),),
                                         (device.body(told),)))
-                self.as_if_in(month)
+                self.as_if_in(month, last)
                 with self.connection, self.connection.cursor() as cursor:
                     storing.store_readings(cursor, box, page, window)
                 count += len(page)
@@ -137,11 +137,12 @@ class Office:
                  " FROM meters WHERE box = %s", new, old)
         self.boxes[house.name], self.serials[new] = new, 0
 
-    def as_if_in(self, month: datetime.date) -> None:
-        """What is stored now belongs to that month."""
+    def as_if_in(self, month: datetime.date, moment: Moment) -> None:
+        """What is stored now belongs to that month, and to the collection of that moment: not to a later one, too."""
         self.sql("SELECT make_months(%s, 1)", month)
         for table in ("readings", "points", "due_readings"):
             self.sql(f"ALTER TABLE {table} ALTER COLUMN month SET DEFAULT %s", month)
+        self.sql("ALTER TABLE readings ALTER COLUMN stored_at SET DEFAULT %s", moment)
 
     # ---- what the database says
 
