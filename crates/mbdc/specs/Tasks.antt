@@ -22,7 +22,6 @@ use Rattle.mbdc_files.specs.Formatted.{IsFormatted, IsUnmade}
 use Rattle.mbdc_io.specs.Lines.{lines_of}
 use Rattle.mbdc_log.specs.declared.greatest.Greatest.{Greatest}
 use Rattle.mbdc_log.specs.declared.rescuing.Source.{Source}
-use Rattle.mbdc_sheet.specs.Sheet.{is_sheet}
 
 -- THE ANSWER OF AN ENGINE: whether a line or frame of the input has a fault, and of published numbers that they may be
 -- wrong.
@@ -38,19 +37,6 @@ abbrev pub Works : {Input : Type 0} → (List ℕ → Input → Type 0) → (Inp
     → Ending → Type 0
 Works {Input} opened left engine name ending = IsOfFile ending name ⊎ ((input : Input) × opened name input
     × (outcome : Result Bool ProgramFault) × IfOk outcome (Answers engine (left input)) × EndsAs outcome name ending)
-
--- A FILE IS READ: it was opened by its name, and this is what is left of it, where contracts know that.
-abbrev pub Reads : {Input : Type 0} → (List ℕ → Input → Type 0) → (Input → Option (List ℕ)) → List ℕ → List ℕ → Type 0
-Reads {Input} opened left name text = (input : Input) × opened name input × IfSome (left input) (λ t. text ≡ t)
-
--- A PAGE IS COMPARED with its file: it has no fault only if the file is right, and the page shows its numbers.
-abbrev pub IsCompared : List ℕ → List ℕ → (faulty : Bool) → Type 0
-IsCompared page file faulty = faulty ≡ false → IsRight false (lines_of file) × (is_sheet page (lines_of file) ≡ true)
-
-abbrev pub Compares : {Input : Type 0} → (List ℕ → Input → Type 0) → (Input → Option (List ℕ)) → List ℕ → List ℕ
-    → Ending → Type 0
-Compares opened left page file ending = ending ≡ Clean → (shown : List ℕ) × (lines : List ℕ)
-    × Reads opened left page shown × Reads opened left file lines × IsCompared shown lines false
 
 -- AN IMAGE IS RESCUED: the old one was copied, and each image that a crash may leave of the new one stands for the state
 -- that was rescued of the copy.
@@ -73,13 +59,13 @@ pub record Files (Old New Input : Type 0) : Type 1 where
 abbrev pub Runs : {Old New Input : Type 0} → Files Old New Input → Task → Ending → Type 0
 Runs s (Lines engine None) ending = Works s.opened s.left engine (codes "-") ending
 Runs s (Lines engine (Some file)) ending = Works s.opened s.left engine file.now ending
-Runs s (Sheet page file) ending = Compares s.opened s.left page.now file.now ending
 Runs {Old} {New} {Input} s (Format image sectors) ending = IsUnmade ending image.now
     ⊎ ((ending ≡ Clean) × (made : New) × s.named image.now made × IsFormatted s.new sectors made)
 Runs {Old} {New} {Input} s (Copy image file) ending = (IsUncopied ending image.now ⊎ IsUnmade ending file.now)
     ⊎ ((ending ≡ Clean) × (copy : Old) × (read : Old) × (made : New) × s.copied image.now copy
     × s.named file.now made × IsCopied s.old s.new copy read made)
 Runs s (Rescue image file) ending = ending ≡ Clean → Rescues s.old s.new (s.copied image.now) (s.named file.now)
+Runs s (Sheet page file) ending = Unit {0}
 Runs s (Run task) ending = Unit {0}
 Runs s (Report image table is_json) ending = Unit {0}
 Runs s (Inspect image) ending = Unit {0}

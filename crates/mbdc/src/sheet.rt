@@ -1,8 +1,5 @@
 //! `audit --sheet`: a tenant's page beside its audit file.
 
-ghost use Rattle.std.specs.Prelude.{IfOk};
-ghost use Rattle.mbdc.specs.Tasks.{Compares, IsCompared, Reads};
-
 use crate::fit::read_whole;
 use crate::system::System;
 use mbdc_audit::audit;
@@ -25,9 +22,7 @@ pub fn audit_sheet<'a, R: Files<File = File> + Print + Eprint + AllocGlobal, S: 
     system: &S,
     page: &'a str,
     file: &'a str,
-) -> Ending<'a>
-    ensures { Compares (S.opened system.now) S.Lines.left page.now file.now result }
-{
+) -> Ending<'a> {
     let shown = match read_named(host, system, page) {
         Ok(shown) => shown,
         Err(ending) => return ending,
@@ -44,9 +39,7 @@ fn read_named<'a, R: Files<File = File> + Eprint + AllocGlobal, S: System>(
     host: &Host<'_, R>,
     system: &S,
     name: &'a str,
-) -> Result<Vec<u8, Global>, Ending<'a>>
-    ensures { IfOk result (λ v. Reads (S.opened system.now) S.Lines.left name.now v.items) }
-{
+) -> Result<Vec<u8, Global>, Ending<'a>> {
     let mut lines = system.lines(name, false)?;
     match read_whole(host.rt.alloc(), &mut lines) {
         Ok(text) => Ok(text),
@@ -59,9 +52,7 @@ fn compared<R: Files<File = File> + Print + Eprint + AllocGlobal>(
     host: &Host<'_, R>,
     page: &[u8],
     file: &[u8],
-) -> Result<bool, ProgramFault>
-    ensures { IfOk result (λ faulty. IsCompared page.now file.now faulty) }
-{
+) -> Result<bool, ProgramFault> {
     let alloc = host.rt.alloc();
     let mut reader = Bytes::from_slice(alloc, file)?;
     let printer = Output::new(io::writer(host.rt), host, false);
