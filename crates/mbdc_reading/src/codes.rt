@@ -3,7 +3,6 @@
 ghost use Rattle.std.specs.Prelude.{◌≡◌, ◌≤◌, length, map};
 ghost use Rattle.mbdc_reading.specs.Codes.{AreNarrow, code_in, code_at, code_view, table_code, row_of, number_of};
 ghost use Rattle.mbdc_reading.specs.Codes.{listed_at};
-ghost use Rattle.mbdc_reading.specs.Codes.{kind_of};
 
 use dc_units::Quantity;
 
@@ -497,18 +496,6 @@ fn code_in(mut rows: &[(u16, u16, &'static str, &'static str, i8, Kind)], number
     }
 }
 
-// The kind of a quantity of the due-date table.
-fn kind_of(quantity: Quantity) -> Kind
-    ensures { result ≡ kind_of quantity }
-{
-    match quantity {
-        Quantity::Date => Kind::Date,
-        Quantity::DateTime => Kind::DateTime,
-        Quantity::ErrorFlags => Kind::Flags,
-        _ => Kind::Number,
-    }
-}
-
 // The quantity that the due-date table has for a code alone, and its power of ten.
 fn listed_at(number: u16) -> Option<(Quantity, i8)>
     ensures { result ≡ listed_at number }
@@ -545,7 +532,12 @@ pub fn code_at(number: u16) -> Code
         Some((quantity, exponent)) => Code {
             unit: quantity.unit(),
             exponent,
-            kind: kind_of(quantity),
+            kind: match quantity {
+                Quantity::Date => Kind::Date,
+                Quantity::DateTime => Kind::DateTime,
+                Quantity::ErrorFlags => Kind::Flags,
+                _ => Kind::Number,
+            },
             ..code
         },
         None => code,

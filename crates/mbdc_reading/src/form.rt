@@ -1,8 +1,7 @@
 //! The forms of data fields, and the types of values in them.
 
 ghost use Rattle.std.specs.Prelude.{◌≡◌, IsTrue};
-ghost use Rattle.mbdc_reading.specs.Form.{form_of, sized, counted, type_of, numeric, digits_type, dated};
-ghost use Rattle.mbdc_reading.specs.Form.{is_whole, fits};
+ghost use Rattle.mbdc_reading.specs.Form.{form_of, sized, counted, type_of, numeric, digits_type, fits};
 
 use crate::codes::Kind;
 
@@ -101,26 +100,6 @@ fn digits_type(form: Form) -> Option<DataType>
     }
 }
 
-// Whether data are a whole number in binary.
-fn is_whole(form: Form) -> bool
-    ensures { result ≡ is_whole form }
-{
-    matches!(form, Form::Integer | Form::Binary)
-}
-
-// The type of a date and time of this many bytes.
-fn dated(kind: Kind, size: usize) -> Option<DataType>
-    ensures { result ≡ dated kind size }
-{
-    match (kind, size) {
-        (Kind::Date | Kind::AnyDate, 2) => Some(DataType::Date),
-        (Kind::DateTime | Kind::AnyDate, 4) => Some(DataType::Minute),
-        (Kind::DateTime | Kind::AnyDate, 6) => Some(DataType::Second),
-        (Kind::DateTime, 3) => Some(DataType::Time),
-        _ => None,
-    }
-}
-
 /// The type of a value of this kind in data of this form and size; none where the kind isn't read there.
 pub fn type_of(kind: Kind, form: Form, size: usize) -> Option<DataType>
     ensures { result ≡ type_of kind form size }
@@ -135,15 +114,21 @@ pub fn type_of(kind: Kind, form: Form, size: usize) -> Option<DataType>
         }
         Kind::Digits => digits_type(form),
         Kind::Identity => {
-            if is_whole(form) && size == 8 {
+            if matches!(form, Form::Integer | Form::Binary) && size == 8 {
                 return Some(DataType::Identity);
             }
             digits_type(form)
         }
         Kind::Letters if matches!(form, Form::Integer) && size == 2 => Some(DataType::Letters),
-        Kind::Flags if is_whole(form) => Some(DataType::Flags),
+        Kind::Flags if matches!(form, Form::Integer | Form::Binary) => Some(DataType::Flags),
         Kind::Date | Kind::DateTime | Kind::AnyDate if matches!(form, Form::Integer) => {
-            dated(kind, size)
+            match (kind, size) {
+                (Kind::Date | Kind::AnyDate, 2) => Some(DataType::Date),
+                (Kind::DateTime | Kind::AnyDate, 4) => Some(DataType::Minute),
+                (Kind::DateTime | Kind::AnyDate, 6) => Some(DataType::Second),
+                (Kind::DateTime, 3) => Some(DataType::Time),
+                _ => None,
+            }
         }
         _ => None,
     }

@@ -1,13 +1,11 @@
 //! What is read of a record.
 
-ghost use Rattle.std.specs.Prelude.{◌≡◌, IsTrue, length};
+ghost use Rattle.std.specs.Prelude.{◌≡◌};
 ghost use Rattle.dc_records.specs.Record.{view};
-ghost use Rattle.mbdc_reading.specs.Form.{fits, type_of};
-ghost use Rattle.mbdc_reading.specs.Reading.{reading_of, read, meant_by, pointed, type_at, read_point};
-ghost use Rattle.mbdc_reading.specs.Reading.{reading_with, valued};
+ghost use Rattle.mbdc_reading.specs.Reading.{reading_of, read, meant_by, read_point, reading_with};
 
 use crate::codes::number_of;
-use crate::form::{DataType, Form, form_of, type_of};
+use crate::form::{DataType, form_of, type_of};
 use crate::meaning::{Meaning, meaning_of};
 use crate::parts::vifes_of;
 use crate::value::{Datum, NoValue, value_of};
@@ -48,41 +46,25 @@ pub struct Reading {
     pub phase: Option<u8>,
 }
 
-// The type of a value of the due-date table.
-fn type_at(quantity: Quantity) -> DataType
-    ensures { result ≡ type_at quantity }
+// A point of the due-date table; where it has no value, why.
+fn read_point(record: &Record<'_>, point: &Point) -> Reading
+    ensures { result ≡ read_point (view «record».now) point.now }
 {
-    match quantity {
+    let data_type = match point.quantity {
         Quantity::Date => DataType::Date,
         Quantity::DateTime => DataType::Minute,
         Quantity::ErrorFlags => DataType::Flags,
         _ => DataType::Number,
-    }
-}
-
-// A value of the due-date table; where it has none, why.
-fn pointed(value: Value, datum: Datum) -> Datum
-    ensures { result ≡ pointed value datum }
-{
-    match value {
-        Value::None => match datum {
-            Datum::None(fault) => Datum::None(fault),
-            _ => Datum::None(NoValue::Invalid),
-        },
-        _ => Datum::Known(value),
-    }
-}
-
-// A point of the due-date table.
-fn read_point(record: &Record<'_>, point: &Point) -> Reading
-    ensures { result ≡ read_point (view «record».now) point.now }
-{
-    let data_type = type_at(point.quantity);
+    };
     let form = form_of(record.field, 0, record.content.len());
-    let datum = value_of(data_type, form, 0, record.content);
+    let datum = match (point.value, value_of(data_type, form, 0, record.content)) {
+        (Value::None, Datum::None(fault)) => Datum::None(fault),
+        (Value::None, _) => Datum::None(NoValue::Invalid),
+        (value, _) => Datum::Known(value),
+    };
     Reading {
         how: How::Point(point.quantity),
-        found: Found::Value(data_type, pointed(point.value, datum)),
+        found: Found::Value(data_type, datum),
         is_replaced: false,
         unit: None,
         direction: None,
@@ -108,29 +90,20 @@ fn reading_with(record: &Record<'_>, meaning: Meaning, found: Found) -> Reading
     }
 }
 
-// A record's value in data of this form, where its kind is read there.
-fn valued(record: &Record<'_>, form: Form, meaning: Meaning) -> Option<Reading>
-    requires { IsTrue (fits form (length «record».now.content.now)) }
-    ensures { result ≡ valued (view «record».now) form meaning
-        (type_of meaning.kind form (length «record».now.content.now)) }
+// A record by its code and its VIFEs, where its kind is read in data of its form.
+fn meant_by(record: &Record<'_>, length: u8, meaning: Meaning) -> Option<Reading>
+    ensures { result ≡ meant_by (view «record».now) length meaning }
 {
+    let form = form_of(record.field, length, record.content.len());
+    if let Some(number) = meaning.failure {
+        return Some(reading_with(record, meaning, Found::Failure(number)));
+    }
     match type_of(meaning.kind, form, record.content.len()) {
         Some(data_type) => {
             let datum = value_of(data_type, form, meaning.exponent, record.content);
             Some(reading_with(record, meaning, Found::Value(data_type, datum)))
         }
         None => None,
-    }
-}
-
-// A record by its code and its VIFEs.
-fn meant_by(record: &Record<'_>, length: u8, meaning: Meaning) -> Option<Reading>
-    ensures { result ≡ meant_by (view «record».now) length meaning }
-{
-    let form = form_of(record.field, length, record.content.len());
-    match meaning.failure {
-        Some(number) => Some(reading_with(record, meaning, Found::Failure(number))),
-        None => valued(record, form, meaning),
     }
 }
 

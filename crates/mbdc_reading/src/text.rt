@@ -1,8 +1,8 @@
 //! The texts of readings.
 
 ghost use Rattle.std.specs.Prelude.{◌≡◌, ◌+◌, ◌*◌, ◌≤◌, ◌++◌, length, drop, option_map};
-ghost use Rattle.mbdc_reading.specs.Text.{latin1_text, hex_text, datum_text, clock_text, alone, unit_text, joined};
-ghost use Rattle.mbdc_reading.specs.Text.{character, code_unit, text_at, value_text_of, label_text, room_needed};
+ghost use Rattle.mbdc_reading.specs.Text.{latin1_text, hex_text, datum_text, unit_text, joined};
+ghost use Rattle.mbdc_reading.specs.Text.{code_unit, text_at, value_text_of, label_text, room_needed};
 
 use crate::codes::{code_at, number_of};
 use crate::form::DataType;
@@ -15,22 +15,7 @@ use dc_units::{Value, put_byte, put_digits, put_piece};
 /// The longest text of a reading has this many bytes at most.
 pub const READING_ROOM: usize = 1024;
 
-// Writes a character of ISO 8859-1 in UTF-8 just before `end`, and says where it begins.
-fn put_character(byte: u8, room: &mut [u8], end: usize) -> usize
-    requires { (2 ≤ end) × (end ≤ length room.old) }
-    ensures start { (result ≤ end) × (end ≤ result + 2) }
-    ensures written { drop result room.new ≡ character byte ++ drop end room.old }
-{
-    if byte < 0x80 {
-        put_byte(byte, room, end);
-        return end - 1;
-    }
-    put_byte(0x80 + byte % 64, room, end);
-    put_byte(0xC0 + byte / 64, room, end - 1);
-    end - 2
-}
-
-// Writes characters of which the last is sent first, just before `end`, and says where they begin.
+// Writes characters of ISO 8859-1 in UTF-8, of which the last is sent first, just before `end`, and says where they begin.
 fn put_latin1(text: &[u8], room: &mut [u8], end: usize) -> usize
     requires { (2 * length text.now ≤ end) × (end ≤ length room.old) }
     ensures start { (result ≤ end) × (end ≤ result + 2 * length text.now) }
@@ -38,9 +23,14 @@ fn put_latin1(text: &[u8], room: &mut [u8], end: usize) -> usize
 {
     match text {
         [] => end,
+        [byte @ 0..0x80, others @ ..] => {
+            put_byte(*byte, room, end);
+            put_latin1(others, room, end - 1)
+        }
         [byte, others @ ..] => {
-            let start = put_character(*byte, room, end);
-            put_latin1(others, room, start)
+            put_byte(0x80 + byte % 64, room, end);
+            put_byte(0xC0 + byte / 64, room, end - 1);
+            put_latin1(others, room, end - 2)
         }
     }
 }
@@ -60,20 +50,6 @@ fn put_hex(bytes: &[u8], room: &mut [u8], end: usize) -> usize
     }
 }
 
-// Writes a time of day just before `end`, and says where it begins.
-fn put_clock(hour: u8, minute: u8, second: u8, room: &mut [u8], end: usize) -> usize
-    requires { (8 ≤ end) × (end ≤ length room.old) }
-    ensures start { result + 8 ≡ end }
-    ensures written { drop result room.new ≡ clock_text hour minute second ++ drop end room.old }
-{
-    put_digits(10, 2, u64::from(second), room, end);
-    put_byte(b':', room, end - 2);
-    put_digits(10, 2, u64::from(minute), room, end - 3);
-    put_byte(b':', room, end - 5);
-    put_digits(10, 2, u64::from(hour), room, end - 6);
-    end - 8
-}
-
 // Writes a value just before `end`, and says where it begins.
 fn put_datum(datum: &Datum, content: &[u8], room: &mut [u8], end: usize) -> usize
     requires place { (room_needed ≤ end) × (end ≤ length room.old) }
@@ -88,7 +64,14 @@ fn put_datum(datum: &Datum, content: &[u8], room: &mut [u8], end: usize) -> usiz
             put_byte(b':', room, end - 2);
             Value::Minute(*date, *hour, *minute).put(room, end - 3)
         }
-        Datum::Time(hour, minute, second) => put_clock(*hour, *minute, *second, room, end),
+        Datum::Time(hour, minute, second) => {
+            put_digits(10, 2, u64::from(*second), room, end);
+            put_byte(b':', room, end - 2);
+            put_digits(10, 2, u64::from(*minute), room, end - 3);
+            put_byte(b':', room, end - 5);
+            put_digits(10, 2, u64::from(*hour), room, end - 6);
+            end - 8
+        }
         Datum::Digits => put_hex(content, room, end),
         Datum::Text => put_latin1(content, room, end),
         Datum::Letters(identity) => put_piece(&identity.text()[9..12], room, end),
@@ -97,24 +80,8 @@ fn put_datum(datum: &Datum, content: &[u8], room: &mut [u8], end: usize) -> usiz
     }
 }
 
-// Writes the text of a unit's VIFE that stands alone, just before `end`, and says where it begins.
-fn put_alone(text: &[u8], room: &mut [u8], end: usize) -> usize
-    requires { (length text.now + 1 ≤ end) × (end ≤ length room.old) }
-    ensures start { (result ≤ end) × (end ≤ result + (length text.now + 1)) }
-    ensures written { drop result room.new ≡ alone text.now ++ drop end room.old }
-{
-    match text {
-        [b'/', ..] => {
-            let start = put_piece(text, room, end);
-            put_byte(b'1', room, start);
-            start - 1
-        }
-        [b'*', rest @ ..] => put_piece(rest, room, end),
-        _ => put_piece(text, room, end),
-    }
-}
-
-// Writes a unit just before `end`: characters as they are sent, a text, and the text of a VIFE; says where it begins.
+// Writes a unit just before `end`: characters as they are sent, a text, and the text of a VIFE, which may stand alone;
+// says where it begins.
 fn put_joined(label: &[u8], base: &[u8], suffix: &[u8], room: &mut [u8], end: usize) -> usize
     requires place { (room_needed ≤ end) × (end ≤ length room.old) }
     requires label { length label.now ≤ 191 }
@@ -123,12 +90,20 @@ fn put_joined(label: &[u8], base: &[u8], suffix: &[u8], room: &mut [u8], end: us
     ensures start { result ≤ end }
     ensures written { drop result room.new ≡ joined label.now base.now suffix.now ++ drop end room.old }
 {
-    if label.is_empty() && base.is_empty() {
-        return put_alone(suffix, room, end);
+    match (label, base, suffix) {
+        ([], [], [b'/', ..]) => {
+            let start = put_piece(suffix, room, end);
+            put_byte(b'1', room, start);
+            start - 1
+        }
+        ([], [], [b'*', rest @ ..]) => put_piece(rest, room, end),
+        ([], [], _) => put_piece(suffix, room, end),
+        _ => {
+            let start = put_piece(suffix, room, end);
+            let start = put_piece(base, room, start);
+            put_latin1(label, room, start)
+        }
     }
-    let start = put_piece(suffix, room, end);
-    let start = put_piece(base, room, start);
-    put_latin1(label, room, start)
 }
 
 // Writes a unit, and returns it.

@@ -139,17 +139,6 @@ fn clock_fault(invalid: bool, hour: u8, minute: u8, second: u8) -> Option<NoValu
     None
 }
 
-// A date (type G).
-fn day_in(content: &[u8]) -> Datum
-    requires { length content.now ≡ 2 }
-    ensures { result ≡ day_in content.now }
-{
-    match dc_units::day(content) {
-        Value::None => Datum::None(NoValue::NoDate),
-        day => Datum::Known(day),
-    }
-}
-
 // A date and time (type F).
 fn minute_in(content: &[u8]) -> Datum
     requires { length content.now ≡ 4 }
@@ -236,19 +225,8 @@ fn letters_in(content: &[u8]) -> Datum
     }
 }
 
-// Decimal digits.
-#[tactic(auto, using(crate::proofs::Powers::room_for_digits))]
-fn digits_in(content: &[u8]) -> Datum
-    requires { length content.now ≤ 9 }
-    ensures { result ≡ digits_in content.now }
-{
-    match digits_after(0, content) {
-        Some(_) => Datum::Digits,
-        None => Datum::None(NoValue::Digit),
-    }
-}
-
 /// The value of this type in data of this form, a number times a power of ten.
+#[tactic(auto, using(crate::proofs::Powers::room_for_digits))]
 pub fn value_of(data_type: DataType, form: Form, exponent: i8, content: &[u8]) -> Datum
     requires { IsTrue (fits form (length content.now)) }
     ensures { result ≡ value_of data_type form exponent content.now }
@@ -259,8 +237,14 @@ pub fn value_of(data_type: DataType, form: Form, exponent: i8, content: &[u8]) -
             len: content.len() as u8,
             bits: unsigned(content),
         }),
-        DataType::Digits if content.len() <= 9 => digits_in(content),
-        DataType::Date if content.len() == 2 => day_in(content),
+        DataType::Digits if content.len() <= 9 => match digits_after(0, content) {
+            Some(_) => Datum::Digits,
+            None => Datum::None(NoValue::Digit),
+        },
+        DataType::Date if content.len() == 2 => match dc_units::day(content) {
+            Value::None => Datum::None(NoValue::NoDate),
+            day => Datum::Known(day),
+        },
         DataType::Minute if content.len() == 4 => minute_in(content),
         DataType::Second => second_in(content),
         DataType::Time => time_in(content),

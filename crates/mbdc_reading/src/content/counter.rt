@@ -1,9 +1,7 @@
 //! The counters of fixed data (EN 13757-3).
 
 ghost use Rattle.std.specs.Prelude.{◌≡◌, length};
-ghost use Rattle.dc_records.specs.Record.{view};
-ghost use Rattle.mbdc_reading.specs.Counter.{counter_by, counter_of, counter_view, first_counter, is_same};
-ghost use Rattle.mbdc_reading.specs.Counter.{one_if, second_counter};
+ghost use Rattle.mbdc_reading.specs.Counter.{counter_by, counter_view, first_counter, second_counter};
 
 use crate::content::units::fixed_unit;
 use crate::{DataType, Form, Found, How, Reading, value_of};
@@ -21,40 +19,6 @@ pub struct Counter<'a> {
     pub reading: Reading,
 }
 
-// A counter whose unit has this code.
-fn counter_of(record: Record<'_>, code: u8) -> Counter<'_>
-    requires { length «record».content.now ≡ 4 }
-    ensures { counter_view result ≡ counter_of (view «record».entry) code }
-{
-    let form = if record.field == 4 {
-        Form::Integer
-    } else {
-        Form::Bcd
-    };
-    let (how, found, name, unit) = match fixed_unit(code) {
-        Some(unit) => {
-            let datum = value_of(DataType::Number, form, unit.exponent, record.content);
-            let found = Found::Value(DataType::Number, datum);
-            (How::Plain, found, unit.name, unit.unit)
-        }
-        None => (How::Other, Found::Nothing, "reserved", ""),
-    };
-    let reading = Reading {
-        how,
-        found,
-        is_replaced: false,
-        unit: None,
-        direction: None,
-        phase: None,
-    };
-    Counter {
-        record,
-        name,
-        unit,
-        reading,
-    }
-}
-
 // A counter: its unit byte, its data, the status byte, the code of its unit, its storage number and its subunit.
 fn counter_by<'a>(
     vib: &'a [u8],
@@ -68,31 +32,40 @@ fn counter_by<'a>(
     ensures { counter_view result
         ≡ counter_by vib.now content.now status code storage subunit }
 {
-    let field = if status % 2 == 1 { 4 } else { 0xC };
-    let record = Record {
-        storage,
-        tariff: 0,
-        subunit,
-        function: 0,
-        field,
-        vib,
-        content,
+    let (field, form) = if status % 2 == 1 {
+        (4, Form::Integer)
+    } else {
+        (0xC, Form::Bcd)
     };
-    counter_of(record, code)
-}
-
-// Whether the second unit byte says that its unit is the first one's, and that its counter is stored.
-fn is_same(two: u8) -> bool
-    ensures { result ≡ is_same two }
-{
-    two % 64 == SAME_STORED
-}
-
-// The storage number of a counter.
-fn storage_of(is_stored: bool) -> u64
-    ensures { result ≡ one_if is_stored }
-{
-    if is_stored { 1 } else { 0 }
+    let (how, found, name, unit) = match fixed_unit(code) {
+        Some(unit) => {
+            let datum = value_of(DataType::Number, form, unit.exponent, content);
+            let found = Found::Value(DataType::Number, datum);
+            (How::Plain, found, unit.name, unit.unit)
+        }
+        None => (How::Other, Found::Nothing, "reserved", ""),
+    };
+    Counter {
+        record: Record {
+            storage,
+            tariff: 0,
+            subunit,
+            function: 0,
+            field,
+            vib,
+            content,
+        },
+        name,
+        unit,
+        reading: Reading {
+            how,
+            found,
+            is_replaced: false,
+            unit: None,
+            direction: None,
+            phase: None,
+        },
+    }
 }
 
 /// The counter that is sent first.
@@ -105,7 +78,7 @@ pub(crate) fn first_counter<'a>(
     requires { length content.now ≡ 4 }
     ensures { counter_view result ≡ first_counter vib.now content.now status one }
 {
-    let storage = storage_of(status / 2 % 2 == 1);
+    let storage = if status / 2 % 2 == 1 { 1 } else { 0 };
     counter_by(vib, content, status, one % 64, storage, 0)
 }
 
@@ -120,8 +93,9 @@ pub(crate) fn second_counter<'a>(
     requires { length content.now ≡ 4 }
     ensures { counter_view result ≡ second_counter vib.now content.now status one two }
 {
-    let code = if is_same(two) { one % 64 } else { two % 64 };
-    if status / 2 % 2 == 1 || is_same(two) {
+    let is_same = two % 64 == SAME_STORED;
+    let code = if is_same { one % 64 } else { two % 64 };
+    if status / 2 % 2 == 1 || is_same {
         return counter_by(vib, content, status, code, 1, 0);
     }
     counter_by(vib, content, status, code, 0, 1)

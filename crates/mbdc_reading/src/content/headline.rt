@@ -3,8 +3,8 @@
 ghost use Rattle.std.specs.Prelude.{◌≡◌, option_map};
 ghost use Rattle.std.specs.List.{list_all};
 ghost use Rattle.mbdc_reading.specs.Sent.{sent_view};
-ghost use Rattle.mbdc_reading.specs.Headline.{comes_before, follows, is_candidate, is_number, is_of, keeps};
-ghost use Rattle.mbdc_reading.specs.Headline.{is_better, key_of, main_of, next_in, same_group, taken};
+ghost use Rattle.mbdc_reading.specs.Headline.{comes_before, follows, is_candidate, is_of, keeps};
+ghost use Rattle.mbdc_reading.specs.Headline.{is_better, key_of, main_of, next_in, taken};
 
 use crate::{DataType, Datum, Found, Sent, SentRecords, number_of, reading_of, vifes_of};
 use dc_units::Value;
@@ -68,17 +68,7 @@ fn keep(vifes: &[u8]) -> bool
     }
 }
 
-// Whether a number stands in a record.
-fn is_number(found: &Found) -> bool
-    ensures { result ≡ is_number found.now }
-{
-    matches!(
-        found,
-        Found::Value(DataType::Number, Datum::Known(Value::Number(_)))
-    )
-}
-
-// Whether a record may be what the meter stands at.
+// Whether a record may be what the meter stands at: a number of its quantity, now.
 fn is_candidate(main: Main, sent: &Sent<'_>) -> bool
     ensures { result ≡ is_candidate main (sent_view sent.now) }
 {
@@ -87,7 +77,10 @@ fn is_candidate(main: Main, sent: &Sent<'_>) -> bool
         && record.function == 0
         && main.has(number_of(record.vib))
         && keep(vifes_of(record.vib))
-        && is_number(&reading_of(record, sent.len).found)
+        && matches!(
+            reading_of(record, sent.len).found,
+            Found::Value(DataType::Number, Datum::Known(Value::Number(_)))
+        )
 }
 
 /// What a record differs by from others of its quantity.
@@ -101,13 +94,6 @@ pub fn key_of(sent: &Sent<'_>) -> Key
     }
 }
 
-// Whether two are of the same direction and subunit.
-fn same_group(a: Key, b: Key) -> bool
-    ensures { result ≡ same_group a b }
-{
-    a.is_forward == b.is_forward && a.subunit == b.subunit
-}
-
 // Whether the first comes before the second.
 fn comes_before(a: Key, b: Key) -> bool
     ensures { result ≡ comes_before a b }
@@ -118,13 +104,17 @@ fn comes_before(a: Key, b: Key) -> bool
     a.subunit < b.subunit || (a.subunit == b.subunit && a.tariff < b.tariff)
 }
 
-// Whether a record comes after the last one.
+// Whether a record of the same direction and subunit comes after the last one.
 fn follows(last: Option<Key>, key: Key) -> bool
     ensures { result ≡ follows last key }
 {
     match last {
         None => true,
-        Some(last) => same_group(last, key) && last.tariff < key.tariff,
+        Some(last) => {
+            last.is_forward == key.is_forward
+                && last.subunit == key.subunit
+                && last.tariff < key.tariff
+        }
     }
 }
 
