@@ -1,5 +1,7 @@
 //! The command `fit`: the meters of a list, added to the register of an image in a file.
 
+ghost use Rattle.std.specs.Prelude.{◌≡◌, IfOk, IfSome};
+
 use crate::journal::Noting;
 use dc_meters::House;
 use dc_sectors::FileDisk;
@@ -63,7 +65,9 @@ where
 }
 
 /// The whole of an input, of at most 1 MiB.
-pub fn read_whole<S: Source>(alloc: Global, input: &mut S) -> Result<Vec<u8>, ProgramFault> {
+pub fn read_whole<S: Source>(alloc: Global, input: &mut S) -> Result<Vec<u8>, ProgramFault>
+    ensures { IfOk result (λ whole. IfSome (S.left input.old) (λ text. whole.items ≡ text)) }
+{
     let mut chunk = room(alloc, CHUNK)?;
     let whole = read_input(alloc, input, chunk.as_mut_slice())?;
     if whole.len() > MOST {
