@@ -3,8 +3,7 @@
 ghost use Rattle.std.specs.Prelude.{◌≡◌, codes, option_map};
 ghost use Rattle.mbdc_sheet.specs.Line.{is_text};
 ghost use Rattle.mbdc_sheet.specs.Sheet.{are_hex, flaw_in_number, flaw_in_text, flaw_of, is_fixed};
-ghost use Rattle.mbdc_sheet.specs.Sheet.{is_hash, is_main, is_number};
-ghost use Rattle.mbdc_sheet.specs.Sheet.{named, quoted, unless, user_in};
+ghost use Rattle.mbdc_sheet.specs.Sheet.{is_main, is_number, named, quoted, unless, user_in};
 ghost use Rattle.mbdc_sheet.specs.View.{known_of, piece_at};
 
 use crate::line::{digits_on, has_meter, has_span, line_at, number_in};
@@ -103,13 +102,6 @@ fn are_hex(text: &[u8]) -> bool
     text.iter().all(|byte| byte.is_ascii_digit() || (b'a' <= *byte && *byte <= b'f'))
 }
 
-// Whether a text is a hash.
-fn is_hash(text: &[u8]) -> bool
-    ensures { result ≡ is_hash text.now }
-{
-    text.len() == HASH_DIGITS && are_hex(text)
-}
-
 // Whether a text has the bytes of a number.
 fn is_number(text: &[u8]) -> bool
     ensures { result ≡ is_number text.now }
@@ -127,7 +119,7 @@ impl<'a> Known<'a> {
         } else if kind == "identity".as_bytes() {
             has_meter(self.file, text)
         } else if kind == "hash".as_bytes() {
-            is_hash(text)
+            text.len() == HASH_DIGITS && are_hex(text)
         } else if kind == "contact".as_bytes() {
             name_of(tag) == "address".as_bytes()
         } else {

@@ -2,8 +2,8 @@
 
 ghost use Rattle.std.specs.Prelude.{◌≡◌};
 ghost use Rattle.mbdc_sheet.specs.Parts.{parts_of};
-ghost use Rattle.mbdc_sheet.specs.Tag.{are_attributes, are_calls, after_name, has_quote, is_attribute, is_call};
-ghost use Rattle.mbdc_sheet.specs.Tag.{is_named_fine, is_plain, is_tag, name_of};
+ghost use Rattle.mbdc_sheet.specs.Tag.{after_name, are_attributes, are_calls, has_quote, is_attribute, is_named_fine, is_plain};
+ghost use Rattle.mbdc_sheet.specs.Tag.{is_tag, name_of};
 
 use crate::parts::{first_part, is_one_of};
 use crate::text::is_date;
@@ -85,13 +85,6 @@ pub(crate) fn is_tag(tag: &[u8]) -> bool
     tag.len() <= LONGEST_TAG && is_one_of(ELEMENTS, name_of(tag)) && are_attributes(after_name(tag))
 }
 
-// Whether what stands before and after a parenthesis adds no text.
-fn is_call(before: &[u8], after: &[u8]) -> bool
-    ensures { result ≡ is_call before.now after.now }
-{
-    before.ends_with(b" ") || (before.ends_with(b"attr") && after.starts_with(b"data-label)"))
-}
-
 // Whether no call of a style adds text.
 fn are_calls(style: &[u8]) -> bool
     ensures { result ≡ are_calls (parts_of 40 style.now) }
@@ -101,7 +94,8 @@ fn are_calls(style: &[u8]) -> bool
         return true;
     };
     let (after, _) = first_part(rest, b'(');
-    is_call(before, after) && are_calls(rest)
+    (before.ends_with(b" ") || (before.ends_with(b"attr") && after.starts_with(b"data-label)")))
+        && are_calls(rest)
 }
 
 // Whether a style has a quotation mark or a backslash.
@@ -113,7 +107,7 @@ fn has_quote(style: &[u8]) -> bool
         .any(|byte| *byte == b'"' || *byte == b'\'' || *byte == b'\\')
 }
 
-/// Whether a style adds no text.
+/// Whether a style adds no text: it has no quotation mark, no backslash, and no call that does.
 pub(crate) fn is_plain(style: &[u8]) -> bool
     ensures { result ≡ is_plain style.now }
 {

@@ -2,7 +2,7 @@
 
 ghost use Rattle.std.specs.Prelude.{◌≡◌, option_map};
 ghost use Rattle.mbdc_sheet.specs.Parts.{left_parts};
-ghost use Rattle.mbdc_sheet.specs.Written.{after_decimals, grouped, has_mark, shows, stripped};
+ghost use Rattle.mbdc_sheet.specs.Written.{after_decimals, grouped, shows, stripped};
 
 use crate::parts::first_part;
 use crate::text::is_quiet;
@@ -12,13 +12,6 @@ use crate::text::is_quiet;
 pub(crate) struct Marks {
     pub thousands: u8,
     pub decimals: u8,
-}
-
-// Whether a mark stands after a digit, by how many digits follow it.
-fn has_mark(digit: u8, more: usize) -> bool
-    ensures { result ≡ has_mark digit more }
-{
-    more > 0 && more % 3 == 0 && digit != b'-'
 }
 
 /// What is left of a text after another one, with which it begins.
@@ -51,7 +44,8 @@ fn strip_grouped<'t>(mark: u8, digits: &[u8], text: &'t [u8]) -> Option<&'t [u8]
     if digit != first {
         return None;
     }
-    if !has_mark(*digit, digits.len()) {
+    let more = digits.len();
+    if !(more > 0 && more % 3 == 0 && *digit != b'-') {
         return strip_grouped(mark, digits, text);
     }
     match text {
