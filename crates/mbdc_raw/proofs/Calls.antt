@@ -1,6 +1,5 @@
 -- One call of a line.
-use Rattle.std.proofs.Common.{◌≡◌, ◌⊎◌, inl, inr, ℕ, ◌<◌, Bool, true, false, List, Option, Some, None, Result, Ok, Err, IfSome, IfNone, ap, sym, ◌∙◌, subst, arith, if◌then◌else◌}
-use Rattle.std.specs.Prelude.{IfOk}
+use Rattle.std.proofs.Common.{◌≡◌, ◌⊎◌, inl, inr, ℕ, ◌<◌, Bool, true, false, List, Option, Some, None, IfSome, ap, sym, ◌∙◌, subst, arith, if◌then◌else◌}
 use Rattle.std.proofs.lemmas.Bool.{false≢true}
 use Rattle.mbdc_raw.specs.Heard.{Answers, Hearing, ends_early}
 use Rattle.mbdc_raw.specs.Turn.{is_copy, may_go}
@@ -52,15 +51,3 @@ module _ {W : Type 0} (wire : WireGhosts W) where
     silence = λ lost. absurd (false≢true (sym (same ∙ runs) ∙ lost));
     given = λ well. gives;
   }
-
--- ---- where a result is given
-
-pub gives_map : {X E : Type 0} (r : Result (Option X) E) (P Q : X → Type 0) → ((x : X) → P x → Q x) → IfOk r (λ o. IfSome o P) → IfOk r (λ o. IfSome o Q)
-gives_map (Ok None) P Q go p = tt
-gives_map (Ok (Some x)) P Q go p = go x p
-gives_map (Err e) P Q go p = tt
-
-pub waits_map : {X E : Type 0} (r : Result (Option X) E) (P Q : Type 0) → (P → Q) → IfOk r (λ o. IfNone o P) → IfOk r (λ o. IfNone o Q)
-waits_map (Ok None) P Q go p = go p
-waits_map (Ok (Some x)) P Q go p = tt
-waits_map (Err e) P Q go p = tt

@@ -4,7 +4,7 @@
 //! A [`Wire`] sends bytes and returns what has arrived so far; no call waits. A [`Line`] is a wire on
 //! which one request at most is under way, until it fails: a request goes out on a quiet line, after an
 //! answer that it doesn't repeat, or as the repeat of one whose acknowledgement is overdue; it waits for
-//! that within [`take`](Line::take). The reset of all selected meters doesn't wait if it is the first
+//! that within [`hear`](mbdc_bus::HalfBus::hear). The reset of all selected meters doesn't wait if it is the first
 //! request. An answer
 //! is the first whole frame, or all bytes before the silence, at most 300
 //! ([`AnswerBuf`](mbdc_bus::AnswerBuf)), without the echo of the request that some converters send.

@@ -16,7 +16,7 @@ use crate::hearing::Hearing;
 use crate::listening::{drain, gather, hear, without_echo};
 use crate::state::{
     Kind, State, copy_of, is_answer, is_copy, is_wrong, kind_of, last_behind, last_waited, may_go,
-    quiet_by, repeats_of, repeats_out,
+    repeats_by,
 };
 use crate::wire::{Asking, Wire};
 use dc_linkframe::FrameBuf;
@@ -122,29 +122,8 @@ impl<W: Wire + Drop> Line<W> {
         }
     }
 
-    /// Takes the answer, once it is complete. A request that is held is sent first, once it may go
-    /// out. A lost line is silent, and the wire isn't touched.
-    pub fn take(&mut self) -> Option<AnswerBuf>
-        ensures heard { IfSome result (λ answer. LineGives W.Wire self.old answer self.new) }
-        ensures waits { IfNone result (LineWaits W.Wire self.old self.new) }
-        ensures running { IfNone result (self.new.lost ≡ false) }
-        ensures fewer { IfNone result
-            (left_of W.waits_left self.new < left_of W.waits_left self.old) }
-        ensures no_more { left_of W.waits_left self.new ≤ left_of W.waits_left self.old }
-    {
-        if self.lost {
-            return Some(AnswerBuf::new());
-        }
-        match self.take_by_kind() {
-            Ok(answer) => answer,
-            Err(_) => {
-                self.lost = true;
-                Some(AnswerBuf::new())
-            }
-        }
-    }
-
-    // Sends the request that is held, or takes the answer by the kind of the last request.
+    // Sends the request that is held, if it may go out, or takes the answer by the kind of the last request. Where
+    // bytes come without end, a request that is held is given up: silence.
     fn take_by_kind(&mut self) -> Result<Option<AnswerBuf>, IoFault>
         requires { self.old.lost ≡ false }
         ensures gives { IfOk result (λ taken. IfSome taken (λ answer.
@@ -160,12 +139,33 @@ impl<W: Wire + Drop> Line<W> {
         ensures lost { self.new.lost ≡ self.old.lost }
     {
         if let Some(held) = self.held {
-            return self.let_go(&held.request, held.many);
+            return match self.look(&held.request, held.many)? {
+                Gone::Out => Ok(None),
+                Gone::Waits => Ok(None),
+                Gone::Loud => {
+                    self.held = None;
+                    Ok(Some(AnswerBuf::new()))
+                }
+            };
         }
         match self.kind {
             Kind::One => self.take_one(),
-            Kind::All => self.take_all(),
-            Kind::Nobody => self.take_nothing(),
+            Kind::All => {
+                let Some(quiet) = gather(&mut self.wire, &mut self.gathered)? else {
+                    return Ok(None);
+                };
+                let answer = without_echo(self.hearing.request(), &self.gathered);
+                self.state = if quiet { State::Listened } else { self.state };
+                Ok(Some(answer))
+            }
+            Kind::Nobody => {
+                let mut dropped = AnswerBuf::new();
+                let Some(quiet) = gather(&mut self.wire, &mut dropped)? else {
+                    return Ok(None);
+                };
+                self.state = if quiet { State::Answered } else { self.state };
+                Ok(Some(AnswerBuf::new()))
+            }
         }
     }
 
@@ -199,13 +199,14 @@ impl<W: Wire + Drop> Line<W> {
         ) {
             return Ok(Gone::Waits);
         }
+        let (repeats, repeats_out) = repeats_by(self.state, self.repeats);
         let asking = Asking {
             many,
             late: self.late,
-            repeats: repeats_of(self.state, self.repeats),
+            repeats,
         };
         self.wire.send(request.as_slice(), asking)?;
-        self.repeats = repeats_out(self.state, self.repeats);
+        self.repeats = repeats_out;
         self.last = last_behind(self.state, self.last.take());
         self.state = State::Busy;
         self.kind = kind_of(request, many);
@@ -214,35 +215,6 @@ impl<W: Wire + Drop> Line<W> {
         self.held = None;
         self.copied = false;
         Ok(Gone::Out)
-    }
-
-    // Sends the request that is held, if it may go out. Where bytes come without end, it is given
-    // up: silence.
-    fn let_go(&mut self, request: &FrameBuf, many: bool) -> Result<Option<AnswerBuf>, IoFault>
-        requires running { self.old.lost ≡ false }
-        requires held { self.old.held ≡ Some (record { request = request.now; many = many }) }
-        ensures gives { IfOk result (λ taken. IfSome taken (λ answer. (answer ≡ [])
-            × ((line : Line W) × Looks W.Wire request.now many self.old Loud line
-            × (self.new ≡ record line { held = None })))) }
-        ensures waits { IfOk result (λ taken. IfNone taken ((gone : Left)
-            × (is_loud gone ≡ false) × Looks W.Wire request.now many self.old gone self.new)) }
-        ensures fewer { IfOk result (λ taken. IfNone taken
-            (left_of W.waits_left self.new < left_of W.waits_left self.old)) }
-        ensures no_more { OnOk result
-            (left_of W.waits_left self.new ≤ left_of W.waits_left self.old) }
-        ensures well { OnOk result (W.failures self.new.wire ≡ W.failures self.old.wire) }
-        ensures failed { OnErr result
-            (HasRisen (W.failures self.old.wire) (W.failures self.new.wire)) }
-        ensures lost { self.new.lost ≡ self.old.lost }
-    {
-        match self.look(request, many)? {
-            Gone::Out => Ok(None),
-            Gone::Waits => Ok(None),
-            Gone::Loud => {
-                self.held = None;
-                Ok(Some(AnswerBuf::new()))
-            }
-        }
     }
 
     // Takes the answer of one meter; copies of the last one are dropped. Where two come at once,
@@ -304,52 +276,6 @@ impl<W: Wire + Drop> Line<W> {
             State::Busy
         };
     }
-
-    // Takes all bytes that several meters may have sent.
-    fn take_all(&mut self) -> Result<Option<AnswerBuf>, IoFault>
-        requires { self.old.held ≡ None }
-        ensures gives { IfOk result (λ taken. IfSome taken (λ answer.
-            GivesAll W.Wire self.old answer self.new)) }
-        ensures waits { IfOk result (λ taken. IfNone taken (WaitsAll W.Wire self.old self.new)) }
-        ensures fewer { IfOk result (λ taken. IfNone taken
-            (W.waits_left self.new.wire < W.waits_left self.old.wire)) }
-        ensures no_more { OnOk result (W.waits_left self.new.wire ≤ W.waits_left self.old.wire) }
-        ensures well { OnOk result (W.failures self.new.wire ≡ W.failures self.old.wire) }
-        ensures failed { OnErr result
-            (HasRisen (W.failures self.old.wire) (W.failures self.new.wire)) }
-        ensures lost { self.new.lost ≡ self.old.lost }
-        ensures held { self.new.held ≡ None }
-    {
-        let Some(quiet) = gather(&mut self.wire, &mut self.gathered)? else {
-            return Ok(None);
-        };
-        self.state = quiet_by(quiet, State::Listened, self.state);
-        Ok(Some(without_echo(self.hearing.request(), &self.gathered)))
-    }
-
-    // Drops what comes after the reset of all selected meters, until its time is over.
-    fn take_nothing(&mut self) -> Result<Option<AnswerBuf>, IoFault>
-        requires { self.old.held ≡ None }
-        ensures gives { IfOk result (λ taken. IfSome taken (λ answer.
-            (answer ≡ []) × GivesNothing W.Wire self.old self.new)) }
-        ensures waits { IfOk result (λ taken. IfNone taken
-            (WaitsNothing W.Wire self.old self.new)) }
-        ensures fewer { IfOk result (λ taken. IfNone taken
-            (W.waits_left self.new.wire < W.waits_left self.old.wire)) }
-        ensures no_more { OnOk result (W.waits_left self.new.wire ≤ W.waits_left self.old.wire) }
-        ensures well { OnOk result (W.failures self.new.wire ≡ W.failures self.old.wire) }
-        ensures failed { OnErr result
-            (HasRisen (W.failures self.old.wire) (W.failures self.new.wire)) }
-        ensures lost { self.new.lost ≡ self.old.lost }
-        ensures held { self.new.held ≡ None }
-    {
-        let mut dropped = AnswerBuf::new();
-        let Some(quiet) = gather(&mut self.wire, &mut dropped)? else {
-            return Ok(None);
-        };
-        self.state = quiet_by(quiet, State::Answered, self.state);
-        Ok(Some(AnswerBuf::new()))
-    }
 }
 
 impl<W: Wire + Drop> HalfBus for Line<W> {
@@ -382,8 +308,18 @@ impl<W: Wire + Drop> HalfBus for Line<W> {
         self.put(request, true);
     }
 
+    // A lost line is silent, and the wire isn't touched.
     fn hear(&mut self) -> Option<AnswerBuf> {
-        self.take()
+        if self.lost {
+            return Some(AnswerBuf::new());
+        }
+        match self.take_by_kind() {
+            Ok(answer) => answer,
+            Err(_) => {
+                self.lost = true;
+                Some(AnswerBuf::new())
+            }
+        }
     }
 
     fn late(&self) -> u64 {

@@ -1,11 +1,13 @@
 //! How long a bus line takes to answer, as its own answers have shown.
 
 ghost use Rattle.std.specs.Prelude.{◌≡◌, None, false};
-ghost use Rattle.mbdc_raw.specs.Pace.{pace_begun, pace_with, pause_of, repeat_wait, reset_wait, window_of, answering};
-ghost use Rattle.mbdc_raw.specs.Pace.{awaits_ack, sooner};
+ghost use Rattle.mbdc_raw.specs.Pace.{answering, awaits_ack, pace_begun, pace_with, pause_of, window_of};
+ghost use Rattle.mbdc_raw.specs.PollWire.{limit_by, soon_by};
+ghost use Rattle.mbdc_raw.specs.Turn.{is_reset, wants_ack};
 ghost use Rattle.dc_linkframe.specs.Reading.{frame_of};
 
 use crate::state::{is_reset, wants_ack};
+use crate::wire::Asking;
 
 // A meter answers within 330 bits and 50 ms (EN 13757-2); a byte has 11 bits. In microseconds.
 const ANSWERING_BYTES: u64 = 30;
@@ -25,6 +27,9 @@ const ACKNOWLEDGED: u8 = 0xE5;
 
 // Number of bytes that a selection has more than a short frame.
 const LONGER: u64 = 12;
+
+// The number of early repeats of a request after which it waits for the patience.
+const MOST_REPEATS: u8 = 2;
 
 // How long the repeat of a request waits at least, in microseconds.
 const LEAST_WAIT: u64 = 1_000_000;
@@ -124,38 +129,48 @@ impl Pace {
         }
     }
 
-    /// How long the reset of all selected meters takes: as long as the slowest acknowledgement, and
-    /// no longer than one may take after the last; before the first, the patience. Both are measured
-    /// from the end of the request: the reset is shorter than the selection that was acknowledged.
-    pub fn reset_wait(&self, patience: u64) -> u64
-        ensures { result ≡ reset_wait self.now.delay self.now.last self.now.byte
-            self.now.least_byte patience }
+    /// The time-out after a request. That of the reset of all selected meters is as long as the slowest
+    /// acknowledgement, and no longer than one may take after the last; before the first, it is the patience. Both are
+    /// measured from the end of the request: the reset is shorter than the selection that was acknowledged.
+    pub fn limit_by(&self, request: &[u8], many: bool, patience: u64) -> u64
+        ensures { result ≡ limit_by (is_reset (frame_of request.now)) many
+            (wants_ack (frame_of request.now)) self.now patience }
     {
+        if !is_reset(request) {
+            return if many && wants_ack(request) {
+                self.window(patience)
+            } else {
+                patience
+            };
+        }
         let Some(delay) = self.delay else {
             return patience;
         };
-        let wait = patience.min(self.sooner(delay).saturating_add(ANSWERING_REST));
+        let byte = self.least_byte.unwrap_or(0);
+        let longer = byte.saturating_mul(LONGER);
+        let wait = patience.min(delay.saturating_sub(longer).saturating_add(ANSWERING_REST));
         match self.byte {
-            Some(byte) => wait.min(answering(byte).saturating_add(self.sooner(self.last))),
+            Some(byte) => {
+                let last = self.last.saturating_sub(longer);
+                wait.min(answering(byte).saturating_add(last))
+            }
             None => wait,
         }
     }
 
-    // The time from a short request to its acknowledgement where that of a selection took so long.
-    fn sooner(&self, spent: u64) -> u64
-        ensures { result ≡ sooner self.now.least_byte spent }
+    /// How long a request waits until its repeat: where one meter may acknowledge it, nothing was late, and it was
+    /// repeated less than twice, 1 s, or 50 ms longer than the slowest acknowledgement took; `None` before the first,
+    /// and where that isn't less than the patience.
+    pub fn soon_by(&self, asking: Asking, patience: u64) -> Option<u64>
+        ensures { result ≡ soon_by asking self.now patience }
     {
-        let byte = self.least_byte.unwrap_or(0);
-        spent.saturating_sub(byte.saturating_mul(LONGER))
-    }
-
-    /// How long a request that is acknowledged waits until its repeat: 1 s, or 50 ms longer than the slowest
-    /// acknowledgement took; `None` before the first, and where that isn't less than the patience.
-    pub fn repeat_wait(&self, patience: u64) -> Option<u64>
-        ensures { result ≡ repeat_wait self.now.delay patience }
-    {
-        let wait = LEAST_WAIT.max(self.delay?.saturating_add(ANSWERING_REST));
-        if wait < patience { Some(wait) } else { None }
+        let repeats = asking.repeats < MOST_REPEATS;
+        if !asking.many && asking.late == 0 && repeats && self.acks {
+            let wait = LEAST_WAIT.max(self.delay?.saturating_add(ANSWERING_REST));
+            if wait < patience { Some(wait) } else { None }
+        } else {
+            None
+        }
     }
 
     /// How long one of several meters may take to begin its answer; the patience, until an

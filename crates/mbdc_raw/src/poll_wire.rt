@@ -3,17 +3,14 @@
 ghost use Rattle.std.specs.Prelude.{◌≡◌, ◌*◌, ◌≤◌, ◌<◌, [], length, true, false, IfOk, OnOk, OnErr};
 ghost use Rattle.mbdc_io.specs.Failures.{HasRisen};
 ghost use Rattle.mbdc_raw.specs.Looks.{waits_of};
-ghost use Rattle.mbdc_raw.specs.Pace.{patience_after};
-ghost use Rattle.mbdc_raw.specs.PollWire.{Ends, IsHeard, IsStill, WireHears, WireSends, limit_by, takes_all};
-ghost use Rattle.mbdc_raw.specs.PollWire.{Holds, IsDeserted, IsLate, WireReopens, soon_by, until_by, waited_then};
-ghost use Rattle.mbdc_raw.specs.Turn.{is_reset, wants_ack};
-ghost use Rattle.dc_linkframe.specs.Reading.{frame_of};
+ghost use Rattle.mbdc_raw.specs.PollWire.{Ends, IsHeard, IsStill, WireHears, WireSends, takes_all};
+ghost use Rattle.mbdc_raw.specs.PollWire.{Holds, IsDeserted, waited_then};
 ghost use Rattle.mbdc_raw.specs.declared.poll_wire.Until.TheVariants.{Still};
 ghost use Rattle.mbdc_raw.specs.Wire.{FitsRoom, Wanes, sound_of};
 
 use crate::pace::Pace;
 use crate::polling::{between, now, read_past_noise, read_within};
-use crate::state::{is_reset, wants_ack};
+use crate::state::is_reset;
 use crate::wire::{Asking, Came, Wire};
 use mbdc_bus::AnswerBuf;
 use mbdc_io::{IoFault, one_failure_more};
@@ -40,9 +37,6 @@ const LONGEST_ANSWER: u64 = 15_000_000;
 const LONGEST_PATIENCE: u64 = 16_000_000;
 
 const MOST_DOUBLINGS: u64 = 14;
-
-// The number of early repeats of a request after which it waits for the patience.
-const MOST_REPEATS: u8 = 2;
 
 // Maximum number of times that nothing may come after a request, before the wire itself waits for
 // the rest of its time-out.
@@ -369,24 +363,15 @@ impl<R: Read + AsRawFd + Drop, W: Write + Link + Drop, C: Clock + Drop> PollWire
             self.begun = false;
             return Ok(Came::Gap);
         }
-        if self.is_late() {
+        if let Some(wait) = self.soon
+            && self.ahead.as_slice().is_empty()
+            && between(self.since, self.at) >= wait
+        {
             self.soon = None;
             self.pace.acks = false;
             return Ok(Came::Overdue);
         }
         Ok(Came::Nothing)
-    }
-
-    // Whether the answer is overdue.
-    fn is_late(&self) -> bool
-        ensures { result ≡ true → IsLate self.now }
-    {
-        match self.soon {
-            Some(wait) => {
-                self.ahead.as_slice().is_empty() && between(self.since, self.at) >= wait
-            }
-            None => false,
-        }
     }
 
     // How long requests have waited that met silence, where the last one does now.
@@ -417,55 +402,21 @@ impl<R: Read + AsRawFd + Drop, W: Write + Link + Drop, C: Clock + Drop> PollWire
         self.noise = 0;
         self.waits = MOST_WAITS;
         self.pace.begin(bytes);
-        self.patience = patience_after(self.stated, asking.late);
-        self.until = until_by(is_reset(bytes) && self.pace.delay.is_some(), asking.many);
-        self.limit = self.limit_by(bytes, asking.many);
-        self.soon = self.soon_by(asking);
-        Ok(())
-    }
-
-    // Opens the link again where it has closed: nothing came on it yet.
-    fn open_again(&mut self) -> bool
-        ensures { WireReopens self.old result self.new }
-    {
-        if !self.writer.reopen() {
-            return false;
-        }
-        self.since = now(&self.clock).unwrap_or(self.since);
-        self.begun = false;
-        self.soon = None;
-        self.ahead = AnswerBuf::new();
-        self.asks = false;
-        self.noise = 0;
-        self.until = Until::Still;
-        self.limit = self.patience;
-        true
-    }
-
-    // How long after this request its answer is overdue.
-    fn soon_by(&self, asking: Asking) -> Option<u64>
-        ensures { result ≡ soon_by asking self.now.pace self.now.patience }
-    {
-        let repeats = asking.repeats < MOST_REPEATS;
-        if !asking.many && asking.late == 0 && repeats && self.pace.acks {
-            self.pace.repeat_wait(self.patience)
+        let doubled = self
+            .stated
+            .saturating_mul(1 << asking.late.min(MOST_DOUBLINGS));
+        self.patience = self.stated.max(doubled.min(LONGEST_PATIENCE));
+        self.limit = self.pace.limit_by(bytes, asking.many, self.patience);
+        self.soon = self.pace.soon_by(asking, self.patience);
+        // The reset of all selected meters has a fixed time once an acknowledgement has shown how long one takes.
+        self.until = if is_reset(bytes) && self.pace.delay.is_some() {
+            Until::Over
+        } else if asking.many {
+            Until::Paused
         } else {
-            None
-        }
-    }
-
-    // The time-out after this request.
-    fn limit_by(&self, request: &[u8], many: bool) -> u64
-        ensures { result ≡ limit_by (is_reset (frame_of request.now)) many
-            (wants_ack (frame_of request.now)) self.now.pace self.now.patience }
-    {
-        if is_reset(request) {
-            return self.pace.reset_wait(self.patience);
-        }
-        if many && wants_ack(request) {
-            return self.pace.window(self.patience);
-        }
-        self.patience
+            Until::Still
+        };
+        Ok(())
     }
 }
 
@@ -476,25 +427,6 @@ fn what_comes<R: Read + AsRawFd>(reader: &mut R) -> GivenUp {
         Ok(count) if count > 0 => GivenUp::Noisy(room[0]),
         _ => GivenUp::Silent,
     }
-}
-
-// When silence comes after a request: the reset of all selected meters, once an acknowledgement has shown how long one
-// takes; one that several meters may answer; or another one.
-fn until_by(resets: bool, many: bool) -> Until
-    ensures { result ≡ until_by resets many }
-{
-    if resets {
-        return Until::Over;
-    }
-    if many { Until::Paused } else { Until::Still }
-}
-
-// The patience after bytes have come late this often.
-fn patience_after(stated: u64, late: u64) -> u64
-    ensures { result ≡ patience_after late stated }
-{
-    let doubled = stated.saturating_mul(1 << late.min(MOST_DOUBLINGS));
-    stated.max(doubled.min(LONGEST_PATIENCE))
 }
 
 impl<R: Read + AsRawFd + Drop, W: Write + Link + Drop, C: Clock + Drop> Wire for PollWire<R, W, C> {
@@ -515,7 +447,19 @@ impl<R: Read + AsRawFd + Drop, W: Write + Link + Drop, C: Clock + Drop> Wire for
     ghost reopens = { WireReopens };
 
     fn reopen(&mut self) -> bool {
-        self.open_again()
+        if !self.writer.reopen() {
+            return false;
+        }
+        // Nothing came on the link yet.
+        self.since = now(&self.clock).unwrap_or(self.since);
+        self.begun = false;
+        self.soon = None;
+        self.ahead = AnswerBuf::new();
+        self.asks = false;
+        self.noise = 0;
+        self.until = Until::Still;
+        self.limit = self.patience;
+        true
     }
 
     fn send(&mut self, bytes: &[u8], asking: Asking) -> Result<(), IoFault> {

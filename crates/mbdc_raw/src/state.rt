@@ -4,7 +4,7 @@ ghost use Rattle.std.specs.Prelude.{◌≡◌, ◌≤◌, bytes_eq, length};
 ghost use Rattle.dc_linkframe.specs.Reading.{frame_of};
 ghost use Rattle.mbdc_bus.specs.Limits.{most_answer};
 ghost use Rattle.mbdc_raw.specs.Turn.{is_answer, is_copy, is_reset, is_wrong, kind_of};
-ghost use Rattle.mbdc_raw.specs.Turn.{last_behind, last_waited, may_go, quiet_by, repeats_of, repeats_out};
+ghost use Rattle.mbdc_raw.specs.Turn.{last_behind, last_waited, may_go, repeats_of, repeats_out};
 ghost use Rattle.mbdc_raw.specs.Turn.{wants_ack};
 
 use dc_linkframe::control::{SELECTED, SND_NKE, SND_UD};
@@ -149,25 +149,16 @@ pub fn last_behind(state: State, last: Option<AnswerBuf>) -> Option<AnswerBuf>
     }
 }
 
-/// Number of early repeats of an acknowledged request, once a request goes out, of which acknowledgements may be under
-/// way.
-pub fn repeats_out(state: State, repeats: u8) -> u8
-    ensures { result ≡ repeats_out state repeats }
+/// Number of early repeats of the request that goes out, and then of those of an acknowledged request of which
+/// acknowledgements may be under way.
+pub fn repeats_by(state: State, repeats: u8) -> (u8, u8)
+    ensures of { result.0 ≡ repeats_of state repeats }
+    ensures out { result.1 ≡ repeats_out state repeats }
 {
     match state {
-        State::Quiet => 0,
-        State::Overdue => repeats.saturating_add(1),
-        State::Listened | State::Answered | State::Busy => repeats,
-    }
-}
-
-/// Number of early repeats of the request that goes out.
-pub fn repeats_of(state: State, repeats: u8) -> u8
-    ensures { result ≡ repeats_of state repeats }
-{
-    match state {
-        State::Overdue => repeats.saturating_add(1),
-        State::Quiet | State::Listened | State::Answered | State::Busy => 0,
+        State::Quiet => (0, 0),
+        State::Overdue => (repeats.saturating_add(1), repeats.saturating_add(1)),
+        State::Listened | State::Answered | State::Busy => (0, repeats),
     }
 }
 
@@ -192,11 +183,4 @@ pub fn last_waited(
         }
         _ => last,
     }
-}
-
-/// The next state where the line is quiet, and else this one.
-pub fn quiet_by(quiet: bool, next: State, state: State) -> State
-    ensures { result ≡ quiet_by quiet next state }
-{
-    if quiet { next } else { state }
 }

@@ -1,7 +1,6 @@
 //! A wire in memory that plays a script.
 
 ghost use Rattle.std.specs.Prelude.{◌≡◌, ◌≤◌, ◌<◌, length};
-ghost use Rattle.mbdc_io.specs.Failures.{HasRisen};
 ghost use Rattle.mbdc_raw.specs.Looks.{most_looks};
 ghost use Rattle.mbdc_raw.specs.Tape.{TapeHears, tape_waits};
 ghost use Rattle.mbdc_raw.specs.Wire.{FitsRoom, Wanes, sound_of};
@@ -67,13 +66,6 @@ impl<'a> Tape<'a> {
         }
     }
 
-    /// Number of bytes left.
-    pub fn left(&self) -> usize
-        ensures { result ≡ length self.now.bytes }
-    {
-        self.bytes.len()
-    }
-
     // Plays the first bytes of the first event, and removes the event once it is over.
     fn play(&mut self, room: &mut [u8], count: usize, more: &'a [Event]) -> Came
         requires { length more.now < length self.old.events }
@@ -99,13 +91,6 @@ impl<'a> Tape<'a> {
             self.came += given;
         }
         Came::Bytes(given)
-    }
-
-    fn fail(&mut self) -> IoFault
-        ensures { HasRisen self.old.failures self.new.failures }
-    {
-        self.failures = one_failure_more(self.failures);
-        IoFault
     }
 }
 
@@ -133,7 +118,10 @@ impl<'a> Wire for Tape<'a> {
 
     fn send(&mut self, _bytes: &[u8], _asking: Asking) -> Result<(), IoFault> {
         match self.events.first() {
-            Some(Event::Loss) => Err(self.fail()),
+            Some(Event::Loss) => {
+                self.failures = one_failure_more(self.failures);
+                Err(IoFault)
+            }
             _ => Ok(()),
         }
     }
@@ -160,7 +148,10 @@ impl<'a> Wire for Tape<'a> {
                 self.events = more;
                 Ok(Came::Silence)
             }
-            Event::Loss => Err(self.fail()),
+            Event::Loss => {
+                self.failures = one_failure_more(self.failures);
+                Err(IoFault)
+            }
         }
     }
 }

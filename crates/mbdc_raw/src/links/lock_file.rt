@@ -10,6 +10,9 @@ use std::io::{ErrorKind, Read, Write};
 use std::rt::Files;
 use std::{fs, io};
 
+/// Why a terminal isn't opened that another program uses.
+pub const IN_USE: &str = "it is in use by another program";
+
 // The folder, and what each name begins with.
 const BEFORE: &str = "/run/lock/LCK..";
 
@@ -49,18 +52,13 @@ pub fn make<R: Files<File = File> + AllocGlobal>(
             Err(_) => return Ok(None),
         }
         if is_held(rt, name.as_str()) {
-            return Err(in_use());
+            break;
         }
         if fs::remove_file(rt, name.as_str()).is_err() {
             return Ok(None);
         }
     }
-    Err(in_use())
-}
-
-/// The refusal of a terminal that another program uses.
-pub fn in_use() -> io::Error {
-    io::Error::new(ErrorKind::WouldBlock, "it is in use by another program")
+    Err(io::Error::new(ErrorKind::WouldBlock, IN_USE))
 }
 
 // The slashes of a terminal such as `pts/3` become underscores.

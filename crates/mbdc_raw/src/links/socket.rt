@@ -68,22 +68,6 @@ impl<C> Socket<C> {
         })
     }
 
-    // The descriptor of the stream.
-    fn fd(&self) -> i32 {
-        let stream = self.stream.replace(None);
-        let fd = match &stream {
-            Some(stream) => stream.as_raw_fd(),
-            None => CLOSED,
-        };
-        self.stream.set(stream);
-        fd
-    }
-
-    // Whether it is closed, and isn't opened again.
-    fn is_lost(&self) -> bool {
-        self.opened.get() > MOST_OPENED
-    }
-
     // Keeps the stream after a call, unless that failed: it has closed then.
     fn keep(&self, stream: TcpStream, called: &io::Result<usize>) {
         match called {
@@ -140,7 +124,7 @@ impl<C> Write for Tcp<'_, C> {
     // What a closed stream doesn't take is dropped, and nobody answers it.
     fn write(&mut self, bytes: &[u8]) -> io::Result<usize> {
         let Some(mut stream) = self.socket.stream.replace(None) else {
-            if self.socket.is_lost() {
+            if self.socket.opened.get() > MOST_OPENED {
                 return Err(io::Error::from(ErrorKind::NotConnected));
             }
             return Ok(bytes.len());
@@ -162,7 +146,13 @@ impl<C> Write for Tcp<'_, C> {
 
 impl<C> AsRawFd for Tcp<'_, C> {
     fn as_raw_fd(&self) -> i32 {
-        self.socket.fd()
+        let stream = self.socket.stream.replace(None);
+        let fd = match &stream {
+            Some(stream) => stream.as_raw_fd(),
+            None => CLOSED,
+        };
+        self.socket.stream.set(stream);
+        fd
     }
 }
 
@@ -170,14 +160,15 @@ impl<C: Net<Stream = TcpStream>> Link for Tcp<'_, C> {
     // A stream that its peer hasn't ended stays.
     fn reopen(&mut self) -> bool {
         let socket = self.socket;
-        let fd = socket.fd();
+        let fd = self.as_raw_fd();
         if fd != CLOSED && polled(fd, POLLRDHUP, 0) & (POLLRDHUP | POLLHUP | POLLERR) == 0 {
             return false;
         }
         socket.stream.set(None);
         socket.is_asked.set(false);
         socket.opened.set(socket.opened.get().saturating_add(1));
-        if socket.is_lost() {
+        // Once it was opened so often it stays closed.
+        if socket.opened.get() > MOST_OPENED {
             return false;
         }
         let limit = Duration::from_secs(OPENING);
@@ -185,7 +176,7 @@ impl<C: Net<Stream = TcpStream>> Link for Tcp<'_, C> {
             Ok(stream) => socket.stream.set(prepared(stream).ok()),
             Err(_) => return false,
         }
-        socket.fd() != CLOSED
+        self.as_raw_fd() != CLOSED
     }
 
     fn desert(&mut self, why: GivenUp) {

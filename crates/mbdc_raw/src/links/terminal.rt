@@ -1,7 +1,7 @@
 //! Serial terminals, each of which one program uses at a time: a bus has one master.
 
 use crate::GivenUp;
-use crate::links::lock_file::{in_use, make};
+use crate::links::lock_file::{IN_USE, make};
 use std::cell::Cell;
 use std::fs::{File, OpenOptions, TryLockError};
 use std::io;
@@ -39,7 +39,9 @@ impl Held {
         }
         match file.try_lock() {
             Ok(()) => {}
-            Err(TryLockError::WouldBlock) => return Err(in_use()),
+            Err(TryLockError::WouldBlock) => {
+                return Err(io::Error::new(ErrorKind::WouldBlock, IN_USE));
+            }
             Err(TryLockError::Error(error)) => return Err(error),
         }
         // The lock file has the terminal's own name: the path may be a link.

@@ -39,14 +39,6 @@ impl Watch {
         }
     }
 
-    fn put(&mut self, fd: i32, left: Duration) {
-        if let Some(place) = self.asked.get_mut(self.count) {
-            place.fd = fd;
-            self.count += 1;
-            self.left = self.left.min(left);
-        }
-    }
-
     /// Waits until a byte may have come on one of the buses, or the time-out of one is over, to the
     /// next millisecond, and at most a second. Without a bus it doesn't wait.
     pub fn wait(mut self) {
@@ -67,13 +59,20 @@ pub trait Watched {
 // A lost bus, or one of the block protocol, needs no wait.
 impl<C: Net<Stream = TcpStream> + Clock + Copy> Watched for SystemBus<'_, C> {
     fn add_to(&self, watch: &mut Watch) {
-        match self {
-            _ if self.is_lost() => watch.is_ready = true,
-            LinkBus::First(LinkBus::First(tcp)) => watch.put(tcp.wire.fd(), tcp.wire.left()),
-            LinkBus::First(LinkBus::Second(serial)) => {
-                watch.put(serial.wire.fd(), serial.wire.left())
+        let (fd, left) = match self {
+            LinkBus::First(LinkBus::First(tcp)) if !tcp.lost => (tcp.wire.fd(), tcp.wire.left()),
+            LinkBus::First(LinkBus::Second(serial)) if !serial.lost => {
+                (serial.wire.fd(), serial.wire.left())
             }
-            _ => watch.is_ready = true,
+            _ => {
+                watch.is_ready = true;
+                return;
+            }
+        };
+        if let Some(place) = watch.asked.get_mut(watch.count) {
+            place.fd = fd;
+            watch.count += 1;
+            watch.left = watch.left.min(left);
         }
     }
 }

@@ -1,6 +1,6 @@
 //! Connecting the links that can be.
 
-ghost use Rattle.std.specs.Prelude.{◌≡◌, ◌≤◌, ◌+◌, ◌++◌, ◌∷◌, [], List, Option, None, Err, IfOk, IsTrue};
+ghost use Rattle.std.specs.Prelude.{◌≡◌, ◌≤◌, ◌+◌, ◌++◌, ◌∷◌, [], List, Option, None, Err, IfOk};
 ghost use Rattle.std.specs.Prelude.{length, vec_len, vec_capacity};
 ghost use Rattle.std.specs.List.{All};
 ghost use Rattle.mbdc_raw.specs.Reach.{Reaches};
@@ -30,8 +30,10 @@ pub fn reach_all<N, P: Drop, E: Drop, C: Connector<N, P, E>, A: Allocator + Drop
     let Ok(mut peers) = Vec::with_capacity(alloc, links.len()) else {
         return Err(Unconnected::NoMemory);
     };
-    match reach_from(1, links, &mut peers, None, connector) {
-        Some(missed) if is_empty(peers.as_slice()) => Err(Unconnected::Link(missed)),
+    let missed = reach_from(1, links, &mut peers, None, connector);
+    let has_none = peers.as_slice().iter().all(|peer| peer.is_none());
+    match missed {
+        Some(missed) if has_none => Err(Unconnected::Link(missed)),
         _ => Ok(peers),
     }
 }
@@ -78,11 +80,4 @@ fn reach_one<N, P: Drop, E: Drop, C: Connector<N, P, E>>(
             None
         }
     }
-}
-
-// Whether no line has a peer.
-fn is_empty<P>(peers: &[Option<P>]) -> bool
-    ensures { IsTrue result → All (λ peer. peer ≡ None) peers.now }
-{
-    peers.iter().all(|peer| peer.is_none())
 }

@@ -36,6 +36,6 @@ returns-clause-looks g c = record {
   drains = subst (λ (loud : Bool). Drains g.W.Wire.hears c.args.self.now.wire c.args.self.now.state c.args.self.now.late loud c.drain.new.wire c.drain.new.state c.drain.new.late) c.if-loud.false c.in_ok-loud.ensures.drained;
   goes = goes_out c.send.new.self (ap (λ (last : List ℕ). may_go c.drain.new.state c.args.self.now.repeats last c.args.request.now c.args.many) (sym c.request.ensures) ∙ sym c.may_go.ensures ∙ c.if-not-may_go.false)
       (subst (λ (bytes : List ℕ). g.W.Wire.sends c.drain.new.wire bytes (record { many = c.args.many; late = c.drain.new.late; repeats = repeats_of c.drain.new.state c.args.self.now.repeats }) c.send.new.self) c.as_slice.ensures.bytes
-      (subst (λ (repeats : ℕ). g.W.Wire.sends c.drain.new.wire c.as_slice.result.now (record { many = c.args.many; late = c.drain.new.late; repeats = repeats }) c.send.new.self) c.repeats_of.ensures c.in_ok-send.ensures.step))
+      (subst (λ (repeats : ℕ). g.W.Wire.sends c.drain.new.wire c.as_slice.result.now (record { many = c.args.many; late = c.drain.new.late; repeats = repeats }) c.send.new.self) c.repeats_by-repeats.ensures.of c.in_ok-send.ensures.step))
       (search rules);
 }

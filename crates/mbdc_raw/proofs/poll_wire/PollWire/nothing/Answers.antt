@@ -1,4 +1,4 @@
-use Rattle.std.proofs.Common.{ℕ, false, None, ap, refl, sym, ◌∙◌}
+use Rattle.std.proofs.Common.{ℕ, false, None, ap, arith, refl, sym, ◌∙◌}
 use Rattle.mbdc_raw.specs.declared.poll_wire.Until.TheVariants.{Still}
 use Rattle.mbdc_raw.specs.PollWire.{at_gap, at_silence, not_yet, when_late}
 use Rattle.mbdc_raw.proofs.poll_wire.PollWire.nothing.Goals as goal
@@ -20,8 +20,9 @@ returns-then-rest-eq0-clause-step g c =
 pub returns-then-between-ge-GAP_MICROS-clause-step : goal.returns-then-between-ge-GAP_MICROS-clause-step
 returns-then-between-ge-GAP_MICROS-clause-step g c = at_gap refl
 
-pub returns-then-is_late-clause-step : goal.returns-then-is_late-clause-step
-returns-then-is_late-clause-step g c = let late = c.is_late.ensures c.if-is_late.true in when_late (record { wait = late.wait; is = late.is; over = late.over }) refl
-
 pub returns-clause-step : goal.returns-clause-step
-returns-clause-step g c = not_yet refl
+returns-clause-step g c =
+    when_late (record { wait = c.in-Some.wait; is = c.in-Some.is; over = omega (arith, c.if-between-wait.true, c.between-2.ensures) }) refl
+
+pub returns-2-clause-step : goal.returns-2-clause-step
+returns-2-clause-step g c = not_yet refl

@@ -1,13 +1,13 @@
 use Rattle.std.proofs.Common.{ℕ, List, false, None, ap, refl}
 use Rattle.mbdc_raw.specs.PollWire.{is_as_before, is_open}
 use Rattle.mbdc_raw.specs.declared.poll_wire.Until.TheVariants.{Still}
-use Rattle.mbdc_raw.proofs.poll_wire.PollWire.open_again.Goals as goal
+use Rattle.mbdc_raw.proofs.poll_wire.PollWireWire.reopen.Goals as goal
 
-pub returns-then-not-reopen : goal.returns-then-not-reopen
-returns-then-not-reopen g c = is_as_before refl
+pub returns-then-not-reopen-clause-step : goal.returns-then-not-reopen-clause-step
+returns-then-not-reopen-clause-step g c = is_as_before refl
 
-pub returns : goal.returns
-returns g c = is_open (ap (λ (ahead : List ℕ). record c.args.self.now {
+pub returns-clause-step : goal.returns-clause-step
+returns-clause-step g c = is_open (ap (λ (ahead : List ℕ). record c.args.self.now {
   writer = c.reopen.new.self;
   since = c.unwrap_or-self.result;
   begun = false;

@@ -1,5 +1,0 @@
-use Rattle.mbdc_raw.proofs.Calls.{gives_of}
-use Rattle.mbdc_raw.proofs.line.Line.take.Goals as goal
-
-pub returns-in-Ok-clause-heard : goal.returns-in-Ok-clause-heard
-returns-in-Ok-clause-heard g c = gives_of g.W.Wire c.args.self.now c.take_by_kind.new.self c.in-Ok.answer c.if-self.false c.in-Ok.ensures.lost c.in-Ok.ensures.gives
