@@ -1,6 +1,6 @@
 -- What is told of a line after a commit.
 use Rattle.std.proofs.Common.{◌≡◌, ◌≢◌, ℕ, ◌+◌, ◌≤◌, Bool, true, false, List, [], ◌∷◌, ◌++◌, Result, Ok, Err, length, take, drop, refl, ap, sym, subst, ◌∙◌, arith}
-use Rattle.std.specs.Prelude.{OnErr, OnOk}
+use Rattle.std.specs.Prelude.{OnOk}
 use Rattle.mbdc_change.specs.State.{State}
 use Rattle.dc_core.specs.Core.{Core, present}
 use Rattle.dc_core.specs.Transcript.{Turn, leads}
@@ -161,10 +161,6 @@ module _ {B : Type 0} (g : Bus B) where
 pub on_ok : {X E : Type 0} (result : Result X E) (P Q : Type 0) → (P → Q) → OnOk result P → OnOk result Q
 on_ok (Ok x) P Q goes p = goes p
 on_ok (Err e) P Q goes p = tt
-
-pub on_err : {X E : Type 0} (result : Result X E) (P Q : Type 0) → (P → Q) → OnErr result P → OnErr result Q
-on_err (Ok x) P Q goes p = tt
-on_err (Err e) P Q goes p = goes p
 
 over_count : (tries count due pass waits : ℕ) (phase : Phase) (request : Request) → ((end : End) → phase ≡ Over end → ⊥) → rounds_in 1 1 1 tries count due pass phase request waits ≤ rounds_in 1 1 0 tries count due pass phase request waits
 over_count tries count due pass waits Free request not = omega arith

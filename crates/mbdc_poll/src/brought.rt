@@ -1,7 +1,7 @@
 //! What the tries of a readout brought.
 
 ghost use Rattle.std.specs.Prelude.{◌≡◌};
-ghost use Rattle.mbdc_poll.specs.Missed.{and_heard, is_miss, nothing_brought};
+ghost use Rattle.mbdc_poll.specs.Missed.{and_heard, nothing_brought};
 
 use dc_core::{HearFault, LineHeard};
 use dc_readout::misses::{Misses, is_missing};
@@ -27,36 +27,19 @@ impl Brought {
         }
     }
 
-    /// Returns a copy.
-    pub(crate) fn copied(&self) -> Brought
-        ensures { result ≡ self.now }
-    {
-        let mut last = AnswerBuf::new();
-        last.append(self.last.as_slice());
-        Brought {
-            misses: self.misses,
-            last,
-        }
-    }
-
     /// Takes what was heard. Where the try failed, it is counted.
     pub(crate) fn hear(&mut self, bytes: AnswerBuf, answer: &Result<LineHeard, HearFault>)
         ensures { self.new ≡ and_heard bytes answer.now self.old }
     {
-        if is_miss(answer) {
-            self.misses.count(bytes.as_slice());
+        match answer {
+            Ok(LineHeard::Again) => self.misses.count(bytes.as_slice()),
+            Ok(LineHeard::Failed(why)) => {
+                if is_missing(why) {
+                    self.misses.count(bytes.as_slice());
+                }
+            }
+            Ok(LineHeard::Ready) | Ok(LineHeard::Accepted { .. }) | Err(_) => {}
         }
         self.last = bytes;
-    }
-}
-
-// Whether the try failed.
-fn is_miss(answer: &Result<LineHeard, HearFault>) -> bool
-    ensures { result ≡ is_miss answer.now }
-{
-    match answer {
-        Ok(LineHeard::Again) => true,
-        Ok(LineHeard::Failed(why)) => is_missing(why),
-        Ok(LineHeard::Ready) | Ok(LineHeard::Accepted { .. }) | Err(_) => false,
     }
 }

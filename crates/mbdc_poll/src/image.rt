@@ -9,11 +9,9 @@ ghost use Rattle.dc_core.specs.PendingImages.{IsRefused, EachStands, StandsForOn
 ghost use Rattle.mbdc_log.specs.Refusal.{TellsOfImage};
 ghost use Rattle.mbdc_log.specs.declared.fault.OpenFault.TheVariants.{NotImage, Worn, Device};
 ghost use Rattle.mbdc_poll.specs.ImagePoll.{ImageTurned, PlanPolled};
-ghost use Rattle.std.specs.Map.{keys_of};
 ghost use Rattle.mbdc_poll.specs.Planned.{AreQueues, AreStations, asked_for, has_bus, is_wanted};
 ghost use Rattle.mbdc_poll.specs.Planned.{queue_on};
 ghost use Rattle.mbdc_poll.specs.Planned.{refusal_event, refusal_of, refused_count, refused_events};
-ghost use Rattle.mbdc_poll.specs.Planned.{wanted_on};
 ghost use Rattle.mbdc_poll.specs.Round.{Runs, most_lines};
 ghost use Rattle.mbdc_poll.specs.Telling.{CountsFailures, HasTold, TakesAll};
 ghost use Rattle.dc_sectors.specs.Runs.{LeavesOnly};
@@ -200,7 +198,7 @@ fn queues_of<A: Allocator + Copy, B: HalfBus + Drop>(
     Ok(queues)
 }
 
-// The meters of one line, in order of identity, unless it is lost.
+// The registered meters of one line that are wanted, in order of identity, unless it is lost.
 fn queue_of<A: Allocator + Copy>(
     alloc: A,
     house: &House<A>,
@@ -213,18 +211,6 @@ fn queue_of<A: Allocator + Copy>(
     if is_lost {
         return Ok(Vec::new(alloc));
     }
-    wanted_on(alloc, house, line, only)
-}
-
-// The registered meters of a line that are wanted, in order of identity.
-fn wanted_on<A: Allocator + Copy>(
-    alloc: A,
-    house: &House<A>,
-    line: u8,
-    only: &[Identity],
-) -> Result<Vec<Identity, A>, NoMemory>
-    ensures { IfOk result (λ queue. queue.items ≡ wanted_on house.now.state only.now line) }
-{
     let mut queue = Vec::new(alloc);
     'meters: for (meter, row) in house.meters() {
         if row.line() == line && is_wanted(meter, only) {
@@ -267,7 +253,7 @@ fn stations_of<'a, A: Allocator + Copy, B: HalfBus + Drop>(
     Ok(stations)
 }
 
-// The meters that are to be read: those that are named, or all of the register.
+// The meters that are to be read: those that are named, or all of the register, in order of identity.
 fn asked_for<A: Allocator + Copy>(
     alloc: A,
     house: &House<A>,
@@ -275,16 +261,9 @@ fn asked_for<A: Allocator + Copy>(
 ) -> Result<Vec<Identity, A>, NoMemory>
     ensures { IfOk result (λ wanted. wanted.items ≡ asked_for only.now house.now.state) }
 {
-    if only.is_empty() {
-        return registered(alloc, house);
+    if !only.is_empty() {
+        return Ok(Vec::from_slice(alloc, only)?);
     }
-    Ok(Vec::from_slice(alloc, only)?)
-}
-
-// The meters of the register, in order of identity.
-fn registered<A: Allocator + Copy>(alloc: A, house: &House<A>) -> Result<Vec<Identity, A>, NoMemory>
-    ensures { IfOk result (λ all. all.items ≡ keys_of house.now.state.meters) }
-{
     let mut all = Vec::new(alloc);
     'meters: for (meter, _) in house.meters() {
         all.push(*meter)?;
@@ -337,7 +316,7 @@ fn tell_refusal<N: Teller>(
     }
 }
 
-// Why a meter can't be read, before it is started.
+// Why a meter can't be read, before it is started: it isn't registered, or its line has no bus that isn't lost.
 fn refusal_of<A: Allocator + Copy, B: HalfBus + Drop>(
     house: &House<A>,
     stations: &[Station<'_, B>],
@@ -347,23 +326,16 @@ fn refusal_of<A: Allocator + Copy, B: HalfBus + Drop>(
         meter.now }
 {
     match house.meter(meter) {
-        Some(row) => {
-            if has_bus(stations, row.line()) {
-                None
-            } else {
-                Some(StartFault::NoLine)
+        Some(row) => match stations.get(usize::from(row.line()).saturating_sub(1)) {
+            Some(station) => {
+                if station.bus.is_lost() {
+                    Some(StartFault::NoLine)
+                } else {
+                    None
+                }
             }
-        }
+            None => Some(StartFault::NoLine),
+        },
         None => Some(StartFault::Unknown),
-    }
-}
-
-// Whether a line has a bus that isn't lost.
-fn has_bus<B: HalfBus + Drop>(stations: &[Station<'_, B>], line: u8) -> bool
-    ensures { result ≡ has_bus B.lost (map (λ s. s.bus) stations.now) line }
-{
-    match stations.get(usize::from(line).saturating_sub(1)) {
-        Some(station) => !station.bus.is_lost(),
-        None => false,
     }
 }

@@ -12,30 +12,22 @@ use dc_meters::{House, Reading};
 use mbdc_shown::Bodies;
 use std::alloc::Allocator;
 
-/// The event of a meter that was read, with its newest reading.
+/// The event of a meter that was read, with its newest reading; the serial is 0 if there isn't one.
 pub(crate) fn newest_reading<A: Allocator + Copy>(house: &House<A>, meter: Identity) -> Event<'_>
     ensures { result ≡ Read meter (newest_serial meter house.now.state)
         (newest_bodies meter house.now.state) (newest_last meter house.now.state) }
 {
-    let serial = newest_serial(house, &meter);
-    let reading = house.reading(serial);
+    let mut newest = 0;
+    for serial in house.serials_of(&meter) {
+        newest = serial;
+    }
+    let reading = house.reading(newest);
     Event::Read {
         meter,
-        serial,
+        serial: newest,
         bodies: bodies_in(reading),
         last: last_in(reading),
     }
-}
-
-/// The serial of a meter's newest reading; 0 if there isn't one.
-fn newest_serial<A: Allocator + Copy>(house: &House<A>, meter: &Identity) -> u64
-    ensures { result ≡ newest_serial meter.now house.now.state }
-{
-    let mut newest = 0;
-    for serial in house.serials_of(meter) {
-        newest = serial;
-    }
-    newest
 }
 
 // The bodies of a reading's telegrams.

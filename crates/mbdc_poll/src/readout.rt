@@ -5,7 +5,7 @@ ghost use Rattle.std.specs.Prelude.{OnOk, IfOk, None, min};
 ghost use Rattle.std.specs.List.{All, list_all};
 ghost use Rattle.mbdc_poll.specs.Polls.{GoesRound, Polled, PollsAll};
 ghost use Rattle.mbdc_poll.specs.Round.{EachFewer, Runs};
-ghost use Rattle.mbdc_poll.specs.Round.{late_on, lates_from, meters_left, most_lines};
+ghost use Rattle.mbdc_poll.specs.Round.{lates_from, meters_left, most_lines};
 ghost use Rattle.mbdc_poll.specs.Station.{IsSound, rounds_of};
 ghost use Rattle.mbdc_poll.specs.Telling.{CountsFailures, HasTold, TakesAll};
 ghost use Rattle.mbdc_poll.specs.Waiting.{is_done as is_done_with};
@@ -135,17 +135,7 @@ fn meters_left<B: HalfBus + Drop>(stations: &[Station<'_, B>]) -> u64
     }
 }
 
-// Tells the number of late answers that were dropped on a line, if there are any.
-fn tell_late<N: Teller>(line: u8, answers: u64, teller: &mut N) -> Result<(), IoFault>
-    ensures { HasTold N.Teller result teller.old teller.new (late_on line answers) }
-{
-    if answers == 0 {
-        return Ok(());
-    }
-    tell_one(&Event::Late { line, answers }, teller)
-}
-
-// How many late answers were dropped on each of these lines, of which the first has that number.
+// Tells how many late answers were dropped on each of these lines where some were. The first one has that number.
 fn tell_lates<B: HalfBus + Drop, N: Teller>(
     stations: &[Station<'_, B>],
     line: u8,
@@ -158,7 +148,11 @@ fn tell_lates<B: HalfBus + Drop, N: Teller>(
     let Some((station, others)) = stations.split_first() else {
         return Ok(());
     };
-    tell_late(line, station.bus.late(), teller)?;
+    let answers = station.bus.late();
+    if answers == 0 {
+        return tell_lates(others, line + 1, teller);
+    }
+    tell_one(&Event::Late { line, answers }, teller)?;
     tell_lates(others, line + 1, teller)
 }
 
@@ -179,26 +173,14 @@ fn finish<B: HalfBus + Drop, N: Teller>(
     ensures counted { CountsFailures N.Teller result teller.old teller.new }
 {
     let failed = between.failed.saturating_add(meters_left(stations));
-    tell_finish(stations, between.read, failed, teller)?;
+    let read = between.read;
+    tell_lates(stations, 1, teller)?;
+    tell_one(&Event::End { read, failed }, teller)?;
     Ok(Outcome {
-        read: between.read,
+        read,
         failed,
         fault: between.fault,
     })
-}
-
-fn tell_finish<B: HalfBus + Drop, N: Teller>(
-    stations: &[Station<'_, B>],
-    read: u64,
-    failed: u64,
-    teller: &mut N,
-) -> Result<(), IoFault>
-    requires { length stations.now ≤ most_lines }
-    ensures { HasTold N.Teller result teller.old teller.new
-        (lates_from B.HalfBus 1 stations.now ++ has_ended read failed ∷ []) }
-{
-    tell_lates(stations, 1, teller)?;
-    tell_one(&Event::End { read, failed }, teller)
 }
 
 /// Reads the meters of up to eight lines, of which line k + 1 is that of the station at k.

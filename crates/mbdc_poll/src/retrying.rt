@@ -2,7 +2,7 @@
 
 ghost use Rattle.std.specs.Prelude.{◌≡◌, [], false};
 ghost use Rattle.dc_linkframe.specs.Reading.{frame_of};
-ghost use Rattle.mbdc_poll.specs.Retrying.{has_code, is_busy};
+ghost use Rattle.mbdc_poll.specs.Retrying.{is_busy};
 
 use dc_linkframe::control::{APPLICATION_ERROR, is_rsp_ud};
 use dc_linkframe::{Frame, FrameBuf, parse};
@@ -94,16 +94,7 @@ fn is_busy(answer: &[u8]) -> bool
                 body,
                 ..
             },
-        ) => is_rsp_ud(control) && ci == APPLICATION_ERROR && has_code(body),
+        ) => is_rsp_ud(control) && ci == APPLICATION_ERROR && body.first() == Some(&TOO_BUSY),
         _ => false,
-    }
-}
-
-fn has_code(body: &[u8]) -> bool
-    ensures { result ≡ has_code body.now }
-{
-    match body {
-        [] => false,
-        [code, ..] => *code == TOO_BUSY,
     }
 }

@@ -1,7 +1,7 @@
 //! A bus that asks a meter that was silent in the last poll one question in this one.
 
 ghost use Rattle.std.specs.Prelude.{◌≡◌, bytes_eq, map};
-ghost use Rattle.mbdc_poll.specs.Sparing.{fate_after, first_question, is_spared, is_spared_by, noted_by};
+ghost use Rattle.mbdc_poll.specs.Sparing.{first_question, is_spared, noted_by};
 ghost use Rattle.mbdc_poll.specs.declared.sparing.Fate.TheVariants.{Unasked};
 
 use dc_address::{Identity, Mask, Primary};
@@ -46,33 +46,6 @@ impl Doubt {
             fate: Fate::Unasked,
         }
     }
-
-    // Whether this request isn't to be sent: it is the question, and that met silence.
-    fn spares(&self, request: &[u8]) -> bool
-        ensures { result ≡ is_spared_by request.now self.now }
-    {
-        matches!(self.fate, Fate::Silent) && self.question.as_slice() == request
-    }
-
-    // Notes whether silence came of a request.
-    fn note(&mut self, request: &[u8], is_silent: bool)
-        ensures { self.new ≡ noted_by request.now is_silent self.old }
-    {
-        if self.question.as_slice() == request {
-            self.fate = fate_after(self.fate, is_silent);
-        }
-    }
-}
-
-// Only the first answer counts.
-fn fate_after(fate: Fate, is_silent: bool) -> Fate
-    ensures { result ≡ fate_after fate is_silent }
-{
-    match fate {
-        Fate::Unasked if is_silent => Fate::Silent,
-        Fate::Unasked => Fate::Answered,
-        Fate::Silent | Fate::Answered => fate,
-    }
 }
 
 /// A bus on which the first question to each of some meters goes out as any request. Where nothing answers it, that
@@ -104,7 +77,9 @@ impl<'a, B: HalfBus + Drop> Sparing<'a, B> {
     fn has_met_silence(&self, request: &[u8]) -> bool
         ensures { result ≡ is_spared self.now.doubts.now request.now }
     {
-        self.doubts.iter().any(|doubt| doubt.spares(request))
+        self.doubts.iter().any(|doubt| {
+            matches!(doubt.fate, Fate::Silent) && doubt.question.as_slice() == request
+        })
     }
 }
 
@@ -171,12 +146,18 @@ impl<B: HalfBus + Drop> HalfBus for Sparing<'_, B> {
     }
 }
 
-// Notes whether silence came of a request.
+// Notes whether silence came of a request. Only the first answer counts.
 fn note(doubts: &mut [Doubt], request: &[u8], is_silent: bool)
     ensures { doubts.new ≡ map (noted_by request.now is_silent) doubts.old }
 {
     if let Some((doubt, others)) = doubts.split_first_mut() {
-        doubt.note(request, is_silent);
         note(others, request, is_silent);
+        if doubt.question.as_slice() == request {
+            doubt.fate = match doubt.fate {
+                Fate::Unasked if is_silent => Fate::Silent,
+                Fate::Unasked => Fate::Answered,
+                Fate::Silent | Fate::Answered => doubt.fate,
+            };
+        }
     }
 }

@@ -7,7 +7,7 @@ ghost use Rattle.mbdc_bus.specs.Halves.{most_waits};
 ghost use Rattle.mbdc_poll.specs.Missed.{and_heard, nothing_brought};
 ghost use Rattle.mbdc_poll.specs.Queue.{most_asks};
 ghost use Rattle.mbdc_poll.specs.Station.{IsAfter, Listens, after_answer, ended, is_answered};
-ghost use Rattle.mbdc_poll.specs.Station.{lost_by, next_pass, put_off, stored_by, taken_of};
+ghost use Rattle.mbdc_poll.specs.Station.{next_pass, stored_by, taken_of};
 ghost use Rattle.mbdc_poll.specs.declared.end.End.TheVariants.{Read, Refused};
 ghost use Rattle.mbdc_poll.specs.declared.end.Refusal.TheVariants.{Start};
 ghost use Rattle.mbdc_poll.specs.declared.phase.Phase.TheVariants.{Free, Busy};
@@ -179,7 +179,10 @@ impl<'a, B: HalfBus + Drop> Station<'a, B> {
             Ok(LineHeard::Accepted { .. }) => self.phase = Phase::Pending(asks),
             Ok(LineHeard::Failed(why)) => {
                 if self.pass < tries {
-                    self.put_off();
+                    // The present meter comes last in the next pass.
+                    self.left.rotate_left(1);
+                    self.due -= 1;
+                    self.phase = Phase::Free;
                 } else {
                     self.leave(End::Failed(meter, why));
                 }
@@ -212,33 +215,14 @@ impl<'a, B: HalfBus + Drop> Station<'a, B> {
         if let Phase::Pending(asks) = self.phase {
             match stored {
                 Ok(_) => self.phase = Phase::Busy(asks),
-                Err(fault) => self.lose(*fault),
+                // The present meter's telegram isn't stored.
+                Err(fault) => {
+                    if let Some(meter) = self.present() {
+                        self.leave(End::Refused(meter, Refusal::Commit(*fault)));
+                    }
+                }
             }
         }
-    }
-
-    // The present meter's telegram isn't stored.
-    fn lose(&mut self, fault: CommitFault)
-        ensures after { IsAfter (lost_by
-            self.old.left.now self.old.due self.old.pass self.old.phase fault)
-            self.old.bus self.old.request self.old.said self.new }
-        ensures brought { self.new.brought ≡ self.old.brought }
-    {
-        if let Some(meter) = self.present() {
-            self.leave(End::Refused(meter, Refusal::Commit(fault)));
-        }
-    }
-
-    // The present meter failed, and comes last in the next pass.
-    fn put_off(&mut self)
-        requires { (0 < self.old.due) × (self.old.due ≤ length self.old.left.now) }
-        ensures after { IsAfter (put_off self.old.left.now self.old.due self.old.pass)
-            self.old.bus self.old.request self.old.said self.new }
-        ensures brought { self.new.brought ≡ self.old.brought }
-    {
-        self.left.rotate_left(1);
-        self.due -= 1;
-        self.phase = Phase::Free;
     }
 
     // The present meter is done with.

@@ -20,7 +20,7 @@ use crate::teller::Teller;
 use dc_core::Concentrator;
 use dc_meters::House;
 use dc_sectors::Disk;
-use mbdc_bus::HalfBus;
+use mbdc_bus::{AnswerBuf, HalfBus};
 use mbdc_io::IoFault;
 use std::alloc::Allocator;
 
@@ -42,12 +42,17 @@ fn told_of<'a, A: Allocator + Copy>(
 {
     match *end {
         End::Read(meter) => newest_reading(house, meter),
-        End::Failed(meter, why) => Event::Failed {
-            line,
-            meter,
-            why,
-            brought: brought.copied(),
-        },
+        End::Failed(meter, why) => {
+            let mut last = AnswerBuf::new();
+            last.append(brought.last.as_slice());
+            let misses = brought.misses;
+            Event::Failed {
+                line,
+                meter,
+                why,
+                brought: Brought { misses, last },
+            }
+        }
         End::Refused(meter, refusal) => Event::Refused { meter, refusal },
     }
 }

@@ -1,6 +1,5 @@
 //! The lines of an image's journal: the events of a poll, and the commands that were done.
 
-ghost use Rattle.std.specs.Prelude.{◌≡◌, drop};
 ghost use Rattle.mbdc_io.specs.Written.{Wrote};
 ghost use Rattle.mbdc_poll.specs.Note.{command_note, note_of};
 
@@ -17,7 +16,7 @@ pub trait Notes {
 
 /// Writes the journal's line of an event with this object ([`put_object`](crate::events::put_object)), at this second
 /// since 1970, of a meter in this flat; an empty flat is left out.
-#[tactic(auto, unfolding(crate::specs::Note::note_of))]
+#[tactic(auto, using(std::proofs::lemmas::List::drop_min), unfolding(crate::specs::Note::note_of))]
 pub fn put_note<'t, W: Sink>(
     out: &mut W,
     at: u64,
@@ -26,7 +25,8 @@ pub fn put_note<'t, W: Sink>(
 ) -> Result<(), IoFault>
     ensures { Wrote W.Sink result out.old out.new (note_of at flat.now object.now) }
 {
-    let members = after_bracket(object);
+    // The object's first byte is its bracket.
+    let (_, members) = object.split_at(1_usize.min(object.len()));
     if flat.is_empty() {
         put_pieces(
             out,
@@ -49,16 +49,6 @@ pub fn put_note<'t, W: Sink>(
                 Piece::Text(members),
             ],
         )
-    }
-}
-
-// An object without the bracket that begins it.
-fn after_bracket(object: &[u8]) -> &[u8]
-    ensures { result.now ≡ drop 1 object.now }
-{
-    match object {
-        [] => object,
-        [_, members @ ..] => members,
     }
 }
 

@@ -8,7 +8,7 @@ ghost use Rattle.mbdc_decode.specs.JsonText.{value_line};
 ghost use Rattle.mbdc_decode.specs.Object.{fields_tokens, values_tokens};
 ghost use Rattle.mbdc_decode.specs.Writing.{Added};
 ghost use Rattle.mbdc_poll.specs.Content.{untaken};
-ghost use Rattle.mbdc_poll.specs.Object.{body_fields, failed_fields, fault_fields, fields_of, heard_fields};
+ghost use Rattle.mbdc_poll.specs.Object.{body_fields, failed_fields, fault_fields, fields_of};
 ghost use Rattle.mbdc_poll.specs.Object.{json_of, object_of, read_fields, refused_fields};
 ghost use Rattle.mbdc_poll.specs.Read.{hex_json, last_fields};
 
@@ -16,7 +16,6 @@ use crate::events::content::untaken;
 use crate::{Brought, Event, LastPart, Refusal};
 use dc_address::Identity;
 use dc_readout::Why;
-use dc_readout::misses::Misses;
 use mbdc_decode::objects::Cell::{Number, Text};
 use mbdc_decode::objects::{put_content, put_row};
 use mbdc_decode::tokens::TokenWriter;
@@ -158,7 +157,17 @@ fn put_failed<W: Sink>(
     );
     put_code(out, why.number(), why.name());
     put_body_fault(out, why);
-    put_heard(out, line, &brought.misses);
+    out.put_count("line", u64::from(line));
+    out.put_name("heard");
+    let misses = &brought.misses;
+    mbdc_decode::objects::put_object(
+        out,
+        &[
+            Number("silent", u64::from(misses.silent)),
+            Number("noise", u64::from(misses.noise)),
+            Number("others", u64::from(misses.others)),
+        ],
+    );
     put_untaken(out, brought.last.as_slice());
 }
 
@@ -198,22 +207,6 @@ fn put_body_fault<W: Sink>(out: &mut TokenWriter<'_, W>, why: Why)
         put_code(out, fault.number(), fault.name());
         out.end_object();
     }
-}
-
-// Writes the line of a failed readout, and how many of its failed tries brought what.
-fn put_heard<W: Sink>(out: &mut TokenWriter<'_, W>, line: u8, misses: &Misses)
-    ensures { Added W.Sink out.old out.new (fields_tokens (heard_fields line misses.now)) }
-{
-    out.put_count("line", u64::from(line));
-    out.put_name("heard");
-    mbdc_decode::objects::put_object(
-        out,
-        &[
-            Number("silent", u64::from(misses.silent)),
-            Number("noise", u64::from(misses.noise)),
-            Number("others", u64::from(misses.others)),
-        ],
-    );
 }
 
 // Writes what the last answer says where the register doesn't take it.

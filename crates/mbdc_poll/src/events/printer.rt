@@ -1,8 +1,5 @@
 //! A teller that prints the events of a poll.
 
-ghost use Rattle.mbdc_io.specs.Written.{Wrote};
-ghost use Rattle.mbdc_poll.specs.Printed.{event_as};
-
 use crate::events::objects::put_object;
 use crate::events::text::put_line;
 use crate::{Event, Teller};
@@ -36,16 +33,9 @@ impl<W: Sink + Drop> Teller for Printer<W> {
     ghost failures = { λ printer. W.put_failures printer.out };
 
     fn tell(&mut self, event: &Event<'_>) -> Result<(), IoFault> {
-        put_event(&mut self.out, self.form, event)
-    }
-}
-
-// Writes an event in this form.
-fn put_event<W: Sink>(out: &mut W, form: Form, event: &Event<'_>) -> Result<(), IoFault>
-    ensures { Wrote W.Sink result out.old out.new (event_as form event.now) }
-{
-    match form {
-        Form::Text => put_line(out, event),
-        Form::Json => put_object(out, event),
+        match self.form {
+            Form::Text => put_line(&mut self.out, event),
+            Form::Json => put_object(&mut self.out, event),
+        }
     }
 }

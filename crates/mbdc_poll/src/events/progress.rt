@@ -85,17 +85,6 @@ impl<'h, R: Clock + Eprint> Progress<'h, R> {
 // Room for the longest lines of a failed readout.
 const LONGEST_REASON: usize = 320;
 
-// Says on standard error what the tries of a failed readout brought, where the event is of one.
-fn explain<R: Eprint>(rt: &R, event: &Event<'_>) {
-    let mut reason: FixedSink<LONGEST_REASON> = FixedSink::new();
-    if put_reason(&mut reason, event).is_ok()
-        && let Ok(line) = str::from_utf8(reason.as_slice())
-        && !line.is_empty()
-    {
-        let _ = rt.eprint(line);
-    }
-}
-
 /// Hands events on to a teller, and to the journal. The progress counts them, and its line is cleared before.
 #[derive(Drop)]
 pub struct Shown<'p, 'h, R, N: Teller + Drop, J: Notes + Drop> {
@@ -122,8 +111,13 @@ impl<R: Clock + Eprint, N: Teller + Drop, J: Notes + Drop> Teller for Shown<'_, 
         tally.set(tally.get().after(event));
         self.notes.note(event);
         let told = self.teller.tell(event);
-        if self.explains {
-            explain(self.progress.rt, event);
+        let mut reason: FixedSink<LONGEST_REASON> = FixedSink::new();
+        if self.explains
+            && put_reason(&mut reason, event).is_ok()
+            && let Ok(line) = str::from_utf8(reason.as_slice())
+            && !line.is_empty()
+        {
+            let _ = self.progress.rt.eprint(line);
         }
         told
     }

@@ -1,7 +1,7 @@
 use Rattle.std.proofs.Common.{◌≡◌}
 use Rattle.dc_meters.specs.Orders.{serials_of}
 use Rattle.mbdc_poll.specs.Happening.{last_of}
-use Rattle.mbdc_poll.proofs.newest.newest_serial.Given as goal
+use Rattle.mbdc_poll.proofs.newest.newest_reading.Given as goal
 
 -- the last one of those that are left is that of all
 abbrev pub invariant-loop-serial : goal.invariant-loop-serial
