@@ -1,4 +1,4 @@
-//! A copy of an image as it is at one instant: in memory, and by the command `copy` in a new file.
+//! The sectors of an image as they are at one instant: in memory, and by the command `copy` in a new file.
 
 ghost use Rattle.std.specs.Prelude.{◌≡◌, ◌⊎◌, IfErr, OnOk};
 ghost use Rattle.mbdc_ending.specs.declared.ending.Ending.TheVariants.{Memory, Open};
@@ -6,57 +6,15 @@ ghost use Rattle.mbdc_log.specs.declared.fault.OpenFault.TheVariants.{Device};
 ghost use Rattle.mbdc_files.specs.Copied.{IsCopied, IsUncopied};
 ghost use Rattle.mbdc_files.specs.Formatted.{IsUnmade};
 
-use crate::host::Host;
-use crate::image_file::{ImageFile, Role};
-use crate::looking::{LookedAt, ROUNDS};
 use crate::shelf::Shelf;
-use dc_roots::{RootFault, choose};
-use dc_sectors::snapshot::Sample;
 use dc_sectors::{Disk, ReadFault, Sector};
 use mbdc_ending::Ending;
-use mbdc_log::{FEWEST_SECTORS, OpenFault};
+use mbdc_log::OpenFault;
 use std::alloc::Global;
 use std::cell::Cell;
-use std::fs::{File, OpenFile};
-use std::rt::Files;
 
-/// Copies the image in that file, while another program may write it: a look at all its sectors.
-///
-/// # Errors
-/// The ending of the command: the file can't be opened or read or holds no image, it changed within each look for two
-/// seconds, or out of memory.
-pub fn copy_image<'h, 'a, R: Files<File = File> + AllocGlobal>(
-    host: &Host<'h, R>,
-    name: &'a str,
-) -> Result<ImageFile<'h, 'h, R>, Ending<'a>>
-    ensures { IfErr result (λ ending. IsUncopied ending name.now) }
-{
-    let looked = LookedAt::open(host, name)?;
-    let mut disk = looked.disk(name)?;
-    // It is too small, or both root slots can be read and neither has a root.
-    if disk.count() < FEWEST_SECTORS || matches!(choose(&mut disk), Err(RootFault::NoRoot(None))) {
-        return Err(Ending::Open(OpenFault::NotImage));
-    }
-    for _ in 0..ROUNDS {
-        let mut sample = Sample::new(host.rt.alloc(), looked.disk(name)?);
-        let sectors = read_all(host.rt.alloc(), &mut sample)?;
-        if looked.stands(sample, name)? {
-            return match looked.file.try_clone() {
-                Ok(file) => Ok(ImageFile {
-                    file,
-                    rt: host.rt,
-                    why: host.why,
-                    role: Role::Copied(sectors),
-                }),
-                Err(error) => Err(host.why.file(name, error)),
-            };
-        }
-    }
-    Err(looked.busy(name))
-}
-
-// Reads all sectors of a disk.
-fn read_all<'a, D: Disk>(
+/// Reads all sectors of a disk.
+pub(crate) fn read_all<'a, D: Disk>(
     alloc: Global,
     disk: &mut D,
 ) -> Result<Vec<Cell<Sector>, Global>, Ending<'a>>

@@ -3,15 +3,19 @@
 ghost use Rattle.std.specs.Prelude.{IfErr};
 ghost use Rattle.mbdc_files.specs.Formatted.{IsUnmade};
 
-use crate::copied::copy_image;
+use crate::copied::read_all;
 use crate::host::Host;
-use crate::image::{OTHER_LENGTH, is_same_file, lock, refused, within_limit};
+use crate::image::{OTHER_LENGTH, TOO_LONG, file_limit, is_same_file, lock, refused};
 use crate::image_file::{ImageFile, Role};
+use crate::looking::{LookedAt, ROUNDS};
 use crate::shelf::Shelf;
 use crate::zeros::zeros_at;
+use dc_roots::{RootFault, choose};
+use dc_sectors::snapshot::Sample;
 use dc_sectors::{Disk, FileDisk};
 use mbdc_ending::Ending;
-use std::fs::{File, OpenOptions};
+use mbdc_log::{FEWEST_SECTORS, OpenFault};
+use std::fs::{File, OpenFile, OpenOptions};
 use std::io::ErrorKind;
 use std::os::unix::fs::OpenOptionsExt;
 use std::rt::Files;
@@ -31,44 +35,19 @@ const LONGEST: usize = 230;
 /// A file in which an image is made, open and locked, so that no program runs the image before the command has ended.
 #[derive(Drop)]
 pub struct HalfMade {
-    file: File,
+    pub(crate) file: File,
     // The name under which this run created it; none of a file of zeros that had its name before.
-    name: Option<String>,
+    pub(crate) name: Option<String>,
 }
 
 impl HalfMade {
-    // Creates an empty file beside `image`, `FOLDER/IMAGE.N.half-made`, under a name that nothing else has.
-    fn create<R: Files<File = File> + AllocGlobal>(rt: &R, image: &str) -> io::Result<Self> {
-        let mut options = OpenOptions::new();
-        options.read(true).write(true).create_new(true).mode(MODE);
-        let (folder, slash, file) = match image.rsplit_once('/') {
-            Some((folder, file)) => (folder, "/", file),
-            None => ("", "", image),
-        };
-        let file = file
-            .get(..file.floor_char_boundary(LONGEST))
-            .unwrap_or(file);
-        for n in 0..NAMES {
-            let name = format!(in rt.alloc(); "{folder}{slash}{file}.{n}.half-made")?;
-            match options.open(rt, name.as_str()) {
-                Ok(file) => return Ok(HalfMade {
-                    file,
-                    name: Some(name),
-                }),
-                Err(error) if error.kind() == ErrorKind::AlreadyExists => {}
-                Err(error) => return Err(error),
-            }
-        }
-        Err(io::Error::from(ErrorKind::AlreadyExists))
-    }
-
     // Gives the file the name `image` as well, and makes that durable: a name is once its folder is synced. Something
     // may have that name, and the file system may have no hard links.
     fn link<R: Files<File = File>>(&self, rt: &R, image: &str) -> io::Result<()> {
         let Some(name) = &self.name else {
             return Ok(());
         };
-        if !self.is_named(rt, name.as_str()) {
+        if !is_same_file(self.file.metadata(), fs::symlink_metadata(rt, name.as_str())) {
             return Err(io::Error::from(ErrorKind::NotFound));
         }
         fs::hard_link(rt, name.as_str(), image)?;
@@ -78,23 +57,6 @@ impl HalfMade {
             None => ".",
         };
         fs::open(rt, folder)?.sync_all()
-    }
-
-    // Removes the name under which the file was created, unless another file has it now.
-    fn unlink<R: Files<File = File>>(&self, rt: &R) {
-        if let Some(name) = &self.name
-            && self.is_named(rt, name.as_str())
-        {
-            let _ = fs::remove_file(rt, name.as_str());
-        }
-    }
-
-    // The file is open, so its number isn't given to another one.
-    fn is_named<R: Files<File = File>>(&self, rt: &R, name: &str) -> bool {
-        match (self.file.metadata(), fs::symlink_metadata(rt, name)) {
-            (Ok(own), Ok(seen)) => is_same_file(&own, &seen),
-            _ => false,
-        }
     }
 }
 
@@ -113,11 +75,32 @@ impl<'h, R: Files<File = File> + AllocGlobal> Shelf for Host<'h, R> {
     ghost named = { λ _ _ _. ⊤ };
 
     fn copy<'a>(&self, image: &'a str) -> Result<FileDisk<ImageFile<'h, 'h, R>>, Ending<'a>> {
-        let copy = copy_image(self, image)?;
-        match FileDisk::lenient(copy) {
-            Ok(disk) => Ok(disk),
-            Err(error) => Err(self.why.file(image, error)),
+        let looked = LookedAt::open(self, image)?;
+        let mut disk = looked.disk(image)?;
+        // It is too small, or both root slots can be read and neither has a root.
+        if disk.count() < FEWEST_SECTORS || matches!(choose(&mut disk), Err(RootFault::NoRoot(None))) {
+            return Err(Ending::Open(OpenFault::NotImage));
         }
+        for _ in 0..ROUNDS {
+            let mut sample = Sample::new(self.rt.alloc(), looked.disk(image)?);
+            let sectors = read_all(self.rt.alloc(), &mut sample)?;
+            if looked.stands(sample, image)? {
+                let copied = match looked.file.try_clone() {
+                    Ok(file) => FileDisk::lenient(ImageFile {
+                        file,
+                        rt: self.rt,
+                        why: self.why,
+                        role: Role::Copied(sectors),
+                    }),
+                    Err(error) => Err(error),
+                };
+                return match copied {
+                    Ok(disk) => Ok(disk),
+                    Err(error) => Err(self.why.file(image, error)),
+                };
+            }
+        }
+        Err(looked.busy(image))
     }
 
     fn begin<'a>(
@@ -127,19 +110,18 @@ impl<'h, R: Files<File = File> + AllocGlobal> Shelf for Host<'h, R> {
         takes_zeros: bool,
     ) -> Result<(HalfMade, FileDisk<ImageFile<'h, 'h, R>>), Ending<'a>> {
         let length = 512 * u64::from(sectors);
-        if let Err(error) = within_limit(length) {
-            return Err(self.why.file(name, error));
+        if file_limit() < length {
+            return Err(self.why.file(name, refused(TOO_LONG)));
         }
-        let draft = match fs::symlink_metadata(self.rt, name) {
-            Ok(_) if !takes_zeros => {
-                let error = io::Error::from(ErrorKind::AlreadyExists);
-                return Err(self.why.file(name, error));
-            }
-            Ok(seen) => HalfMade {
-                file: zeros_at(self, name, &seen, length)?,
-                name: None,
-            },
-            Err(error) if error.kind() == ErrorKind::NotFound => new_at(self, name, length)?,
+        let made = match fs::symlink_metadata(self.rt, name) {
+            Ok(_) if !takes_zeros => Err(io::Error::from(ErrorKind::AlreadyExists)),
+            Ok(seen) => zeros_at(self, name, seen, length),
+            Err(error) if error.kind() == ErrorKind::NotFound => Ok(Ok(new_at(self, name, length)?)),
+            Err(error) => Err(error),
+        };
+        let draft = match made {
+            Ok(Ok(draft)) => draft,
+            Ok(Err(fault)) => return Err(Ending::Format(fault)),
             Err(error) => return Err(self.why.file(name, error)),
         };
         let disk = match draft.file.try_clone() {
@@ -160,7 +142,7 @@ impl<'h, R: Files<File = File> + AllocGlobal> Shelf for Host<'h, R> {
             }
             Err(error) => error,
         };
-        draft.unlink(self.rt);
+        self.give_up(draft);
         Err(self.why.file(name, error))
     }
 
@@ -171,44 +153,70 @@ impl<'h, R: Files<File = File> + AllocGlobal> Shelf for Host<'h, R> {
         name: &'a str,
     ) -> Result<(), Ending<'a>> {
         let linked = draft.link(self.rt, name);
-        draft.unlink(self.rt);
+        self.give_up(draft);
         match linked {
             Ok(()) => Ok(()),
             Err(error) => Err(self.why.file(name, error)),
         }
     }
 
+    // Removes the name under which the file was created, unless another file has it now.
     fn give_up(&self, draft: HalfMade) {
-        draft.unlink(self.rt);
+        if let Some(name) = &draft.name
+            && is_same_file(draft.file.metadata(), fs::symlink_metadata(self.rt, name.as_str()))
+        {
+            let _ = fs::remove_file(self.rt, name.as_str());
+        }
     }
 }
 
-// A new file of that length, locked, beside a name that nothing has.
+// A new file of that length, locked, beside a name that nothing has: `FOLDER/IMAGE.N.half-made`, a name that nothing had
+// either.
 fn new_at<'a, R: Files<File = File> + AllocGlobal>(
     host: &Host<'_, R>,
-    name: &'a str,
+    image: &'a str,
     length: u64,
 ) -> Result<HalfMade, Ending<'a>>
-    ensures { IfErr result (λ ending. IsUnmade ending name.now) }
+    ensures { IfErr result (λ ending. IsUnmade ending image.now) }
 {
     // `format ""` and `format folder/` name no file.
-    if name.is_empty() || name.ends_with('/') {
-        return Err(host.why.file(name, refused("it is no name of a file")));
+    if image.is_empty() || image.ends_with('/') {
+        return Err(host.why.file(image, refused("it is no name of a file")));
     }
-    let draft = match HalfMade::create(host.rt, name) {
-        Ok(draft) => draft,
-        Err(error) if error.kind() == ErrorKind::OutOfMemory => return Err(Ending::Memory),
-        Err(error) => return Err(host.why.file(name, error)),
+    let mut options = OpenOptions::new();
+    options.read(true).write(true).create_new(true).mode(MODE);
+    let (folder, slash, file) = match image.rsplit_once('/') {
+        Some((folder, file)) => (folder, "/", file),
+        None => ("", "", image),
     };
-    let prepared = match lock(&draft.file) {
-        Ok(()) => draft.file.set_len(length),
-        Err(error) => Err(error),
-    };
-    match prepared {
-        Ok(()) => Ok(draft),
-        Err(error) => {
-            draft.unlink(host.rt);
-            Err(host.why.file(name, error))
-        }
+    let file = file
+        .get(..file.floor_char_boundary(LONGEST))
+        .unwrap_or(file);
+    for n in 0..NAMES {
+        let Ok(name) = format!(in host.rt.alloc(); "{folder}{slash}{file}.{n}.half-made") else {
+            return Err(Ending::Memory);
+        };
+        let file = match options.open(host.rt, name.as_str()) {
+            Ok(file) => file,
+            Err(error) if error.kind() == ErrorKind::AlreadyExists => continue,
+            Err(error) if error.kind() == ErrorKind::OutOfMemory => return Err(Ending::Memory),
+            Err(error) => return Err(host.why.file(image, error)),
+        };
+        let prepared = match lock(&file) {
+            Ok(()) => file.set_len(length),
+            Err(error) => Err(error),
+        };
+        let draft = HalfMade {
+            file,
+            name: Some(name),
+        };
+        return match prepared {
+            Ok(()) => Ok(draft),
+            Err(error) => {
+                host.give_up(draft);
+                Err(host.why.file(image, error))
+            }
+        };
     }
+    Err(host.why.file(image, io::Error::from(ErrorKind::AlreadyExists)))
 }

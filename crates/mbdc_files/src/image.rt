@@ -1,6 +1,6 @@
 //! Opens the file of an image. One program at a time may change it; others may look at it meanwhile.
 
-ghost use Rattle.std.specs.Prelude.{◌≡◌, IfErr};
+ghost use Rattle.std.specs.Prelude.{◌≡◌};
 ghost use Rattle.std.specs.IoError.{error_kind};
 
 use libc::net::poll;
@@ -24,6 +24,9 @@ pub const NO_FILE: &str = "it is no regular file";
 /// Why a file of another length than the image's is refused.
 pub const OTHER_LENGTH: &str = "it has another length";
 
+/// Why a file beyond the limit of this process is refused.
+pub const TOO_LONG: &str = "it is longer than the limit of files (ulimit -f)";
+
 // The limit of a file's length, of Linux.
 const RLIMIT_FSIZE: i32 = 1;
 
@@ -37,21 +40,13 @@ pub fn open_image<R: Files<File = File>>(rt: &R, name: &str) -> io::Result<File>
     let mut options = OpenOptions::new();
     options.read(true).write(true);
     let file = open_regular(rt, &options, name)?;
-    within_limit(file.metadata()?.len())?;
+    if file_limit() < file.metadata()?.len() {
+        return Err(refused(TOO_LONG));
+    }
     lock(&file)?;
     file.sync_data()?;
     drop_cached(&file)?;
     Ok(file)
-}
-
-/// Opens the file to read, also while another program writes it.
-///
-/// # Errors
-/// It is no regular file, or it can't be opened.
-pub fn open_to_look<R: Files<File = File>>(rt: &R, name: &str) -> io::Result<File> {
-    let mut options = OpenOptions::new();
-    options.read(true);
-    open_regular(rt, &options, name)
 }
 
 /// Drops the file's pages from the system's cache, once they are synced. If a sync of an earlier
@@ -63,8 +58,8 @@ pub(crate) fn drop_cached(file: &File) -> io::Result<()> {
     }
 }
 
-// Opens a regular file. It is asked for before, since opening a pipe may wait for its other end.
-fn open_regular<R: Files<File = File>>(
+/// Opens a regular file. It is asked for before, since opening a pipe may wait for its other end.
+pub(crate) fn open_regular<R: Files<File = File>>(
     rt: &R,
     options: &OpenOptions,
     name: &str,
@@ -79,21 +74,8 @@ fn open_regular<R: Files<File = File>>(
     Ok(file)
 }
 
-/// Whether a file of that length may be written.
-///
-/// # Errors
-/// It is longer than the limit of this process (`ulimit -f`). A write beyond the limit would end the
-/// program by a signal.
-pub fn within_limit(length: u64) -> io::Result<()>
-    ensures { IfErr result (λ error. error_kind error ≡ ErrorKind.InvalidInput) }
-{
-    if file_limit() < length {
-        return Err(refused("it is longer than the limit of files (ulimit -f)"));
-    }
-    Ok(())
-}
-
-/// The greatest length of a file that this process may write (`ulimit -f`); `u64::MAX` where it can't be asked for.
+/// The greatest length of a file that this process may write (`ulimit -f`); `u64::MAX` where it can't be asked for. A
+/// write beyond it would end the program by a signal.
 pub fn file_limit() -> u64 {
     let mut limit = rlimit {
         rlim_cur: u64::MAX,
@@ -132,8 +114,11 @@ pub fn lock(file: &File) -> io::Result<()> {
     Err(io::Error::new(ErrorKind::WouldBlock, "it is open in another mbdc"))
 }
 
-/// Whether both are the same file, by device and inode number. The contracts of std state neither number, so this
-/// function has no contract.
-pub fn is_same_file(one: &Metadata, other: &Metadata) -> bool {
-    one.dev() == other.dev() && one.ino() == other.ino()
+/// Whether both are found and are the same file, by device and inode number. The contracts of std state neither number,
+/// so this function has no contract.
+pub fn is_same_file(one: io::Result<Metadata>, other: io::Result<Metadata>) -> bool {
+    match (one, other) {
+        (Ok(one), Ok(other)) => one.dev() == other.dev() && one.ino() == other.ino(),
+        _ => false,
+    }
 }

@@ -6,7 +6,7 @@ ghost use Rattle.mbdc_ending.specs.Outcome.{IsOfFile};
 
 use crate::host::Host;
 use crate::image::{is_same_file, open_image};
-use crate::why::Why;
+use crate::why::{DiskReason, Why};
 use dc_sectors::{FileDisk, Sector};
 use libc::EIO;
 use mbdc_ending::Ending;
@@ -89,12 +89,10 @@ pub fn open_disk<'h, 'n, R: Files<File = File>>(
 }
 
 impl<R: Files<File = File>> ImageFile<'_, '_, R> {
-    // Notes a call that failed.
-    fn noted(&self, answer: io::Result<()>) -> io::Result<()> {
-        if let Err(error) = answer {
-            self.why.note_disk(None, error);
-        }
-        answer
+    // Notes a call that failed, with the sector that was read or written.
+    fn note(&self, sector: Option<u64>, error: io::Error) {
+        self.why.disk.set(Some(DiskReason { sector, error }));
+        self.why.note(error);
     }
 
     // A read or a write at that place. One that transfers less than it was asked to, as at the end
@@ -106,10 +104,10 @@ impl<R: Files<File = File>> ImageFile<'_, '_, R> {
         match answer {
             Ok(n) if n < asked => {
                 let error = io::Error::new(ErrorKind::WriteZero, "only a part of the sector");
-                self.why.note_disk(sector, error);
+                self.note(sector, error);
             }
             Ok(_) => {}
-            Err(error) => self.why.note_disk(sector, error),
+            Err(error) => self.note(sector, error),
         }
         answer
     }
@@ -146,10 +144,9 @@ impl<R: Files<File = File>> ImageFile<'_, '_, R> {
                 if let Some(known) = known.get()
                     && (self.read(&mut found, *place)? < SECTOR || found != known)
                 {
-                    return self.noted(Err(io::Error::new(
-                        ErrorKind::Other,
-                        "another program wrote over it",
-                    )));
+                    let error = io::Error::new(ErrorKind::Other, "another program wrote over it");
+                    self.note(None, error);
+                    return Err(error);
                 }
             }
         }
@@ -230,7 +227,7 @@ impl<R: Files<File = File>> OpenFile for ImageFile<'_, '_, R> {
     }
 
     fn sync_all(&self) -> io::Result<()> {
-        self.sync_data()
+        self.file.sync_all()
     }
 
     // It fails, too, once another program wrote over the image or its name leads elsewhere.
@@ -238,19 +235,22 @@ impl<R: Files<File = File>> OpenFile for ImageFile<'_, '_, R> {
         if let Role::Copied(_) = &self.role {
             return Ok(());
         }
-        let answer = self.noted(self.file.sync_data());
+        let answer = self.file.sync_data();
+        if let Err(error) = answer {
+            self.note(None, error);
+        }
         let Role::Named(named) = &self.role else {
             return answer;
         };
         named.syncs.set(named.syncs.get().saturating_add(1));
         answer?;
         self.unless_overwritten()?;
-        match (self.file.metadata(), fs::metadata(self.rt, named.name)) {
-            (Ok(own), Ok(seen)) if is_same_file(&own, &seen) => Ok(()),
-            _ => self.noted(Err(io::Error::new(
-                ErrorKind::NotFound,
-                "its name leads to another file now, or to none",
-            ))),
+        if is_same_file(self.file.metadata(), fs::metadata(self.rt, named.name)) {
+            return Ok(());
         }
+        let words = "its name leads to another file now, or to none";
+        let error = io::Error::new(ErrorKind::NotFound, words);
+        self.note(None, error);
+        Err(error)
     }
 }

@@ -76,17 +76,34 @@ impl<'h, R: Files<File = File> + Eprint + AllocGlobal> Journal<'h, R> {
         }
         self.file = Some(file);
         if last != *b"\n" {
-            return self.put(b"\n");
+            self.append(b"\n");
         }
         Ok(())
     }
 
     /// Appends a line, with its line feed, in one write.
     pub fn append(&mut self, line: &[u8]) {
-        if let Err(error) = self.put(line) {
-            self.file = None;
-            name_failure(self.rt, self.name.as_str(), &error);
-        }
+        let Some(file) = &self.file else {
+            return;
+        };
+        let length = self.length.saturating_add(line.len() as u64);
+        let mut file = file;
+        // A write beyond the limit would end the program by a signal.
+        let written = if length > file_limit() {
+            Err(io::Error::from(ErrorKind::FileTooLarge))
+        } else {
+            file.write(line)
+        };
+        let error = match written {
+            Ok(taken) if taken >= line.len() => {
+                self.length = length;
+                return;
+            }
+            Ok(_) => io::Error::from(ErrorKind::StorageFull),
+            Err(error) => error,
+        };
+        self.file = None;
+        name_failure(self.rt, self.name.as_str(), &error);
     }
 
     /// Whether the journal of that image has a line that says the same, whenever that was written.
@@ -103,24 +120,6 @@ impl<'h, R: Files<File = File> + Eprint + AllocGlobal> Journal<'h, R> {
                 .split(|byte| *byte == b'\n')
                 .any(|line| said_in(line) == said),
         )
-    }
-
-    fn put(&mut self, line: &[u8]) -> io::Result<()> {
-        let Some(file) = &self.file else {
-            return Ok(());
-        };
-        let length = self.length.saturating_add(line.len() as u64);
-        // A write beyond the limit would end the program by a signal.
-        if length > file_limit() {
-            return Err(io::Error::from(ErrorKind::FileTooLarge));
-        }
-        let mut file = file;
-        let taken = file.write(line)?;
-        self.length = length;
-        if taken < line.len() {
-            return Err(io::Error::from(ErrorKind::StorageFull));
-        }
-        Ok(())
     }
 }
 
@@ -160,11 +159,7 @@ fn open_journal<R: Files<File = File>>(
     let mut reader = &file;
     let _ = reader.read(&mut first)?;
     let about = file.metadata()?;
-    let is_image = match fs::metadata(rt, image) {
-        Ok(own) => is_same_file(&own, &about),
-        Err(_) => false,
-    };
-    if is_image || first != *b"{" {
+    if is_same_file(fs::metadata(rt, image), Ok(about)) || first != *b"{" {
         return Err(refused(NO_JOURNAL));
     }
     Ok(Some(file))

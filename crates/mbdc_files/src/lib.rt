@@ -2,7 +2,7 @@
 //!
 //! [`open_image`] opens an image for one program that changes it; its first read goes to the drive. [`open_disk`] makes
 //! a disk of it, which fails once the file has lost its name. [`LookedAt`] is an image that is looked at, also while a
-//! program changes it: what a look reads is of one instant ([`LookDisk`]); [`copy_image`] copies all of it into memory.
+//! program changes it: what a look reads is of one instant ([`LookDisk`]); [`Shelf::copy`] copies all of it into memory.
 //! [`hold`] gives each closed standard stream to `/dev/null`, so that no image gets its number.
 //!
 //! A [`Shelf`] has the files in which images are made. [`format_image`] makes an image in a file of its own
@@ -35,12 +35,12 @@ mod streams;
 mod why;
 mod zeros;
 
-pub use copied::{back_up, copy_image};
+pub use copied::back_up;
 pub use format::format_image;
 pub use half_made::HalfMade;
 pub use holder::{holder_in, holder_of};
 pub use host::Host;
-pub use image::{file_limit, open_image, open_to_look, refused};
+pub use image::{file_limit, open_image, refused};
 pub use image_file::{ImageFile, open_disk};
 pub use journal::{Journal, journal_lines, own_lines};
 pub use looking::{LookDisk, LookedAt, ROUNDS};

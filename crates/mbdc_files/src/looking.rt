@@ -6,7 +6,7 @@ ghost use Rattle.dc_sectors.specs.File.{IsOpened};
 ghost use Rattle.mbdc_files.specs.Copied.{IsOfCopy};
 
 use crate::host::Host;
-use crate::image::{PAUSE, drop_cached, open_to_look};
+use crate::image::{PAUSE, drop_cached, open_regular};
 use crate::image_file::{ImageFile, Role};
 use crate::why::Why;
 use dc_sectors::snapshot::{Sample, SampleFault};
@@ -16,7 +16,7 @@ use libc::types::timespec;
 use mbdc_ending::Ending;
 use mbdc_log::OpenFault;
 use std::alloc::Global;
-use std::fs::{File, OpenFile};
+use std::fs::{File, OpenFile, OpenOptions};
 use std::io;
 use std::io::ErrorKind;
 use std::rt::Files;
@@ -40,14 +40,16 @@ pub struct LookedAt<'h, R> {
 }
 
 impl<'h, R: Files<File = File>> LookedAt<'h, R> {
-    /// Opens the file.
+    /// Opens the file to read, also while another program writes it.
     ///
     /// # Errors
-    /// The ending of the command: it can't be opened.
+    /// The ending of the command: it is no regular file, or it can't be opened.
     pub fn open<'a>(host: &Host<'h, R>, name: &'a str) -> Result<LookedAt<'h, R>, Ending<'a>>
         ensures { IfErr result (λ ending. IsOfFile ending name.now) }
     {
-        match open_to_look(host.rt, name) {
+        let mut options = OpenOptions::new();
+        options.read(true);
+        match open_regular(host.rt, &options, name) {
             Ok(file) => Ok(LookedAt {
                 file,
                 rt: host.rt,

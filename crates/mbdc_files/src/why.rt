@@ -63,12 +63,6 @@ impl Why {
         }
     }
 
-    /// Notes a failed call of an image's file.
-    pub(crate) fn note_disk(&self, sector: Option<u64>, error: io::Error) {
-        self.disk.set(Some(DiskReason { sector, error }));
-        self.note(error);
-    }
-
     /// Notes a failed call. A call that a signal interrupted is repeated, and not noted.
     pub fn note(&self, error: io::Error) {
         if error.kind() != ErrorKind::Interrupted {

@@ -1,14 +1,11 @@
 //! A file of zeros, which `format` makes an image in its place.
 
-ghost use Rattle.std.specs.Prelude.{IfErr};
-ghost use Rattle.mbdc_files.specs.Formatted.{IsUnmade};
-
+use crate::half_made::HalfMade;
 use crate::host::Host;
 use crate::image::{NO_FILE, OTHER_LENGTH, is_same_file, open_image, refused};
 use crate::image_file::{ImageFile, Role};
 use dc_roots::{RootFault, choose};
 use dc_sectors::{Disk, FileDisk};
-use mbdc_ending::Ending;
 use mbdc_log::FormatFault;
 use std::fs::{File, Metadata};
 use std::io;
@@ -20,36 +17,23 @@ use std::rt::Files;
 const OTHER_CONTENT: &str = "it holds other bytes than zeros";
 
 /// The regular file that was found under the name, if it has that length and holds only zeros. If it holds an image,
-/// that is the ending, and any other content is kept. Another file may have replaced it since.
-pub(crate) fn zeros_at<'a, R: Files<File = File>>(
-    host: &Host<'_, R>,
-    name: &'a str,
-    seen: &Metadata,
-    length: u64,
-) -> Result<File, Ending<'a>>
-    ensures { IfErr result (λ ending. IsUnmade ending name.now) }
-{
-    match zeros_in(host, name, seen, length) {
-        Ok(Ok(file)) => Ok(file),
-        Ok(Err(fault)) => Err(Ending::Format(fault)),
-        Err(error) => Err(host.why.file(name, error)),
-    }
-}
-
-fn zeros_in<R: Files<File = File>>(
+/// that is the fault, and any other content is kept. Another file may have replaced it since.
+pub(crate) fn zeros_at<R: Files<File = File>>(
     host: &Host<'_, R>,
     name: &str,
-    seen: &Metadata,
+    seen: Metadata,
     length: u64,
-) -> io::Result<Result<File, FormatFault>> {
+) -> io::Result<Result<HalfMade, FormatFault>> {
     if !seen.is_file() {
         return Err(refused(NO_FILE));
     }
     let file = open_image(host.rt, name)?;
-    if !is_same_file(&file.metadata()?, seen) {
+    let about = file.metadata()?;
+    let found = about.len();
+    if !is_same_file(Ok(about), Ok(seen)) {
         return Err(io::Error::new(ErrorKind::NotFound, "another file came under that name"));
     }
-    if file.metadata()?.len() != length {
+    if found != length {
         return Err(refused(OTHER_LENGTH));
     }
     let mut sector = [0; 512];
@@ -61,7 +45,7 @@ fn zeros_in<R: Files<File = File>>(
     }
     // It holds only zeros, as `truncate` makes it.
     if sector == [0; 512] {
-        return Ok(Ok(file));
+        return Ok(Ok(HalfMade { file, name: None }));
     }
     let mut disk = FileDisk::new(ImageFile {
         file,
