@@ -47,7 +47,10 @@ impl HalfMade {
         let Some(name) = &self.name else {
             return Ok(());
         };
-        if !is_same_file(self.file.metadata(), fs::symlink_metadata(rt, name.as_str())) {
+        if !is_same_file(
+            self.file.metadata(),
+            fs::symlink_metadata(rt, name.as_str()),
+        ) {
             return Err(io::Error::from(ErrorKind::NotFound));
         }
         fs::hard_link(rt, name.as_str(), image)?;
@@ -78,7 +81,9 @@ impl<'h, R: Files<File = File> + AllocGlobal> Shelf for Host<'h, R> {
         let looked = LookedAt::open(self, image)?;
         let mut disk = looked.disk(image)?;
         // It is too small, or both root slots can be read and neither has a root.
-        if disk.count() < FEWEST_SECTORS || matches!(choose(&mut disk), Err(RootFault::NoRoot(None))) {
+        if disk.count() < FEWEST_SECTORS
+            || matches!(choose(&mut disk), Err(RootFault::NoRoot(None)))
+        {
             return Err(Ending::Open(OpenFault::NotImage));
         }
         for _ in 0..ROUNDS {
@@ -116,7 +121,9 @@ impl<'h, R: Files<File = File> + AllocGlobal> Shelf for Host<'h, R> {
         let made = match fs::symlink_metadata(self.rt, name) {
             Ok(_) if !takes_zeros => Err(io::Error::from(ErrorKind::AlreadyExists)),
             Ok(seen) => zeros_at(self, name, seen, length),
-            Err(error) if error.kind() == ErrorKind::NotFound => Ok(Ok(new_at(self, name, length)?)),
+            Err(error) if error.kind() == ErrorKind::NotFound => Ok(Ok(new_at(
+                self, name, length,
+            )?)),
             Err(error) => Err(error),
         };
         let draft = match made {
@@ -163,7 +170,10 @@ impl<'h, R: Files<File = File> + AllocGlobal> Shelf for Host<'h, R> {
     // Removes the name under which the file was created, unless another file has it now.
     fn give_up(&self, draft: HalfMade) {
         if let Some(name) = &draft.name
-            && is_same_file(draft.file.metadata(), fs::symlink_metadata(self.rt, name.as_str()))
+            && is_same_file(
+                draft.file.metadata(),
+                fs::symlink_metadata(self.rt, name.as_str()),
+            )
         {
             let _ = fs::remove_file(self.rt, name.as_str());
         }
@@ -218,5 +228,8 @@ fn new_at<'a, R: Files<File = File> + AllocGlobal>(
             }
         };
     }
-    Err(host.why.file(image, io::Error::from(ErrorKind::AlreadyExists)))
+    Err(
+        host.why
+            .file(image, io::Error::from(ErrorKind::AlreadyExists)),
+    )
 }

@@ -14,6 +14,7 @@ use dc_linkframe::Frame;
 use dc_linkframe::control::VARIABLE_DATA;
 use dc_records::Telegram;
 use dc_records::names::{ci_name, control_name};
+use mbdc_decode::tokens::{Piece, put_pieces};
 use mbdc_decode::{Input, LineForm, read_frame};
 use mbdc_io::{Bytes, IoFault, Sink, Source, TextFault, put_byte, put_fault, put_number};
 use mbdc_reading::content::content_of;
@@ -29,15 +30,6 @@ fn put_expected<W: Sink>(out: &mut W, place: usize, expected: &str) -> Result<()
     out.put(b": expected ")?;
     out.put(expected.as_bytes())?;
     out.put(b"\n")
-}
-
-// Writes a control byte and an address in words.
-fn put_link<W: Sink>(out: &mut W, control: u8, address: u8) -> Result<(), IoFault> {
-    out.put(control_name(control).as_bytes())?;
-    out.put(b" (")?;
-    put_byte(out, control)?;
-    out.put(b"), address ")?;
-    put_number(out, u64::from(address))
 }
 
 // Writes a body in words, and its fault if the CI field states a telegram; returns whether it has one.
@@ -66,33 +58,33 @@ fn put_body<W: Sink>(out: &mut W, start: usize, ci: u8, body: &[u8]) -> Result<b
 fn put_frame<W: Sink>(out: &mut W, start: usize, frame: Frame<'_>) -> Result<bool, IoFault>
     ensures { IfOk result (λ bad. bad ≡ is_bad_frame (seen frame.entry)) }
 {
-    match frame {
-        Frame::Ack => {
-            out.put(b"acknowledgement\n")?;
-            Ok(false)
-        }
-        Frame::Short { control, address } => {
-            out.put(b"short frame, ")?;
-            put_link(out, control, address)?;
-            out.put(b"\n")?;
-            Ok(false)
-        }
+    let (words, control, address): (&[u8], Option<u8>, u8) = match frame {
+        Frame::Ack => (b"acknowledgement", None, 0),
+        Frame::Short { control, address } => (b"short frame, ", Some(control), address),
         Frame::Long {
             control,
             address,
-            ci,
-            body,
-        } => {
-            out.put(b"long frame, ")?;
-            put_link(out, control, address)?;
-            out.put(b", ")?;
-            out.put(ci_name(ci).as_bytes())?;
-            out.put(b" (")?;
-            put_byte(out, ci)?;
-            out.put(b")\n")?;
-            put_body(out, start.saturating_add(BODY), ci, body)
-        }
+            ..
+        } => (b"long frame, ", Some(control), address),
+    };
+    out.put(words)?;
+    if let Some(control) = control {
+        out.put(control_name(control).as_bytes())?;
+        out.put(b" (")?;
+        put_byte(out, control)?;
+        out.put(b"), address ")?;
+        put_number(out, u64::from(address))?;
     }
+    let Frame::Long { ci, body, .. } = frame else {
+        out.put(b"\n")?;
+        return Ok(false);
+    };
+    out.put(b", ")?;
+    out.put(ci_name(ci).as_bytes())?;
+    out.put(b" (")?;
+    put_byte(out, ci)?;
+    out.put(b")\n")?;
+    put_body(out, start.saturating_add(BODY), ci, body)
 }
 
 /// The form of `decode --explain`: words and tables.
@@ -114,7 +106,14 @@ impl LineForm for Table {
         bytes: &[u8],
         out: &mut W,
     ) -> Result<bool, IoFault> {
-        put_place(out, line)?;
+        put_pieces(
+            out,
+            &[
+                Piece::Text(b"line "),
+                Piece::Number(line),
+                Piece::Text(b": "),
+            ],
+        )?;
         match read_frame(bytes) {
             Ok(frame) => put_frame(out, start, frame),
             Err(fault) => {
@@ -128,16 +127,16 @@ impl LineForm for Table {
     }
 
     fn put_hex_fault<W: Sink>(line: u64, out: &mut W) -> Result<(), IoFault> {
-        put_place(out, line)?;
-        out.put(b"no line of pairs of hex digits, or longer than 4096 characters\n")
+        let words = b": no line of pairs of hex digits, or longer than 4096 characters\n";
+        put_pieces(
+            out,
+            &[
+                Piece::Text(b"line "),
+                Piece::Number(line),
+                Piece::Text(words),
+            ],
+        )
     }
-}
-
-// Writes the number of a line.
-fn put_place<W: Sink>(out: &mut W, line: u64) -> Result<(), IoFault> {
-    out.put(b"line ")?;
-    put_number(out, line)?;
-    out.put(b": ")
 }
 
 /// Writes the lines of hex digits left in the reader in words: each frame, the meter, its status, a

@@ -3,8 +3,7 @@
 ghost use Rattle.std.specs.Prelude.{◌≡◌};
 ghost use Rattle.mbdc_io.specs.Written.{Wrote};
 ghost use Rattle.mbdc_json.specs.Overview.{age_words, failure_in, overview_line, overview_lines, overview_text};
-ghost use Rattle.mbdc_json.specs.Overview.{reported, sent_cells, state_by, state_cells, titles, value_cells};
-ghost use Rattle.mbdc_reading.specs.Sent.{sent_view};
+ghost use Rattle.mbdc_json.specs.Overview.{state_by, state_cells, titles, value_cells};
 
 use crate::journal::Journal;
 use crate::latest::{Shown, put_word, shown_of};
@@ -85,27 +84,19 @@ fn put_line<A: Allocator + Copy, W: Sink>(
     put_state(out, &row_at(house, clock, journal, place))
 }
 
-// Writes what a meter of this device type stands at by the reading that is shown: the first record of its headline, or
-// dashes.
+// Writes what a meter of this device type stands at by the reading that is shown, the value and the unit of the first
+// record of its headline; a dash for what isn't there.
+#[tactic(auto, using(mbdc_io::proofs::Pieces::written), unfolding(crate::specs::Overview::sent_cells))]
 fn put_value<W: Sink>(out: &mut W, kind: u8, shown: &Option<Shown<'_>>) -> Result<(), IoFault>
     ensures { Wrote W.Sink result out.old out.new (value_cells kind shown.now) }
 {
     let Some(shown) = shown else {
         return out.put(b"-\t-\t");
     };
-    match Headline::new(kind, &shown.bodies).next() {
-        Some(sent) => put_sent(out, &sent),
-        None => out.put(b"-\t-\t"),
-    }
-}
-
-// Writes the value and the unit of a record; a dash for what isn't there.
-#[tactic(auto, using(mbdc_io::proofs::Pieces::written), unfolding(crate::specs::Overview::sent_cells))]
-fn put_sent<W: Sink>(out: &mut W, sent: &Sent<'_>) -> Result<(), IoFault>
-    ensures { Wrote W.Sink result out.old out.new (sent_cells (sent_view sent.now)) }
-{
-    let record = &sent.record;
-    let reading = reading_of(record, sent.len);
+    let Some(Sent { record, len }) = Headline::new(kind, &shown.bodies).next() else {
+        return out.put(b"-\t-\t");
+    };
+    let reading = reading_of(&record, len);
     let mut room = [0u8; READING_ROOM];
     put_word(out, value_text(&reading, record.content, &mut room))?;
     out.put(b"\t")?;
@@ -140,32 +131,27 @@ fn put_state<W: Sink>(out: &mut W, row: &Row) -> Result<(), IoFault>
     }
 }
 
-// What is said of a meter's state: that it is silent, that its last readout failed, or what it reports.
+// What is said of a meter's state: that it is silent, that its last readout failed, or the most serious state that its
+// status byte reports.
+#[tactic(auto, unfolding(crate::specs::Overview::reported))]
 fn state_of(row: &Row) -> &'static str
     ensures { result.now ≡ state_by row.now.is_silent (failure_in row.now.told) row.now.status }
 {
     if row.is_silent {
         return "SILENT";
     }
-    match row.told {
-        Some(
-            Told {
-                failed: Some(_),
-                ..
-            },
-        ) => "FAILED",
-        _ => match row.status {
-            Some(status) => reported(status),
-            None => "",
+    if let Some(
+        Told {
+            failed: Some(_),
+            ..
         },
+    ) = row.told
+    {
+        return "FAILED";
     }
-}
-
-// The most serious state that a status byte reports.
-#[tactic(auto, unfolding(crate::specs::Overview::reported))]
-fn reported(status: u8) -> &'static str
-    ensures { result.now ≡ reported status }
-{
+    let Some(status) = row.status else {
+        return "";
+    };
     if status / 8 % 2 == 1 {
         return "permanent error";
     }

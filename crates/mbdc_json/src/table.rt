@@ -68,29 +68,6 @@ fn put_shown<W: Sink>(out: &mut W, text: &[u8]) -> Result<(), IoFault> {
     Ok(())
 }
 
-// Writes a record's value, or why it has none, or its data in hex.
-fn put_value<W: Sink>(out: &mut W, found: &Record<'_>, reading: &Reading) -> Result<(), IoFault> {
-    let mut room = [0u8; READING_ROOM];
-    if let Some(text) = value_text(reading, found.content, &mut room) {
-        return put_cell(out, text, VALUE);
-    }
-    if let Some(fault) = reading.found.fault_name() {
-        out.put(b"none (")?;
-        out.put(fault.as_bytes())?;
-        return put_cell(
-            out,
-            b")",
-            VALUE.saturating_sub(6).saturating_sub(fault.len()),
-        );
-    }
-    put_hex(out, found.content)?;
-    put_cell(
-        out,
-        b"",
-        VALUE.saturating_sub(found.content.len().saturating_mul(2)),
-    )
-}
-
 // Writes which value of its quantity a record has: its function and its numbers, but for those of the current value.
 fn put_place<W: Sink>(out: &mut W, found: &Record<'_>) -> Result<(), IoFault> {
     let numbers: [(&[u8], u64); 3] = [
@@ -118,8 +95,9 @@ fn put_place<W: Sink>(out: &mut W, found: &Record<'_>) -> Result<(), IoFault> {
     Ok(())
 }
 
-// Writes the row of a record: what it is of, its unit, what is read, and of its value information block, where it has
-// one, the names of the VIFEs, the manufacturer's bytes and the text of a unit in plain text.
+// Writes the row of a record: what it is of, its value, or why it has none, or its data in hex, its unit, which value it
+// is, and of its value information block, where it has one, the names of the VIFEs, the manufacturer's bytes and the text
+// of a unit in plain text.
 fn put_told<W: Sink>(
     out: &mut W,
     found: &Record<'_>,
@@ -130,7 +108,19 @@ fn put_told<W: Sink>(
 ) -> Result<(), IoFault> {
     out.put(b"  ")?;
     put_cell(out, name.as_bytes(), QUANTITY)?;
-    put_value(out, found, reading)?;
+    let mut room = [0u8; READING_ROOM];
+    if let Some(text) = value_text(reading, found.content, &mut room) {
+        put_cell(out, text, VALUE)?;
+    } else if let Some(fault) = reading.found.fault_name() {
+        let taken = fault.len().saturating_add(6);
+        out.put(b"none (")?;
+        out.put(fault.as_bytes())?;
+        put_cell(out, b")", VALUE.saturating_sub(taken))?;
+    } else {
+        let taken = found.content.len().saturating_mul(2);
+        put_hex(out, found.content)?;
+        put_cell(out, b"", VALUE.saturating_sub(taken))?;
+    }
     if matches!(reading.how, How::Other) {
         put_cell(out, b"hex", UNIT)?;
     } else {
@@ -142,7 +132,6 @@ fn put_told<W: Sink>(
         out.put(b", maker ")?;
         put_hex(out, maker)?;
     }
-    let mut room = [0u8; READING_ROOM];
     if let Some(label) = label_text(vib, &mut room) {
         out.put(b", text ")?;
         put_shown(out, label)?;
@@ -150,16 +139,12 @@ fn put_told<W: Sink>(
     out.put(b"\n")
 }
 
-// Writes the header of variable data, and a row for each record before the first fault; of what is no telegram also its
-// structure.
+// Writes the header of variable data, and a row for each record before the first fault.
 fn put_variable<W: Sink>(
     out: &mut W,
     variable: &Variable<'_>,
     is_telegram: bool,
 ) -> Result<(), IoFault> {
-    if !is_telegram {
-        put_structure(out, variable)?;
-    }
     if let Some(head) = variable.head {
         match variable.meter {
             Some(meter) => {
@@ -184,21 +169,6 @@ fn put_variable<W: Sink>(
         out.put(b"  more records follow in the next telegram\n")?;
     }
     Ok(())
-}
-
-// Writes the structure of variable data, and its security mode.
-fn put_structure<W: Sink>(out: &mut W, variable: &Variable<'_>) -> Result<(), IoFault> {
-    out.put(b"  body    ")?;
-    out.put(variable.structure.name().as_bytes())?;
-    if let Some(head) = variable.head {
-        let mode = Security::of(head.config).mode;
-        out.put(b", security mode ")?;
-        put_number(out, u64::from(mode))?;
-        out.put(b" (")?;
-        out.put(security_name(mode).as_bytes())?;
-        out.put(b")")?;
-    }
-    out.put(b"\n")
 }
 
 // Writes the meter of fixed data, and its counters.
@@ -228,14 +198,30 @@ fn put_fixed<W: Sink>(out: &mut W, data: &FixedData<'_>) -> Result<(), IoFault> 
     Ok(())
 }
 
-/// Writes what a body says: its header, a row for each record, and of what is no telegram why the register refuses it.
+/// Writes what a body says: its header, a row for each record, and of what is no telegram its structure, its security
+/// mode, and why the register refuses it.
 pub(crate) fn put_content<W: Sink>(
     out: &mut W,
     content: &Content<'_>,
     is_telegram: bool,
 ) -> Result<(), IoFault> {
     match content {
-        Content::Variable(variable) => put_variable(out, variable, is_telegram)?,
+        Content::Variable(variable) => {
+            if !is_telegram {
+                out.put(b"  body    ")?;
+                out.put(variable.structure.name().as_bytes())?;
+                if let Some(head) = variable.head {
+                    let mode = Security::of(head.config).mode;
+                    out.put(b", security mode ")?;
+                    put_number(out, u64::from(mode))?;
+                    out.put(b" (")?;
+                    out.put(security_name(mode).as_bytes())?;
+                    out.put(b")")?;
+                }
+                out.put(b"\n")?;
+            }
+            put_variable(out, variable, is_telegram)?
+        }
         Content::Fixed(Some(data)) => put_fixed(out, data)?,
         Content::Fixed(None) => {}
     }

@@ -6,7 +6,7 @@ ghost use Rattle.mbdc_io.specs.Lines.{lines_of};
 ghost use Rattle.mbdc_json.specs.Journal.{IsJournal, after_entry, bodies_after, moment_of, no_notes, noted_in};
 ghost use Rattle.mbdc_json.specs.Journal.{sent_in};
 
-use crate::journal::entry::{Entry, Line, Said, read_line};
+use crate::journal::entry::{Line, Said, read_line};
 use crate::journal::kept::Kept;
 use crate::journal::noted::Noted;
 use dc_address::Identity;
@@ -80,36 +80,7 @@ impl<A: Allocator + Copy> Journal<A> {
         }
     }
 
-    // Takes an entry, unless it is of a later moment than the clock's.
-    fn take(&mut self, entry: Entry, now: u64) -> Result<(), NoMemory>
-        ensures noted { OnOk result ((meter : Meter) → noted_in self.new.notes meter
-            ≡ after_entry now meter (Some entry) (noted_in self.old.notes meter)) }
-        ensures there { self.new.is_there ≡ self.old.is_there }
-        ensures sent { self.new.sent ≡ self.old.sent }
-    {
-        if moment_of(entry.said) > now {
-            return Ok(());
-        }
-        let noted = self.of(&entry.meter).after(entry.said);
-        let _ = self.notes.insert(entry.meter, noted)?;
-        Ok(())
-    }
-
-    // Keeps the bodies of an entry, unless it is of a later moment than the clock's.
-    fn keep(&mut self, entry: Entry, kept: Kept<A>, now: u64) -> Result<(), NoMemory>
-        ensures kept { OnOk result ((meter : Meter) → sent_in self.new.sent meter
-            ≡ bodies_after now meter entry (Some kept) (sent_in self.old.sent meter)) }
-        ensures there { self.new.is_there ≡ self.old.is_there }
-        ensures notes { self.new.notes ≡ self.old.notes }
-    {
-        if moment_of(entry.said) > now {
-            return Ok(());
-        }
-        let _ = self.sent.insert(entry.meter, kept)?;
-        Ok(())
-    }
-
-    // Takes a line.
+    // Takes a line, unless it is of a later moment than the clock's.
     fn take_line(&mut self, line: Line<A>, now: u64) -> Result<(), NoMemory>
         ensures noted { OnOk result ((meter : Meter) → noted_in self.new.notes meter
             ≡ after_entry now meter (Some line.entry) (noted_in self.old.notes meter)) }
@@ -118,9 +89,16 @@ impl<A: Allocator + Copy> Journal<A> {
         ensures there { self.new.is_there ≡ self.old.is_there }
     {
         let Line { entry, bodies } = line;
-        self.take(entry, now)?;
+        if moment_of(entry.said) > now {
+            return Ok(());
+        }
+        let noted = self.of(&entry.meter).after(entry.said);
+        let _ = self.notes.insert(entry.meter, noted)?;
         match bodies {
-            Some(kept) => self.keep(entry, kept, now),
+            Some(kept) => {
+                let _ = self.sent.insert(entry.meter, kept)?;
+                Ok(())
+            }
             None => Ok(()),
         }
     }

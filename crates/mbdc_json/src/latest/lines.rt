@@ -4,10 +4,9 @@ ghost use Rattle.std.specs.Prelude.{◌≡◌, ◌≤◌, codes, false, map, opt
 ghost use Rattle.mbdc_change.specs.Fields.{last_moment};
 ghost use Rattle.mbdc_io.specs.Written.{Wrote};
 ghost use Rattle.mbdc_json.specs.Latest.{meter_text, values_text};
-ghost use Rattle.mbdc_json.specs.LatestValues.{also_line, also_lines, counted, name_words, names_words, sent_line};
-ghost use Rattle.mbdc_json.specs.LatestValues.{sent_lines, sent_words, shown, shown_lines, unread_line, value_word};
+ghost use Rattle.mbdc_json.specs.LatestValues.{also_lines, counted, names_words, sent_lines, sent_words, shown};
+ghost use Rattle.mbdc_json.specs.LatestValues.{shown_lines, unread_line, value_word};
 ghost use Rattle.mbdc_reading.specs.Sent.{sent_view};
-ghost use Rattle.mbdc_reading.specs.Vifes.{vife_at};
 
 use crate::journal::Journal;
 use crate::latest::reading::{Shown, shown_of};
@@ -91,56 +90,43 @@ fn put_shown_reading<W: Sink>(out: &mut W, kind: u8, shown: &Shown<'_>) -> Resul
 }
 
 // Writes the lines of what a meter stands at.
-#[tactic(auto, using(mbdc_io::proofs::Pieces::written), unfolding(crate::specs::LatestValues::sent_lines))]
+#[tactic(auto, using(mbdc_io::proofs::Pieces::written), unfolding(crate::specs::LatestValues::sent_lines, crate::specs::LatestValues::sent_line))]
 fn put_headline<W: Sink>(out: &mut W, headline: Headline<'_>) -> Result<(), IoFault>
     ensures { Wrote W.Sink result out.old out.new (sent_lines (codes "HEADLINE") headline.entry) }
 {
     for sent in headline {
-        put_sent_line(out, b"HEADLINE", &sent)?;
+        put_sent(out, b"HEADLINE", &sent)?;
+        out.put(b"\n")?;
     }
     Ok(())
 }
 
 // Writes the lines of the records that the due-date table has.
-#[tactic(auto, using(mbdc_io::proofs::Pieces::written), unfolding(crate::specs::LatestValues::sent_lines))]
+#[tactic(auto, using(mbdc_io::proofs::Pieces::written), unfolding(crate::specs::LatestValues::sent_lines, crate::specs::LatestValues::sent_line))]
 fn put_current<W: Sink>(out: &mut W, current: Listed<'_>) -> Result<(), IoFault>
     ensures { Wrote W.Sink result out.old out.new (sent_lines (codes "VALUE") current.entry) }
 {
     for sent in current {
-        put_sent_line(out, b"VALUE", &sent)?;
+        put_sent(out, b"VALUE", &sent)?;
+        out.put(b"\n")?;
     }
     Ok(())
 }
 
-#[tactic(auto, using(mbdc_io::proofs::Pieces::written), unfolding(crate::specs::LatestValues::sent_line))]
-fn put_sent_line<W: Sink>(out: &mut W, word: &'static [u8], sent: &Sent<'_>) -> Result<(), IoFault>
-    ensures { Wrote W.Sink result out.old out.new (sent_line word.now (sent_view sent.now)) }
-{
-    put_sent(out, word, sent)?;
-    out.put(b"\n")
-}
-
 // Writes the lines of records that the due-date table doesn't have.
-#[tactic(auto, using(mbdc_io::proofs::Pieces::written), unfolding(crate::specs::LatestValues::also_lines))]
+#[tactic(auto, using(mbdc_io::proofs::Pieces::written), unfolding(crate::specs::LatestValues::also_lines, crate::specs::LatestValues::also_line))]
 fn put_also<W: Sink>(out: &mut W, also: Listed<'_>) -> Result<(), IoFault>
     ensures { Wrote W.Sink result out.old out.new (also_lines also.entry) }
 {
     for sent in also {
-        put_also_line(out, &sent)?;
+        let vib = sent.record.vib;
+        put_sent(out, b"ALSO", &sent)?;
+        out.put(b" ")?;
+        out.put(code_at(number_of(vib)).name.as_bytes())?;
+        put_names(out, told_of(vib))?;
+        out.put(b"\n")?;
     }
     Ok(())
-}
-
-#[tactic(auto, using(mbdc_io::proofs::Pieces::written), unfolding(crate::specs::LatestValues::also_line))]
-fn put_also_line<W: Sink>(out: &mut W, sent: &Sent<'_>) -> Result<(), IoFault>
-    ensures { Wrote W.Sink result out.old out.new (also_line (sent_view sent.now)) }
-{
-    let vib = sent.record.vib;
-    put_sent(out, b"ALSO", sent)?;
-    out.put(b" ")?;
-    out.put(code_at(number_of(vib)).name.as_bytes())?;
-    put_names(out, told_of(vib))?;
-    out.put(b"\n")
 }
 
 // Writes a word, and a record's tariff, subunit, value and unit.
@@ -195,18 +181,14 @@ pub(crate) fn put_names<W: Sink>(out: &mut W, vifes: &[u8]) -> Result<(), IoFaul
 {
     let mut after_fc = false;
     'vifes: for vife in vifes {
-        put_name(out, number_after(after_fc, *vife))?;
+        let named = vife_at(number_after(after_fc, *vife));
+        put_pieces(
+            out,
+            &[Piece::Text(b", "), Piece::Text(named.name.as_bytes())],
+        )?;
         after_fc = is_extension(after_fc, *vife);
     }
     Ok(())
-}
-
-#[tactic(auto, using(mbdc_io::proofs::Pieces::written))]
-fn put_name<W: Sink>(out: &mut W, number: u8) -> Result<(), IoFault>
-    ensures { Wrote W.Sink result out.old out.new (name_words (vife_at number).name) }
-{
-    out.put(b", ")?;
-    out.put(vife_at(number).name.as_bytes())
 }
 
 // Writes how many records aren't read, if there are any.

@@ -3,13 +3,13 @@
 ghost use Rattle.std.specs.Prelude.{◌≡◌, ◌≤◌, IfSome, option_copied};
 ghost use Rattle.mbdc_change.specs.Fields.{last_moment};
 ghost use Rattle.mbdc_json.specs.Heard.{part_in};
-ghost use Rattle.mbdc_json.specs.LatestValues.{last_of, last_reading};
-ghost use Rattle.mbdc_json.specs.Shown.{held_shown, noted_shown, shown_of};
+ghost use Rattle.mbdc_json.specs.LatestValues.{last_reading};
+ghost use Rattle.mbdc_json.specs.Shown.{noted_shown, shown_of};
 
 use crate::journal::Journal;
 use crate::status::{is_later, moment_of, taken_at};
 use dc_address::Identity;
-use dc_meters::{House, Part, Reading, Serials};
+use dc_meters::{House, Part, Reading};
 use mbdc_shown::Bodies;
 use std::alloc::Allocator;
 
@@ -38,10 +38,18 @@ pub(crate) fn shown_of<'a, A: Allocator + Copy>(
     ensures within { IfSome result (λ shown. shown.moment ≤ last_moment) }
 {
     let held = last_reading(house, meter);
-    match noted_shown(journal, meter, moment_of(part_in(held))) {
-        Some(shown) => Some(shown),
-        None => held_shown(held),
+    if let Some(shown) = noted_shown(journal, meter, moment_of(part_in(held))) {
+        return Some(shown);
     }
+    let reading = held?;
+    let part = reading.parts().last()?;
+    Some(Shown {
+        serial: reading.serial(),
+        moment: part.moment(),
+        status: part.telegram().header().status,
+        is_noted: false,
+        bodies: Bodies::of(reading.parts()),
+    })
 }
 
 // The journal's last reading of a meter, where it is later than this moment and the line has its telegrams.
@@ -68,22 +76,6 @@ fn noted_shown<'a, A: Allocator + Copy>(
     })
 }
 
-// A reading of the register.
-fn held_shown<A: Allocator>(reading: Option<&Reading<A>>) -> Option<Shown<'_>>
-    ensures shown { result ≡ held_shown (option_copied reading.entry) }
-    ensures within { IfSome result (λ shown. shown.moment ≤ last_moment) }
-{
-    let reading = reading?;
-    let part = reading.parts().last()?;
-    Some(Shown {
-        serial: reading.serial(),
-        moment: part.moment(),
-        status: part.telegram().header().status,
-        is_noted: false,
-        bodies: Bodies::of(reading.parts()),
-    })
-}
-
 /// The last reading of a meter that the register holds; none where the office has confirmed all, or none was taken.
 pub(crate) fn last_reading<'a, A: Allocator + Copy>(
     house: &'a House<A>,
@@ -91,19 +83,11 @@ pub(crate) fn last_reading<'a, A: Allocator + Copy>(
 ) -> Option<&'a Reading<A>>
     ensures { option_copied result ≡ last_reading meter.now house.now.state }
 {
-    let serial = last(house.serials_of(meter))?;
-    house.reading(serial)
-}
-
-// The last of some serials.
-fn last(serials: Serials<'_, Identity>) -> Option<u64>
-    ensures { result ≡ last_of serials.entry }
-{
     let mut last = None;
-    for serial in serials {
+    for serial in house.serials_of(meter) {
         last = Some(serial);
     }
-    last
+    house.reading(last?)
 }
 
 /// The last part of a reading.

@@ -4,7 +4,7 @@ ghost use Rattle.std.specs.Prelude.{◌≡◌, ◌≤◌, IfSome};
 ghost use Rattle.mbdc_io.specs.Written.{Wrote};
 ghost use Rattle.mbdc_change.specs.Fields.{last_moment};
 ghost use Rattle.mbdc_json.specs.Status.{failed_text, failed_words, failure_name, heard_words, name_end, row_text};
-ghost use Rattle.mbdc_json.specs.Status.{silent_words, source_words, state_words, status_text};
+ghost use Rattle.mbdc_json.specs.Status.{source_words, state_words, status_text};
 
 use crate::journal::Journal;
 use crate::latest::put_byte_words;
@@ -60,7 +60,7 @@ fn put_row<W: Sink>(out: &mut W, row: &Row) -> Result<(), IoFault>
         ],
     )?;
     put_heard(out, row.heard, row.age)?;
-    out.put(silent_words(row.is_silent))?;
+    out.put(if row.is_silent { b" SILENT" } else { b"" })?;
     put_state(out, row.status)?;
     out.put(source_words(row.told))?;
     out.put(b"\n")?;
@@ -172,10 +172,4 @@ fn put_state<W: Sink>(out: &mut W, status: Option<u8>) -> Result<(), IoFault>
         Some(status) => put_byte_words(out, status),
         None => Ok(()),
     }
-}
-
-fn silent_words(is_silent: bool) -> &'static [u8]
-    ensures { result.now ≡ silent_words is_silent }
-{
-    if is_silent { b" SILENT" } else { b"" }
 }
