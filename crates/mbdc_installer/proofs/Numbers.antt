@@ -40,10 +40,11 @@ module _ {B : Type 0} (asks_all : B → List ℕ → List ℕ → B → Type 0) 
   pub collision : (left : ℕ) (collided both : Bool) (misses counts : Misses) (old mid asked new : B) (found : Numbered) (answer telegram : List ℕ) (silent : Bool)
       → 0 < left → silent ≡ is_silent answer → silent ≡ false → asks_all old (spelling (selection_to digits)) answer mid
       → Reads asks_all (spelling (request_to true selected)) mid telegram asked → with_number digits telegram ≡ None
-      → both ≡ (collided && is_noise telegram) → counts ≡ and_missed telegram misses
-      → Tries asks_all digits (left - 1) both counts asked found new
+      → both ≡ (collided && is_noise telegram) → counts ≡ and_missed telegram misses → (fewer : ℕ) → fewer ≡ left - 1
+      → Tries asks_all digits fewer both counts asked found new
       → Tries asks_all digits left collided misses old found new
-  collision left collided both misses counts old mid asked new found answer telegram silent some is not_so first second unread all counted more =
+  collision left collided both misses counts old mid asked new found answer telegram silent some is not_so first second unread all counted fewer less more =
       let P : Bool → Type 0 = λ b. Tries asks_all digits (left - 1) b counts asked found new in
       let Q : Misses → Type 0 = λ m. Tries asks_all digits (left - 1) (collided && is_noise telegram) m asked found new in
-      collides answer telegram some (sym is ∙ not_so) first second unread (subst Q counted (subst P all more))
+      let R : ℕ → Type 0 = λ n. Tries asks_all digits n both counts asked found new in
+      collides answer telegram some (sym is ∙ not_so) first second unread (subst Q counted (subst P all (subst R less more)))

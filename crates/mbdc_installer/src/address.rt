@@ -61,8 +61,7 @@ pub fn set_address<B: Bus>(bus: &mut B, target: &Target, to: u8) -> Addressing
     if !is_free(bus, to) {
         return Addressing::Taken;
     }
-    let request = call_to(target);
-    let place = place_of(target);
+    let (request, place) = call_to(target);
     let asked = call(bus, &request, place);
     if asked.answer.as_slice().is_empty() {
         return Addressing::Nobody;
@@ -73,26 +72,23 @@ pub fn set_address<B: Bus>(bus: &mut B, target: &Target, to: u8) -> Addressing
     }
 }
 
-// The frame after which the meter answers: a reset of its address, or its selection.
-fn call_to(target: &Target) -> FrameBuf
-    ensures frame { result ≡ spelling (call_to target.now) }
-    ensures short { length result ≤ most_request }
+// The frame after which the meter answers, a reset of its address or its selection, and the address at which it answers
+// then.
+fn call_to(target: &Target) -> (FrameBuf, u8)
+    ensures frame { result.0 ≡ spelling (call_to target.now) }
+    ensures short { length result.0 ≤ most_request }
+    ensures place { result.1 ≡ place_of target.now }
 {
     let mut request = FrameBuf::new();
     match *target {
-        Target::Address(address) => write_reset(address, &mut request),
-        Target::Meter(meter) => write_selection(&Mask::of(&meter).wire(), &mut request),
-    }
-    request
-}
-
-// The address at which it answers then.
-fn place_of(target: &Target) -> u8
-    ensures { result ≡ place_of target.now }
-{
-    match *target {
-        Target::Address(address) => address,
-        Target::Meter(_) => SELECTED,
+        Target::Address(address) => {
+            write_reset(address, &mut request);
+            (request, address)
+        }
+        Target::Meter(meter) => {
+            write_selection(&Mask::of(&meter).wire(), &mut request);
+            (request, SELECTED)
+        }
     }
 }
 

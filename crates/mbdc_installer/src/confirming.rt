@@ -7,10 +7,9 @@
 //! bits, and more: it can hide only meters with such a digit.
 
 ghost use Rattle.std.specs.Prelude.{◌≡◌, ◌≤◌, ◌<◌, length, true};
-ghost use Rattle.mbdc_bus.specs.Windows.{Insists, most_tries, noise};
-ghost use Rattle.mbdc_installer.specs.Confirming.{AsksDigit, AsksDigits, AsksHidden, AsksPlace, AsksPlaces, Confirms};
+ghost use Rattle.mbdc_bus.specs.Windows.{noise};
+ghost use Rattle.mbdc_installer.specs.Confirming.{AsksDigits, AsksHidden, AsksPlaces, Confirms};
 ghost use Rattle.mbdc_installer.specs.Confirming.{can_hide, could_be_in_step, differing, is_open};
-ghost use Rattle.mbdc_installer.specs.Confirming.{selection_of, selection_with};
 
 use crate::number::digit_of;
 use crate::primary::is_ack;
@@ -47,15 +46,9 @@ pub(crate) fn is_confirmed<B: Bus>(
     if !is_nobody_hidden(bus, wire, meter, is_due) {
         return false;
     }
-    is_ack(&ask_identity(bus, meter))
-}
-
-fn ask_identity<B: Bus>(bus: &mut B, meter: &Identity) -> AnswerBuf
-    ensures { Insists B.asks_all (selection_of meter.now) most_tries bus.old result bus.new }
-{
     let mut request = FrameBuf::new();
     write_selection(&Mask::of(meter).wire(), &mut request);
-    insist(bus, &request, TRIES)
+    is_ack(&insist(bus, &request, TRIES))
 }
 
 // Whether nobody answers whom a meter could hide, if that is due.
@@ -85,25 +78,11 @@ fn is_nobody_from<B: Bus>(
     if place == DIGITS {
         return true;
     }
-    is_nobody_at(bus, wire, mask, text, place) && is_nobody_from(bus, wire, mask, text, place + 1)
-}
-
-// The same of one place.
-fn is_nobody_at<B: Bus>(
-    bus: &mut B,
-    wire: &[u8; 8],
-    mask: &Mask,
-    text: &[u8; 18],
-    place: usize,
-) -> bool
-    requires { place < 8 }
-    ensures { AsksPlace B.asks_all wire.now mask.now text.now place bus.old result bus.new }
-{
-    if is_open(wire, place) {
-        has_no_digit_from(bus, mask, place, digit_of(text[place]), 0)
-    } else {
-        true
+    if !is_open(wire, place) {
+        return is_nobody_from(bus, wire, mask, text, place + 1);
     }
+    has_no_digit_from(bus, mask, place, digit_of(text[place]), 0)
+        && is_nobody_from(bus, wire, mask, text, place + 1)
 }
 
 // The same of the digits of a place from this one on.
@@ -115,30 +94,13 @@ fn has_no_digit_from<B: Bus>(bus: &mut B, mask: &Mask, place: usize, own: u8, di
     if digit == 10 {
         return true;
     }
-    has_no_digit(bus, mask, place, own, digit)
-        && has_no_digit_from(bus, mask, place, own, digit + 1)
-}
-
-// The same of one digit.
-fn has_no_digit<B: Bus>(bus: &mut B, mask: &Mask, place: usize, own: u8, digit: u8) -> bool
-    requires place { place < 8 }
-    requires digit { digit < 10 }
-    ensures { AsksDigit B.asks_all mask.now place own digit bus.old result bus.new }
-{
     if !can_hide(own, digit) {
-        return true;
+        return has_no_digit_from(bus, mask, place, own, digit + 1);
     }
-    ask_digit(bus, mask, place, digit).as_slice().is_empty()
-}
-
-fn ask_digit<B: Bus>(bus: &mut B, mask: &Mask, place: usize, digit: u8) -> AnswerBuf
-    requires place { place < 8 }
-    requires digit { digit < 10 }
-    ensures { B.asks_all bus.old (selection_with mask.now place digit) result bus.new }
-{
     let mut request = FrameBuf::new();
     write_selection(&mask.with_digit(place, digit).wire(), &mut request);
-    bus.ask_all(&request)
+    bus.ask_all(&request).as_slice().is_empty()
+        && has_no_digit_from(bus, mask, place, own, digit + 1)
 }
 
 // Whether a meter with its own digit can hide one with this digit, which has all its bits, and more.
@@ -197,13 +159,4 @@ pub(crate) fn bytes_of_noise() -> AnswerBuf
     let mut answer = AnswerBuf::new();
     answer.append(&[0]);
     answer
-}
-
-/// The same bytes.
-pub(crate) fn copy_of(answer: &AnswerBuf) -> AnswerBuf
-    ensures { result ≡ answer.now }
-{
-    let mut copy = AnswerBuf::new();
-    copy.append(answer.as_slice());
-    copy
 }

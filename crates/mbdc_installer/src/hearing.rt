@@ -8,9 +8,7 @@ ghost use Rattle.dc_linkframe.specs.Reading.{frame_of};
 ghost use Rattle.mbdc_bus.specs.Limits.{most_request};
 ghost use Rattle.mbdc_installer.specs.Hearing.{Hears, Selects, Takes, acknowledged, is_looked, looked_at, selection_in};
 
-use crate::confirming::{
-    Confirmed, bytes_of_noise, copy_of, could_be_in_step, is_confirmed, is_open,
-};
+use crate::confirming::{Confirmed, bytes_of_noise, could_be_in_step, is_confirmed, is_open};
 use crate::other::{Looked, MOST_OTHERS, Other, is_closed, look};
 use crate::primary::is_ack;
 use arrayvec::ArrayVec;
@@ -76,10 +74,9 @@ pub(crate) fn ask<B: Bus>(bus: &mut B, wildcard: &mut Wildcard, request: &FrameB
     if !is_confirmed(bus, &wire, &meter, is_due) {
         return bytes_of_noise();
     }
-    wildcard.last = Some(Confirmed {
-        meter,
-        telegram: copy_of(&answer),
-    });
+    let mut telegram = AnswerBuf::new();
+    telegram.append(answer.as_slice());
+    wildcard.last = Some(Confirmed { meter, telegram });
     answer
 }
 

@@ -1,18 +1,15 @@
 //! Finds the one meter with an identification number.
 
-ghost use Rattle.std.specs.Prelude.{◌≡◌, ◌≤◌, ◌+◌, ◌&&◌, ◌++◌, length, map};
-ghost use Rattle.dc_linkframe.specs.Frame.{spelling};
-ghost use Rattle.mbdc_installer.specs.Number.{IsFound, digit_of, ending, selection_to, unfound_text, with_number};
-ghost use Rattle.dc_readout.specs.Misses.{is_noise};
+ghost use Rattle.std.specs.Prelude.{◌≡◌, ◌≤◌, ◌+◌, ◌++◌, length, map};
+ghost use Rattle.mbdc_installer.specs.Number.{IsFound, digit_of, unfound_text, with_number};
 ghost use Rattle.mbdc_io.specs.Written.{Wrote};
 
-use crate::primary::ask_telegram;
 use dc_address::Identity;
 use dc_linkframe::FrameBuf;
-use dc_linkframe::control::{SELECTED, write_selection};
+use dc_linkframe::control::{SELECTED, write_request, write_selection};
 use dc_readout::misses::{Misses, is_noise};
 use dc_search::{Branch, meter_of};
-use mbdc_bus::{AnswerBuf, Bus};
+use mbdc_bus::{AnswerBuf, Bus, read_twice};
 use mbdc_decode::tokens::{Piece, put_pieces};
 use mbdc_io::{IoFault, Sink};
 
@@ -37,49 +34,32 @@ pub enum Numbered {
 pub fn find_number<B: Bus>(bus: &mut B, digits: &[u8; 8]) -> Numbered
     ensures { IsFound B.asks_all digits.now bus.old result bus.new }
 {
+    let mut selection = FrameBuf::new();
+    write_selection(&fix(Branch::root(), digits).mask().wire(), &mut selection);
+    let mut request = FrameBuf::new();
+    write_request(true, SELECTED, &mut request);
     let mut collided = true;
     let mut misses = Misses::none();
     'tries: for _ in 0..TRIES {
-        let answer = ask_selection(bus, digits);
+        let answer = bus.ask_all(&selection);
         if answer.as_slice().is_empty() {
             collided = false;
             misses.count(answer.as_slice());
             continue;
         }
-        let telegram = ask_telegram(bus, SELECTED);
+        let telegram = read_twice(bus, &request);
         if let Some(meter) = with_number(&telegram, digits) {
             return Numbered::One(meter);
         }
-        collided = have_collided(collided, &telegram);
+        let is_unread = is_noise(telegram.as_slice());
+        collided = collided && is_unread;
         misses.count(telegram.as_slice());
     }
-    ending(collided, misses)
-}
-
-// Whether each try up to this one collided.
-fn have_collided(collided: bool, telegram: &AnswerBuf) -> bool
-    ensures { result ≡ (collided && is_noise telegram.now) }
-{
-    collided && is_noise(telegram.as_slice())
-}
-
-// What came of tries without a meter.
-fn ending(collided: bool, misses: Misses) -> Numbered
-    ensures { result ≡ ending collided misses }
-{
     if collided {
         Numbered::Shared(misses)
     } else {
         Numbered::Nobody(misses)
     }
-}
-
-fn ask_selection<B: Bus>(bus: &mut B, digits: &[u8; 8]) -> AnswerBuf
-    ensures { B.asks_all bus.old (spelling (selection_to digits.now)) result bus.new }
-{
-    let mut request = FrameBuf::new();
-    write_selection(&fix(Branch::root(), digits).mask().wire(), &mut request);
-    bus.ask_all(&request)
 }
 
 // The mask with these digits fixed next.

@@ -3,14 +3,14 @@
 ghost use Rattle.std.specs.Prelude.{◌≡◌, ◌≤◌, ◌+◌, true, List, ℕ, OnOk, OnErr, length};
 ghost use Rattle.std.specs.List.{range_with_len};
 ghost use Rattle.mbdc_bus.specs.Limits.{most_request};
-ghost use Rattle.mbdc_bus.specs.Windows.{Insists, Reads, most_tries};
+ghost use Rattle.mbdc_bus.specs.Windows.{Insists, most_tries};
 ghost use Rattle.dc_linkframe.specs.Control.{request_to};
 ghost use Rattle.dc_linkframe.specs.Frame.{spelling};
 ghost use Rattle.dc_linkframe.specs.Reading.{frame_of};
 ghost use Rattle.mbdc_io.specs.Failures.{HasRisen};
 ghost use Rattle.mbdc_io.specs.Written.{PutsInto, Wrote};
 ghost use Rattle.mbdc_installer.specs.Scan.{AsksEach, Identifies, IsAsked, IsCalled, address_line, greatest};
-ghost use Rattle.mbdc_installer.specs.Scan.{is_ack, is_there, line_of, sender_at};
+ghost use Rattle.mbdc_installer.specs.Scan.{is_ack, is_there, sender_at};
 
 use dc_address::Identity;
 use dc_linkframe::control::{write_request, write_reset};
@@ -65,7 +65,7 @@ pub fn identify<B: Bus>(bus: &mut B, address: u8) -> Result<Identity, Misses>
     Ok(meter)
 }
 
-// `count` addresses from the first one on.
+// Asks `count` addresses from the first one on, and prints each at which somebody answers.
 fn scan_range<B: Bus, W: Sink>(
     first: u8,
     count: u8,
@@ -83,21 +83,11 @@ fn scan_range<B: Bus, W: Sink>(
         return Ok(());
     }
     let asked = ask_address(bus, first);
-    match put_asked(first, &asked, out) {
-        Ok(()) => scan_range(first + 1, count - 1, bus, out),
-        Err(fault) => Err(fault),
+    if !is_there(&asked) {
+        return scan_range(first + 1, count - 1, bus, out);
     }
-}
-
-// Prints an address at which somebody answers.
-fn put_asked<W: Sink>(address: u8, asked: &Asked, out: &mut W) -> Result<(), IoFault>
-    ensures { Wrote W.Sink result out.old out.new
-        (line_of address asked.now.answer asked.now.telegram) }
-{
-    if !is_there(asked) {
-        return Ok(());
-    }
-    put_address(address, sender_at(address, &asked.telegram), out)
+    put_address(first, sender_at(first, &asked.telegram), out)?;
+    scan_range(first + 1, count - 1, bus, out)
 }
 
 /// Whether somebody answers.
@@ -116,7 +106,8 @@ pub fn ask_address<B: Bus>(bus: &mut B, address: u8) -> Asked
     call(bus, &request, address)
 }
 
-/// Sends a frame, and requests a telegram at an address where bytes come to that.
+/// Sends a frame, and requests a telegram at an address where bytes come to that. The telegram has to come twice from
+/// one meter.
 pub(crate) fn call<B: Bus>(bus: &mut B, request: &FrameBuf, address: u8) -> Asked
     requires { length request.now ≤ most_request }
     ensures { IsCalled B.asks_all request.now address bus.old result.answer result.telegram bus.new }
@@ -128,7 +119,9 @@ pub(crate) fn call<B: Bus>(bus: &mut B, request: &FrameBuf, address: u8) -> Aske
             telegram: AnswerBuf::new(),
         };
     }
-    let telegram = ask_telegram(bus, address);
+    let mut data = FrameBuf::new();
+    write_request(true, address, &mut data);
+    let telegram = read_twice(bus, &data);
     Asked { answer, telegram }
 }
 
@@ -140,15 +133,6 @@ pub(crate) fn ask_data<B: Bus>(bus: &mut B, address: u8) -> AnswerBuf
     let mut request = FrameBuf::new();
     write_request(true, address, &mut request);
     insist(bus, &request, TRIES)
-}
-
-/// Requests a telegram, and returns it where it comes twice from one meter.
-pub(crate) fn ask_telegram<B: Bus>(bus: &mut B, address: u8) -> AnswerBuf
-    ensures { Reads B.asks_all (spelling (request_to true address)) bus.old result bus.new }
-{
-    let mut request = FrameBuf::new();
-    write_request(true, address, &mut request);
-    read_twice(bus, &request)
 }
 
 // Whether an answer is an acknowledgement.

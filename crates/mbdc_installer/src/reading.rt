@@ -10,7 +10,6 @@ ghost use Rattle.mbdc_io.specs.Stream.{PutsFront};
 ghost use Rattle.mbdc_io.specs.Written.{PutsInto, Wrote};
 ghost use Rattle.dc_readout.specs.Summary.{asked_by, begun, verdict_by};
 ghost use Rattle.dc_readout.specs.Bound.{requests_left};
-ghost use Rattle.dc_readout.specs.Seen.{verdict};
 ghost use Rattle.mbdc_installer.specs.Read.{IsCutOff, IsReadOn, Tells, TellsFrom, after, and_heard};
 ghost use Rattle.mbdc_installer.specs.Read.{is_failure, printed};
 
@@ -103,13 +102,14 @@ fn exchange<B: Bus, W: Sink>(
 {
     let answer = bus.ask(request);
     let heard = session.hear(answer.as_slice());
-    put_read(&heard, answer.as_slice(), out)?;
     match heard {
         Heard::New { .. } => {
+            put_frames(answer.as_slice(), out)?;
             session.settle();
             Ok(false)
         }
         Heard::Failed(why) => {
+            put_heard(out, Ok(LineHeard::Failed(why)))?;
             if is_missing(&why) {
                 misses.count(answer.as_slice());
             }
@@ -120,20 +120,5 @@ fn exchange<B: Bus, W: Sink>(
             Ok(false)
         }
         Heard::Ready => Ok(false),
-    }
-}
-
-// Prints a telegram, or why the readout failed.
-fn put_read<W: Sink>(heard: &Heard<'_>, answer: &[u8], out: &mut W) -> Result<(), IoFault>
-    ensures { Wrote W.Sink result out.old out.new
-        (printed (verdict heard.now) answer.now) }
-{
-    match heard {
-        Heard::New { .. } => {
-            put_frames(answer, out)?;
-            Ok(())
-        }
-        Heard::Failed(why) => put_heard(out, Ok(LineHeard::Failed(*why))),
-        Heard::Again | Heard::Ready => Ok(()),
     }
 }

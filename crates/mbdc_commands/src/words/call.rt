@@ -128,17 +128,7 @@ fn image_task<'a>(
             image,
             sectors: inner.get_one("SECTORS").unwrap_or_default(),
         }),
-        "report" => Ok(Task::Report {
-            image,
-            table: inner.get_str("TABLE").unwrap_or_default(),
-            is_json: inner.get_flag("JSON"),
-        }),
-        "inspect" => Ok(Task::Inspect { image }),
-        "values" => Ok(Task::Values {
-            image,
-            layout: layout_of(inner),
-        }),
-        "status" => status_task(image, inner),
+        "report" | "inspect" | "values" | "status" => look_task(name, image, inner),
         "fit" => Ok(Task::Fit {
             image,
             list: file_of(inner, "LIST")?,
@@ -152,7 +142,15 @@ fn image_task<'a>(
             image,
             file: file_of(inner, "FILE")?,
         }),
-        "run" => run_task(image, inner),
+        "run" => Ok(Task::Run(RunTask {
+            image,
+            gateway: match inner.get_str("GATEWAY") {
+                Some(place) => Some(LinkName::gateway(place)?),
+                None => None,
+            },
+            script: file_of(inner, "SCRIPT")?,
+            patience: inner.get_one("PATIENCE"),
+        })),
         _ => poll_task(alloc, image, inner),
     }
 }
@@ -188,18 +186,15 @@ fn order_task<'a>(
     Ok(Task::Order(OrderTask { image, meter, turn }))
 }
 
-fn status_task<'a>(image: &'a str, inner: &ArgMatches<'a>) -> Result<Task<'a>, WordsFault> {
-    let word = inner.get_str("SILENT").unwrap_or_default();
-    Ok(Task::Status {
-        image,
-        silent: silence_of(word.as_bytes()).ok_or(WordsFault::Silence)?,
-        layout: layout_of(inner),
-    })
-}
-
-// How what the meters say is printed: at most one of the options is there.
-fn layout_of(inner: &ArgMatches<'_>) -> Layout {
-    if inner.get_flag("JSON") {
+// The tasks that look at an image.
+fn look_task<'a>(
+    name: &str,
+    image: &'a str,
+    inner: &ArgMatches<'a>,
+) -> Result<Task<'a>, WordsFault> {
+    // How what the meters say is printed: at most one of the options is there.
+    let is_json = inner.get_flag("JSON");
+    let layout = if is_json {
         Layout::Json
     } else if inner.get_flag("AS_LINES") {
         Layout::Lines
@@ -207,20 +202,24 @@ fn layout_of(inner: &ArgMatches<'_>) -> Layout {
         Layout::Table
     } else {
         Layout::Default
-    }
-}
-
-fn run_task<'a>(image: &'a str, inner: &ArgMatches<'a>) -> Result<Task<'a>, WordsFault> {
-    let gateway = match inner.get_str("GATEWAY") {
-        Some(place) => Some(LinkName::gateway(place)?),
-        None => None,
     };
-    Ok(Task::Run(RunTask {
-        image,
-        script: file_of(inner, "SCRIPT")?,
-        gateway,
-        patience: inner.get_one("PATIENCE"),
-    }))
+    match name {
+        "report" => Ok(Task::Report {
+            image,
+            table: inner.get_str("TABLE").unwrap_or_default(),
+            is_json,
+        }),
+        "inspect" => Ok(Task::Inspect { image }),
+        "values" => Ok(Task::Values { image, layout }),
+        _ => {
+            let word = inner.get_str("SILENT").unwrap_or_default();
+            Ok(Task::Status {
+                image,
+                silent: silence_of(word.as_bytes()).ok_or(WordsFault::Silence)?,
+                layout,
+            })
+        }
+    }
 }
 
 fn poll_task<'a>(

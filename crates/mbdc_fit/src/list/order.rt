@@ -5,8 +5,7 @@ ghost use Rattle.mbdc_io.specs.Written.{Wrote};
 ghost use Rattle.mbdc_change.specs.Accepts.{Accepts};
 ghost use Rattle.mbdc_change.specs.Valid.{IsChange};
 ghost use Rattle.mbdc_fit.specs.Order.{IsOrdered, IsOrderedBy, address_of, command_for, newcomer_of};
-ghost use Rattle.mbdc_fit.specs.Order.{order_refusal, order_said, order_text, subject_of, taken_by};
-ghost use Rattle.mbdc_fit.specs.Order.{verdict_for};
+ghost use Rattle.mbdc_fit.specs.Order.{order_said, order_text, subject_of, verdict_for};
 ghost use Rattle.mbdc_fit.specs.Plan.{IsOneGroup, numbered};
 
 use crate::list::plan::{Plan, kept};
@@ -106,45 +105,8 @@ fn verdict_for<A: Allocator + Copy>(order: &Order, house: &House<A>) -> Verdict
     }
 }
 
-// Writes which meter has the primary address that an order asks for, on the bus line of its meter.
-#[tactic(auto, unfolding(crate::specs::Order::taken_by))]
-fn put_taken_by<A: Allocator + Copy, W: Sink>(
-    out: &mut W,
-    order: &Order,
-    house: &House<A>,
-) -> Result<(), IoFault>
-    ensures { Wrote W.Sink result out.old out.new (taken_by order.now house.now.state) }
-{
-    match house.meter(&order.subject()) {
-        Some(known) => put_taken(out, known.line(), &order.address(), house),
-        None => Ok(()),
-    }
-}
-
-// Writes why an order is refused.
-#[tactic(auto, using(mbdc_io::proofs::Pieces::written), unfolding(crate::specs::Order::order_refusal))]
-fn put_refusal<A: Allocator + Copy, W: Sink>(
-    out: &mut W,
-    fault: ChangeFault,
-    order: &Order,
-    house: &House<A>,
-) -> Result<(), IoFault>
-    ensures { Wrote W.Sink result out.old out.new (order_refusal fault order.now house.now.state) }
-{
-    match fault {
-        ChangeFault::Unknown => {
-            out.put(&order.subject().text())?;
-            out.put(b" isn't registered")
-        }
-        ChangeFault::Known => put_is_at(out, &order.newcomer(), house),
-        ChangeFault::AddressTaken => put_taken_by(out, order, house),
-        ChangeFault::Full => out.put(b"the image is full"),
-        ChangeFault::Beyond => Ok(()),
-    }
-}
-
 // Writes what is said of an order.
-#[tactic(auto, unfolding(crate::specs::Order::order_text))]
+#[tactic(auto, using(mbdc_io::proofs::Pieces::written), unfolding(crate::specs::Order::order_text, crate::specs::Order::order_refusal, crate::specs::Order::taken_by))]
 fn put_order<A: Allocator + Copy, W: Sink>(
     out: &mut W,
     verdict: Verdict,
@@ -161,7 +123,18 @@ fn put_order<A: Allocator + Copy, W: Sink>(
         }
         Verdict::Stands => Ok(()),
         Verdict::Spent => out.put(b"no number is left for a command"),
-        Verdict::Refused(fault) => put_refusal(out, fault, order, house),
+        Verdict::Refused(ChangeFault::Unknown) => {
+            out.put(&order.subject().text())?;
+            out.put(b" isn't registered")
+        }
+        Verdict::Refused(ChangeFault::Known) => put_is_at(out, &order.newcomer(), house),
+        // The primary address is taken on the bus line of the meter that the order changes.
+        Verdict::Refused(ChangeFault::AddressTaken) => match house.meter(&order.subject()) {
+            Some(known) => put_taken(out, known.line(), &order.address(), house),
+            None => Ok(()),
+        },
+        Verdict::Refused(ChangeFault::Full) => out.put(b"the image is full"),
+        Verdict::Refused(ChangeFault::Beyond) => Ok(()),
     }
 }
 

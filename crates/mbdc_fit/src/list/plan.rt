@@ -1,9 +1,9 @@
 //! The plan of a list: its commands, and what is said of each row.
 
-ghost use Rattle.std.specs.Prelude.{◌≡◌, ◌+◌, ◌++◌, ◌∷◌, ◌↔◌, [], Ok, Err, IfOk, IsOk, OnOk};
+ghost use Rattle.std.specs.Prelude.{◌≡◌, ◌+◌, ◌++◌, ◌∷◌, ◌↔◌, [], IfOk, IsOk, OnOk};
 ghost use Rattle.mbdc_io.specs.Written.{Wrote};
 ghost use Rattle.mbdc_change.specs.State.{Held};
-ghost use Rattle.mbdc_fit.specs.Rows.{IsReadAs, IsRow};
+ghost use Rattle.mbdc_fit.specs.Rows.{IsReadAs};
 ghost use Rattle.mbdc_change.specs.Accepts.{Accepts};
 ghost use Rattle.mbdc_change.specs.Apply.{applied};
 ghost use Rattle.mbdc_change.specs.Encoding.{change_bytes};
@@ -104,25 +104,6 @@ impl<A: Allocator + Copy> Plan<A> {
         }
     }
 
-    // Adds a row with a field that is wrong.
-    fn add_wrong(&mut self, listed: &Listed, column: Column) -> Result<(), NoMemory>
-        ensures { OnOk result ((house : Held)
-            → IsStep listed.now (Err column) house house self.old self.new) }
-    {
-        self.is_wrong = true;
-        kept(put_wrong(&mut self.refusals, listed, column))
-    }
-
-    // Adds a row, and does its command to the house.
-    fn add_row(&mut self, listed: &Listed, row: &Row, house: &mut House<A>) -> Result<(), NoMemory>
-        requires { IsRow row.now }
-        ensures { OnOk result (IsStep listed.now (Ok row.now) house.old house.new self.old self.new) }
-    {
-        let verdict = verdict_on(row, house);
-        self.add_verdict(listed.number, verdict, row, house)?;
-        Ok(())
-    }
-
     // Adds a row on which this is the verdict.
     fn add_verdict(
         &mut self,
@@ -170,7 +151,7 @@ impl<A: Allocator + Copy> Plan<A> {
         house.apply(&change)
     }
 
-    // Adds a row of a list that is read so.
+    // Adds a row of a list that is read so, and does its command to the house.
     fn add_read(
         &mut self,
         listed: &Listed,
@@ -181,10 +162,14 @@ impl<A: Allocator + Copy> Plan<A> {
         ensures { OnOk result (IsStep listed.now read house.old house.new self.old self.new) }
     {
         match read {
-            Ok(row) => self.add_row(listed, &row, house),
-            Err(column) => {
-                self.add_wrong(listed, column)?;
+            Ok(row) => {
+                let verdict = verdict_on(&row, house);
+                self.add_verdict(listed.number, verdict, &row, house)?;
                 Ok(())
+            }
+            Err(column) => {
+                self.is_wrong = true;
+                kept(put_wrong(&mut self.refusals, listed, column))
             }
         }
     }

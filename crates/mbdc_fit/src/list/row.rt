@@ -1,14 +1,9 @@
 //! The rows of a list of meters.
 
-ghost use Rattle.std.specs.Prelude.{◌≡◌, ℕ, Option, Some, IfSome, IfOk, IfErr};
+ghost use Rattle.std.specs.Prelude.{◌≡◌, ℕ, Option, Some, IfSome};
 ghost use Rattle.std.specs.Fmt.{decimal};
-ghost use Rattle.dc_address.specs.Primary.{IsPrimary};
-ghost use Rattle.dc_address.specs.Text.{text_of};
-ghost use Rattle.dc_address.specs.declared.identity.Identity.{Identity};
-ghost use Rattle.mbdc_change.specs.Fields.{IsOfBytes};
 ghost use Rattle.mbdc_change.specs.Fields.{IsAddress, IsBusLine};
-ghost use Rattle.dc_meters.specs.Name.{capitals};
-ghost use Rattle.mbdc_fit.specs.Rows.{IsReadAs, Lacks, SpellsAddress, SpellsRow, fields_in};
+ghost use Rattle.mbdc_fit.specs.Rows.{IsReadAs, SpellsAddress};
 
 use crate::list::listed::{Column, Listed};
 use dc_address::{Identity, Primary};
@@ -28,40 +23,6 @@ pub struct Row {
     pub flat: Flat,
 }
 
-// The four fields of a row.
-#[derive(Clone, Copy)]
-struct Words<'a> {
-    meter: &'a [u8],
-    line: &'a [u8],
-    address: &'a [u8],
-    flat: &'a [u8],
-}
-
-fn words_of(listed: &Listed) -> Words<'_>
-    ensures { (record {
-      meter = result.meter.now;
-      line = result.line.now;
-      address = result.address.now;
-      flat = result.flat.now;
-    }) ≡ fields_in listed.now }
-{
-    Words {
-        meter: listed.meter.as_slice(),
-        line: listed.line.as_slice(),
-        address: listed.address.as_slice(),
-        flat: listed.flat.as_slice(),
-    }
-}
-
-fn parse_meter(word: &[u8]) -> Option<Identity>
-    ensures found { IfSome result (λ meter.
-        IsOfBytes meter × (capitals word.now ≡ text_of meter)) }
-    ensures only { (meter : Identity) → IsOfBytes meter → capitals word.now ≡ text_of meter
-        → result ≡ Some meter }
-{
-    identity_of(word)
-}
-
 fn parse_bus_line(word: &[u8]) -> Option<u8>
     ensures found { IfSome result (λ line. IsBusLine line × (word.now ≡ decimal line)) }
     ensures only { (line : ℕ) → IsBusLine line → word.now ≡ decimal line → result ≡ Some line }
@@ -70,18 +31,6 @@ fn parse_bus_line(word: &[u8]) -> Option<u8>
         line @ 1..=8 => Some(line as u8),
         _ => None,
     }
-}
-
-fn parse_primary(word: &[u8]) -> Option<Primary>
-    ensures found { IfSome result (λ address. IsPrimary address × (word.now ≡ decimal address)) }
-    ensures only { (address : ℕ) → IsPrimary address → word.now ≡ decimal address
-        → result ≡ Some address }
-{
-    let number = parse_number(word)?;
-    if number > 250 {
-        return None;
-    }
-    Primary::new(number as u8)
 }
 
 // Nothing is secondary addressing too.
@@ -96,43 +45,11 @@ fn parse_address(word: &[u8]) -> Option<Option<Primary>>
     }
     match word {
         b"S" => Some(None),
-        _ => Some(Some(parse_primary(word)?)),
+        _ => match parse_number(word)? {
+            number @ 1..=250 => Some(Some(Primary::new(number as u8)?)),
+            _ => None,
+        },
     }
-}
-
-// The row that the fields spell, or the first of them that doesn't.
-fn read_words(words: &Words<'_>) -> Result<Row, Column>
-    ensures found { IfOk result (λ row. SpellsRow (record {
-      meter = words.now.meter.now;
-      line = words.now.line.now;
-      address = words.now.address.now;
-      flat = words.now.flat.now;
-    }) row) }
-    ensures fault { IfErr result (λ column. Lacks column (record {
-      meter = words.now.meter.now;
-      line = words.now.line.now;
-      address = words.now.address.now;
-      flat = words.now.flat.now;
-    })) }
-{
-    let Some(meter) = parse_meter(words.meter) else {
-        return Err(Column::Meter);
-    };
-    let Some(line) = parse_bus_line(words.line) else {
-        return Err(Column::Line);
-    };
-    let Some(address) = parse_address(words.address) else {
-        return Err(Column::Address);
-    };
-    let Some(flat) = Flat::new(words.flat) else {
-        return Err(Column::Flat);
-    };
-    Ok(Row {
-        meter,
-        line,
-        address,
-        flat,
-    })
 }
 
 /// Reads a row of a list.
@@ -142,5 +59,22 @@ fn read_words(words: &Words<'_>) -> Result<Row, Column>
 pub fn read_row(listed: &Listed) -> Result<Row, Column>
     ensures { IsReadAs listed.now result }
 {
-    read_words(&words_of(listed))
+    let Some(meter) = identity_of(listed.meter.as_slice()) else {
+        return Err(Column::Meter);
+    };
+    let Some(line) = parse_bus_line(listed.line.as_slice()) else {
+        return Err(Column::Line);
+    };
+    let Some(address) = parse_address(listed.address.as_slice()) else {
+        return Err(Column::Address);
+    };
+    let Some(flat) = Flat::new(listed.flat.as_slice()) else {
+        return Err(Column::Flat);
+    };
+    Ok(Row {
+        meter,
+        line,
+        address,
+        flat,
+    })
 }

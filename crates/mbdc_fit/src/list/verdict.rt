@@ -1,16 +1,13 @@
 //! The verdict on a row: what it asks of a register.
 
-ghost use Rattle.std.specs.Prelude.{◌≡◌, ◌++◌, ◌≤◌, option_copied, IfSome, OnOk, true, false, codes};
+ghost use Rattle.std.specs.Prelude.{◌≡◌};
 ghost use Rattle.mbdc_io.specs.Written.{Wrote};
-ghost use Rattle.mbdc_io.specs.Words.{number_word};
 ghost use Rattle.mbdc_change.specs.Accepts.{Accepts, occupies};
-ghost use Rattle.mbdc_change.specs.Valid.{IsChange, IsMeter};
+ghost use Rattle.mbdc_change.specs.Valid.{IsChange};
 ghost use Rattle.mbdc_fit.specs.Rows.{IsRow, field_of, fields_in};
 ghost use Rattle.mbdc_fit.specs.Plan.{address_text, change_of, command_of, fault_words, field_words, holder_in};
-ghost use Rattle.mbdc_fit.specs.Plan.{holder_words, lacking_words, row_text};
-ghost use Rattle.mbdc_fit.specs.Plan.{is_at_place, known_words, mark_words, place_words};
-ghost use Rattle.mbdc_fit.specs.Plan.{refusal_words, said, same_address, stands, verdict_on};
-ghost use Rattle.mbdc_fit.specs.Plan.{is_at_words, taken_words, verdict_words};
+ghost use Rattle.mbdc_fit.specs.Plan.{is_at_words, lacking_words, mark_words, place_words};
+ghost use Rattle.mbdc_fit.specs.Plan.{row_text, said, same_address, stands, taken_words, verdict_on, verdict_words};
 
 use crate::list::listed::{Column, Listed};
 use crate::list::row::Row;
@@ -45,16 +42,6 @@ pub(crate) fn command_of(row: &Row) -> Command
     }
 }
 
-// Its command under the number after the last one.
-pub(crate) fn change_of<A: Allocator + Copy>(row: &Row, house: &House<A>) -> Change<'static>
-    ensures { result ≡ change_of row.now house.now.state }
-{
-    Change::Command {
-        number: house.last_number() + 1,
-        command: command_of(row),
-    }
-}
-
 fn same_address(known: Option<Primary>, address: Option<Primary>) -> bool
     ensures { result ≡ same_address known address }
 {
@@ -65,20 +52,16 @@ fn same_address(known: Option<Primary>, address: Option<Primary>) -> bool
     }
 }
 
-// Whether a meter is at the place of a row.
-fn is_at_place<A: Allocator + Copy>(row: &Row, known: &Meter<A>) -> bool
-    ensures { result ≡ is_at_place row.now (Some known.now) }
-{
-    known.line() == row.line
-        && same_address(known.address(), row.address)
-        && known.flat().as_slice() == row.flat.as_slice()
-}
-
+// Whether the register has a meter at the very place of its row.
 fn stands<A: Allocator + Copy>(row: &Row, house: &House<A>) -> bool
     ensures { result ≡ stands row.now house.now.state }
 {
     match house.meter(&row.meter) {
-        Some(known) => is_at_place(row, known),
+        Some(known) => {
+            known.line() == row.line
+                && same_address(known.address(), row.address)
+                && known.flat().as_slice() == row.flat.as_slice()
+        }
         None => false,
     }
 }
@@ -95,28 +78,18 @@ pub fn verdict_on<A: Allocator + Copy>(row: &Row, house: &House<A>) -> Verdict
     if stands(row, house) {
         return Verdict::Stands;
     }
-    if house.last_number() + 1 >= END_OF_NUMBERS {
+    let number = house.last_number() + 1;
+    if number >= END_OF_NUMBERS {
         return Verdict::Spent;
     }
-    match house.check(&change_of(row, house)) {
+    let command = command_of(row);
+    match house.check(&Change::Command { number, command }) {
         Ok(()) => Verdict::New,
         Err(fault) => Verdict::Refused(fault),
     }
 }
 
 // ---- texts
-
-// What a field of a column has to be.
-fn fault_words(column: Column) -> &'static str
-    ensures { result.now ≡ fault_words column }
-{
-    match column {
-        Column::Meter => "a meter is its identity, as 12345678.PAD.01.07",
-        Column::Line => "a line is a number from 1 to 8",
-        Column::Address => "an address is a number from 1 to 250, or S",
-        Column::Flat => "a flat is 1 to 12 of A-Z a-z 0-9 . - / _",
-    }
-}
 
 /// What is said of a first line that doesn't name a column.
 pub(crate) fn lacking_words(column: Column) -> &'static str
@@ -130,14 +103,25 @@ pub(crate) fn lacking_words(column: Column) -> &'static str
     }
 }
 
-fn field_of(column: Column, listed: &Listed) -> &[u8]
-    ensures { result.now ≡ field_of column (fields_in listed.now) }
+// The field of a column, and what it has to be.
+fn field_of(column: Column, listed: &Listed) -> (&[u8], &'static str)
+    ensures field { result.0.now ≡ field_of column (fields_in listed.now) }
+    ensures words { result.1.now ≡ fault_words column }
 {
     match column {
-        Column::Meter => listed.meter.as_slice(),
-        Column::Line => listed.line.as_slice(),
-        Column::Address => listed.address.as_slice(),
-        Column::Flat => listed.flat.as_slice(),
+        Column::Meter => (
+            listed.meter.as_slice(),
+            "a meter is its identity, as 12345678.PAD.01.07",
+        ),
+        Column::Line => (listed.line.as_slice(), "a line is a number from 1 to 8"),
+        Column::Address => (
+            listed.address.as_slice(),
+            "an address is a number from 1 to 250, or S",
+        ),
+        Column::Flat => (
+            listed.flat.as_slice(),
+            "a flat is 1 to 12 of A-Z a-z 0-9 . - / _",
+        ),
     }
 }
 
@@ -193,20 +177,6 @@ fn put_place<W: Sink>(
     out.put(flat)
 }
 
-// Writes the place of a meter that the register has.
-#[tactic(auto, unfolding(crate::specs::Plan::known_words))]
-fn put_known<A: Allocator + Copy, W: Sink>(
-    out: &mut W,
-    known: Option<&Meter<A>>,
-) -> Result<(), IoFault>
-    ensures { Wrote W.Sink result out.old out.new (known_words (option_copied known.entry)) }
-{
-    match known {
-        Some(known) => put_place(out, known.line(), known.address(), known.flat().as_slice()),
-        None => Ok(()),
-    }
-}
-
 // The first meter that has this primary address on the line.
 fn holder<A: Allocator + Copy>(
     house: &House<A>,
@@ -233,19 +203,8 @@ fn occupies<A: Allocator + Copy>(line: u8, address: &Option<Primary>, known: &Me
     }
 }
 
-// Writes a meter, if there is one.
-#[tactic(auto, unfolding(crate::specs::Plan::holder_words))]
-fn put_holder<W: Sink>(out: &mut W, meter: Option<Identity>) -> Result<(), IoFault>
-    ensures { Wrote W.Sink result out.old out.new (holder_words meter) }
-{
-    match meter {
-        Some(meter) => out.put(&meter.text()),
-        None => Ok(()),
-    }
-}
-
 // Writes where a meter is registered.
-#[tactic(auto, using(mbdc_io::proofs::Pieces::written), unfolding(crate::specs::Plan::is_at_words))]
+#[tactic(auto, using(mbdc_io::proofs::Pieces::written), unfolding(crate::specs::Plan::is_at_words, crate::specs::Plan::known_words))]
 pub(crate) fn put_is_at<A: Allocator + Copy, W: Sink>(
     out: &mut W,
     meter: &Identity,
@@ -255,11 +214,14 @@ pub(crate) fn put_is_at<A: Allocator + Copy, W: Sink>(
 {
     out.put(&meter.text())?;
     put_mark(out, Mark::IsAt)?;
-    put_known(out, house.meter(meter))
+    match house.meter(meter) {
+        Some(known) => put_place(out, known.line(), known.address(), known.flat().as_slice()),
+        None => Ok(()),
+    }
 }
 
 // Writes which meter has a primary address on a bus line.
-#[tactic(auto, using(mbdc_io::proofs::Pieces::written), unfolding(crate::specs::Plan::taken_words))]
+#[tactic(auto, using(mbdc_io::proofs::Pieces::written), unfolding(crate::specs::Plan::taken_words, crate::specs::Plan::holder_words))]
 pub(crate) fn put_taken<A: Allocator + Copy, W: Sink>(
     out: &mut W,
     line: u8,
@@ -271,29 +233,14 @@ pub(crate) fn put_taken<A: Allocator + Copy, W: Sink>(
     put_mark(out, Mark::AnAddress)?;
     put_address(out, *address)?;
     put_mark(out, Mark::IsThatOf)?;
-    put_holder(out, holder(house, line, address))
-}
-
-// Writes why a row is refused.
-#[tactic(auto, unfolding(crate::specs::Plan::refusal_words))]
-fn put_refusal<A: Allocator + Copy, W: Sink>(
-    out: &mut W,
-    fault: ChangeFault,
-    row: &Row,
-    house: &House<A>,
-) -> Result<(), IoFault>
-    ensures { Wrote W.Sink result out.old out.new (refusal_words fault row.now house.now.state) }
-{
-    match fault {
-        ChangeFault::Known => put_is_at(out, &row.meter, house),
-        ChangeFault::AddressTaken => put_taken(out, row.line, &row.address, house),
-        ChangeFault::Full => out.put(b"the image is full"),
-        ChangeFault::Unknown | ChangeFault::Beyond => Ok(()),
+    match holder(house, line, address) {
+        Some(meter) => out.put(&meter.text()),
+        None => Ok(()),
     }
 }
 
 // Writes what is said of a row.
-#[tactic(auto, using(mbdc_io::proofs::Pieces::written), unfolding(crate::specs::Plan::verdict_words))]
+#[tactic(auto, using(mbdc_io::proofs::Pieces::written), unfolding(crate::specs::Plan::verdict_words, crate::specs::Plan::refusal_words))]
 pub(crate) fn put_verdict<A: Allocator + Copy, W: Sink>(
     out: &mut W,
     verdict: Verdict,
@@ -313,7 +260,12 @@ pub(crate) fn put_verdict<A: Allocator + Copy, W: Sink>(
             out.put(b" stands already")
         }
         Verdict::Spent => out.put(b"no number is left for a command"),
-        Verdict::Refused(fault) => put_refusal(out, fault, row, house),
+        Verdict::Refused(ChangeFault::Known) => put_is_at(out, &row.meter, house),
+        Verdict::Refused(ChangeFault::AddressTaken) => {
+            put_taken(out, row.line, &row.address, house)
+        }
+        Verdict::Refused(ChangeFault::Full) => out.put(b"the image is full"),
+        Verdict::Refused(ChangeFault::Unknown | ChangeFault::Beyond) => Ok(()),
     }
 }
 
@@ -329,7 +281,9 @@ pub(crate) fn put_row<A: Allocator + Copy, W: Sink>(
     requires { verdict ≡ Verdict.New → IsChange (change_of row.now house.now.state) }
     ensures { Wrote W.Sink result out.old out.new (row_text number verdict row.now house.now.state) }
 {
-    put_head(out, number)?;
+    out.put(b"line")?;
+    put_number_word(out, number)?;
+    out.put(b": ")?;
     put_verdict(out, verdict, row, house)?;
     out.put(b"\n")
 }
@@ -344,11 +298,13 @@ pub(crate) fn put_wrong<W: Sink>(
     ensures { Wrote W.Sink result out.old out.new
         (said listed.now.number (field_words column (fields_in listed.now))) }
 {
-    put_head(out, listed.number)?;
-    out.put(b"\"")?;
-    out.put(field_of(column, listed))?;
+    let (field, words) = field_of(column, listed);
+    out.put(b"line")?;
+    put_number_word(out, listed.number)?;
+    out.put(b": \"")?;
+    out.put(field)?;
     out.put(b"\": ")?;
-    out.put(fault_words(column).as_bytes())?;
+    out.put(words.as_bytes())?;
     out.put(b"\n")
 }
 
@@ -357,17 +313,9 @@ pub(crate) fn put_wrong<W: Sink>(
 pub(crate) fn put_said<W: Sink>(out: &mut W, number: u64, words: &str) -> Result<(), IoFault>
     ensures { Wrote W.Sink result out.old out.new (said number words.now) }
 {
-    put_head(out, number)?;
-    out.put(words.as_bytes())?;
-    out.put(b"\n")
-}
-
-// Writes the number of a line of the list.
-#[tactic(auto, using(mbdc_io::proofs::Pieces::written))]
-fn put_head<W: Sink>(out: &mut W, number: u64) -> Result<(), IoFault>
-    ensures { Wrote W.Sink result out.old out.new (codes "line" ++ (number_word number ++ codes ": ")) }
-{
     out.put(b"line")?;
     put_number_word(out, number)?;
-    out.put(b": ")
+    out.put(b": ")?;
+    out.put(words.as_bytes())?;
+    out.put(b"\n")
 }

@@ -156,10 +156,24 @@ impl<W: Printer, R: Clock + Eprint> List<'_, '_, W, R> {
     // Writes a meter, found at its primary address or by wildcards, as a row or an object.
     fn put_meter(&mut self, meter: &Identity, address: Option<u8>) -> Result<(), IoFault> {
         let value = self.progress.value_of(meter);
-        match self.listing {
-            Listing::Csv(line) => put_row(self.out, line, meter, address, value),
-            _ => put_found(self.out, meter, address, value),
+        let Listing::Csv(line) = self.listing else {
+            return put_found(self.out, meter, address, value);
+        };
+        self.out.put(&meter.text())?;
+        self.out.put(b",")?;
+        put_number(self.out, u64::from(line))?;
+        self.out.put(b",")?;
+        match address {
+            Some(address) => put_number(self.out, u64::from(address))?,
+            None => self.out.put(b"S")?,
         }
+        self.out.put(b",,")?;
+        self.out.put(medium_name(meter.kind).as_bytes())?;
+        self.out.put(b",")?;
+        if let Some(point) = value {
+            put_point(&point, self.out)?;
+        }
+        self.out.put(b"\n")
     }
 
     // Writes what else was found: an object; beside a list a line of words on standard error.
@@ -185,30 +199,6 @@ impl<W: Printer, R: Clock + Eprint> List<'_, '_, W, R> {
         self.progress.say(text.as_slice());
         Ok(())
     }
-}
-
-fn put_row<W: Sink>(
-    out: &mut W,
-    line: u8,
-    meter: &Identity,
-    address: Option<u8>,
-    value: Option<Point>,
-) -> Result<(), IoFault> {
-    out.put(&meter.text())?;
-    out.put(b",")?;
-    put_number(out, u64::from(line))?;
-    out.put(b",")?;
-    match address {
-        Some(address) => put_number(out, u64::from(address))?,
-        None => out.put(b"S")?,
-    }
-    out.put(b",,")?;
-    out.put(medium_name(meter.kind).as_bytes())?;
-    out.put(b",")?;
-    if let Some(point) = value {
-        put_point(&point, out)?;
-    }
-    out.put(b"\n")
 }
 
 // The eight digits of a number.

@@ -14,7 +14,7 @@ reached : (g : Over) (c : After-call-asked g) → IsReached g.B.Bus.asks_all c.a
 reached g c =
     let Calls : List ℕ → ℕ → Type 0 = λ frame place. IsCalled g.B.Bus.asks_all frame place c.is_free.new.bus c.call-asked.result.answer c.call-asked.result.telegram c.call-asked.new.bus in
     subst (λ (frame : List ℕ). Calls frame (place_of c.args.target.now)) c.call_to-request.ensures.frame
-    (subst (λ (place : ℕ). Calls c.call_to-request.result place) c.place_of-place.ensures c.call-asked.ensures)
+    (subst (λ (place : ℕ). Calls c.call_to-request.result.0 place) c.call_to-request.ensures.place c.call-asked.ensures)
 
 pub returns-then-not-is_free : goal.returns-then-not-is_free
 returns-then-not-is_free g c =
@@ -32,7 +32,7 @@ pub returns-in-Some : goal.returns-in-Some
 returns-in-Some g c =
     let from = (goal.at.returns-in-Some g c).After-call-asked in
     is_one c.call-asked.result.answer c.call-asked.result.telegram (free g from (search rules)) (reached g from) (sym c.in-Some.ensures)
-    (subst (λ (place : ℕ). IsChanged g.B.Bus.asks g.B.Bus.asks_all place c.args.to c.in-Some.meter c.call-asked.new.bus c.change.result c.change.new.bus) c.place_of-place.ensures c.change.ensures)
+    (subst (λ (place : ℕ). IsChanged g.B.Bus.asks g.B.Bus.asks_all place c.args.to c.in-Some.meter c.call-asked.new.bus c.change.result c.change.new.bus) c.call_to-request.ensures.place c.change.ensures)
 
 pub returns-in-None : goal.returns-in-None
 returns-in-None g c =
