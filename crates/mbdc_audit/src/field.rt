@@ -280,22 +280,17 @@ fn are_bodies(fields: &[u8]) -> bool
     false
 }
 
-// Whether a text is `-`, or `?` with zeros for the decimals.
-fn is_mark(text: &[u8]) -> bool
-    ensures { result ≡ is_mark text.now }
-{
-    is_word(text, "-")
-        || is_word(text, "?")
-        || is_word(text, "?.0")
-        || is_word(text, "?.00")
-        || is_word(text, "?.000")
-}
-
-// Whether a text is such a mark, or a decimal of at most three decimals, with or without a sign.
+// Whether a text is `-`, `?` with zeros for the decimals, or a decimal of at most three decimals, with or without a
+// sign.
 fn is_text(text: &[u8]) -> bool
     ensures { IsTrue result ↔ IsNumberText text.now }
 {
-    if is_mark(text) || decimal_in(text, 3).is_some() {
+    let is_mark = is_word(text, "-")
+        || is_word(text, "?")
+        || is_word(text, "?.0")
+        || is_word(text, "?.00")
+        || is_word(text, "?.000");
+    if is_mark || decimal_in(text, 3).is_some() {
         return true;
     }
     match text {

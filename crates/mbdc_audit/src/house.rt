@@ -1,7 +1,6 @@
 //! The house that a file spells: one tree. Its texts are slices of the file; spans, uses, runs and places count from 0.
 
-ghost use Rattle.std.specs.Prelude.{◌≡◌, ◌-◌, ◌==◌, IfSome, length, option_map, find, position, slice_get};
-ghost use Rattle.std.specs.Str.{bytes_eq};
+ghost use Rattle.std.specs.Prelude.{◌≡◌, ◌-◌, ◌==◌, IfSome, length, option_map, find, slice_get};
 ghost use Rattle.mbdc_audit.specs.House.{at};
 ghost use Rattle.mbdc_audit.specs.Published.{declared, is_fact};
 ghost use Rattle.mbdc_audit.specs.Sound.{begin_at, end_at};
@@ -196,13 +195,6 @@ impl<'a, A: Allocator + Copy> House<'a, A> {
             .iter()
             .find(|declared| declared.span == span && fact.is(declared.fact))
             .map(|declared| declared.ratio)
-    }
-
-    /// The place of a use by its name.
-    pub fn use_named(&self, name: &[u8]) -> Option<usize>
-        ensures { result ≡ position (λ u. bytes_eq u.name.now name.now) self.now.uses.items }
-    {
-        self.uses.iter().position(|used| used.name == name)
     }
 
     /// A use by its place.

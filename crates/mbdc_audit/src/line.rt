@@ -2,7 +2,6 @@
 
 ghost use Rattle.std.specs.Prelude.{◌≡◌, ◌<◌, ◌≤◌, ◌+◌, ◌^◌, ◌↔◌, ◌++◌, ◌∷◌, [], ℕ, IfErr, IfOk, IsTrue, List};
 ghost use Rattle.std.specs.Prelude.{Option, find, length, map, option_map, position};
-ghost use Rattle.std.specs.List.{list_any};
 ghost use Rattle.std.specs.Str.{bytes_eq};
 ghost use Rattle.mbdc_audit.specs.File.{is_of_place};
 ghost use Rattle.mbdc_audit.specs.Reader.{use_place};
@@ -392,19 +391,12 @@ fn has_mark(text: &[u8]) -> bool
     text.iter().any(|byte| *byte == b'?')
 }
 
-// Whether one of these fields has one.
-fn are_marked(fields: &[&[u8]]) -> bool
-    ensures { result ≡ list_any (λ f. has_mark f.now) fields.now }
-{
-    fields.iter().any(|field| has_mark(field))
-}
-
 /// Whether a line is that of a number, and one of its fields has a question mark.
 pub fn is_asked(line: &Line<'_>) -> bool
     ensures { result ≡ is_asked line.now }
 {
     let is_number = line.stage == SHOWN || line.stage == SUMMED;
-    is_number && are_marked(&line.fields)
+    is_number && line.fields.iter().any(|field| has_mark(field))
 }
 
 /// Whether a number is of a place.

@@ -1,7 +1,7 @@
 //! Units of numbers, and what is computed of them.
 
 ghost use Rattle.std.specs.Prelude.{◌≡◌, ◌<◌, IfOk, IfSome, Some};
-ghost use Rattle.mbdc_audit.specs.Number.{in_unit, percent, scale_of, times};
+ghost use Rattle.mbdc_audit.specs.Number.{percent, scale_of, times};
 
 use crate::exact::Exact;
 use crate::fault::AuditFault;
@@ -52,28 +52,6 @@ pub fn times(exact: Exact, ratio: u64, divisor: u128) -> Result<Exact, AuditFaul
         .ok_or(AuditFault::TooLarge)?;
     let den = exact.den.checked_mul(divisor).ok_or(AuditFault::TooLarge)?;
     Ok(Exact { num, den, ..exact })
-}
-
-/// A sum, plain and by weights, in a unit; the factor is that of the use, where it has one.
-pub fn in_unit(
-    sums: (u128, u128),
-    counted: Counted,
-    unit: Unit,
-    factor: Option<u64>,
-) -> Result<Exact, AuditFault>
-    ensures { IfOk result (λ x. in_unit sums (scale_of counted unit) factor ≡ Some x) }
-{
-    let scale = scale_in(counted, unit).ok_or(AuditFault::Unit)?;
-    let exact = Exact {
-        is_negative: false,
-        num: if scale.is_weighted { sums.1 } else { sums.0 },
-        den: scale.den,
-    };
-    if scale.has_factor {
-        times(exact, factor.ok_or(AuditFault::Fact)?, 1)
-    } else {
-        Ok(exact)
-    }
 }
 
 /// The change from the second number to the first in per cent, for numbers of one denominator; `None` where the second

@@ -251,13 +251,6 @@ fn text_of<A: Allocator + Copy>(alloc: A, number: Option<Decimal>) -> Result<Vec
     Ok(Vec::from_slice(alloc, text)?)
 }
 
-// The text of a count.
-fn count_text<A: Allocator + Copy>(alloc: A, count: u64) -> Result<Vec<u8, A>, Stop>
-    ensures { IfOk result (λ t. t.items ≡ decimal count) }
-{
-    Ok(format!(in alloc; "{count}")?.into_bytes())
-}
-
 // The fields that say what holds: the text, and what is beside it.
 fn texts_of<A: Allocator + Copy>(
     alloc: A,
@@ -272,8 +265,8 @@ fn texts_of<A: Allocator + Copy>(
         Beside::Nothing => {}
         Beside::Mark(grade) => texts.push(Vec::from_slice(alloc, grade.told().0.as_bytes())?)?,
         Beside::Counts(without, count) => {
-            texts.push(count_text(alloc, without)?)?;
-            texts.push(count_text(alloc, count)?)?;
+            texts.push(format!(in alloc; "{without}")?.into_bytes())?;
+            texts.push(format!(in alloc; "{count}")?.into_bytes())?;
         }
     }
     Ok(texts)
@@ -386,14 +379,6 @@ impl<'f, 'a, F: Sink> Filler<'f, 'a, F> {
     }
 }
 
-// Writes fields, each after a blank.
-fn put_said<W: Sink>(out: &mut W, fields: &[&[u8]]) -> Result<(), IoFault> {
-    'fields: for field in fields {
-        put_pieces(out, &[Text(b" "), Text(field)])?;
-    }
-    Ok(())
-}
-
 // Writes texts, each after a blank.
 fn put_held<W: Sink, A: Allocator + Copy>(
     out: &mut W,
@@ -423,7 +408,9 @@ fn put_differs<W: Sink, A: Allocator + Copy>(
     ];
     put_pieces(out, &words)?;
     let (said, _) = number.said.split_at(held.len().min(number.said.len()));
-    put_said(out, said)?;
+    'said: for field in said {
+        put_pieces(out, &[Text(b" "), Text(field)])?;
+    }
     out.put(b", computed")?;
     put_held(out, held)?;
     out.put(b"\n")

@@ -2,7 +2,6 @@
 
 ghost use Rattle.std.specs.Prelude.{◌≡◌, ◌≤◌, ◌<◌, ◌+◌, ◌-◌, ◌⊎◌, ◌↔◌, ◌==◌, ◌&&◌, ◌||◌, ℕ, true, false};
 ghost use Rattle.std.specs.Prelude.{All, IfErr, IfOk, IsSome, IsTrue, None, Some, is_some, length, slice_get};
-ghost use Rattle.std.specs.List.{list_any};
 ghost use Rattle.dc_address.specs.Text.{text_of};
 ghost use Rattle.dc_address.specs.declared.identity.Identity as identity_type;
 ghost use Rattle.mbdc_audit.specs.declared.house.Fact as fact_type;
@@ -212,7 +211,8 @@ impl<'a, A: Allocator + Copy> Reader<'a, A> {
         ensures ok { IfOk result (λ n. first_named (house_of self.now.house) name.now ≡ Some n) }
         ensures err { IfErr result (λ f. first_named (house_of self.now.house) name.now ≡ None) }
     {
-        match self.house.use_named(name) {
+        let place = self.house.uses.iter().position(|used| used.name == name);
+        match place {
             Some(place) => Ok(place as u64),
             None => Err(AuditFault::Fact),
         }
@@ -292,20 +292,11 @@ impl<'a, A: Allocator + Copy> Reader<'a, A> {
             kind: line.number(1) as u8,
             why: field(line, 2),
         };
-        let is_there = self.is_allowed(allowed.used, allowed.kind);
+        let is_there = self.house.allowed.iter().any(|other| other.used == allowed.used
+            && other.kind == allowed.kind);
         only_if(!is_there, AuditFault::Fact)?;
         self.house.allowed.push(allowed)?;
         Ok(())
-    }
-
-    // Whether a device type is declared of a use.
-    fn is_allowed(&self, used: u64, kind: u8) -> bool
-        ensures { result ≡ list_any (λ a. (a.used == used) && (a.kind == kind)) self.now.house.allowed.items }
-    {
-        self.house
-            .allowed
-            .iter()
-            .any(|other| other.used == used && other.kind == kind)
     }
 
     fn add_span(&mut self, line: &Line<'a>) -> Result<(), Stop>

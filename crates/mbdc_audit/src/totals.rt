@@ -8,11 +8,11 @@ ghost use Rattle.mbdc_audit.specs.declared.line.Word.TheVariants as word;
 ghost use Rattle.mbdc_audit.specs.Grade.{worst};
 ghost use Rattle.mbdc_audit.specs.Index.{flat_key};
 ghost use Rattle.mbdc_audit.specs.Number.{in_unit};
-ghost use Rattle.mbdc_audit.specs.Published.{amount_or_0, beside, by_ratio, declared, flat, has_whole, holds};
-ghost use Rattle.mbdc_audit.specs.Published.{is_part_user, number as exact_of, sum_of_user, user};
+ghost use Rattle.mbdc_audit.specs.Published.{beside, by_ratio, declared, flat, has_whole, holds};
+ghost use Rattle.mbdc_audit.specs.Published.{number as exact_of, sum_of_user, user};
 ghost use Rattle.mbdc_audit.specs.Sound.{IsHouse};
-ghost use Rattle.mbdc_audit.specs.Totals.{AreBases, HasNoPart, IsIndex, basis_more, basis_of, basis_with, beside_sum};
-ghost use Rattle.mbdc_audit.specs.Totals.{has_own, is_filled, is_known, is_window_own, joined};
+ghost use Rattle.mbdc_audit.specs.Totals.{AreBases, HasNoPart, IsIndex, basis_more, basis_of, beside_sum};
+ghost use Rattle.mbdc_audit.specs.Totals.{has_own, is_filled, is_known, is_window_own};
 ghost use Rattle.mbdc_audit.specs.Totals.{no_total, place_sum, share_in, total_of, total_with};
 ghost use Rattle.mbdc_audit.specs.View.{house_of, key_of, span_of};
 ghost use Rattle.mbdc_audit.specs.Walk.{AreGradedAll, holder_of, scale_in, sum_by_holder, texts_beside};
@@ -23,7 +23,7 @@ use crate::grade::{Grade, UNCLEAR};
 use crate::house::{Fact, House, Number, Part, Place, Span, User, Window};
 use crate::index::{Index, flat_key};
 use crate::line::Word;
-use crate::number::{RATIO, in_unit, percent, times};
+use crate::number::{RATIO, percent, scale_in, times};
 use crate::numbers::{Basis, Beside, Holder, Holds, Total};
 use crate::uses::Unit;
 use std::alloc::Allocator;
@@ -124,20 +124,6 @@ impl<'a, A: Allocator + Copy> Place<'a, A> {
     }
 }
 
-// What parts consumed and their worst mark, with a part more.
-fn joined(part: &Part, later: Option<(u128, Grade)>) -> Result<(u128, Grade), AuditFault>
-    ensures { IfOk result (λ s. s ≡ joined part.now later) }
-{
-    let amount = u128::from(part.amount.amount.unwrap_or(0));
-    match later {
-        None => Ok((amount, part.amount.grade)),
-        Some((sum, grade)) => {
-            let sum = amount.checked_add(sum).ok_or(AuditFault::TooLarge)?;
-            Ok((sum, part.amount.grade.worst(grade)))
-        }
-    }
-}
-
 // What a holder's parts of a window consumed, and their worst mark; none if it has none.
 fn share(
     holder: Holder<'_>,
@@ -155,18 +141,17 @@ fn share(
         Holder::Flat(name) => name == flat,
         Holder::House => true,
     };
-    if is_held {
-        Ok(Some(joined(part, later)?))
-    } else {
-        Ok(later)
+    if !is_held {
+        return Ok(later);
     }
-}
-
-// Whether all parts are a user's.
-fn are_own(user: u64, parts: &[Part]) -> bool
-    ensures { result ≡ list_all (λ x. is_part_user user x.user) parts.now }
-{
-    parts.iter().all(|part| part.user == Some(user))
+    let amount = u128::from(part.amount.amount.unwrap_or(0));
+    match later {
+        None => Ok(Some((amount, part.amount.grade))),
+        Some((sum, grade)) => {
+            let sum = amount.checked_add(sum).ok_or(AuditFault::TooLarge)?;
+            Ok(Some((sum, part.amount.grade.worst(grade))))
+        }
+    }
 }
 
 impl<'a, A: Allocator + Copy> Window<'a, A> {
@@ -175,18 +160,11 @@ impl<'a, A: Allocator + Copy> Window<'a, A> {
         ensures { result ≡ is_window_own user span self.now }
     {
         if self.span == span {
-            are_own(user, self.parts.as_slice())
+            self.parts.iter().all(|part| part.user == Some(user))
         } else {
             true
         }
     }
-}
-
-// Whether all windows of a span have parts that are all a user's.
-fn are_windows_own<A: Allocator + Copy>(user: u64, span: u64, windows: &[Window<'_, A>]) -> bool
-    ensures { result ≡ list_all (is_window_own user span) windows.now }
-{
-    windows.iter().all(|window| window.is_own(user, span))
 }
 
 // Whether one of these users of a flat has an area.
@@ -209,18 +187,11 @@ fn basis_at(span: u64, used: u64, bases: &[Basis]) -> Option<Basis>
 }
 
 impl<'a, A: Allocator + Copy> Place<'a, A> {
-    // Whether it has a window of a span.
-    fn has_window(&self, span: u64) -> bool
-        ensures { result ≡ list_any (λ w. w.span == span) self.now.windows.items }
-    {
-        self.windows.iter().any(|window| window.span == span)
-    }
-
     // Whether it is a flat's, of a use, and has a window of a span.
     fn is_own(&self, flat: &[u8], used: u64, span: u64) -> bool
         ensures { result ≡ has_own flat.now used span self.now }
     {
-        let has_window = self.has_window(span);
+        let has_window = self.windows.iter().any(|window| window.span == span);
         self.used == used && flat == self.flat && has_window
     }
 
@@ -229,7 +200,7 @@ impl<'a, A: Allocator + Copy> Place<'a, A> {
         ensures { result ≡ is_filled user flat.now used span (span_of within.now) self.now }
     {
         let (from, to) = self.reach(within);
-        let are_own = are_windows_own(user, span, self.windows.as_slice());
+        let are_own = self.windows.iter().all(|window| window.is_own(user, span));
         if !self.is_own(flat, used, span) {
             return true;
         }
@@ -238,7 +209,7 @@ impl<'a, A: Allocator + Copy> Place<'a, A> {
 }
 
 impl<'a, A: Allocator + Copy> House<'a, A> {
-    // A sum in a unit.
+    // A sum, plain and by weights, in a unit.
     pub fn exact(
         &self,
         sums: (u128, u128),
@@ -253,7 +224,17 @@ impl<'a, A: Allocator + Copy> House<'a, A> {
         let Some(found) = self.uses.get(used as usize) else {
             return Err(AuditFault::Unit);
         };
-        in_unit(sums, found.counts, unit, factor)
+        let scale = scale_in(found.counts, unit).ok_or(AuditFault::Unit)?;
+        let exact = Exact {
+            is_negative: false,
+            num: if scale.is_weighted { sums.1 } else { sums.0 },
+            den: scale.den,
+        };
+        if scale.has_factor {
+            times(exact, factor.ok_or(AuditFault::Fact)?, 1)
+        } else {
+            Ok(exact)
+        }
     }
 }
 
@@ -390,12 +371,19 @@ impl<'h, 'a, A: Allocator + Copy> Sums<'h, 'a, A> {
         self.is_filled(user.flat, number, span, within)
     }
 
-    // A basis with a user's flat more, if the flat's sum is measured, or by hand.
-    fn with_flat(&self, basis: &Basis, user: &User<'a>) -> Result<Basis, AuditFault>
-        ensures { IfOk result (λ b. b ≡ basis_with basis.now
-            (total_of (flat user.now.flat.now) basis.now.span basis.now.used self.now.house.now.places.items)
-            (amount_or_0 user.now.area)) }
+    // A basis with a user's flat more, if the flat's sum is measured, or by hand: of the users of a flat the last one who
+    // has an area says it.
+    fn with_user(
+        &self,
+        basis: &Basis,
+        user: &User<'a>,
+        later: &[User<'a>],
+    ) -> Result<Basis, AuditFault>
+        ensures { IfOk result (λ b. b ≡ basis_more self.now.house.now.places.items basis.now user.now later.now) }
     {
+        if user.area.is_none() || has_area(user.flat, later) {
+            return Ok(*basis);
+        }
         let total = self.total(Holder::Flat(user.flat), basis.span, basis.used)?;
         if total.grade.told().1 > HAND {
             return Ok(*basis);
@@ -407,22 +395,6 @@ impl<'h, 'a, A: Allocator + Copy> Sums<'h, 'a, A> {
             count: basis.count.checked_add(1).ok_or(AuditFault::TooLarge)?,
             ..*basis
         })
-    }
-
-    // A basis with a user more: of the users of a flat the last one who has an area says it.
-    fn with_user(
-        &self,
-        basis: &Basis,
-        user: &User<'a>,
-        later: &[User<'a>],
-    ) -> Result<Basis, AuditFault>
-        ensures { IfOk result (λ b. b ≡ basis_more self.now.house.now.places.items basis.now user.now later.now) }
-    {
-        if user.area.is_some() && !has_area(user.flat, later) {
-            self.with_flat(basis, user)
-        } else {
-            Ok(*basis)
-        }
     }
 
     // What the flats that may be compared consumed: those with an area whose sum is measured, or by hand.

@@ -1,9 +1,12 @@
-use Rattle.std.proofs.Common.{◌≡◌, ◌++◌, ◌∷◌, [], List, map, sym, ap, subst, ◌∙◌}
+use Rattle.std.proofs.Common.{◌≡◌, ◌++◌, ◌∷◌, ◌==◌, ◌&&◌, [], List, map, rules, tests, sym, ap, subst, ◌∙◌}
+use Rattle.std.proofs.lemmas.Iterator.{YieldsList-from_slice}
+use Rattle.std.proofs.lemmas.Iterator.Search.{any_from_yields_List}
 use Rattle.std.proofs.lemmas.List.{map_push}
 use Rattle.mbdc_audit.specs.House.{Allowed}
 use Rattle.mbdc_audit.specs.Reader.{AddsNothing}
 use Rattle.mbdc_audit.specs.File.{Adds, first_named}
 use Rattle.mbdc_audit.specs.View.{allowed_of, house_of}
+use Rattle.mbdc_audit.specs.declared.house.Allowed as allowed_type
 use Rattle.mbdc_audit.proofs.Added.{adds_allowed}
 use Rattle.mbdc_audit.proofs.Classes.{at_fault, no_allowed}
 use Rattle.mbdc_audit.proofs.Named.{one_meant}
@@ -14,11 +17,14 @@ pub returns-in_err-only_if-clause-err : goal.returns-in_err-only_if-clause-err
 returns-in_err-only_if-clause-err g c =
     let h = house_of c.args.self.now.house in
     let l = c.args.line.now in
+    let xs = c.args.self.now.house.allowed.items in
+    let there = any_from_yields_List (λ (a : allowed_type.Allowed). (a.used == c.in_ok-used.field-0) && (a.kind == c.number.result)) _ _
+    c.any-is_there.result c.any-is_there.ensures.ran (YieldsList-from_slice xs cc) (λ x b q k. search (rules, tests)) in
     at_fault c.from_residual-in_err-only_if.result (AddsNothing h l) (no_allowed h l c.requires.word
     (λ a may is.
     let e : c.in_ok-used.field-0 ≡ a.used = one_meant h c.field.result.now _ a.used c.in_ok-used.ensures.ok (c.field.ensures ∙ is.1) may.0 in
     allowed_twice c.args.self.now.house.allowed.items c.in_ok-used.field-0 c.number.result
-    (sym c.is_allowed-is_there.ensures ∙ was_true c.is_allowed-is_there.result c.in_err-only_if.ensures.err.0)
+    (sym there ∙ was_true c.any-is_there.result c.in_err-only_if.ensures.err.0)
     (λ k d lt is_used is_kind. may.1 k d lt (is_used ∙ e) (is_kind ∙ (c.number.ensures ∙ is.2)))))
 
 pub returns-clause-ok : goal.returns-clause-ok
@@ -26,6 +32,8 @@ returns-clause-ok g c =
     let h = house_of c.args.self.now.house in
     let l = c.args.line.now in
     let xs = c.args.self.now.house.allowed.items in
+    let there = any_from_yields_List (λ (a : allowed_type.Allowed). (a.used == c.in_ok-used.field-0) && (a.kind == c.number.result)) _ _
+    c.any-is_there.result c.any-is_there.ensures.ran (YieldsList-from_slice xs cc) (λ x b q k. search (rules, tests)) in
     let a = allowed_of (record { line = c.args.self.now.house.lines; used = c.in_ok-used.field-0; kind = c.number.result; why = c.field-2.result }) in
     let pushed : map allowed_of c.push.new.self.items ≡ h.allowed ++ a ∷ [] =
     ap (map allowed_of) c.in_ok-push.ensures.items ∙ map_push allowed_of xs _ in
@@ -33,4 +41,4 @@ returns-clause-ok g c =
     (adds_allowed h l c.in_ok-used.field-0 c.number.result c.field-2.result.now c.requires.word
     (ap (first_named h) (sym c.field.ensures) ∙ c.in_ok-used.ensures.ok) (sym c.number.ensures) (sym c.field-2.ensures)
     (not_allowed xs c.in_ok-used.field-0 c.number.result
-    (sym c.is_allowed-is_there.ensures ∙ was_false c.is_allowed-is_there.result c.in_ok-only_if.ensures.ok)))
+    (sym there ∙ was_false c.any-is_there.result c.in_ok-only_if.ensures.ok)))
