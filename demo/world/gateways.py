@@ -4,6 +4,7 @@ import abc
 import contextlib
 import os
 import pathlib
+import random
 import socket
 import threading
 import tty
@@ -11,6 +12,7 @@ from typing import BinaryIO, Optional
 
 from world.bus import Bus
 from world.frames import LONG_OVERHEAD, LONG_START, SHORT_LENGTH, SHORT_START
+from world.meters import meters_of
 
 HUNG_UP = 0.0007  # share of the requests at which a block gateway hangs up
 LOOPBACK = "127.0.0.1"
@@ -113,6 +115,13 @@ class TransparentGateway(Gateway):
         stream, port = connected.makefile("rb"), Connection(connected)
         while request := next_request(stream):
             self.bus.reply(request, port)
+
+
+def serve(count: int, kind: type[Bus] = Bus) -> TransparentGateway:
+    """So many meters behind a gateway that serves until this program ends. All of them answer."""
+    gateway = TransparentGateway(kind(meters_of(count, random.Random(1)), random.Random(1)))
+    gateway.start()
+    return gateway
 
 
 class SerialPort(threading.Thread):
