@@ -1,8 +1,8 @@
 """Wrong offices, for demo/office: what refuses each mutant, and what it would change where nothing did.
 
 A mutant of demo/office-mutants.txt is some lines: its name and what is wrong; `in FILE by JUDGE`, a test of the office
-or demo/office with some words, and `, the audit` where that has to refuse it, too; and small edits, the old text (-),
-which is in the file once, and the new one (+). Each is played over a copy of one house that is ready to be computed (of
+or demo/office with some words, and `, the audit` where that has to refuse it, too; and small edits, `OLD => NEW`, or of
+several lines the old ones (-) and then the new ones (+); the old text is in the file once. Each is played over a copy of one house that is ready to be computed (of
 the office's tests), then judged:
 
     refused NAME: by the audit: DIFFERS line ..
@@ -61,11 +61,18 @@ class Mutant(NamedTuple):
         path.write_text(text, encoding="utf-8")
 
 
+def signed(row: str) -> List[str]:
+    """The lines of `OLD => NEW`."""
+    old, _, new = row.partition(" =>")
+    return [f"-{old}", f"+{new.removeprefix(' ')}"]
+
+
 def mutants_of(path: pathlib.Path) -> List[Mutant]:
     """The mutants of a file."""
     found = []
-    for head, place, *lines in (it.split("\n") for it in path.read_text(encoding="utf-8").strip("\n").split("\n\n")):
+    for head, place, *rows in (it.split("\n") for it in path.read_text(encoding="utf-8").strip("\n").split("\n\n")):
         file, _, judge = place.removeprefix("in ").partition(" by ")
+        lines = [line for row in rows for line in ([row] if row[0] in "-+" else signed(row))]
         texts = ["\n".join(line[1:] for line in run) for _, run in itertools.groupby(lines, lambda line: line[:1])]
         found.append(Mutant(head.partition(":")[0], file, judge.removesuffix(BY_AUDIT),
                             judge.endswith((BY_AUDIT, AUDITED)), list(zip(texts[::2], texts[1::2]))))
