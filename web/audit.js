@@ -1,5 +1,4 @@
-"use strict";
-// The page on which a sheet is audited. MODULE (base64) is set before this text.
+// The page on which a sheet is audited, after common.js.
 
 const GROWTH = 8; // bytes printed for a byte of a file, at most
 const LEAST = 65536; // bytes of the room for what is printed
@@ -81,13 +80,7 @@ const WORDS = {
 
 // ---- the module
 
-let exported = null;
 const memory = () => exported.memory.buffer;
-
-async function start() {
-  const bytes = Uint8Array.from(atob(MODULE), (letter) => letter.charCodeAt(0));
-  exported = (await WebAssembly.instantiate(bytes, {})).instance.exports;
-}
 
 // What a call of the module prints of these files, and its verdict.
 function judged(call, ...files) {
@@ -109,19 +102,10 @@ function judged(call, ...files) {
 
 // ---- what is shown
 
-let language = (navigator.language ?? "en").toLowerCase().startsWith("de") ? "de" : "en";
 let last = null; // the file that was audited, and what was found
 let waiting = null; // a sheet whose file isn't there yet
 let named = ""; // the hash that the sheet's link names
-const $ = (id) => document.getElementById(id);
 const local = (number) => (language === "de" ? number.replace(".", ",") : number);
-
-function element(tag, text, attributes = {}) {
-  const made = document.createElement(tag);
-  if (text !== null) made.textContent = text;
-  for (const [name, value] of Object.entries(attributes)) made.setAttribute(name, value);
-  return made;
-}
 
 // By how much a time zone is ahead of UTC at a moment.
 function aheadOf(zone, moment) {
@@ -187,23 +171,12 @@ function rowShown(row, wrong) {
   const cells = [[words.of, `${words.kinds[row.kind]} ${row.of}`, "place"], [words.use, row.use, "whole"], [words.period, row.period, "whole"],
     [words.number, row.number === "-" ? "–" : `${row.kind === "as" ? row.number : local(row.number)} ${row.unit}`, "number"],
     [words.mark, marks.filter(Boolean).join("; "), "whole"]];
-  const made = element("tr", null, { role: "row", tabindex: "0", class: number ? "bad" : "" });
-  for (const [label, text, kind] of cells) made.append(element("td", text, { role: "cell", "data-label": label, class: kind }));
-  return made;
+  return rowOf(cells, { class: number ? "bad" : "" });
 }
 
 function tableShown(rows, zone, wrong) {
-  const words = WORDS[language];
-  // (roles, since a narrow page lays out the cells one below the other)
-  const table = element("table", null, { role: "table" });
-  const heads = element("tr", null, { role: "row" });
-  for (const name of ["of", "use", "period", "number", "mark"]) heads.append(element("th", words[name], { scope: "col", role: "columnheader", class: name === "number" ? "number" : "whole" }));
-  const head = element("thead", null, { role: "rowgroup" });
-  const body = element("tbody", null, { role: "rowgroup" });
-  head.append(heads);
-  body.append(...rows.slice(0, SHOWN).map((row) => rowShown(row, wrong)));
-  table.append(element("caption", words.caption(zone)), head, body);
-  return table;
+  const columns = ["of", "use", "period", "number", "mark"].map((name) => [name, name === "number" ? "number" : "whole"]);
+  return tableOf(WORDS[language].caption(zone), columns, rows.slice(0, SHOWN).map((row) => rowShown(row, wrong)));
 }
 
 // What the audit found, in a sentence or more: the rows with a wrong number, and the rules, by name.
@@ -281,38 +254,26 @@ async function auditFiles(files) {
 
 // ---- the page
 
-function speak() {
-  const words = WORDS[language];
-  document.documentElement.lang = language;
-  document.title = words.title;
-  for (const one of document.querySelectorAll("[data-text]")) one.textContent = words[one.dataset.text];
-  $("language").textContent = words.other;
-  $("language").lang = language === "en" ? "de" : "en";
-  $("refused").textContent = words.refused;
+function speakAnew() {
+  speak();
   if (last) show();
-  else if (named) $("said").textContent = words.waiting;
+  else if (named) $("said").textContent = WORDS[language].waiting;
 }
 
 // Takes the hash that is after the # of a sheet's link.
 function openLink(text) {
   named = HASH.test(text) ? text : "";
-  speak();
+  speakAnew();
 }
 
 async function main() {
   openLink(location.hash.slice(1));
-  try {
-    await start();
-  } catch {
-    $("refused").hidden = false;
-    $("form").hidden = true;
-    return;
-  }
+  if (!await begins()) return;
   $("form").addEventListener("submit", (event) => { event.preventDefault(); audit(new TextEncoder().encode($("input").value)); });
   $("file").addEventListener("change", () => auditFiles($("file").files));
   addEventListener("dragover", (event) => event.preventDefault());
   addEventListener("drop", (event) => { event.preventDefault(); auditFiles(event.dataTransfer.files); });
-  $("language").addEventListener("click", () => { language = language === "en" ? "de" : "en"; speak(); });
+  $("language").addEventListener("click", () => { language = language === "en" ? "de" : "en"; speakAnew(); });
   addEventListener("hashchange", () => openLink(location.hash.slice(1)));
   document.documentElement.dataset.ready = "yes";
 }

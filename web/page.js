@@ -1,5 +1,4 @@
-"use strict";
-// The page of the decoder. MODULE (base64) is set before this text.
+// The page of the decoder, after common.js.
 
 const SHOWN = 200; // frames; more would make the page slow
 const MOST_LINE = 4096; // characters of a line that the decoder takes
@@ -72,14 +71,7 @@ const WORDS = {
 
 // ---- the decoder
 
-let exported = null;
-let base = 0;
-
-async function start() {
-  const bytes = Uint8Array.from(atob(MODULE), (letter) => letter.charCodeAt(0));
-  exported = (await WebAssembly.instantiate(bytes, {})).instance.exports;
-  base = exported.memory.buffer.byteLength;
-}
+let base = 0; // the length of the module's own memory
 
 // Puts an input after the module's own memory, and returns the place after it, from which on there is so much room.
 function putInput(input, room) {
@@ -211,16 +203,7 @@ function placeOf({ kind, number }, text, { end, plain }) {
 
 // ---- what is shown
 
-let language = (navigator.language ?? "en").toLowerCase().startsWith("de") ? "de" : "en";
 let shown = [];
-const $ = (id) => document.getElementById(id);
-
-function element(tag, text, attributes = {}) {
-  const made = document.createElement(tag);
-  if (text !== null) made.textContent = text;
-  for (const [name, value] of Object.entries(attributes)) made.setAttribute(name, value);
-  return made;
-}
 
 function put(list, name, value, kind = "") {
   list.append(element("dt", name), element("dd", value, kind ? { class: kind } : {}));
@@ -263,7 +246,6 @@ function nameOf(record) {
 
 function recordRow(record, part) {
   const words = WORDS[language];
-  const row = element("tr", null, { tabindex: "0", role: "row" });
   const none = record.error === null ? words.noValue : `${words.noValue} (${record.error})`;
   const value = record.value === null ? (record.reading === "other" ? `${words.notRead}: ${record.data}` : none) : printable(record.value);
   const cells = [
@@ -271,27 +253,15 @@ function recordRow(record, part) {
     [words.storage, record.storage, "number"], [words.tariff, record.tariff, "number"], [words.subunit, record.subunit, "number"],
     [words.function, record.function],
   ];
-  for (const [label, text, kind] of cells) row.append(element("td", text, { role: "cell", "data-label": label, ...(kind ? { class: kind } : {}) }));
+  const row = rowOf(cells);
   const light = (is) => () => part?.classList.toggle("lit", is);
   for (const [event, is] of [["mouseenter", true], ["focus", true], ["mouseleave", false], ["blur", false]]) row.addEventListener(event, light(is));
   return row;
 }
 
 function recordTable(records, parts) {
-  const words = WORDS[language];
-  // (roles, since a narrow page lays out the cells one below the other)
-  const table = element("table", null, { role: "table" });
-  const heads = element("tr", null, { role: "row" });
-  for (const name of ["name", "value", "unit", "storage", "tariff", "subunit", "function"]) {
-    const kind = { value: "number value", storage: "number", tariff: "number", subunit: "number" }[name];
-    heads.append(element("th", words[name], { scope: "col", role: "columnheader", ...(kind ? { class: kind } : {}) }));
-  }
-  const head = element("thead", null, { role: "rowgroup" });
-  const rows = element("tbody", null, { role: "rowgroup" });
-  head.append(heads);
-  rows.append(...records.map((record, n) => recordRow(record, parts[n])));
-  table.append(element("caption", words.records), head, rows);
-  return table;
+  const columns = [["name"], ["value", "number value"], ["unit"], ["storage", "number"], ["tariff", "number"], ["subunit", "number"], ["function"]];
+  return tableOf(WORDS[language].records, columns, records.map((record, n) => recordRow(record, parts[n])));
 }
 
 // A telegram, or what another body says that the register refuses: a header may lack a meter.
@@ -395,16 +365,6 @@ async function copy(text) {
 
 // ---- the page
 
-function speak() {
-  const words = WORDS[language];
-  document.documentElement.lang = language;
-  document.title = words.title;
-  for (const one of document.querySelectorAll("[data-text]")) one.textContent = words[one.dataset.text];
-  $("language").textContent = words.other;
-  $("language").lang = language === "en" ? "de" : "en";
-  $("refused").textContent = words.refused;
-}
-
 function openLink() {
   let text = location.hash.slice(1);
   try {
@@ -420,13 +380,8 @@ function openLink() {
 
 async function main() {
   speak();
-  try {
-    await start();
-  } catch {
-    $("refused").hidden = false;
-    $("form").hidden = true;
-    return;
-  }
+  if (!await begins()) return;
+  base = exported.memory.buffer.byteLength;
   $("form").addEventListener("submit", (event) => { event.preventDefault(); show(); });
   $("joined").addEventListener("change", show);
   $("csv").addEventListener("click", () => copy(csv()));
