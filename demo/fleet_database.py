@@ -1,6 +1,5 @@
 """A PostgreSQL server of Debian's package in a temporary folder, for demo/fleet: on a unix socket, crashed at will."""
 
-import importlib.util
 import os
 import pathlib
 import random
@@ -16,19 +15,6 @@ from world.box import Word
 OWNER, DATABASE = "office", "postgres"
 START_SECONDS = 60
 PROGRAMS = sorted(pathlib.Path("/usr/lib/postgresql").glob("*/bin/postgres"), key=lambda path: int(path.parts[4]))
-PACKAGES = ["postgresql", "python3-psycopg2"]
-
-
-def missing() -> list[str]:
-    """The packages that aren't installed."""
-    found = ["python3-psycopg2"] * bool(importlib.util.find_spec("psycopg2"))
-    return [name for name in PACKAGES if name not in found + ["postgresql"] * bool(PROGRAMS)]
-
-
-def install(packages: Sequence[str]) -> None:
-    sudo = [] if os.geteuid() == 0 else ["sudo"]
-    subprocess.run([*sudo, "apt-get", "update"], check=True)
-    subprocess.run([*sudo, "apt-get", "install", "-y", "--no-install-recommends", *packages], check=True)
 
 
 class Server:
@@ -37,6 +23,8 @@ class Server:
     def __init__(self, folder: pathlib.Path, *options: str) -> None:
         self.folder, self.crashes = folder / "database", 0
         self.process: Optional[subprocess.Popen[bytes]] = None
+        if not PROGRAMS:
+            raise SystemExit("fleet: there is no PostgreSQL; tools/needs --install office installs it")
         self.folder.mkdir()
         # PostgreSQL refuses to run as root: then it runs as the user of Debian's package
         self.account: dict[str, Any] = {"user": "postgres", "group": "postgres",

@@ -1,11 +1,8 @@
 """A page of this repository in Chromium: what its demos do with it, and how it looks."""
 
-import importlib.util
 import itertools
 import json
-import os
 import pathlib
-import sys
 import time
 from typing import Any
 
@@ -14,7 +11,6 @@ from world.cases import wants
 WIDTHS, SCHEMES, LANGUAGES = (1280, 390), ("light", "dark"), ("en", "de")
 LEAST_CONTRAST = 4.5  # WCAG 2.1, 1.4.3, of text
 MOST_SECONDS = 60  # of one input of 1 MiB, on a slow machine
-PYTHON = "/usr/bin/python3"  # Debian's
 
 # Text whose contrast with the nearest background is too small
 CONTRAST = """
@@ -47,12 +43,6 @@ const beyond = shown.filter((one) => { const box = one.getBoundingClientRect(); 
 const cut = shown.filter((one) => one.scrollWidth > one.clientWidth + 1 && one.clientWidth && getComputedStyle(one).display !== "inline");
 return [...beyond, ...cut].map((one) => `${one.tagName}#${one.id}.${one.className} ${one.textContent.slice(0, 40)}`);
 """
-
-
-def begin_with_selenium() -> None:
-    """Begins the program anew with Debian's Python, where this one has no selenium."""
-    if not importlib.util.find_spec("selenium") and sys.executable != PYTHON and os.access(PYTHON, os.X_OK):
-        os.execv(PYTHON, [PYTHON, *sys.argv])
 
 
 class Browser:
