@@ -33,7 +33,6 @@ def frame(address: int, number: int, records: str) -> str:
 
 
 def ident(number: int) -> str:
-    """The identity of the meter with that number."""
     return str(Identity(number))
 
 
@@ -48,12 +47,10 @@ def fit(number: int, place: int, line: int, address: object) -> str:
 
 
 def fits(meters: int) -> str:
-    """Meters on four lines."""
     return "".join(fit(n + 1, n + 1, 1 + n % 4, 1 + n // 4) for n in range(meters))
 
 
 def readout(line: int, place: int, telegrams: Iterable[str]) -> str:
-    """A readout of the meter at that place."""
     return f"START {line} {ident(place)}\nHEAR {line} E5\n" + "".join(f"HEAR {line} {it}\n" for it in telegrams)
 
 
@@ -121,7 +118,6 @@ class Bench:
         shutil.rmtree(self.folder)
 
     def path(self, name: str) -> str:
-        """A file of the folder."""
         return f"{self.folder}/{name}"
 
     def write(self, name: str, text: str) -> str:
@@ -130,7 +126,6 @@ class Bench:
         return self.path(name)
 
     def format(self, name: str, sectors: int = LARGEST_IMAGE) -> None:
-        """Makes an image."""
         self.remove(name)
         subprocess.run([MBDC, "format", self.path(name), str(sectors)], check=True)
 
@@ -140,11 +135,9 @@ class Bench:
             pathlib.Path(self.path(name) + end).unlink(missing_ok=True)
 
     def mbdc(self, image: str, script: str, before: Sequence[str] = ()) -> Spent:
-        """Does a script on an image."""
         return self.run([*before, MBDC, "run", self.path(image), script], "mbdc.txt")
 
     def sqlite(self, database: str, script: str, before: Sequence[str] = ()) -> Spent:
-        """Does a script on a database."""
         return self.run([*before, self.peer, self.path(database), script], "peer.txt")
 
     def run(self, words: Sequence[str], text: str, status: int = 0) -> Spent:
@@ -183,5 +176,4 @@ def same(ours: Spent, theirs: Spent) -> None:
 
 
 def median(spent: Iterable[Spent]) -> float:
-    """The median of the seconds."""
     return statistics.median(it.seconds for it in spent)

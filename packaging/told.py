@@ -60,14 +60,12 @@ def word_of(row: Row) -> str:
 
 
 def spelled(row: Row) -> str:
-    """A word as help has it."""
     if is_argument(row):
         return f"<{row['id']}>" if is_required(row) else f"[{row['id']}]"
     return f"{word_of(row)} <{row['values']}>" if row["values"] else word_of(row)
 
 
 def text_of(row: Row) -> str:
-    """What help says of a word."""
     return row["help"] + (f" [default: {row['defaults']}]" if row["defaults"] else "")
 
 

@@ -58,12 +58,10 @@ def listed() -> list[Command]:
 
 
 def about(name: str) -> str:
-    """What a command does."""
     return told.commands()[name][0]["about"]
 
 
 def texts_of(name: str) -> dict[str, str]:
-    """What help says of each option of a command."""
     return {told.word_of(row): told.text_of(row) for row in told.commands()[name][1] if not told.is_argument(row)}
 
 
@@ -299,7 +297,6 @@ def synopsis() -> str:
 
 
 def commands_of() -> str:
-    """A paragraph for each command, by the texts of its help."""
     texts = []
     for command in listed():
         texts.append(f".TP\n.B {command.name}\n{roff(about(command.name))}.")
@@ -310,12 +307,10 @@ def commands_of() -> str:
 
 
 def house() -> str:
-    """A paragraph for each command of mbdc-house."""
     return "".join(f".TP\n\\fB{roff(it.name)}\\fR {roff_words(it.words)}\n{roff(text)}.\n" for it, text in of_house())
 
 
 def page() -> str:
-    """A paragraph for each option of mbdc-page."""
     return "".join(f".TP\n.BI {roff(option)} \" {value.replace(',', ' | ')}\"\n{roff(text) or 'The language of the page'}.\n"
                    for option, (value, text) in of_page().items())
 

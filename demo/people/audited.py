@@ -26,8 +26,6 @@ SIZE = 10**8  # of digits that a counter shows
 
 
 class Files:
-    """Files by chance."""
-
     def __init__(self, rng: random.Random) -> None:
         self.rng = rng
 
@@ -289,7 +287,6 @@ class Files:
         self.add("end")
 
     def whose(self, flat: str) -> List[str]:
-        """The users of a flat."""
         return [user for _, user in self.users[flat] if user != "-"]
 
 
@@ -340,7 +337,6 @@ def with_line(change: Callable[[str], List[str]], *kinds: str) -> Edit:
 
 
 def last_digit(text: str) -> str:
-    """A number whose last digit is another."""
     return text[:-1] + str((int(text[-1]) + 1) % 10) if text[-1:].isdecimal() else "1"
 
 

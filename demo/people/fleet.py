@@ -56,7 +56,6 @@ class House:
 
     @property
     def image(self) -> pathlib.Path:
-        """The box's image."""
         return self.folder / f"{self.box}.image"
 
     @property

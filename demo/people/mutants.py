@@ -51,7 +51,6 @@ class Mutant(NamedTuple):
     edits: List[Tuple[str, str]]  # what is there once, and what is there instead
 
     def written(self, office: pathlib.Path) -> None:
-        """Makes an office wrong."""
         path = office / self.file
         text = path.read_text(encoding="utf-8")
         for old, new in self.edits:
@@ -68,7 +67,6 @@ def signed(row: str) -> List[str]:
 
 
 def mutants_of(path: pathlib.Path) -> List[Mutant]:
-    """The mutants of a file."""
     found = []
     for head, place, *rows in (it.split("\n") for it in path.read_text(encoding="utf-8").strip("\n").split("\n\n")):
         file, _, judge = place.removeprefix("in ").partition(" by ")

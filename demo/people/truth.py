@@ -105,7 +105,6 @@ class Truth:
         return [(self.names[name], month) for name, month in self.estimated]
 
     def of_places(self, places: List[Place], begins: Moment, ends: Moment, unit: Optional[str] = None) -> Number:
-        """Their sum."""
         numbers = [self.of_place(place, begins, ends, unit) for place in places]
         state = max((number.state for number in numbers), key=WORST.index)
         values = [number.value for number in numbers if number.value is not None]

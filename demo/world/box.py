@@ -26,7 +26,6 @@ class Ended:
 
     @property
     def was_killed(self) -> bool:
-        """Whether it was killed before its end."""
         return self.status == -signal.SIGKILL
 
 
@@ -64,18 +63,15 @@ class Box:
         subprocess.run([str(mbdc), "format", self.image, str(sectors)], check=True)
 
     def call(self, *words: Word, text: str = "", killed_after: Optional[float] = None) -> Ended:
-        """Runs the program with these words."""
         ended = run([self.mbdc, *words], text, killed_after)
         self.kills += ended.was_killed
         return ended
 
     def run(self, lines: Iterable[str], *words: Word, killed_after: Optional[float] = None) -> Ended:
-        """Does the lines of a script."""
         text = "".join(f"{line}\n" for line in lines)
         return self.call("run", self.image, "/dev/stdin", *words, text=text, killed_after=killed_after)
 
     def poll(self, *words: Word, killed_after: Optional[float] = None) -> Ended:
-        """Polls the registered meters."""
         return self.call("poll", self.image, *words, killed_after=killed_after)
 
 

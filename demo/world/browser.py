@@ -63,7 +63,6 @@ class Browser:
         self.driver.set_page_load_timeout(MOST_SECONDS)
 
     def tell(self, command: str, **words: object) -> Any:
-        """Gives a command of Chromium's protocol."""
         return self.driver.execute_cdp_cmd(command, words)
 
     def run(self, script: str, *words: object) -> Any:
@@ -110,7 +109,6 @@ class Browser:
         return at
 
     def press(self, *keys: str) -> None:
-        """Presses keys, one after the other."""
         from selenium.webdriver.common.action_chains import ActionChains
         for key in keys:
             ActionChains(self.driver).send_keys(key).perform()
@@ -125,7 +123,6 @@ class Browser:
         wants(not self.run(CONTRAST, LEAST_CONTRAST), f"{look}: {self.run(CONTRAST, LEAST_CONTRAST)[:5]}")
 
     def keep_picture(self, file: pathlib.Path, width: int) -> None:
-        """Keeps a picture of the whole page."""
         file.parent.mkdir(parents=True, exist_ok=True)
         height = self.run("return document.documentElement.scrollHeight;")
         self.tell("Emulation.setDeviceMetricsOverride", width=width, height=height, deviceScaleFactor=1, mobile=False)

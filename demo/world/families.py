@@ -22,12 +22,10 @@ class Family(NamedTuple):
 
 
 def of_digits(count: int) -> Callable[[int], bytes]:
-    """Data of so many BCD digits."""
     return lambda number: bcd(number, count)
 
 
 def of_bytes(count: int) -> Callable[[int], bytes]:
-    """Data of so many bytes."""
     return lambda number: number.to_bytes(count, "little")
 
 

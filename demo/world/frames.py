@@ -30,17 +30,14 @@ class Identity(NamedTuple):
         return f"{self.number:08}.PAD.{self.version:02X}.{self.kind:02X}"
 
     def wire(self) -> bytes:
-        """Its eight bytes in a telegram's header."""
         return bcd(self.number) + bytes([0x24, 0x40, self.version, self.kind])
 
 
 def checksum(data: bytes) -> int:
-    """The sum of the bytes, modulo 256."""
     return sum(data) % 256
 
 
 def short_frame(control: int, address: int) -> bytes:
-    """A short frame."""
     data = bytes([control, address])
     return bytes([SHORT_START, *data, checksum(data), STOP])
 

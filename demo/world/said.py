@@ -22,7 +22,6 @@ def value_of(record: Object) -> str:
 
 
 def telegram_lines(found: Object) -> Iterator[str]:
-    """The lines of a telegram."""
     yield f"METER {found['meter']['id']} {found['access']} {found['status']['code']}"
     for one in found["records"]:
         about = f"{one['storage']} {one['tariff']} {one['subunit']} {FUNCTIONS.index(one['function'])}"
@@ -32,7 +31,6 @@ def telegram_lines(found: Object) -> Iterator[str]:
 
 
 def fault_line(fault: Object) -> str:
-    """The line of a fault."""
     is_hex = fault["kind"] == "hex"
     return "HEX FAULT" if is_hex else f"{fault['kind'].upper()} FAULT {fault['number']} {fault['name']}"
 

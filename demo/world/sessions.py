@@ -23,7 +23,6 @@ def put(line: str, pieces: dict[str, str]) -> Iterator[str]:
 
 
 def texts() -> Iterator[str]:
-    """The text of each file."""
     common = dict(PIECE.findall((CASES / "common.txt").read_text(encoding="utf-8")))
     for file in sorted(CASES.glob("*.txt")):
         text = file.read_text(encoding="utf-8")

@@ -23,7 +23,6 @@ def random_digits(rng: random.Random, count: int) -> list[int]:
 
 
 def random_bytes(rng: random.Random, count: int) -> list[int]:
-    """So many bytes."""
     return [rng.randrange(256) for _ in range(count)]
 
 

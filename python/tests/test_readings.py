@@ -19,7 +19,6 @@ SENT = ("storage", "subunit", "vib", "data", "quantity", "qualifiers", "reading"
 
 
 def rows_of(name: str) -> List[List[str]]:
-    """The rows of a table beside this file."""
     text = pathlib.Path(__file__).with_name(name).read_text(encoding="ascii")
     return [line.split("\t") for line in text.splitlines() if not line.startswith("#")]
 
@@ -147,7 +146,6 @@ def test_values_are_those_of_json_to_the_last_digit(frame: bytes) -> None:
 
 
 def cell_of(value: object) -> str:
-    """A value as a cell has it."""
     return "-" if value is None else str(value)
 
 
@@ -157,7 +155,6 @@ def meter_of(meter: Optional[Dict[str, Any]]) -> str:
 
 
 def sent_of(record: Dict[str, Any]) -> str:
-    """A record as a cell has it."""
     cells = {**record, "qualifiers": ";".join(record["qualifiers"]) or None}
     return ",".join(cell_of(cells[field]) for field in SENT).replace(" ", "_")
 
