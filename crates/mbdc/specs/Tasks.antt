@@ -52,7 +52,7 @@ Compares {Input} opened left page file ending = (IsOfFile ending page ⊎ IsOfFi
     ⊎ ((shown : Input) × opened page shown × (lines : Input) × opened file lines
     × (outcome : Result Bool ProgramFault) × (name : List ℕ) × ((name ≡ page) ⊎ (name ≡ file))
     × IfOk outcome (λ faulty. faulty ≡ false
-        → IfSome (left shown) (λ text. IfSome (left lines) (λ input. ShowsRight text input)))
+    → IfSome (left shown) (λ text. IfSome (left lines) (λ input. ShowsRight text input)))
     × EndsAs outcome name ending)
 
 -- AN IMAGE IS RESCUED: the old one was copied, and each image that a crash may leave of the new one stands for the state

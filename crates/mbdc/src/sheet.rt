@@ -36,7 +36,9 @@ pub fn audit_sheet<'a, R: Files<File = File> + Print + Eprint + AllocGlobal, S: 
         Err(ending) => return ending,
     };
     match read_whole(host.rt.alloc(), &mut shown) {
-        Ok(text) => host.why.ended(compared(host, text.as_slice(), &mut lines), file),
+        Ok(text) => host
+            .why
+            .ended(compared(host, text.as_slice(), &mut lines), file),
         Err(fault) => host.why.ended(Err(fault), page),
     }
 }
