@@ -231,23 +231,6 @@ impl<'a, W: Sink> TokenWriter<'a, W> {
         self.note(true);
     }
 
-    /// Writes a whole number.
-    pub fn put_whole(&mut self, number: u64)
-        ensures { Added W.Sink self.old self.new (Token.number (decimal number) ∷ []) }
-    {
-        self.put_comma();
-        self.put_decimal(number);
-        self.note(true);
-    }
-
-    /// Writes true or false.
-    pub fn put_boolean(&mut self, flag: bool)
-        ensures { Added W.Sink self.old self.new (Token.boolean flag ∷ []) }
-    {
-        self.put_first(word_of(flag));
-        self.note(true);
-    }
-
     /// Writes null.
     pub fn put_null(&mut self)
         ensures { Added W.Sink self.old self.new (Token.null ∷ []) }
@@ -299,7 +282,8 @@ impl<'a, W: Sink> TokenWriter<'a, W> {
             return self.note(true);
         }
         self.put_name(name);
-        self.put_whole(number);
+        self.put_decimal(number);
+        self.note(true);
     }
 
     /// Writes a field whose value is true or false.
@@ -309,7 +293,8 @@ impl<'a, W: Sink> TokenWriter<'a, W> {
             (Token.key name.now ∷ Token.boolean flag ∷ []) }
     {
         self.put_name(name);
-        self.put_boolean(flag);
+        self.put(word_of(flag));
+        self.note(true);
     }
 
     /// Writes a field of bytes in capital hex digits.

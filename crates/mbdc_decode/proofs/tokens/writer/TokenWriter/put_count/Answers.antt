@@ -3,7 +3,7 @@ use Rattle.std.specs.Prelude.{decimal}
 use Rattle.std.proofs.lemmas.Fmt.{decimal_digit}
 use Rattle.json.specs.Print.{quoted}
 use Rattle.json.specs.Token as Token
-use Rattle.mbdc_decode.proofs.Adding.{◌>>◌, field_added}
+use Rattle.mbdc_decode.proofs.Adding.{◌>>◌, field_added, first_added}
 use Rattle.mbdc_decode.proofs.tokens.writer.TokenWriter.put_count.Goals as goal
 
 pub returns-then-number-lt10 : goal.returns-then-number-lt10
@@ -14,4 +14,4 @@ returns-then-number-lt10 g c =
     ∙ ap (λ (text : List ℕ). cond c.args.self.now.after_value (44 ∷ []) [] ++ (quoted c.args.name.now ++ 58 ∷ text)) (sym digit))
 
 pub returns : goal.returns
-returns g c = c.put_name.ensures >> c.put_whole.ensures
+returns g c = c.put_name.ensures >> first_added (Token.number (decimal c.args.number)) refl c.put_decimal.ensures c.note-2.ensures cc
