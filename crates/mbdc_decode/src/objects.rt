@@ -24,5 +24,5 @@ pub use body::put_body_line;
 pub use content::put_content;
 pub use lines::{json_lines, put_json_lines};
 pub use meter::{put_meter, put_status_object};
-pub use record::{put_counter, put_record, put_unit, put_value};
+pub use record::{put_counter, put_record, put_value};
 pub use row::{Cell, put_line, put_object, put_row};

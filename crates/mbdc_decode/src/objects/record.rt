@@ -1,6 +1,6 @@
 //! A data record.
 
-ghost use Rattle.std.specs.Prelude.{◌≤◌, ◌∷◌, [], length, map, option_map};
+ghost use Rattle.std.specs.Prelude.{◌≤◌, ◌∷◌, length, map, option_map};
 ghost use Rattle.json.specs.Json.{string};
 ghost use Rattle.json.specs.Token as Token;
 ghost use Rattle.json.specs.Tree.{json_tokens};
@@ -10,9 +10,9 @@ ghost use Rattle.mbdc_decode.specs.Writing.{Added};
 ghost use Rattle.mbdc_reading.specs.Names.{names_of};
 ghost use Rattle.mbdc_reading.specs.Sent.{sent_view};
 ghost use Rattle.mbdc_reading.specs.Counter.{counter_view};
-ghost use Rattle.mbdc_decode.specs.Record.{counter_json, name_field, record_json, sent_fields};
+ghost use Rattle.mbdc_decode.specs.Record.{counter_json, record_json, sent_fields};
 ghost use Rattle.mbdc_decode.specs.Record.{told_fields};
-ghost use Rattle.mbdc_decode.specs.Record.{flag_or_null, hex_or_null, qualifier_fields, text_or_null};
+ghost use Rattle.mbdc_decode.specs.Record.{flag_or_null, hex_or_null, text_or_null};
 ghost use Rattle.mbdc_decode.specs.Record.{unit_json, value_fields, value_json, vife_fields};
 
 use crate::tokens::TokenWriter;
@@ -42,18 +42,6 @@ pub fn put_value<W: Sink>(out: &mut TokenWriter<'_, W>, value: &Value)
     out.put_string(value.write_into(&mut room));
 }
 
-/// Writes a unit, or null for none.
-#[tactic(auto, unfolding(crate::specs::Record::unit_json))]
-pub fn put_unit<W: Sink>(out: &mut TokenWriter<'_, W>, unit: &[u8])
-    ensures { Added W.Sink out.old out.new (json_tokens (unit_json unit.now)) }
-{
-    if unit.is_empty() {
-        out.put_null();
-        return;
-    }
-    out.put_string(unit);
-}
-
 // Writes a field of a text, or of null.
 #[inline(always)]
 fn put_maybe<W: Sink>(out: &mut TokenWriter<'_, W>, name: &str, text: Option<&[u8]>)
@@ -66,10 +54,10 @@ fn put_maybe<W: Sink>(out: &mut TokenWriter<'_, W>, name: &str, text: Option<&[u
     }
 }
 
-// Writes a field of a unit, or of null for none.
+/// Writes a field of a unit, or of null for none.
 #[inline(always)]
 #[tactic(auto, unfolding(crate::specs::Record::unit_json))]
-fn put_unit_field<W: Sink>(out: &mut TokenWriter<'_, W>, name: &str, unit: &[u8])
+pub(crate) fn put_unit_field<W: Sink>(out: &mut TokenWriter<'_, W>, name: &str, unit: &[u8])
     ensures { Added W.Sink out.old out.new
         (Token.key name.now ∷ json_tokens (unit_json unit.now)) }
 {
@@ -165,13 +153,6 @@ fn put_sent<W: Sink>(out: &mut TokenWriter<'_, W>, found: &Record<'_>)
     out.put_hex("data", found.content);
 }
 
-// Writes the field of what a record is of.
-fn put_quantity<W: Sink>(out: &mut TokenWriter<'_, W>, name: &str)
-    ensures { Added W.Sink out.old out.new (fields_tokens (name_field name.now ∷ [])) }
-{
-    out.put_text("quantity", name);
-}
-
 // Writes a record: what it is of, its value information block where it has one, its unit, and what is read of it.
 fn put_told<W: Sink>(
     out: &mut TokenWriter<'_, W>,
@@ -188,8 +169,11 @@ fn put_told<W: Sink>(
 {
     out.begin_object();
     put_sent(out, found);
-    put_quantity(out, name);
-    put_qualifiers(out, vib);
+    out.put_text("quantity", name);
+    out.put_name("qualifiers");
+    out.begin_array();
+    put_names(out, false, told_of(vib));
+    out.end_array();
     put_value_fields(out, found, unit, reading, room);
     put_vife_fields(out, found, vib, reading, room);
     out.end_object();
@@ -239,16 +223,6 @@ pub fn put_counter<W: Sink>(out: &mut TokenWriter<'_, W>, counter: &Counter<'_>)
         &counter.reading,
         &mut [0u8; READING_ROOM],
     );
-}
-
-// Writes the field of the names of a block's VIFEs.
-fn put_qualifiers<W: Sink>(out: &mut TokenWriter<'_, W>, vib: &[u8])
-    ensures { Added W.Sink out.old out.new (fields_tokens (qualifier_fields vib.now)) }
-{
-    out.put_name("qualifiers");
-    out.begin_array();
-    put_names(out, false, told_of(vib));
-    out.end_array();
 }
 
 // Writes the names of VIFEs; `after_fc` says that an FC stands before the first.

@@ -9,7 +9,7 @@ ghost use Rattle.mbdc_decode.specs.Row.{field_of, row_fields};
 ghost use Rattle.mbdc_decode.specs.JsonText.{value_line};
 
 use crate::objects::meter::{put_meter, put_status_object};
-use crate::objects::record::{put_unit, put_value};
+use crate::objects::record::{put_unit_field, put_value};
 use crate::tokens::TokenWriter;
 use dc_address::Identity;
 use dc_units::Value;
@@ -66,10 +66,7 @@ fn put_cell<W: Sink>(out: &mut TokenWriter<'_, W>, cell: &Cell<'_>)
             out.put_name(name);
             put_value(out, value);
         }
-        Cell::Unit(name, unit) => {
-            out.put_name(name);
-            put_unit(out, unit);
-        }
+        Cell::Unit(name, unit) => put_unit_field(out, name, unit),
     }
 }
 

@@ -6,13 +6,13 @@ ghost use Rattle.dc_records.specs.Telegram.{parsed};
 ghost use Rattle.mbdc_decode.specs.Object.{fields_tokens, values_tokens};
 ghost use Rattle.mbdc_decode.specs.Writing.{Added};
 ghost use Rattle.mbdc_decode.specs.Record.{record_json};
-ghost use Rattle.mbdc_decode.specs.JsonTelegram.{end_fields, header_fields, records_field};
+ghost use Rattle.mbdc_decode.specs.JsonTelegram.{end_fields, records_field};
 ghost use Rattle.mbdc_decode.specs.JsonTelegram.{telegram_fields};
 
 use crate::objects::record::{RECORD_ROOM, put_record_in};
 use crate::objects::row::{Cell, put_row};
 use crate::tokens::TokenWriter;
-use dc_records::{End, Header, Telegram};
+use dc_records::{End, Telegram};
 use mbdc_io::Sink;
 use mbdc_reading::SentRecords;
 
@@ -63,11 +63,12 @@ pub(crate) fn put_end<W: Sink>(out: &mut TokenWriter<'_, W>, end: End<'_>)
     }
 }
 
-// Writes the meter's identity, the access number and the status byte.
+/// Writes the fields of a telegram.
 #[tactic(auto, unfolding(crate::specs::JsonTelegram::header_fields))]
-fn put_header<W: Sink>(out: &mut TokenWriter<'_, W>, header: &Header)
-    ensures { Added W.Sink out.old out.new (fields_tokens (header_fields header.now)) }
+pub(crate) fn put_telegram<W: Sink>(out: &mut TokenWriter<'_, W>, telegram: &Telegram<'_>)
+    ensures { Added W.Sink out.old out.new (fields_tokens (telegram_fields (parsed telegram.now))) }
 {
+    let header = telegram.header();
     put_row(
         out,
         &[
@@ -76,13 +77,6 @@ fn put_header<W: Sink>(out: &mut TokenWriter<'_, W>, header: &Header)
             Cell::Status("status", header.status),
         ],
     );
-}
-
-/// Writes the fields of a telegram.
-pub(crate) fn put_telegram<W: Sink>(out: &mut TokenWriter<'_, W>, telegram: &Telegram<'_>)
-    ensures { Added W.Sink out.old out.new (fields_tokens (telegram_fields (parsed telegram.now))) }
-{
-    put_header(out, &telegram.header());
     put_records_field(out, SentRecords::of_body(telegram.body()));
     put_end(out, telegram.end());
 }

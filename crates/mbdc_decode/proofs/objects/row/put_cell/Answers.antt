@@ -56,5 +56,5 @@ returns-in-Value g c =
 pub returns-in-Unit : goal.returns-in-Unit
 unfolding fields_tokens
 returns-in-Unit g c =
-    said (fields_tokens (field_of c.args.cell.now ∷ [])) (c.put_name-in-Unit.ensures >> c.put_unit.ensures >> unchanged)
+    said (fields_tokens (field_of c.args.cell.now ∷ [])) (c.put_unit_field.ensures >> unchanged)
     (ap (λ (cell : Cell). fields_tokens (field_of cell ∷ [])) (sym c.in-Unit.is))
