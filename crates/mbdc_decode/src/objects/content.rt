@@ -7,15 +7,12 @@ ghost use Rattle.mbdc_decode.specs.Object.{fields_tokens, object_of, values_toke
 ghost use Rattle.mbdc_decode.specs.Writing.{Added};
 ghost use Rattle.mbdc_reading.specs.Content.{content_of, content_view, end_of, fixed, variable};
 ghost use Rattle.mbdc_reading.specs.Content.{variable_view};
-ghost use Rattle.mbdc_reading.specs.Counter.{counter_view};
 ghost use Rattle.mbdc_reading.specs.Fixed.{counters_of, fixed_view};
 ghost use Rattle.mbdc_decode.specs.Content.{access_of, content_field, content_json, count_or_null};
 ghost use Rattle.mbdc_decode.specs.Content.{counters_field, counters_in, ending_of, fault_json};
-ghost use Rattle.mbdc_decode.specs.Content.{fixed_head, head_fields};
-ghost use Rattle.mbdc_decode.specs.Content.{known_fields, meter_or_null, number_json, reason_json};
-ghost use Rattle.mbdc_decode.specs.Content.{number_fields, refusal_fields, security_field, security_json};
-ghost use Rattle.mbdc_decode.specs.Content.{security_fields, state_fields, state_of, status_of, status_or_null};
-ghost use Rattle.mbdc_decode.specs.Content.{whose_field, whose_json};
+ghost use Rattle.mbdc_decode.specs.Content.{head_fields, known_fields, meter_or_null, number_json, reason_json};
+ghost use Rattle.mbdc_decode.specs.Content.{refusal_fields, security_field, security_fields, state_of};
+ghost use Rattle.mbdc_decode.specs.Content.{status_of, status_or_null, whose_field};
 ghost use Rattle.mbdc_decode.specs.Record.{counter_json};
 ghost use Rattle.mbdc_decode.specs.Row.{field_of};
 
@@ -117,42 +114,15 @@ fn put_security_object<W: Sink>(out: &mut TokenWriter<'_, W>, security: Security
     );
 }
 
-// Writes what a header's configuration says, or null.
-fn put_security_of<W: Sink>(out: &mut TokenWriter<'_, W>, head: &Option<Head>)
-    ensures { Added W.Sink out.old out.new (json_tokens (security_json head.now)) }
-{
-    match head {
-        Some(head) => put_security_object(out, Security::of(head.config), head.config),
-        None => out.put_null(),
-    }
-}
-
 // Writes the field of what a header's configuration says.
 fn put_security<W: Sink>(out: &mut TokenWriter<'_, W>, head: &Option<Head>)
     ensures { Added W.Sink out.old out.new (fields_tokens (security_field head.now ∷ [])) }
 {
     out.put_name("security");
-    put_security_of(out, head);
-}
-
-// Writes the number and the medium of fixed data.
-fn put_number_object<W: Sink>(out: &mut TokenWriter<'_, W>, found: &FixedData<'_>)
-    ensures { Added W.Sink out.old out.new
-        (json_tokens (object_of (number_fields (fixed_view found.now)))) }
-{
-    let mut room = [0u8; 8];
-    out.begin_object();
-    out.put_name("id");
-    out.put_null();
-    out.put_name("number");
-    out.put_string(digits_text(found.number, &mut room));
-    out.put_name("manufacturer");
-    out.put_null();
-    out.put_name("version");
-    out.put_null();
-    out.put_text("medium", medium_of(found.medium));
-    out.put_count("medium_code", u64::from(found.medium));
-    out.end_object();
+    match head {
+        Some(head) => put_security_object(out, Security::of(head.config), head.config),
+        None => out.put_null(),
+    }
 }
 
 // Writes the number and the medium of fixed data, or null.
@@ -160,21 +130,21 @@ fn put_number<W: Sink>(out: &mut TokenWriter<'_, W>, found: &FixedData<'_>)
     ensures { Added W.Sink out.old out.new (json_tokens (number_json (fixed_view found.now))) }
 {
     if found.has_number() {
-        put_number_object(out, found);
-    } else {
+        let mut room = [0u8; 8];
+        out.begin_object();
+        out.put_name("id");
         out.put_null();
+        out.put_name("number");
+        out.put_string(digits_text(found.number, &mut room));
+        out.put_name("manufacturer");
+        out.put_null();
+        out.put_name("version");
+        out.put_null();
+        out.put_text("medium", medium_of(found.medium));
+        out.put_count("medium_code", u64::from(found.medium));
+        return out.end_object();
     }
-}
-
-// Writes the number and the medium of fixed data, or null.
-fn put_whose_of<W: Sink>(out: &mut TokenWriter<'_, W>, found: &Option<FixedData<'_>>)
-    ensures { Added W.Sink out.old out.new
-        (json_tokens (whose_json (option_map fixed_view found.now))) }
-{
-    match found {
-        Some(found) => put_number(out, found),
-        None => out.put_null(),
-    }
+    out.put_null();
 }
 
 // Writes the field of the number and the medium of fixed data.
@@ -183,52 +153,36 @@ fn put_whose<W: Sink>(out: &mut TokenWriter<'_, W>, found: &Option<FixedData<'_>
         (fields_tokens (whose_field (option_map fixed_view found.now) ∷ [])) }
 {
     out.put_name("meter");
-    put_whose_of(out, found);
-}
-
-// Writes the access number and the status byte of fixed data.
-#[tactic(auto, unfolding(crate::specs::Content::state_fields))]
-fn put_state<W: Sink>(out: &mut TokenWriter<'_, W>, access: Option<u8>, status: Option<u8>)
-    ensures { Added W.Sink out.old out.new (fields_tokens (state_fields access status)) }
-{
-    put_row(
-        out,
-        &[
-            count_cell("access", access),
-            status_cell("status", status),
-            Cell::Null("security"),
-        ],
-    );
+    match found {
+        Some(found) => put_number(out, found),
+        None => out.put_null(),
+    }
 }
 
 // Writes the access number and the status byte of fixed data, where they have them.
-fn put_state_of<W: Sink>(out: &mut TokenWriter<'_, W>, found: &Option<FixedData<'_>>)
+#[tactic(auto, unfolding(crate::specs::Content::state_fields))]
+fn put_state<W: Sink>(out: &mut TokenWriter<'_, W>, found: &Option<FixedData<'_>>)
     ensures { Added W.Sink out.old out.new
         (fields_tokens (state_of (option_map fixed_view found.now))) }
 {
     match found {
-        Some(found) => put_state(out, Some(found.access), Some(found.status)),
-        None => put_state(out, None, None),
+        Some(found) => put_row(
+            out,
+            &[
+                Cell::Number("access", u64::from(found.access)),
+                Cell::Status("status", found.status),
+                Cell::Null("security"),
+            ],
+        ),
+        None => put_row(
+            out,
+            &[
+                Cell::Null("access"),
+                Cell::Null("status"),
+                Cell::Null("security"),
+            ],
+        ),
     }
-}
-
-// Writes the fields before the counters of fixed data.
-fn put_fixed_head<W: Sink>(out: &mut TokenWriter<'_, W>, found: &Option<FixedData<'_>>)
-    ensures { Added W.Sink out.old out.new
-        (fields_tokens (fixed_head (option_map fixed_view found.now))) }
-{
-    out.put_text("structure", "fixed");
-    put_whose(out, found);
-    put_state_of(out, found);
-}
-
-// Writes both counters of fixed data.
-fn put_both<W: Sink>(out: &mut TokenWriter<'_, W>, found: &FixedData<'_>)
-    ensures { Added W.Sink out.old out.new (values_tokens (map counter_json
-        (counter_view found.now.first ∷ counter_view found.now.second ∷ []))) }
-{
-    put_counter(out, &found.first);
-    put_counter(out, &found.second);
 }
 
 // Writes the counters of fixed data, where they are read.
@@ -237,7 +191,8 @@ fn put_shown<W: Sink>(out: &mut TokenWriter<'_, W>, found: &FixedData<'_>)
         (values_tokens (map counter_json (counters_of (fixed_view found.now)))) }
 {
     if found.shows_counters() {
-        return put_both(out, found);
+        put_counter(out, &found.first);
+        return put_counter(out, &found.second);
     }
 }
 
@@ -289,7 +244,9 @@ fn put_fixed<W: Sink>(out: &mut TokenWriter<'_, W>, found: &Option<FixedData<'_>
     ensures { Added W.Sink out.old out.new
         (fields_tokens (known_fields (fixed (option_map fixed_view found.now)))) }
 {
-    put_fixed_head(out, found);
+    out.put_text("structure", "fixed");
+    put_whose(out, found);
+    put_state(out, found);
     put_counters_field(out, found);
     put_end(out, End::Plain);
 }
