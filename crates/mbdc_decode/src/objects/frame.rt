@@ -1,17 +1,14 @@
 //! A link frame or its fault.
 
-ghost use Rattle.std.specs.Prelude.{◌≡◌, ◌∷◌, [], ◌++◌, codes, Err, is_err};
+ghost use Rattle.std.specs.Prelude.{◌≡◌, ◌∷◌, [], is_err};
 ghost use Rattle.json.specs.Tree.{json_tokens};
-ghost use Rattle.dc_linkframe.specs.Frame.{seen, long};
+ghost use Rattle.dc_linkframe.specs.Frame.{seen};
 ghost use Rattle.mbdc_decode.specs.Frames.{is_bad_content, is_bad_frame, is_bad};
 ghost use Rattle.mbdc_decode.specs.Object.{fields_tokens};
 ghost use Rattle.mbdc_decode.specs.Writing.{Added};
-ghost use Rattle.mbdc_reading.specs.Content.{content_of};
-ghost use Rattle.mbdc_decode.specs.Content.{content_field};
 ghost use Rattle.mbdc_decode.specs.Fault.{fault_field};
-ghost use Rattle.mbdc_decode.specs.Frame.{place_fields, link_fields};
-ghost use Rattle.mbdc_decode.specs.Frame.{ci_fields, bytes_field, body_fields, content_fields};
-ghost use Rattle.mbdc_decode.specs.Frame.{frame_fields, read_fields, text_fields, text_json};
+ghost use Rattle.mbdc_decode.specs.Frame.{place_fields, link_fields, body_fields, content_fields};
+ghost use Rattle.mbdc_decode.specs.Frame.{frame_fields, text_fields, text_json};
 ghost use Rattle.mbdc_decode.specs.Frame.{body_json, hex_fault_json};
 ghost use Rattle.dc_records.specs.Telegram.{telegram_at};
 
@@ -20,19 +17,11 @@ use crate::objects::row::{Cell, put_object};
 use crate::objects::telegram::put_telegram;
 use crate::read_frame;
 use crate::tokens::TokenWriter;
+use dc_linkframe::Frame;
 use dc_linkframe::control::VARIABLE_DATA;
-use dc_linkframe::{Frame, FrameFault};
+use dc_records::Telegram;
 use dc_records::names::{ci_name, control_name};
-use dc_records::{BodyFault, Telegram};
 use mbdc_io::Sink;
-
-// The control, address and CI bytes of a long frame.
-#[derive(Clone, Copy)]
-struct Head {
-    control: u8,
-    address: u8,
-    ci: u8,
-}
 
 /// Writes the place of a fault, its number and its name.
 pub(crate) fn put_fault<'f, W: Sink>(
@@ -72,40 +61,7 @@ fn put_link<W: Sink>(out: &mut TokenWriter<'_, W>, control: u8, address: u8)
     out.put_count("address", u64::from(address));
 }
 
-// Writes a CI byte.
-fn put_ci<W: Sink>(out: &mut TokenWriter<'_, W>, ci: u8)
-    ensures { Added W.Sink out.old out.new (fields_tokens (ci_fields ci)) }
-{
-    out.put_count("ci", u64::from(ci));
-    out.put_text("ci_name", ci_name(ci));
-}
-
-// Writes bytes that aren't decoded.
-fn put_bytes<W: Sink>(out: &mut TokenWriter<'_, W>, name: &str, bytes: &[u8])
-    ensures { Added W.Sink out.old out.new (fields_tokens (bytes_field name.now bytes.now ∷ [])) }
-{
-    out.put_hex(name, bytes);
-}
-
-// Writes a body, its fault, and what it says all the same.
-fn put_body_fault<W: Sink>(out: &mut TokenWriter<'_, W>, body: &[u8], fault: BodyFault)
-    ensures { Added W.Sink out.old out.new (fields_tokens (body_fields body.now (Err fault))) }
-{
-    put_bytes(out, "body", body);
-    put_fault(out, "body", fault.number(), fault.name());
-    put_content_field(out, VARIABLE_DATA, body);
-}
-
-// Writes a text that is no frame, and its fault.
-fn put_frame_fault<W: Sink>(out: &mut TokenWriter<'_, W>, line: u64, text: &[u8], fault: FrameFault)
-    ensures { Added W.Sink out.old out.new (fields_tokens (read_fields line text.now (Err fault))) }
-{
-    put_place(out, line, "none");
-    put_bytes(out, "bytes", text);
-    put_fault(out, "frame", fault.number(), fault.name());
-}
-
-// Writes a telegram, or its bytes and its fault, and returns whether it has one.
+// Writes a telegram, or its bytes, its fault and what it says all the same, and returns whether it has one.
 fn put_body<W: Sink>(out: &mut TokenWriter<'_, W>, body: &[u8]) -> bool
     ensures tokens { Added W.Sink out.old out.new
         (fields_tokens (body_fields body.now (telegram_at body.now))) }
@@ -117,7 +73,9 @@ fn put_body<W: Sink>(out: &mut TokenWriter<'_, W>, body: &[u8]) -> bool
             false
         }
         Err(fault) => {
-            put_body_fault(out, body, fault);
+            out.put_hex("body", body);
+            put_fault(out, "body", fault.number(), fault.name());
+            put_content_field(out, VARIABLE_DATA, body);
             true
         }
     }
@@ -134,15 +92,6 @@ pub(crate) fn put_body_json<W: Sink>(out: &mut TokenWriter<'_, W>, body: &[u8]) 
     bad
 }
 
-// Writes a body that no telegram is: its bytes, and what it says.
-fn put_other<W: Sink>(out: &mut TokenWriter<'_, W>, ci: u8, body: &[u8])
-    ensures { Added W.Sink out.old out.new (fields_tokens
-        (bytes_field (codes "body") body.now ∷ content_field (content_of ci body.now))) }
-{
-    put_bytes(out, "body", body);
-    put_content_field(out, ci, body);
-}
-
 // Writes a telegram if the CI field states one, otherwise the body's bytes and what it says, and
 // returns whether the body has a fault.
 #[tactic(auto, unfolding(crate::specs::Frame::content_fields, crate::specs::Frames::is_bad_content))]
@@ -151,36 +100,11 @@ fn put_content<W: Sink>(out: &mut TokenWriter<'_, W>, ci: u8, body: &[u8]) -> bo
     ensures fault { result ≡ is_bad_content ci body.now }
 {
     if ci != VARIABLE_DATA {
-        put_other(out, ci, body);
+        out.put_hex("body", body);
+        put_content_field(out, ci, body);
         return false;
     }
     put_body(out, body)
-}
-
-// Writes the fields of a short frame.
-fn put_short<W: Sink>(out: &mut TokenWriter<'_, W>, line: u64, control: u8, address: u8)
-    ensures { Added W.Sink out.old out.new
-        (fields_tokens (place_fields line (codes "short") ++ link_fields control address)) }
-{
-    put_place(out, line, "short");
-    put_link(out, control, address);
-}
-
-// Writes the fields of a long frame, and returns whether its body has a fault.
-fn put_long<W: Sink>(out: &mut TokenWriter<'_, W>, line: u64, head: Head, body: &[u8]) -> bool
-    ensures tokens { Added W.Sink out.old out.new
-        (fields_tokens (frame_fields line (long head.control head.address head.ci body.now))) }
-    ensures fault { result ≡ is_bad_content head.ci body.now }
-{
-    let Head {
-        control,
-        address,
-        ci,
-    } = head;
-    put_place(out, line, "long");
-    put_link(out, control, address);
-    put_ci(out, ci);
-    put_content(out, ci, body)
 }
 
 // Writes the fields of a frame, and returns whether its body has a fault.
@@ -195,7 +119,8 @@ fn put_frame<W: Sink>(out: &mut TokenWriter<'_, W>, line: u64, frame: Frame<'_>)
             false
         }
         Frame::Short { control, address } => {
-            put_short(out, line, control, address);
+            put_place(out, line, "short");
+            put_link(out, control, address);
             false
         }
         Frame::Long {
@@ -204,12 +129,11 @@ fn put_frame<W: Sink>(out: &mut TokenWriter<'_, W>, line: u64, frame: Frame<'_>)
             ci,
             body,
         } => {
-            let head = Head {
-                control,
-                address,
-                ci,
-            };
-            put_long(out, line, head, body)
+            put_place(out, line, "long");
+            put_link(out, control, address);
+            out.put_count("ci", u64::from(ci));
+            out.put_text("ci_name", ci_name(ci));
+            put_content(out, ci, body)
         }
     }
 }
@@ -223,7 +147,9 @@ fn put_shown<W: Sink>(out: &mut TokenWriter<'_, W>, line: u64, text: &[u8]) -> b
     match read_frame(text) {
         Ok(frame) => put_frame(out, line, frame),
         Err(fault) => {
-            put_frame_fault(out, line, text, fault);
+            put_place(out, line, "none");
+            out.put_hex("bytes", text);
+            put_fault(out, "frame", fault.number(), fault.name());
             true
         }
     }
