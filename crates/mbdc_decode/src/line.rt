@@ -6,11 +6,11 @@ ghost use Rattle.dc_units.specs.Quantity.{unit_of};
 ghost use Rattle.dc_records.specs.Record.{view};
 ghost use Rattle.mbdc_io.specs.Hex.{upper_hex};
 ghost use Rattle.mbdc_io.specs.Words.{number_word, byte_word, hex_word};
-ghost use Rattle.mbdc_decode.specs.Seen.{unit_word, point_text, seen_text, seen_word};
-ghost use Rattle.mbdc_decode.specs.Telegram.{record_line, record_words};
+ghost use Rattle.mbdc_decode.specs.Seen.{unit_word, seen_text};
+ghost use Rattle.mbdc_decode.specs.Telegram.{record_line};
 
 use dc_records::Record;
-use dc_units::{Point, Quantity, Seen, TEXT_ROOM, Value, point_of, put_byte, put_piece};
+use dc_units::{Quantity, Seen, TEXT_ROOM, Value, point_of, put_byte, put_piece};
 use itoa::write_digits;
 use mbdc_io::pair_of;
 
@@ -34,9 +34,6 @@ const UNIT_ROOM: usize = 11;
 
 // Room for a value and its unit.
 const POINT_ROOM: usize = TEXT_ROOM + UNIT_ROOM;
-
-// Room for ` = `, a value and its unit.
-const SEEN_ROOM: usize = 3 + POINT_ROOM;
 
 // Each unit after a space, right-aligned, and the length of both; in the order of the quantities.
 static UNITS: [([u8; UNIT_ROOM], u8); 21] = [
@@ -177,60 +174,26 @@ fn put_unit_before(value: &Value, quantity: Quantity, room: &mut [u8], end: usiz
     }
 }
 
-// Writes a point's value and its unit just before `end`, and returns where they begin.
-#[inline(always)]
-#[tactic(auto, unfolding(crate::specs::Seen::point_text))]
-fn put_point_before(point: &Point, room: &mut [u8], end: usize) -> usize
-    requires { (POINT_ROOM ≤ end) × (end ≤ length room.old) }
-    ensures start { (result ≤ end) × (end ≤ result + POINT_ROOM) }
-    ensures written { drop result room.new ≡ point_text point.now ++ drop end room.old }
-{
-    let end = put_unit_before(&point.value, point.quantity, room, end);
-    point.value.put(room, end)
-}
-
 // Writes a point, or that the record has no point, just before `end`, and returns where it begins.
 #[inline(always)]
+#[tactic(auto, unfolding(crate::specs::Seen::point_text))]
 fn put_answer_before(seen: &Seen, room: &mut [u8], end: usize) -> usize
     requires { (POINT_ROOM ≤ end) × (end ≤ length room.old) }
     ensures start { (result ≤ end) × (end ≤ result + POINT_ROOM) }
     ensures written { drop result room.new ≡ seen_text seen.now ++ drop end room.old }
 {
     match seen {
-        Seen::Point(point) => put_point_before(point, room, end),
+        Seen::Point(point) => {
+            let end = put_unit_before(&point.value, point.quantity, room, end);
+            point.value.put(room, end)
+        }
         Seen::Other => put_piece(b"other", room, end),
     }
 }
 
-// Writes the decoded value of a record's data just before `end`, and returns where it begins.
-#[inline(always)]
-#[tactic(auto, unfolding(crate::specs::Seen::seen_word))]
-fn put_seen_before(found: &Record<'_>, room: &mut [u8], end: usize) -> usize
-    requires { (SEEN_ROOM ≤ end) × (end ≤ length room.old) }
-    ensures start { (result ≤ end) × (end ≤ result + SEEN_ROOM) }
-    ensures written { drop result room.new ≡ seen_word (view found.now) ++ drop end room.old }
-{
-    let start = put_answer_before(&point_of(found), room, end);
-    put_piece(b" = ", room, start)
-}
-
-// Writes the numbers of a record just before `end`, and returns where they begin.
-#[inline(always)]
-#[tactic(auto, unfolding(crate::specs::Telegram::record_words))]
-fn put_numbers_before(found: &Record<'_>, room: &mut [u8], end: usize) -> usize
-    requires { (4 * NUMBER_ROOM ≤ end) × (end ≤ length room.old) }
-    ensures start { (result ≤ end) × (end ≤ result + 4 * NUMBER_ROOM) }
-    ensures written { drop result room.new ≡ record_words (view found.now) ++ drop end room.old }
-{
-    let end = put_number_before(u64::from(found.function), room, end);
-    let end = put_number_before(u64::from(found.subunit), room, end);
-    let end = put_number_before(u64::from(found.tariff), room, end);
-    put_number_before(found.storage, room, end)
-}
-
 /// Writes the line of a record with few bytes so that it ends with the room, and returns where it begins.
 #[inline(always)]
-#[tactic(auto, unfolding(crate::specs::Telegram::record_line))]
+#[tactic(auto, unfolding(crate::specs::Telegram::record_line, crate::specs::Telegram::record_words, crate::specs::Seen::seen_word))]
 pub fn put_line_before(found: &Record<'_>, room: &mut [u8]) -> usize
     requires room { LINE_ROOM ≤ length room.old }
     requires vib { length found.now.vib.now ≤ FEW }
@@ -240,9 +203,13 @@ pub fn put_line_before(found: &Record<'_>, room: &mut [u8]) -> usize
 {
     let end = room.len();
     put_byte(b'\n', room, end);
-    let end = put_seen_before(found, room, end - 1);
+    let end = put_answer_before(&point_of(found), room, end - 1);
+    let end = put_piece(b" = ", room, end);
     let end = put_hex_word_before(found.content, room, end);
     let end = put_hex_word_before(found.vib, room, end);
-    let end = put_numbers_before(found, room, end);
+    let end = put_number_before(u64::from(found.function), room, end);
+    let end = put_number_before(u64::from(found.subunit), room, end);
+    let end = put_number_before(u64::from(found.tariff), room, end);
+    let end = put_number_before(found.storage, room, end);
     put_piece(b"RECORD", room, end)
 }
