@@ -5,14 +5,13 @@ ghost use Rattle.json.specs.Tree.{json_tokens};
 ghost use Rattle.dc_records.specs.Seen.{ending};
 ghost use Rattle.mbdc_decode.specs.Object.{fields_tokens, object_of, values_tokens};
 ghost use Rattle.mbdc_decode.specs.Writing.{Added};
-ghost use Rattle.mbdc_reading.specs.Content.{content_of, content_view, end_of, fixed, variable};
-ghost use Rattle.mbdc_reading.specs.Content.{variable_view};
+ghost use Rattle.mbdc_reading.specs.Content.{content_of, content_view, end_of, variable_view};
 ghost use Rattle.mbdc_reading.specs.Fixed.{counters_of, fixed_view};
-ghost use Rattle.mbdc_decode.specs.Content.{access_of, content_field, content_json, count_or_null};
+ghost use Rattle.mbdc_decode.specs.Content.{content_field, content_json, count_or_null};
 ghost use Rattle.mbdc_decode.specs.Content.{counters_field, counters_in, ending_of, fault_json};
 ghost use Rattle.mbdc_decode.specs.Content.{head_fields, known_fields, meter_or_null, number_json, reason_json};
-ghost use Rattle.mbdc_decode.specs.Content.{refusal_fields, security_field, security_fields, state_of};
-ghost use Rattle.mbdc_decode.specs.Content.{status_of, status_or_null, whose_field};
+ghost use Rattle.mbdc_decode.specs.Content.{security_field, security_fields, state_of};
+ghost use Rattle.mbdc_decode.specs.Content.{whose_field};
 ghost use Rattle.mbdc_decode.specs.Record.{counter_json};
 ghost use Rattle.mbdc_decode.specs.Row.{field_of};
 
@@ -50,51 +49,29 @@ fn meter_cell(name: &str, meter: Option<Identity>) -> Cell<'_>
     }
 }
 
-// A status byte's cell, or null.
-fn status_cell(name: &str, status: Option<u8>) -> Cell<'_>
-    ensures { field_of result ≡ (name.now, status_or_null status) }
-{
-    match status {
-        Some(status) => Cell::Status(name, status),
-        None => Cell::Null(name),
-    }
-}
-
-// The access number of a header.
-fn access_of(head: &Option<Head>) -> Option<u8>
-    ensures { result ≡ access_of head.now }
-{
-    match head {
-        Some(head) => Some(head.access),
-        None => None,
-    }
-}
-
-// The status byte of a header.
-fn status_of(head: &Option<Head>) -> Option<u8>
-    ensures { result ≡ status_of head.now }
-{
-    match head {
-        Some(head) => Some(head.status),
-        None => None,
-    }
-}
-
 // Writes the structure, the meter, the access number and the status byte of variable data.
 #[tactic(auto, unfolding(crate::specs::Content::head_fields))]
 fn put_head<W: Sink>(out: &mut TokenWriter<'_, W>, variable: &Variable<'_>)
     ensures { Added W.Sink out.old out.new
         (fields_tokens (head_fields (variable_view variable.now))) }
 {
-    put_row(
-        out,
-        &[
-            Cell::Text("structure", variable.structure.name().as_bytes()),
-            meter_cell("meter", variable.meter),
-            count_cell("access", access_of(&variable.head)),
-            status_cell("status", status_of(&variable.head)),
-        ],
-    );
+    let structure = Cell::Text("structure", variable.structure.name().as_bytes());
+    let meter = meter_cell("meter", variable.meter);
+    match &variable.head {
+        Some(head) => put_row(
+            out,
+            &[
+                structure,
+                meter,
+                Cell::Number("access", u64::from(head.access)),
+                Cell::Status("status", head.status),
+            ],
+        ),
+        None => put_row(
+            out,
+            &[structure, meter, Cell::Null("access"), Cell::Null("status")],
+        ),
+    }
 }
 
 // Writes what a configuration says.
@@ -228,37 +205,25 @@ fn end_of<'a>(variable: &Variable<'a>) -> End<'a>
     }
 }
 
-// Writes what stands before the fault of variable data.
-fn put_variable<W: Sink>(out: &mut TokenWriter<'_, W>, found: &Variable<'_>)
-    ensures { Added W.Sink out.old out.new
-        (fields_tokens (known_fields (variable (variable_view found.now)))) }
-{
-    put_head(out, found);
-    put_security(out, &found.head);
-    put_records_field(out, found.records());
-    put_end(out, end_of(found));
-}
-
-// Writes what stands before the fault of fixed data.
-fn put_fixed<W: Sink>(out: &mut TokenWriter<'_, W>, found: &Option<FixedData<'_>>)
-    ensures { Added W.Sink out.old out.new
-        (fields_tokens (known_fields (fixed (option_map fixed_view found.now)))) }
-{
-    out.put_text("structure", "fixed");
-    put_whose(out, found);
-    put_state(out, found);
-    put_counters_field(out, found);
-    put_end(out, End::Plain);
-}
-
 // Writes what stands before the fault.
 fn put_known<W: Sink>(out: &mut TokenWriter<'_, W>, content: &Content<'_>)
     ensures { Added W.Sink out.old out.new
         (fields_tokens (known_fields (content_view content.now))) }
 {
     match content {
-        Content::Variable(variable) => put_variable(out, variable),
-        Content::Fixed(found) => put_fixed(out, found),
+        Content::Variable(variable) => {
+            put_head(out, variable);
+            put_security(out, &variable.head);
+            put_records_field(out, variable.records());
+            put_end(out, end_of(variable));
+        }
+        Content::Fixed(found) => {
+            out.put_text("structure", "fixed");
+            put_whose(out, found);
+            put_state(out, found);
+            put_counters_field(out, found);
+            put_end(out, End::Plain);
+        }
     }
 }
 
@@ -287,18 +252,6 @@ fn put_reason<W: Sink>(out: &mut TokenWriter<'_, W>, reason: Option<Reason>)
     }
 }
 
-// Writes the fault, and why the register doesn't take the body.
-fn put_refusal<W: Sink>(
-    out: &mut TokenWriter<'_, W>,
-    fault: Option<BodyFault>,
-    reason: Option<Reason>,
-)
-    ensures { Added W.Sink out.old out.new (fields_tokens (refusal_fields fault reason)) }
-{
-    put_maybe_fault(out, fault);
-    put_reason(out, reason);
-}
-
 /// Writes what a body says.
 pub fn put_content<W: Sink>(out: &mut TokenWriter<'_, W>, content: &Content<'_>)
     ensures { Added W.Sink out.old out.new
@@ -306,17 +259,9 @@ pub fn put_content<W: Sink>(out: &mut TokenWriter<'_, W>, content: &Content<'_>)
 {
     out.begin_object();
     put_known(out, content);
-    put_refusal(out, content.fault(), content.reason());
+    put_maybe_fault(out, content.fault());
+    put_reason(out, content.reason());
     out.end_object();
-}
-
-// Writes the field of what a body says.
-fn put_named<W: Sink>(out: &mut TokenWriter<'_, W>, content: &Content<'_>)
-    ensures { Added W.Sink out.old out.new
-        (fields_tokens ((codes "content", content_json (content_view content.now)) ∷ [])) }
-{
-    out.put_name("content");
-    put_content(out, content);
 }
 
 /// Writes the field of what the body of a long frame with this CI field says; nothing for another CI field.
@@ -325,7 +270,10 @@ pub(crate) fn put_content_field<W: Sink>(out: &mut TokenWriter<'_, W>, ci: u8, b
         (fields_tokens (content_field (content_of ci body.now))) }
 {
     match content_of(ci, body) {
-        Some(content) => put_named(out, &content),
+        Some(content) => {
+            out.put_name("content");
+            put_content(out, &content);
+        }
         None => {}
     }
 }
