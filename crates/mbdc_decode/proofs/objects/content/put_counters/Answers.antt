@@ -4,7 +4,7 @@ use Rattle.mbdc_decode.proofs.ObjectTexts.{no_values}
 use Rattle.mbdc_reading.specs.Fixed.{fixed_view}
 use Rattle.mbdc_decode.specs.Content.{counters_in}
 use Rattle.mbdc_decode.specs.Record.{counter_json}
-use Rattle.mbdc_decode.proofs.Adding.{◌>>◌, unchanged, said}
+use Rattle.mbdc_decode.proofs.Adding.{unchanged, said}
 use Rattle.mbdc_decode.proofs.objects.content.put_counters.Goals as goal
 
 pub returns-in-None : goal.returns-in-None

@@ -1,10 +1,10 @@
-use Rattle.std.proofs.Common.{List, Option, [], ◌∷◌, append_assoc, append-nil, ap, sym, option_map}
+use Rattle.std.proofs.Common.{List, Option, ◌∷◌, append_assoc, append-nil, ap, sym, option_map}
 use Rattle.dc_records.specs.Body.{plain}
 use Rattle.mbdc_decode.specs.Object.{Field, fields_tokens}
 use Rattle.mbdc_decode.proofs.ObjectTexts.{fields-around, fields-cons}
 use Rattle.mbdc_reading.specs.Content.{Content, Variable, content_view, fixed, variable, variable_view, sents_of, end_of}
 use Rattle.mbdc_reading.specs.Fixed.{Fixed, fixed_view}
-use Rattle.mbdc_decode.specs.Content.{counters_field, counters_in, ending_of, fixed_head, fixed_name, head_fields, known_fields, security_field, state_of, whose_field}
+use Rattle.mbdc_decode.specs.Content.{counters_field, counters_in, ending_of, fixed_head, fixed_name, head_fields, known_fields, security_field}
 use Rattle.mbdc_decode.specs.JsonTelegram.{records_field, end_fields}
 use Rattle.mbdc_decode.proofs.Adding.{◌>>◌, unchanged, said}
 use Rattle.mbdc_decode.proofs.objects.content.put_known.Goals as goal

@@ -1,4 +1,4 @@
-use Rattle.std.proofs.Common.{◌≡◌, ℕ, List, [], ◌∷◌, append-nil, append_assoc, refl, ap, sym, Err, codes}
+use Rattle.std.proofs.Common.{◌≡◌, ℕ, List, [], ◌∷◌, append-nil, refl, ap, sym, Err, codes}
 use Rattle.std.specs.Prelude.{Result}
 use Rattle.json.specs.Token as Token
 use Rattle.mbdc_io.specs.Hex.{upper_hex}
