@@ -5,7 +5,7 @@ ghost use Rattle.mbdc_io.specs.Written.{Wrote};
 ghost use Rattle.mbdc_log.specs.Halves.{half_start, half_end, longest_half};
 ghost use Rattle.mbdc_decode.specs.Pieces.{piece_text};
 ghost use Rattle.mbdc_looks.specs.Look.{IsPlaced, seen_of};
-ghost use Rattle.mbdc_looks.specs.Text.{ahead_text, image_text, number_line, place_text};
+ghost use Rattle.mbdc_looks.specs.Text.{image_text, number_line, place_text};
 ghost use Rattle.mbdc_looks.specs.Text.{refused_line, seen_text, serial_word, slot_line, summary_text};
 
 use crate::look::{Look, Slots};
@@ -141,16 +141,6 @@ fn put_summary<W: Sink>(out: &mut W, sum: &Summary) -> Result<(), IoFault>
     )
 }
 
-// Writes a sector that is ahead of the state, if one is.
-fn put_ahead<W: Sink>(out: &mut W, ahead: Option<u32>) -> Result<(), IoFault>
-    ensures { Wrote W.Sink result out.old out.new (ahead_text ahead) }
-{
-    match ahead {
-        Some(sector) => put_number_line(out, b"AHEAD", u64::from(sector)),
-        None => Ok(()),
-    }
-}
-
 /// Writes why an image doesn't open.
 #[tactic(auto, unfolding(crate::specs::Text::refused_line))]
 pub(crate) fn put_refused_line<W: Sink>(out: &mut W, fault: OpenFault) -> Result<(), IoFault>
@@ -220,7 +210,10 @@ pub(crate) fn put_image<A: Allocator + Copy, W: Sink>(
     put_slot(out, 1, &slots.first)?;
     put_slot(out, 2, &slots.second)?;
     put_found(out, half_len, &look.found)?;
-    put_ahead(out, look.outlook.ahead)?;
+    match look.outlook.ahead {
+        Some(sector) => put_number_line(out, b"AHEAD", u64::from(sector))?,
+        None => {}
+    }
     match look.outlook.refusal {
         Some(fault) => put_refused_line(out, fault),
         None => Ok(()),
