@@ -1,0 +1,4 @@
+-- lemmas by topic
+
+-- a page beside its file
+mod Shown

@@ -22,6 +22,7 @@ use Rattle.mbdc_files.specs.Formatted.{IsFormatted, IsUnmade}
 use Rattle.mbdc_io.specs.Lines.{lines_of}
 use Rattle.mbdc_log.specs.declared.greatest.Greatest.{Greatest}
 use Rattle.mbdc_log.specs.declared.rescuing.Source.{Source}
+use Rattle.mbdc_sheet.specs.Sheet.{is_sheet}
 
 -- THE ANSWER OF AN ENGINE: whether a line or frame of the input has a fault, and of published numbers that they may be
 -- wrong.
@@ -37,6 +38,22 @@ abbrev pub Works : {Input : Type 0} → (List ℕ → Input → Type 0) → (Inp
     → Ending → Type 0
 Works {Input} opened left engine name ending = IsOfFile ending name ⊎ ((input : Input) × opened name input
     × (outcome : Result Bool ProgramFault) × IfOk outcome (Answers engine (left input)) × EndsAs outcome name ending)
+
+-- A PAGE SHOWS A RIGHT FILE: the file's numbers are what its telegrams give, and the page shows them and no others.
+pub record ShowsRight (page file : List ℕ) : Type 0 where
+  pub right : IsRight false (lines_of file)
+  pub shown : is_sheet page (lines_of file) ≡ true
+
+-- A PAGE BESIDE ITS FILE: both were opened, and without a fault the page shows a right file; the ending is that answer,
+-- or says what stopped the comparison, and of which of the two; or one of them isn't opened.
+abbrev pub Compares : {Input : Type 0} → (List ℕ → Input → Type 0) → (Input → Option (List ℕ)) → (page file : List ℕ)
+    → Ending → Type 0
+Compares {Input} opened left page file ending = (IsOfFile ending page ⊎ IsOfFile ending file)
+    ⊎ ((shown : Input) × opened page shown × (lines : Input) × opened file lines
+    × (outcome : Result Bool ProgramFault) × (name : List ℕ) × ((name ≡ page) ⊎ (name ≡ file))
+    × IfOk outcome (λ faulty. faulty ≡ false
+    → IfSome (left shown) (λ text. IfSome (left lines) (λ input. ShowsRight text input)))
+    × EndsAs outcome name ending)
 
 -- AN IMAGE IS RESCUED: the old one was copied, and each image that a crash may leave of the new one stands for the state
 -- that was rescued of the copy.
@@ -65,7 +82,7 @@ Runs {Old} {New} {Input} s (Copy image file) ending = (IsUncopied ending image.n
     ⊎ ((ending ≡ Clean) × (copy : Old) × (read : Old) × (made : New) × s.copied image.now copy
     × s.named file.now made × IsCopied s.old s.new copy read made)
 Runs s (Rescue image file) ending = ending ≡ Clean → Rescues s.old s.new (s.copied image.now) (s.named file.now)
-Runs s (Sheet page file) ending = Unit {0}
+Runs s (Sheet page file) ending = Compares s.opened s.left page.now file.now ending
 Runs s (Run task) ending = Unit {0}
 Runs s (Report image table is_json) ending = Unit {0}
 Runs s (Inspect image) ending = Unit {0}

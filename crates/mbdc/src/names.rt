@@ -1,5 +1,8 @@
 //! The meters that words name, in the register of an image.
 
+ghost use Rattle.std.specs.Prelude.{IfOk};
+ghost use Rattle.dc_meters.specs.Means.{AreMeant};
+
 use dc_address::Identity;
 use dc_meters::House;
 use dc_meters::named::{NameFault, Named, having, resolve_all};
@@ -49,7 +52,9 @@ pub fn meters_in<'a>(
     house: &House<Global>,
     names: &[Named],
     option: &str,
-) -> Result<Vec<Identity>, Ending<'a>> {
+) -> Result<Vec<Identity>, Ending<'a>>
+    ensures { IfOk result (λ meters. AreMeant house.now.state names.now meters.items) }
+{
     let (digits, several) = match resolve_all(alloc, house, names) {
         Ok(meters) => return Ok(meters),
         Err(NameFault::NoMemory) => return Err(Ending::Memory),

@@ -1,5 +1,8 @@
 //! `audit --sheet`: a tenant's page beside its audit file.
 
+ghost use Rattle.std.specs.Prelude.{◌≡◌, IfOk, IfSome, false};
+ghost use Rattle.mbdc.specs.Tasks.{Compares, ShowsRight};
+
 use crate::fit::read_whole;
 use crate::system::System;
 use mbdc_audit::audit;
@@ -21,7 +24,9 @@ pub fn audit_sheet<'a, R: Files<File = File> + Print + Eprint + AllocGlobal, S: 
     system: &S,
     page: &'a str,
     file: &'a str,
-) -> Ending<'a> {
+) -> Ending<'a>
+    ensures { Compares (S.opened system.now) S.Lines.left page.now file.now result }
+{
     let mut shown = match system.lines(page, false) {
         Ok(shown) => shown,
         Err(ending) => return ending,
@@ -43,7 +48,10 @@ fn compared<R: Files<File = File> + Print + Eprint + AllocGlobal, S: Source>(
     host: &Host<'_, R>,
     page: &[u8],
     reader: &mut S,
-) -> Result<bool, ProgramFault> {
+) -> Result<bool, ProgramFault>
+    ensures { IfOk result (λ faulty. faulty ≡ false
+        → IfSome (S.left reader.old) (λ input. ShowsRight page.now input)) }
+{
     let alloc = host.rt.alloc();
     let file = read_whole(alloc, reader)?;
     let mut lines = Bytes::from_slice(alloc, file.as_slice())?;
