@@ -51,8 +51,8 @@ impl<B: Bus + Drop> Listening<'_, B> {
     }
 }
 
-// How many answers may still be noise after this one: silence is none, and after a frame nothing is given up. A frame
-// that closed a wildcard is a frame.
+// How many answers may still be noise after this one: silence is not counted, and after a frame nothing is given up. A
+// frame that closed a wildcard is a frame.
 fn left_with(others: &[Other], answer: &AnswerBuf, left: Option<u8>) -> Option<u8>
     ensures { result ≡ left_with others.now answer.now left }
 {
