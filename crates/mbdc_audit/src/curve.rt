@@ -501,25 +501,6 @@ impl<'w, 'a, A: Allocator + Copy> Curve<'w, 'a, A> {
         }
         Grade::Measured
     }
-
-    /// What a place consumed in a period, and the first mark that applies.
-    pub fn graded(&self, from: u64, to: u64) -> Amount
-        ensures grade { IsInOrder self.now.entries.items → from ≤ to → result.grade
-            ≡ grade (map run_of self.now.runs.now) (known_in self.now.values.items) from to }
-        ensures amount { IsInOrder self.now.entries.items → from ≤ to → result.amount
-            ≡ (if has_number (grade (map run_of self.now.runs.now) (known_in self.now.values.items) from to)
-            then amount (map run_of self.now.runs.now) (known_in self.now.values.items) from to else None) }
-    {
-        let amount = self.amount(from, to);
-        let grade = self.grade(amount, from, to);
-        if grade.told().1 < UNCLEAR {
-            return Amount { amount, grade };
-        }
-        Amount {
-            amount: None,
-            grade,
-        }
-    }
 }
 
 // Whether two values are the same, or none is there.
@@ -578,7 +559,15 @@ fn graded_of<'a, A: Allocator + Copy>(
         → IsMarked (map run_of runs.now) (known_by is_told values.now) from to a) }
 {
     let curve = Curve::of(alloc, runs, values, is_told)?;
-    Ok(curve.graded(from, to))
+    let amount = curve.amount(from, to);
+    let grade = curve.grade(amount, from, to);
+    if grade.told().1 < UNCLEAR {
+        return Ok(Amount { amount, grade });
+    }
+    Ok(Amount {
+        amount: None,
+        grade,
+    })
 }
 
 /// What a place consumed in a period, and the mark: measured only where it is the same without every put value.

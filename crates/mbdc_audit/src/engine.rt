@@ -49,39 +49,23 @@ fn read_file<A: Allocator + Copy, R: Source>(
     Ok(None)
 }
 
-// Prints that a device type was allowed for a use, and why.
-fn put_allowed<'t, W: Sink>(
-    out: &mut W,
-    line: u64,
-    name: &'t [u8],
-    kind: &'t [u8],
-    why: &'t [u8],
-) -> Result<(), IoFault> {
-    put_pieces(
-        out,
-        &[
-            Text(b"AS line "),
-            Number(line),
-            Text(b": "),
-            Text(name),
-            Text(b" by "),
-            Text(kind),
-            Text(b": "),
-            Text(why),
-            Text(b"\n"),
-        ],
-    )
-}
-
-// Prints each device type that was allowed for a use.
+// Prints each device type that was allowed for a use, and why.
 fn put_all_allowed<A: Allocator + Copy, W: Sink>(
     out: &mut W,
     house: &House<'_, A>,
 ) -> Result<(), IoFault> {
     'allowed: for allowed in &house.allowed {
         let kind = pair_of(allowed.kind);
-        let name = house.used(allowed.used).name;
-        put_allowed(out, allowed.line, name, &kind, allowed.why)?;
+        let words = [
+            Text(b"AS line "),
+            Number(allowed.line),
+            Text(b": "),
+            Text(house.used(allowed.used).name),
+            Text(b" by "),
+        ];
+        put_pieces(out, &words)?;
+        out.put(&kind)?;
+        put_pieces(out, &[Text(b": "), Text(allowed.why), Text(b"\n")])?;
     }
     Ok(())
 }
@@ -95,7 +79,7 @@ impl<'s, W: Sink> Teller<'s, W> {
         counts.differ == 0 && counts.rules == 0 && counts.refused == 0
     }
 
-    // Walks over a house three times, and returns whether nothing was found.
+    // Walks over a house three times, prints the closing line, and returns whether nothing was found.
     fn walk<'a, A: Allocator + Copy, F: Sink>(
         &mut self,
         alloc: A,
@@ -111,7 +95,29 @@ impl<'s, W: Sink> Teller<'s, W> {
         self.check_house(alloc, house)?;
         let is_sound = self.is_clean();
         self.check_numbers(alloc, house, filler)?;
-        self.close(house.places.len() as u64)?;
+        let counts = self.counts;
+        let words = [
+            Text(b"numbers "),
+            Number(counts.numbers),
+            Text(b", differ "),
+            Number(counts.differ),
+            Text(b", rules "),
+            Number(counts.rules),
+            Text(b", readings "),
+            Number(counts.readings),
+            Text(b", refused "),
+            Number(counts.refused),
+            Text(b", by hand "),
+            Number(counts.by_hand),
+            Text(b", estimated "),
+            Number(counts.estimated),
+            Text(b", struck "),
+            Number(counts.struck),
+            Text(b", places "),
+            Number(house.places.len() as u64),
+            Text(b"\n"),
+        ];
+        put_pieces(self.out, &words)?;
         Ok(is_read && is_sound && self.is_clean())
     }
 

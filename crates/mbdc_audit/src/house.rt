@@ -63,7 +63,7 @@ impl Fact {
             | (Fact::Emissions(used), Fact::Emissions(others)) => used == others,
             (Fact::Price(used, unit), Fact::Price(others, another))
             | (Fact::Average(used, unit), Fact::Average(others, another)) => {
-                used == others && unit.is(another)
+                used == others && unit == another
             }
             (Fact::Degrees, Fact::Degrees) => true,
             _ => false,

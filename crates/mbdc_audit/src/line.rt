@@ -399,13 +399,6 @@ pub fn is_asked(line: &Line<'_>) -> bool
     is_number && line.fields.iter().any(|field| has_mark(field))
 }
 
-/// Whether a number is of a place.
-pub fn is_of_place(word: Word) -> bool
-    ensures { result ≡ is_of_place word }
-{
-    matches!(word, Word::Shown | Word::Value)
-}
-
 /// Where the use stands in a line of a number of the house.
 pub fn use_place(word: Word) -> usize
     ensures place { result ≡ use_place word }
@@ -426,11 +419,4 @@ pub fn is_fed(text: &[u8]) -> bool
         Some(last) => *last == b'\n',
         None => false,
     }
-}
-
-/// Whether a number, which counts from 1, is that of a place.
-pub fn is_number_of(number: u64, place: u64) -> bool
-    ensures { IsTrue result ↔ (number ≡ place + 1) }
-{
-    0 < number && number - 1 == place
 }

@@ -1,7 +1,7 @@
 //! Units of numbers, and what is computed of them.
 
 ghost use Rattle.std.specs.Prelude.{◌≡◌, ◌<◌, IfOk, IfSome, Some};
-ghost use Rattle.mbdc_audit.specs.Number.{percent, scale_of, times};
+ghost use Rattle.mbdc_audit.specs.Number.{scale_of, times};
 
 use crate::exact::Exact;
 use crate::fault::AuditFault;
@@ -52,24 +52,4 @@ pub fn times(exact: Exact, ratio: u64, divisor: u128) -> Result<Exact, AuditFaul
         .ok_or(AuditFault::TooLarge)?;
     let den = exact.den.checked_mul(divisor).ok_or(AuditFault::TooLarge)?;
     Ok(Exact { num, den, ..exact })
-}
-
-/// The change from the second number to the first in per cent, for numbers of one denominator; `None` where the second
-/// is 0.
-pub fn percent(here: Exact, there: Exact) -> Result<Option<Exact>, AuditFault>
-    ensures { IfOk result (λ x. x ≡ percent here there) }
-{
-    if there.num == 0 {
-        return Ok(None);
-    }
-    let num = here
-        .num
-        .abs_diff(there.num)
-        .checked_mul(100)
-        .ok_or(AuditFault::TooLarge)?;
-    Ok(Some(Exact {
-        is_negative: here.num < there.num,
-        num,
-        den: there.num,
-    }))
 }

@@ -239,19 +239,7 @@ fn value_text(amount: u64, size: u64) -> Result<Decimal, AuditFault> {
     Ok(found)
 }
 
-// The text of a number, or a dash.
-fn text_of<A: Allocator + Copy>(alloc: A, number: Option<Decimal>) -> Result<Vec<u8, A>, Stop>
-    ensures { IfOk result (λ t. t.items ≡ decimal_or_dash number) }
-{
-    let Some(decimal) = number else {
-        return Ok(Vec::from_slice(alloc, b"-")?);
-    };
-    let mut room = [0u8; TEXT_ROOM];
-    let text = Written::Number(decimal).write_into(&mut room);
-    Ok(Vec::from_slice(alloc, text)?)
-}
-
-// The fields that say what holds: the text, and what is beside it.
+// The fields that say what holds: the text of a number, or a dash, and what is beside it.
 fn texts_of<A: Allocator + Copy>(
     alloc: A,
     text: Option<Decimal>,
@@ -260,7 +248,12 @@ fn texts_of<A: Allocator + Copy>(
     ensures { IfOk result (λ t. map (λ f. f.items) t.items ≡ decimal_or_dash text ∷ texts_beside beside) }
 {
     let mut texts: Vec<Vec<u8, A>, A> = Vec::new(alloc);
-    texts.push(text_of(alloc, text)?)?;
+    let mut room = [0u8; TEXT_ROOM];
+    let text = match text {
+        Some(decimal) => Vec::from_slice(alloc, Written::Number(decimal).write_into(&mut room))?,
+        None => Vec::from_slice(alloc, b"-")?,
+    };
+    texts.push(text)?;
     match beside {
         Beside::Nothing => {}
         Beside::Mark(grade) => texts.push(Vec::from_slice(alloc, grade.told().0.as_bytes())?)?,

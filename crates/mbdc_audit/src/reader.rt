@@ -29,10 +29,7 @@ use crate::fault::{AuditFault, Stop};
 use crate::house::{
     Allowed, Declared, Fact, House, Number, Part, Place, Span, Struck, Use, User, Value, Window,
 };
-use crate::line::{
-    BEGUN, ENDED, Line, Word, is_asked, is_fed, is_header, is_number_of, is_of_place, may_follow,
-    use_place,
-};
+use crate::line::{BEGUN, ENDED, Line, Word, is_asked, is_fed, is_header, may_follow, use_place};
 use crate::number::scale_in;
 use crate::uses::{Counted, Unit, size_named};
 use crate::values::{field, value_of, vib};
@@ -327,7 +324,7 @@ impl<'a, A: Allocator + Copy> Reader<'a, A> {
         let fact = self.fact(line)?;
         let at = span_place(fact);
         let (span, ratio) = (self.span(line.number(at))?, line.number(at + 1));
-        only_if(!self.has(fact, span), AuditFault::Fact)?;
+        only_if(self.house.declared(fact, span).is_none(), AuditFault::Fact)?;
         self.house.facts.push(Declared { fact, span, ratio })?;
         Ok(())
     }
@@ -501,7 +498,7 @@ impl<'a, A: Allocator + Copy> Reader<'a, A> {
         let number = line.number(0);
         let place = self.house.places.last_mut().ok_or(AuditFault::Order)?;
         let window = place.windows.last_mut().ok_or(AuditFault::Order)?;
-        only_if(is_number_of(number, window.span), AuditFault::Order)?;
+        only_if(0 < number && number - 1 == window.span, AuditFault::Order)?;
         only_if(window.parts.len() < MOST_PARTS, AuditFault::TooMany)?;
         only_if(is_declared, AuditFault::Fact)?;
         window.parts.push(part)?;
@@ -536,10 +533,11 @@ impl<'a, A: Allocator + Copy> Reader<'a, A> {
             (of_factor (house_of self.now.house) number.now.used number.now.unit) → ⊥) }
     {
         let is_energy = matches!(self.counts(number.used), Some(Counted::Energy));
-        if is_energy || !Unit::Kwh.is(number.unit) {
+        if is_energy || number.unit != Unit::Kwh {
             return Ok(());
         }
-        only_if(self.has(Fact::Factor(number.used), span), AuditFault::Fact)
+        let factor = self.house.declared(Fact::Factor(number.used), span);
+        only_if(factor.is_some(), AuditFault::Fact)
     }
 
     // Whether the fact that a number's word needs is declared.
@@ -555,14 +553,7 @@ impl<'a, A: Allocator + Copy> Reader<'a, A> {
             Word::Cost => Fact::Price(number.used, number.unit),
             _ => return Ok(()),
         };
-        only_if(self.has(fact, span), AuditFault::Fact)
-    }
-
-    // Whether a fact is declared of a span.
-    fn has(&self, fact: Fact, span: u64) -> bool
-        ensures { result ≡ is_some (declared (house_of self.now.house) fact span) }
-    {
-        self.house.declared(fact, span).is_some()
+        only_if(self.house.declared(fact, span).is_some(), AuditFault::Fact)
     }
 
     // A number without what it is of: its text, and what is beside it.
@@ -714,7 +705,8 @@ impl<'a, A: Allocator + Copy> Reader<'a, A> {
         ensures kept { (self.new.stage ≡ self.old.stage) × (self.new.may_ask ≡ self.old.may_ask) }
     {
         let said = self.said(line, text, at);
-        if !is_of_place(line.word) {
+        let is_of_place = matches!(line.word, Word::Shown | Word::Value);
+        if !is_of_place {
             let number = self.number_of_house(line, said)?;
             self.house.numbers.push(number)?;
             return Ok(());

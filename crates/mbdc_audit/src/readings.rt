@@ -23,8 +23,8 @@ use crate::house::{House, Part, Place, Struck, Typed, Use, Value, Window};
 use crate::line::Word;
 use crate::moment::DayEnd;
 use crate::smallest::{END_OF_VALUES, MOST_VALUE_DECIMALS, of_spelled};
-use crate::teller::Piece::Text;
-use crate::teller::Teller;
+use crate::teller::Piece::{Number, Text};
+use crate::teller::{Teller, put_pieces};
 use crate::uses::{Counted, size_named};
 use mbdc_io::Sink;
 use std::alloc::Allocator;
@@ -102,24 +102,16 @@ fn last_shown(values: &[Value<'_>], run: u64) -> Option<u64>
     last
 }
 
-// What a telegram of a run shows after a moment, if it has evidence.
-fn shown_after(value: &Value<'_>, run: u64, moment: u64) -> Option<u64>
-    ensures { list_of result
-        ≡ map (λ v. v.amount) (filter (λ x. nat_lt moment x.moment) (told_of run (found_list value.now))) }
-{
-    if value.moment <= moment {
-        return None;
-    }
-    shown(value, run)
-}
-
 // What the first telegram of a run after a moment shows, of those that have evidence.
 fn first_shown(values: &[Value<'_>], run: u64, moment: u64) -> Option<u64>
     ensures { list_of result ≡ map (λ v. v.amount)
         (take 1 (filter (λ x. nat_lt moment x.moment) (told_of run (flat_map found_list values.now)))) }
 {
     'values: for value in values {
-        let found = shown_after(value, run, moment);
+        if value.moment <= moment {
+            continue;
+        }
+        let found = shown(value, run);
         if found.is_some() {
             return found;
         }
@@ -273,7 +265,17 @@ impl<'s, W: Sink> Teller<'s, W> {
     {
         let end = if size == 0 { END_OF_VALUES } else { size };
         match value.found {
-            Err(refusal) => self.refuse(value.line, refusal)?,
+            Err(refusal) => {
+                self.counts.refused = self.counts.refused.saturating_add(1);
+                let words = [
+                    Text(b"NO EVIDENCE line "),
+                    Number(value.line),
+                    Text(b": "),
+                    Text(refusal.as_bytes()),
+                    Text(b"\n"),
+                ];
+                put_pieces(self.out, &words)?;
+            }
             Ok(found) if found >= end => {
                 let words = Text(b"a value that reaches the meter's size");
                 self.rule(value.line, "Moment", &[words])?;
@@ -323,24 +325,6 @@ impl<'s, W: Sink> Teller<'s, W> {
         Ok(())
     }
 
-    // Says what is wrong with a value.
-    fn tell(
-        &mut self,
-        runs: &[Run<'_>],
-        values: &[Value<'_>],
-        struck: &[Struck<'_>],
-        value: &Value<'_>,
-    ) -> Result<(), Stop>
-        ensures { Checks result self.old.counts self.new.counts
-            (IsTold (map run_of runs.now) values.now (map struck_of struck.now) value.now) }
-    {
-        self.tell_value(value, size_in(runs, value.run))?;
-        if value.is_told() {
-            self.tell_telegram(values, struck, value)?;
-        }
-        Ok(())
-    }
-
     // Says what is wrong with the values of a window.
     fn tell_values(
         &mut self,
@@ -352,7 +336,10 @@ impl<'s, W: Sink> Teller<'s, W> {
             (All (IsTold (map run_of runs.now) values.now (map struck_of struck.now)) values.now) }
     {
         'values: for value in values {
-            self.tell(runs, values, struck, value)?;
+            self.tell_value(value, size_in(runs, value.run))?;
+            if value.is_told() {
+                self.tell_telegram(values, struck, value)?;
+            }
         }
         Ok(())
     }

@@ -5,7 +5,6 @@ ghost use Rattle.mbdc_audit.specs.Told.{piece_text, pieces_text};
 ghost use Rattle.std.specs.Prelude.{◌≡◌, false, IsTrue, OnOk};
 ghost use Rattle.mbdc_audit.specs.Walk.{Checks, is_clean};
 
-use crate::evidence::Refusal;
 use crate::teller::Piece::{Number, Text};
 use mbdc_io::{IoFault, Sink, put_number};
 
@@ -108,53 +107,5 @@ impl<'s, W: Sink> Teller<'s, W> {
             return Ok(());
         }
         self.rule(line, name, words)
-    }
-
-    /// Prints that a value has no evidence, and why.
-    pub fn refuse(&mut self, line: u64, why: Refusal) -> Result<(), IoFault>
-        ensures { OnOk result (is_clean self.new.counts ≡ false) }
-    {
-        self.counts.refused = self.counts.refused.saturating_add(1);
-        put_pieces(
-            self.out,
-            &[
-                Text(b"NO EVIDENCE line "),
-                Number(line),
-                Text(b": "),
-                Text(why.as_bytes()),
-                Text(b"\n"),
-            ],
-        )
-    }
-
-    /// Prints the closing line.
-    pub fn close(&mut self, places: u64) -> Result<(), IoFault>
-        ensures { self.new.counts ≡ self.old.counts }
-    {
-        let counts = self.counts;
-        put_pieces(
-            self.out,
-            &[
-                Text(b"numbers "),
-                Number(counts.numbers),
-                Text(b", differ "),
-                Number(counts.differ),
-                Text(b", rules "),
-                Number(counts.rules),
-                Text(b", readings "),
-                Number(counts.readings),
-                Text(b", refused "),
-                Number(counts.refused),
-                Text(b", by hand "),
-                Number(counts.by_hand),
-                Text(b", estimated "),
-                Number(counts.estimated),
-                Text(b", struck "),
-                Number(counts.struck),
-                Text(b", places "),
-                Number(places),
-                Text(b"\n"),
-            ],
-        )
     }
 }

@@ -23,7 +23,7 @@ use crate::grade::{Grade, UNCLEAR};
 use crate::house::{Fact, House, Number, Part, Place, Span, User, Window};
 use crate::index::{Index, flat_key};
 use crate::line::Word;
-use crate::number::{RATIO, percent, scale_in, times};
+use crate::number::{RATIO, scale_in, times};
 use crate::numbers::{Basis, Beside, Holder, Holds, Total};
 use crate::uses::Unit;
 use std::alloc::Allocator;
@@ -462,15 +462,7 @@ impl<'h, 'a, A: Allocator + Copy> Sums<'h, 'a, A> {
         Ok(Some(times(exact, area, basis.areas)?))
     }
 
-    // A user's sum in a span.
-    fn of_user(&self, number: &Number<'_>, span: u64) -> Result<Option<Exact>, AuditFault>
-        ensures { IsHouse (house_of self.now.house.now) → AreGradedAll self.now.house.now.places.items
-            → IfOk result (λ x. x ≡ sum_of_user (house_of self.now.house.now) (key_of number.now) span) }
-    {
-        Ok(self.sum(Holder::User(number.user), span, number)?.0)
-    }
-
-    // The change from another span to this one.
+    // The change from another span to this one in per cent, where that one's sum isn't 0.
     fn change(&self, number: &Number<'_>) -> Result<Option<Exact>, AuditFault>
         ensures { IsHouse (house_of self.now.house.now) → AreGradedAll self.now.house.now.places.items
             → IfOk result (λ x. x ≡ holds word.Change (house_of self.now.house.now) (key_of number.now)) }
@@ -478,13 +470,23 @@ impl<'h, 'a, A: Allocator + Copy> Sums<'h, 'a, A> {
         if !self.has_whole(number.span, number) || !self.has_whole(number.other, number) {
             return Ok(None);
         }
-        let Some(there) = self.of_user(number, number.other)? else {
+        let user = Holder::User(number.user);
+        let (Some(there), _) = self.sum(user, number.other, number)? else {
             return Ok(None);
         };
-        match self.of_user(number, number.span)? {
-            Some(here) => percent(here, there),
-            None => Ok(None),
+        let (Some(here), _) = self.sum(user, number.span, number)? else {
+            return Ok(None);
+        };
+        if there.num == 0 {
+            return Ok(None);
         }
+        let by = here.num.abs_diff(there.num);
+        let num = by.checked_mul(100).ok_or(AuditFault::TooLarge)?;
+        Ok(Some(Exact {
+            is_negative: here.num < there.num,
+            num,
+            den: there.num,
+        }))
     }
 
     // What the weather makes of another span's number.
@@ -495,7 +497,7 @@ impl<'h, 'a, A: Allocator + Copy> Sums<'h, 'a, A> {
         if !self.has_whole(number.span, number) || !self.has_whole(number.other, number) {
             return Ok(None);
         }
-        let Some(there) = self.of_user(number, number.other)? else {
+        let (Some(there), _) = self.sum(Holder::User(number.user), number.other, number)? else {
             return Ok(None);
         };
         let degrees = self
@@ -529,9 +531,9 @@ impl<'h, 'a, A: Allocator + Copy> Sums<'h, 'a, A> {
             .house
             .declared(fact, number.span)
             .ok_or(AuditFault::Fact)?;
-        match self.of_user(number, number.span)? {
-            Some(exact) => Ok(Some(times(exact, ratio, u128::from(parts) * RATIO)?)),
-            None => Ok(None),
+        match self.sum(Holder::User(number.user), number.span, number)? {
+            (Some(exact), _) => Ok(Some(times(exact, ratio, u128::from(parts) * RATIO)?)),
+            (None, _) => Ok(None),
         }
     }
 

@@ -3,7 +3,7 @@
 ghost use Rattle.std.specs.Prelude.{◌≡◌, ◌<◌, ◌≤◌, ◌↔◌, IfSome, IsTrue};
 ghost use Rattle.mbdc_audit.specs.Sound.{IsType};
 ghost use Rattle.mbdc_audit.specs.Uses.{counted_named, size_named, size_of};
-ghost use Rattle.mbdc_audit.specs.Uses.{is_unit, unit_named};
+ghost use Rattle.mbdc_audit.specs.Uses.{unit_named};
 ghost use Rattle.mbdc_audit.specs.View.{run_of};
 
 use crate::curve::Run;
@@ -20,7 +20,7 @@ pub enum Counted {
 }
 
 /// The unit of a published number.
-#[derive(Clone, Copy)]
+#[derive(Clone, Copy, PartialEq, Eq)]
 pub enum Unit {
     Kwh,
     CubicMetre,
@@ -59,20 +59,6 @@ impl Counted {
 }
 
 impl Unit {
-    /// Whether it is another one.
-    pub fn is(self, other: Unit) -> bool
-        ensures { result ≡ is_unit self other }
-    {
-        matches!(
-            (self, other),
-            (Unit::Kwh, Unit::Kwh)
-                | (Unit::CubicMetre, Unit::CubicMetre)
-                | (Unit::Allocated, Unit::Allocated)
-                | (Unit::Count, Unit::Count)
-                | (Unit::Smallest, Unit::Smallest)
-        )
-    }
-
     /// The unit that a word names.
     pub fn named(word: &[u8]) -> Option<Unit>
         ensures { result ≡ unit_named word.now }

@@ -1,4 +1,4 @@
-use Rattle.std.proofs.Common.{◌≡◌, ◌<◌, ◌+◌, ◌++◌, ◌∷◌, [], ℕ, List, length, true, false, is_some, refl, sym, ap, subst, ◌∙◌, arith}
+use Rattle.std.proofs.Common.{◌≡◌, ◌<◌, ◌+◌, ◌++◌, ◌∷◌, [], ℕ, List, length, true, false, not, is_some, refl, sym, ap, subst, ◌∙◌, arith}
 use Rattle.std.proofs.lemmas.List.{length-map}
 use Rattle.mbdc_audit.specs.declared.house.Declared.{Declared}
 use Rattle.mbdc_audit.specs.declared.house.Fact.{Fact}
@@ -14,7 +14,6 @@ use Rattle.mbdc_audit.proofs.Added.{adds_fact, fact_was}
 use Rattle.mbdc_audit.proofs.Classes.{at_fault, class, no_fact}
 use Rattle.mbdc_audit.proofs.Facts.{declared_twice, not_declared}
 use Rattle.mbdc_audit.proofs.OneFact.{one_fact}
-use Rattle.mbdc_audit.proofs.Tests.{was_false, was_true}
 use Rattle.mbdc_audit.proofs.reader.Reader.add_fact.Goals as goal
 
 of_fact : (w : Word) → is_fact w ≡ true → class w ≡ 4
@@ -48,7 +47,7 @@ returns-in_err-only_if-clause-err g c =
     let span : c.in_ok-span.span ≡ d.span =
     one_place (number_at (span_place d.fact) l) _ d.span (subst (λ (e : Fact). number_at (span_place e) l ≡ c.in_ok-span.span + 1) same counts) is.1 in
     declared_twice h d (ap (λ (e : Fact). is_some (declared h e d.span)) (sym same) ∙ (ap (λ (n : ℕ). is_some (declared h f n)) (sym span)
-    ∙ (sym c.has.ensures ∙ was_true c.has.result c.in_err-only_if.ensures.err.0))) may.0))
+    ∙ (ap is_some (sym c.declared.ensures) ∙ (c.is_none.ensures ∙ ap not c.in_err-only_if.ensures.err.0)))) may.0))
 
 pub returns-clause-ok : goal.returns-clause-ok
 returns-clause-ok g c =
@@ -62,6 +61,7 @@ returns-clause-ok g c =
     ap (λ (p : ℕ). number_at p l) (sym c.span_place-at.ensures.place) ∙ (sym c.number.ensures ∙ c.in_ok-span.ensures.ok.0) in
     let ratio : number_at (span_place f + 1) l ≡ c.number-ratio.result =
     ap (λ (p : ℕ). number_at (p + 1) l) (sym c.span_place-at.ensures.place) ∙ sym c.number-ratio.ensures in
-    let none : is_some (declared h f n) ≡ false = sym c.has.ensures ∙ was_false c.has.result c.in_ok-only_if.ensures.ok in
+    let none : is_some (declared h f n) ≡ false =
+    ap is_some (sym c.declared.ensures) ∙ (c.is_none.ensures ∙ ap not c.in_ok-only_if.ensures.ok) in
     subst (λ (ds : List Declared). Adds h l (record h { facts = ds })) (sym c.in_ok-push.ensures.items)
     (adds_fact h l d c.in_ok-fact.ensures.ok.0 counts ratio (not_declared h d none) there c.in_ok-fact.ensures.ok.1)

@@ -1,4 +1,4 @@
-use Rattle.std.proofs.Common.{◌≡◌, ◌++◌, ◌∷◌, [], Bool, true, false, List, map, sym, ap, subst, ◌∙◌}
+use Rattle.std.proofs.Common.{◌≡◌, ◌++◌, ◌∷◌, [], Bool, true, false, List, map, rules, tests, sym, ap, subst, ◌∙◌}
 use Rattle.std.proofs.lemmas.List.{map_push}
 use Rattle.mbdc_audit.specs.Amount.{last_of}
 use Rattle.mbdc_audit.specs.House.{Number, Place, Window}
@@ -19,8 +19,9 @@ returns-then-not-is_of_place-clause-ok g c =
     let l = c.args.line.now in
     let n : Number = number_of c.in_ok-number.number in
     let made = c.in_ok-number.ensures.ok in
+    let other : is_of_place l.word ≡ false = search (rules, tests) in
     let of_house : is_of_place n.key.word ≡ false = ap is_of_place (sym made.0.word_is)
-    ∙ (sym c.is_of_place.ensures ∙ c.if-not-is_of_place.true) in
+    ∙ other in
     let pushed : map number_of c.push.new.self.items ≡ h.numbers ++ n ∷ [] =
     ap (map number_of) c.in_ok-push.ensures.items ∙ map_push number_of c.args.self.now.house.numbers.items _ in
     subst (λ (ns : List Number). Adds h l (record h { numbers = ns })) (sym pushed)
@@ -33,7 +34,7 @@ returns-in_err-window-clause-err g c =
     let v = c.args.self.now.house.places in
     let x = c.in_ok-place.place.now in
     let n : Number = number_of c.in_ok-number-2.number in
-    let of_place : is_of_place l.word ≡ true = sym c.is_of_place.ensures ∙ c.if-not-is_of_place.false in
+    let of_place : is_of_place l.word ≡ true = search (rules, tests) in
     let found = found_last v.items v.len c.last_mut.result c.in_ok-place.place c.in_ok-place.ensures.ok_part c.last_mut.ensures.value c.last_mut.ensures.variant in
     let it : last_of h.places ≡ place_of x ∷ [] = last_is place_of v.items v.len x v.ok.0 found.0 found.1 in
     let none = last_none window_of x.windows.items x.windows.len x.windows.ok.0 (lost_last x.windows.len c.last_mut-2.result c.in_err-window.ensures.ok_part c.last_mut-2.ensures.variant) in
@@ -49,8 +50,9 @@ returns-clause-ok g c =
     let y = c.in_ok-window.window.now in
     let n : Number = number_of c.in_ok-number-2.number in
     let made = c.in_ok-number-2.ensures.ok in
+    let one : is_of_place l.word ≡ true = search (rules, tests) in
     let of_place : is_of_place n.key.word ≡ true = ap is_of_place (sym made.0.word_is)
-    ∙ (sym c.is_of_place.ensures ∙ c.if-not-is_of_place.false) in
+    ∙ one in
     let found = found_last v.items v.len c.last_mut.result c.in_ok-place.place c.in_ok-place.ensures.ok_part c.last_mut.ensures.value c.last_mut.ensures.variant in
     let found' = found_last x.windows.items x.windows.len c.last_mut-2.result c.in_ok-window.window c.in_ok-window.ensures.ok_part c.last_mut-2.ensures.value c.last_mut-2.ensures.variant in
     let pushed : map number_of c.push-2.new.self.items ≡ map number_of y.numbers.items ++ n ∷ [] =

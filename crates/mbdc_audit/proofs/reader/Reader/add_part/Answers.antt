@@ -1,4 +1,4 @@
-use Rattle.std.proofs.Common.{◌≡◌, ◌<◌, ◌+◌, ◌++◌, ◌∷◌, [], ℕ, List, length, map, Option, refl, sym, ap, subst, ◌∙◌}
+use Rattle.std.proofs.Common.{◌≡◌, ◌<◌, ◌+◌, ◌++◌, ◌∷◌, [], ℕ, List, length, map, Option, refl, sym, ap, subst, ◌∙◌, arith}
 use Rattle.std.proofs.lemmas.Bool.{false≢true}
 use Rattle.std.proofs.lemmas.List.{length-map, map_push}
 use Rattle.mbdc_audit.specs.Amount.{last_of}
@@ -40,7 +40,8 @@ returns-in_err-only_if-clause-err g c =
     at_fault c.from_residual-in_err-only_if.result (AddsNothing h l) (no_part h l c.requires
     (λ n z may is.
     let p = from_window (λ q w. (n ≡ w.span) × (length w.parts < 64)) h (place_of x) (window_of y) it it' may.0 in
-    false≢true (sym c.in_err-only_if.ensures.err.0 ∙ c.is_number_of.ensures.1 (c.number-number.ensures ∙ (is.1 ∙ ap (λ (m : ℕ). m + 1) p.0)))))
+    let e : c.number-number.result ≡ y.span + 1 = c.number-number.ensures ∙ (is.1 ∙ ap (λ (m : ℕ). m + 1) p.0) in
+    grind (arith, e, c.in_err-only_if.ensures.err.0)))
 
 pub returns-in_err-only_if-2-clause-err : goal.returns-in_err-only_if-2-clause-err
 returns-in_err-only_if-2-clause-err g c =
@@ -78,6 +79,7 @@ returns-clause-ok g c =
     let it : last_of h.places ≡ place_of x ∷ [] = last_is place_of v.items v.len x v.ok.0 found.0 found.1 in
     let found' = found_last x.windows.items x.windows.len c.last_mut-2.result c.in_ok-window.window c.in_ok-window.ensures.ok_part c.last_mut-2.ensures.value c.last_mut-2.ensures.variant in
     let it' : last_of (place_of x).windows ≡ window_of y ∷ [] = last_is window_of x.windows.items x.windows.len y x.windows.ok.0 found'.0 found'.1 in
+    let e : c.number-number.result ≡ y.span + 1 = grind (arith, c.in_ok-only_if.ensures.ok) in
     let long : c.len.result ≡ length (window_of y).parts = c.len.ensures ∙ (y.parts.ok.0 ∙ sym (length-map y.parts.items part_of)) in
     let z : Part = record { from = c.number.result; to = c.number-2.result; user = c.maybe.result } in
     let pushed : map part_of c.push.new.self.items ≡ map part_of y.parts.items ++ z ∷ [] =
@@ -85,7 +87,7 @@ returns-clause-ok g c =
     let changed = window_changed (λ (w : Window). record w { parts = w.parts ++ z ∷ [] }) v x y (record y { parts = c.push.new.self })
     found.0 found.1 found'.0 found'.1 (ap (λ (zs : List Part). record (window_of y) { parts = zs }) pushed) in
     subst (λ (ps : List Place). Adds h l (record h { places = ps })) (sym changed)
-    (adds_part h l (window_of y).span z c.requires (sym c.number-number.ensures ∙ c.is_number_of.ensures.0 c.in_ok-only_if.ensures.ok) (sym c.number.ensures) (sym c.number-2.ensures) (sym c.maybe.ensures)
+    (adds_part h l (window_of y).span z c.requires (sym c.number-number.ensures ∙ e) (sym c.number.ensures) (sym c.number-2.ensures) (sym c.maybe.ensures)
     (into_window (λ q w. (y.span ≡ w.span) × (length w.parts < 64)) h (place_of x) (window_of y) it it'
     (refl, below_by c.len.result (length (window_of y).parts) 64 c.in_ok-only_if-2.ensures.ok long))
     (c.is_declared-is_declared.ensures.0 c.in_ok-only_if-3.ensures.ok))

@@ -1,4 +1,4 @@
-use Rattle.std.proofs.Common.{◌≡◌, ◌∙◌, All, inl, inr, IsTrue, ap, false, get_or, sym, true}
+use Rattle.std.proofs.Common.{◌≡◌, ◌∙◌, All, inl, inr, IsTrue, false, get_or, sym, true}
 use Rattle.std.proofs.lemmas.Bool.{true≢false}
 use Rattle.mbdc_io.specs.Lines.{lines_of}
 use Rattle.mbdc_audit.specs.View.{house_of}
@@ -16,7 +16,7 @@ pub returns : goal.returns
 returns g c = record {
   right = λ asks input audited holds.
       let all : (c.is_clean-is_read.result ≡ true) × (c.is_clean-is_sound.result ≡ true)
-      × IsTrue (is_clean c.close.new.self.counts) = elim c.if-is_sound.branch [
+      × IsTrue (is_clean c.check_numbers.new.self.counts) = elim c.if-is_sound.branch [
         | then-is_sound w ↦ (
           w.if-is_sound.true.0,
           w.if-is_sound.true.1,
@@ -24,15 +24,15 @@ returns g c = record {
         )
         | else-is_sound w ↦ elim c.if-is_read.branch [
           | then-is_read u ↦ elim w.if-is_sound.either [
-            | inl x ↦ absurd (true≢false (sym holds ∙ (w.result-is ∙ (u.t-57-is ∙ x.1))))
+            | inl x ↦ absurd (true≢false (sym holds ∙ (w.result-is ∙ (u.t-118-is ∙ x.1))))
             | inr x ↦ absurd (true≢false (sym u.if-is_read.true ∙ x))
           ]
-          | else-is_read u ↦ absurd (true≢false (sym holds ∙ (w.result-is ∙ (u.t-57-is ∙ u.if-is_read.false))))
+          | else-is_read u ↦ absurd (true≢false (sym holds ∙ (w.result-is ∙ (u.t-118-is ∙ u.if-is_read.false))))
         ]
       ] in
       let read : IsTrue (is_clean c.read_values.new.self.counts) = sym c.is_clean-is_read.ensures ∙ all.0 in
       let sound : IsTrue (is_clean c.check_house.new.self.counts) = sym c.is_clean-is_sound.ensures ∙ all.1 in
-      let numbers : IsTrue (is_clean c.check_numbers.new.self.counts) = sym (ap is_clean c.close.ensures) ∙ all.2 in
+      let numbers : IsTrue (is_clean c.check_numbers.new.self.counts) = all.2 in
       let values = c.in_ok-read_values.ensures in
       let old = house_of c.args.house.now in
       let h = house_of c.read_values.new.house in
