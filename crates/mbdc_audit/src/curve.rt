@@ -9,7 +9,6 @@ ghost use Rattle.mbdc_audit.specs.Amount.{is_below, is_by, is_final, is_first, i
 ghost use Rattle.mbdc_audit.specs.Amount.{is_over_at, is_same, last_of, told};
 ghost use Rattle.mbdc_audit.specs.Amount.{is_put as is_put_source};
 ghost use Rattle.mbdc_audit.specs.Evidence.{list_of};
-ghost use Rattle.mbdc_audit.specs.Grade.{has_number};
 ghost use Rattle.mbdc_audit.specs.Kept.{does_count, is_anew, is_estimate, is_so, kept, know};
 ghost use Rattle.mbdc_audit.specs.Kept.{known_source, lasting, maybe_seen, rises_from, unless_one};
 ghost use Rattle.mbdc_audit.specs.Kept.{IsMarked, capped, known_by};
