@@ -128,19 +128,17 @@ function textsOf(line, isHexFault) {
 }
 
 // The objects of all lines, by one call of the decoder, and the bytes of each.
-function decodeLines(lines, first = 1) {
+function decodeLines(lines) {
   const objects = jsonOf(encoder.encode(lines.join("\n"))).split("\n").slice(0, -1).map((one) => JSON.parse(one));
   let next = 0;
   const found = lines.flatMap((line, n) => textsOf(line, objects[next]?.fault?.kind === "hex").map((text) => {
     const object = objects[next++];
     if (object?.line !== n + 1) throw new Error("the frames of a line weren't split as the decoder does");
-    return { object: { ...object, line: first + n }, text };
+    return { object, text };
   }));
   if (next !== objects.length) throw new Error("the frames of a line weren't split as the decoder does");
   return found;
 }
-
-const decodeLine = (line, number) => decodeLines([line], number);
 
 // ---- what people paste
 
