@@ -120,12 +120,9 @@ def keyboard(browser: Browser) -> None:
         browser.press(key)
         order.append(browser.focus())
     wants(order == ["language", "file", "input-name", "input-name", "input", "BUTTON"], f"order of the keyboard: {order}")
-    keys = "const deep = (one) => Object.entries(one).map(([k, v]) => [k, typeof v === 'object' ? deep(v) : typeof v]); "
-    english, german = json.loads(browser.run(f"{keys} return JSON.stringify([deep(WORDS.en), deep(WORDS.de)]);"))
-    wants(english == german, "the languages have other words")
+    browser.has_both_languages()
     audited(browser, EXAMPLE.encode())
-    nodes = browser.tell("Accessibility.getFullAXTree")["nodes"]
-    known = [(one.get("role", {}).get("value"), one.get("name", {}).get("value", "")) for one in nodes if not one.get("ignored")]
+    known = browser.known()
     for role, name in (("textbox", "Or its text"), ("button", "Audit"), ("table", "What is in the file")):
         wants(any(it[0] == role and it[1].startswith(name) for it in known), f"no {role} {name}")
 

@@ -117,6 +117,17 @@ class Browser:
         """What the browser logged as errors since the last call."""
         return [one["message"] for one in self.driver.get_log("browser") if one["level"] == "SEVERE"]
 
+    def has_both_languages(self) -> None:
+        """Both languages have each word."""
+        deep = "const deep = (one) => Object.entries(one).map(([k, v]) => [k, typeof v === 'object' ? deep(v) : typeof v]); "
+        english, german = json.loads(self.run(f"{deep} return JSON.stringify([deep(WORDS.en), deep(WORDS.de)]);"))
+        wants(english == german, "the languages have other words")
+
+    def known(self) -> list[tuple[str, str]]:
+        """What a screen reader gets: role and name of each element."""
+        nodes = self.tell("Accessibility.getFullAXTree")["nodes"]
+        return [(one.get("role", {}).get("value"), one.get("name", {}).get("value", "")) for one in nodes if not one.get("ignored")]
+
     def looks_well(self, look: str) -> None:
         """Nothing is wider than the window, and each text has contrast."""
         wants(not self.run(OUTSIDE), f"{look}: {self.run(OUTSIDE)[:3]}")

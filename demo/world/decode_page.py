@@ -6,7 +6,7 @@ import json
 import pathlib
 import time
 from collections.abc import Callable
-from typing import Any
+from typing import Any, Optional
 
 from world.browser import LANGUAGES, MOST_SECONDS, WIDTHS, Browser, each_look
 from world.cases import wants
@@ -122,8 +122,7 @@ def screen_reader(browser: Browser) -> None:
     for width in WIDTHS:
         browser.open(width=width)
         browser.decode(TELEGRAM)
-        nodes = browser.tell("Accessibility.getFullAXTree")["nodes"]
-        known = [(one.get("role", {}).get("value"), one.get("name", {}).get("value", "")) for one in nodes if not one.get("ignored")]
+        known = browser.known()
         for role, name in (("textbox", "Hex digits"), ("checkbox", "The lines belong"), ("button", "Decode"), ("button", "Deutsch"),
                            ("button", "Copy as CSV"), ("heading", "M-Bus decoder"), ("heading", "Line 1: Long frame, 12345678.PAD.01.07, water"), ("table", "Records")):
             wants(any(it[0] == role and it[1].startswith(name) for it in known), f"{width}: no {role} {name}")
@@ -135,9 +134,7 @@ def screen_reader(browser: Browser) -> None:
 def languages(browser: Browser) -> None:
     """Both languages have each word, and the browser's one comes first."""
     browser.open()
-    keys = "const deep = (one) => Object.entries(one).map(([k, v]) => [k, typeof v === 'object' ? deep(v) : typeof v]); "
-    english, german = json.loads(browser.run(f"{keys} return JSON.stringify([deep(WORDS.en), deep(WORDS.de)]);"))
-    wants(english == german, "the languages have other words")
+    browser.has_both_languages()
     for language in LANGUAGES:
         browser.open(SHORT.replace(" ", ""), language)
         wants(browser.run("return document.documentElement.lang;") == language, f"{language} isn't the page's language")
@@ -145,14 +142,15 @@ def languages(browser: Browser) -> None:
         wants(empty == 0, f"{language}: words are missing")
 
 
-def looks(browser: Browser) -> None:
+def looks(browser: Browser, folder: Optional[pathlib.Path]) -> None:
     """Nothing is wider than the window, and each text has contrast: both languages, light and dark, two widths."""
     for language, scheme, width in each_look():
         browser.open("", language, scheme, width)
         browser.decode(f"{TELEGRAM}\n{WRONG_SUM}\nXY\n{CUT}\nE5")
         browser.run("document.querySelector('tbody tr').focus();")
-        look = f"{language}, {scheme}, {width}"
-        browser.looks_well(look)
+        browser.looks_well(f"{language}, {scheme}, {width}")
+        if folder:
+            browser.keep_picture(folder / f"{language}-{scheme}-{width}.png", width)
 
 
 def timed(call: Callable[[str], Any], text: str) -> tuple[Any, float]:
@@ -223,13 +221,4 @@ def old_browser(browser: Browser) -> None:
         browser.tell("Page.removeScriptToEvaluateOnNewDocument", identifier=script["identifier"])
 
 
-def take_pictures(browser: Browser, folder: pathlib.Path) -> None:
-    """Keeps a picture of each look."""
-    for language, scheme, width in each_look():
-        browser.open("", language, scheme, width)
-        browser.decode(f"{TELEGRAM}\n{WRONG_SUM}")
-        browser.run("document.querySelector('tbody tr').focus();")
-        browser.keep_picture(folder / f"{language}-{scheme}-{width}.png", width)
-
-
-CASES = [pasting, telegram, links, copies, keyboard, screen_reader, languages, looks, hostile, policy, old_browser]
+CASES = [pasting, telegram, links, copies, keyboard, screen_reader, languages, hostile, policy, old_browser]
