@@ -24,6 +24,13 @@ def free_port() -> int:
         return int(server.getsockname()[1])
 
 
+def listens(port: int) -> bool:
+    """Whether somebody takes connections there."""
+    with contextlib.suppress(OSError), socket.create_connection((LOOPBACK, port), 1):
+        return True
+    return False
+
+
 def next_request(stream: BinaryIO) -> bytes:
     """The bytes of the next frame that the master sends; none where it hung up. Other bytes are passed over."""
     while first := stream.read(1):
