@@ -59,7 +59,8 @@ def house(tmp_path: pathlib.Path) -> House:
     ("LINE_3=tcp://a:1", "LINE_3 takes a link that no other line of this file has, not tcp://a:1"),
     ("LINE_9=tcp://a:1", "no setting: LINE_9=tcp://a:1"), ("TRIES=10", "TRIES takes a number from 1 to 9, not 10"),
     ("PATIENCE=60001", "PATIENCE takes a number from 1 to 60000, not 60001"), ("IMAGE=house.image", "IMAGE takes a path from / on"),
-    ("BAUD=2500", "BAUD takes 300, "), ("LINE_4=tcp://a b:1", "LINE_4 takes tcp://HOST:PORT"), ("a line", "no setting: a line")])
+    ("BAUD=2500", "BAUD takes 300, "), ("LINE_4=tcp://a b:1", "LINE_4 takes tcp://HOST:PORT"), ("a line", "no setting: a line"),
+    *((f"BAUD_1={speed}", "BAUD_1 takes 300, ") for speed in ("", "2400,", "2400,7E1", ",8N1", "fast"))])
 def test_what_is_no_setting_is_named_with_its_file_and_line(house: House, line: str, says: str) -> None:
     first_line = "" if line.startswith("LINE_1") else "LINE_1=tcp://c:1"
     file = house.put("house.conf", f"# Lines\n{first_line}\nLINE_2=tcp://a:1\n\n{line}\nBAD=1\n")
@@ -74,6 +75,15 @@ def test_what_is_no_setting_is_named_with_its_file_and_line(house: House, line: 
     ("poll --line 1=tcp://c:1 --tries 1", "poll IMAGE --line 1=tcp://c:1 --tries 1"), ("scan 1 --csv", "scan tcp://127.0.0.1:1 --csv 1")])
 def test_a_command_gets_the_bus_lines_that_it_takes(house: House, words: str, wanted: str) -> None:
     assert house.does(*words.split()).stdout == wanted.replace("IMAGE", str(house.image)) + "\n"
+
+
+@pytest.mark.parametrize("settings, port", [("", "2400"), ("BAUD=300", "300"), ("BAUD=300\nBAUD_1=2400,8N1", "2400 8N1"),
+                                            ("BAUD_2=300", "2400"), ("BAUD=9600,8E1", "9600 8E1")])
+def test_the_port_of_a_bus_line_is_set_up_by_the_settings(house: House, settings: str, port: str) -> None:
+    for name in ("mbdc", "mbdc-port"):
+        house.put(name, f'#!/bin/sh\necho {name} "$@" >&2\n').chmod(0o755)
+    house.put("house.conf", f"IMAGE={house.image}\nLINE_1=serial:/dev/ttyUSB0\n{settings}\n")
+    assert house.does("scan", "1").stderr == f"mbdc-port /dev/ttyUSB0 {port}\nmbdc scan serial:/dev/ttyUSB0\n"
 
 
 def test_a_word_that_is_no_command_is_named(house: House) -> None:

@@ -37,24 +37,3 @@ def test_a_commit_with_other_sources_has_a_plus(tmp_path: pathlib.Path) -> None:
     assert printed(*commit) == f"{head}\n"
     (tmp_path / "crates" / "new").write_text("")
     assert printed(*commit) == f"{head}+\n"
-
-
-@pytest.mark.parametrize("settings, port", [("", "2400"), ("BAUD=300", "300"), ("BAUD=300\nBAUD_1=2400,8N1", "2400 8N1"),
-                                            ("BAUD_2=300", "2400"), ("BAUD=9600,8E1", "9600 8E1")])
-def test_the_port_of_a_bus_line_is_set_up_by_the_settings(tmp_path: pathlib.Path, settings: str, port: str) -> None:
-    for name in ("mbdc", "mbdc-port"):
-        program = tmp_path / name
-        program.write_text(f'#!/bin/sh\necho {name} "$@" >&2\n')
-        program.chmod(0o755)
-    (tmp_path / "house.conf").write_text(f"IMAGE={tmp_path}/house.image\nLINE_1=serial:/dev/ttyUSB0\n{settings}\n")
-    ran = subprocess.run([ROOT / "packaging/mbdc-house", "scan", "1"], stderr=subprocess.PIPE, text=True, check=True,
-                         env={"MBDC_SETTINGS": str(tmp_path), "PATH": f"{tmp_path}:/usr/bin:/bin"})
-    assert ran.stderr == f"mbdc-port /dev/ttyUSB0 {port}\nmbdc scan serial:/dev/ttyUSB0\n"
-
-
-@pytest.mark.parametrize("speed", ["", "2400,", "2400,7E1", ",8N1", "fast"])
-def test_a_speed_that_is_none_is_refused(tmp_path: pathlib.Path, speed: str) -> None:
-    (tmp_path / "house.conf").write_text(f"BAUD_1={speed}\n")
-    ran = subprocess.run([ROOT / "packaging/mbdc-house", "status"], stderr=subprocess.PIPE, text=True,
-                         env={"MBDC_SETTINGS": str(tmp_path), "PATH": "/usr/bin:/bin"})
-    assert ran.returncode == 78 and ":1: BAUD_1 takes 300, " in ran.stderr
