@@ -98,9 +98,6 @@ overview_line patience now journal s place = place.flat ++ (codes "\t" ++ (take 
     ++ (medium_name place.meter.kind ++ (codes "\t" ++ (value_cells place.meter.kind (shown_of journal s place.meter)
     ++ state_cells (row_at patience now journal s place)))))))
 
-unfoldable pub overview_lines : ℕ → ℕ → Notes → State → List ℕ
-overview_lines patience now journal s = flat_map (overview_line patience now journal s) (by_flat s.meters)
-
 -- THE TABLE at a clock, where a meter is silent after so many seconds
 unfoldable pub overview_text : ℕ → ℕ → Notes → State → List ℕ
-overview_text patience now journal s = titles ++ overview_lines patience now journal s
+overview_text patience now journal s = titles ++ flat_map (overview_line patience now journal s) (by_flat s.meters)

@@ -2,7 +2,7 @@
 
 ghost use Rattle.std.specs.Prelude.{◌≡◌};
 ghost use Rattle.mbdc_io.specs.Written.{Wrote};
-ghost use Rattle.mbdc_json.specs.Overview.{age_words, failure_in, overview_line, overview_lines, overview_text};
+ghost use Rattle.mbdc_json.specs.Overview.{age_words, failure_in, overview_line, overview_text};
 ghost use Rattle.mbdc_json.specs.Overview.{state_by, state_cells, titles, value_cells};
 
 use crate::journal::Journal;
@@ -30,7 +30,10 @@ pub fn put_overview<A: Allocator + Copy, W: Sink>(
         (overview_text clock.patience clock.now journal.now house.now.state) }
 {
     out.put(titles())?;
-    put_lines(out, house, clock, journal)
+    for place in house.meters_by_flat() {
+        put_line(out, house, clock, journal, place)?;
+    }
+    Ok(())
 }
 
 // The names of the columns.
@@ -39,23 +42,6 @@ fn titles() -> &'static [u8]
     ensures { result.now ≡ titles }
 {
     b"FLAT\tMETER\tMEDIUM\tVALUE\tUNIT\tHEARD\tSTATE\n"
-}
-
-// Writes the line of each meter.
-#[tactic(auto, using(mbdc_io::proofs::Pieces::written), unfolding(crate::specs::Overview::overview_lines))]
-fn put_lines<A: Allocator + Copy, W: Sink>(
-    out: &mut W,
-    house: &House<A>,
-    clock: Clock,
-    journal: &Journal<A>,
-) -> Result<(), IoFault>
-    ensures { Wrote W.Sink result out.old out.new
-        (overview_lines clock.patience clock.now journal.now house.now.state) }
-{
-    for place in house.meters_by_flat() {
-        put_line(out, house, clock, journal, place)?;
-    }
-    Ok(())
 }
 
 // Writes the line of a meter.

@@ -2,7 +2,7 @@ use Rattle.std.proofs.Common.{◌≡◌}
 use Rattle.std.specs.List.{flat_map}
 use Rattle.std.specs.Io.KnownBytes.{append_known}
 use Rattle.mbdc_json.specs.Overview.{overview_line}
-use Rattle.mbdc_json.proofs.overview.put_lines.Given as goal
+use Rattle.mbdc_json.proofs.overview.put_overview.Given as goal
 
 -- the text so far, and that of the meters that are left, make the whole
 abbrev pub invariant-loop-place : goal.invariant-loop-place
