@@ -39,13 +39,6 @@ fn serial_of<A: Allocator>(reading: Option<&Reading<A>>) -> Option<u64>
     }
 }
 
-// The number of readings.
-fn count_of<A: Allocator>(readings: &VecDeque<Reading<A>, A>) -> usize
-    ensures { result ≡ length readings.now.items }
-{
-    readings.len()
-}
-
 // The first reading.
 fn first_of<A: Allocator>(readings: &VecDeque<Reading<A>, A>) -> Option<&Reading<A>>
     ensures { option_copied result ≡ slice_get readings.now.items 0 }
@@ -69,7 +62,7 @@ pub(crate) fn summary_of<A: Allocator + Copy>(house: &House<A>) -> Summary
         size: house.size(),
         budget: house.budget(),
         meters: register_rows(house),
-        readings: count_of(readings),
+        readings: readings.len(),
         first: serial_of(first_of(readings)),
         last: serial_of(last_of(readings)),
         confirmed: house.confirmed(),
