@@ -56,7 +56,7 @@ where
     R: Files<File = File> + Net<Stream = TcpStream> + Clock + Copy + Print + Eprint + AllocGlobal,
 {
     let mut gateway = match peers {
-        [Some(peer)] => match peer.bus(*host.rt, task.patience.unwrap_or(peer.patience())) {
+        [Some(peer)] => match peer.bus(*host.rt, task.patience) {
             Ok(bus) => Some(Both { bus, pause: Waiter }),
             Err(error) => return host.why.link(None, error),
         },

@@ -70,16 +70,8 @@ where
     };
     let mut out: KnownSink<LineWriter<O>, K> = KnownSink::new(out);
     let (disk, outcome) = fit_on(alloc, disk, wish);
-    note_all(&outcome, notes);
-    // What isn't put is known by the sink, too.
-    let _ = put_outcome(&outcome, &mut out);
-    let is_printed = is_written_out(out);
-    (disk, fit_ending(&outcome, is_printed))
-}
-
-// Notes the commands that were done: those of a plan in which nothing is wrong.
-fn note_all<N: CommandNotes>(outcome: &Result<Plan<Global>, FitFault>, notes: &mut N) {
-    if let Ok(plan) = outcome
+    // The commands that were done are those of a plan in which nothing is wrong.
+    if let Ok(plan) = &outcome
         && !plan.is_wrong()
     {
         for line in plan.commands() {
@@ -88,6 +80,10 @@ fn note_all<N: CommandNotes>(outcome: &Result<Plan<Global>, FitFault>, notes: &m
             }
         }
     }
+    // What isn't put is known by the sink, too.
+    let _ = put_outcome(&outcome, &mut out);
+    let is_printed = is_written_out(out);
+    (disk, fit_ending(&outcome, is_printed))
 }
 
 // Writes what was done or what is wrong; nothing where the image wasn't opened or written.

@@ -1,6 +1,6 @@
 //! Waiting for the buses of a poll.
 
-ghost use Rattle.mbdc_commands.specs.Waiting.{AddsAwaited, AddsOne};
+ghost use Rattle.mbdc_commands.specs.Waiting.{AddsAwaited};
 ghost use Rattle.mbdc_poll.specs.Waiting.{is_awaited};
 
 use mbdc_bus::HalfBus;
@@ -75,16 +75,8 @@ pub fn add_awaited<B: HalfBus + Drop, W: Waits<B>>(stations: &[Station<'_, B>], 
     let Some((station, others)) = stations.split_first() else {
         return;
     };
-    add_one(station, waits);
-    add_awaited(others, waits);
-}
-
-// Adds the bus of a line, if it is awaited.
-fn add_one<B: HalfBus + Drop, W: Waits<B>>(station: &Station<'_, B>, waits: &mut W)
-    ensures { AddsOne W.adds (is_awaited station.now) station.now.bus
-        waits.old waits.new }
-{
     if is_awaited(station) {
         waits.add_bus(&station.bus);
     }
+    add_awaited(others, waits);
 }

@@ -149,7 +149,7 @@ fn image_task<'a>(
                 None => None,
             },
             script: file_of(inner, "SCRIPT")?,
-            patience: inner.get_one("PATIENCE"),
+            patience: inner.get_one("PATIENCE").unwrap_or_default(),
         })),
         _ => poll_task(alloc, image, inner),
     }

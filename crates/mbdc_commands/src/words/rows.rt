@@ -158,8 +158,8 @@ const LINE: Row = Row {
     ..OPTION
 };
 
-// `--patience` of a command that stores readings: each link has a default of its own.
-const STORED_PATIENCE: Row = Row {
+// `--patience` of `poll`: each link has a default of its own.
+const POLL_PATIENCE: Row = Row {
     id: "PATIENCE",
     long: Some("patience"),
     values: &["MS"],
@@ -168,11 +168,11 @@ const STORED_PATIENCE: Row = Row {
     ..OPTION
 };
 
-// `--patience` of a command that stores nothing.
+// `--patience` of the other commands.
 const PATIENCE: Row = Row {
     defaults: &["2000"],
     help: "Milliseconds without a first byte that are silence, from 1 to 60000",
-    ..STORED_PATIENCE
+    ..POLL_PATIENCE
 };
 
 const TRACE: Row = Row {
@@ -324,7 +324,7 @@ const READING: &[CommandRow] = &[
                 help: "Prints JSON Lines, an object an event",
                 ..JSON
             },
-            STORED_PATIENCE,
+            POLL_PATIENCE,
             TRACE,
         ],
     },
@@ -339,7 +339,7 @@ const READING: &[CommandRow] = &[
                 help: "Lines: AT, START, ASK, HEAR, COMMIT, OFFICE, POLL, SEARCH",
                 ..WORD
             },
-            STORED_PATIENCE,
+            PATIENCE,
             Row {
                 id: "GATEWAY",
                 long: Some("gateway"),

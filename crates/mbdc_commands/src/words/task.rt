@@ -56,8 +56,8 @@ pub struct RunTask<'a> {
     pub script: &'a str,
     /// The link of the gateway, if there is one.
     pub gateway: Option<LinkName<'a>>,
-    /// The time-out of an answer in milliseconds; that of the link where none is given.
-    pub patience: Option<u16>,
+    /// The time-out of an answer in milliseconds.
+    pub patience: u16,
 }
 
 /// The readout of the registered meters over an image.
