@@ -9,7 +9,7 @@ use dc_meters::House;
 use dc_readout::Why;
 use dc_search::meter_of;
 use mbdc_bus::trace::Observer;
-use mbdc_bus::{Both, Bus, HalfBus, Pause};
+use mbdc_bus::{Both, Bus};
 use mbdc_files::Host;
 use mbdc_poll::Event;
 use mbdc_poll::events::Notes;
@@ -122,8 +122,8 @@ where
     }
 }
 
-// Makes the buses of connected links, and looks there. The observers are any, for the checker meets its step limit over
-// the parts of a trace.
+// Makes the buses of connected links, the first of which is that of line 1, and looks on each. The observers are any, for
+// the checker meets its step limit over the parts of a trace.
 fn look_over<O, R>(
     host: &Host<'_, R>,
     peers: &[Option<Peer<R>>],
@@ -136,23 +136,15 @@ where
     R: Net<Stream = TcpStream> + Clock + Copy + Eprint + AllocGlobal,
 {
     let patience = Some(patience.unwrap_or(PATIENCE));
-    if let Ok(buses) = buses_of(host, peers, observers, patience) {
-        look_on(host, buses, Waiter, lines);
-    }
-}
-
-// Looks on each of these buses, the first of which is that of line 1.
-fn look_on<B, P, R>(host: &Host<'_, R>, buses: Vec<B>, pause: P, lines: &[Found; LINES])
-where
-    B: HalfBus + Drop,
-    P: Pause<B> + Copy + Drop,
-    R: Eprint,
-{
+    let Ok(buses) = buses_of(host, peers, observers, patience) else {
+        return;
+    };
     let mut line = 0u8;
     for (bus, found) in buses.into_iter().zip(lines) {
         line = line.saturating_add(1);
         if found.missing > 0 {
-            look_on_line(host, &mut Both { bus, pause }, line, lines);
+            let mut bus = Both { bus, pause: Waiter };
+            look_on_line(host, &mut bus, line, lines);
         }
     }
 }

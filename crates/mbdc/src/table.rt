@@ -3,6 +3,7 @@
 
 use mbdc_io::{Bytes, FixedSink, IoFault, Sink};
 use std::alloc::{AllocError, Global};
+use std::array;
 
 // What ends a cell.
 const TAB: u8 = b'\t';
@@ -54,7 +55,13 @@ pub fn table_of(alloc: Global, cells: &[u8], is_coloured: bool) -> Result<Bytes<
     {
         return Err(IoFault);
     }
-    let widths = widths_of(rows.as_slice());
+    // The width of each column is that of its widest cell.
+    let widths: Widths = array::from_fn(|column| {
+        let cells = rows
+            .iter()
+            .filter_map(|row| row.split(|byte| *byte == TAB).nth(column));
+        cells.map(|cell| cell.len()).max().unwrap_or_default()
+    });
     let mut out = Bytes::new(alloc);
     for row in &rows {
         put_row(&mut out, row, &widths, is_coloured)?;
@@ -78,18 +85,6 @@ fn key_of(row: &[u8]) -> FixedSink<KEY> {
         is_in_run = byte.is_ascii_digit();
     }
     key
-}
-
-// The width of each column: that of its widest cell.
-fn widths_of(rows: &[&[u8]]) -> Widths {
-    let mut widths = [0; COLUMNS];
-    for (column, width) in widths.iter_mut().enumerate() {
-        let cells = rows
-            .iter()
-            .filter_map(|row| row.split(|byte| *byte == TAB).nth(column));
-        *width = cells.map(|cell| cell.len()).max().unwrap_or_default();
-    }
-    widths
 }
 
 // Writes a row: each cell in its column, or from the first one that doesn't fit on a second line.
