@@ -2,3 +2,5 @@
 
 -- a page beside its file
 mod Shown
+-- what the commands that write an image have done, and what stops them before
+mod Commands

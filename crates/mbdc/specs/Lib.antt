@@ -2,3 +2,5 @@
 
 -- what an engine's answer says of its input
 pub mod Tasks
+-- what the commands that write an image have done
+pub mod Commands

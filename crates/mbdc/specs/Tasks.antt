@@ -23,6 +23,7 @@ use Rattle.mbdc_io.specs.Lines.{lines_of}
 use Rattle.mbdc_log.specs.declared.greatest.Greatest.{Greatest}
 use Rattle.mbdc_log.specs.declared.rescuing.Source.{Source}
 use Rattle.mbdc_sheet.specs.Sheet.{is_sheet}
+use Rattle.mbdc.specs.Commands.{Fitted, Ordered, Polled, Refuses, Scripted}
 
 -- THE ANSWER OF AN ENGINE: whether a line or frame of the input has a fault, and of published numbers that they may be
 -- wrong.
@@ -62,34 +63,37 @@ Rescues {Old} {New} o n copied named = (copy : Old) × (cleared : Old) × (made 
     × (root : Root) × (place : ℕ) × (last : ℕ) × (state : State) × (greatest : Greatest)
     × copied copy × named made × Renews o n copy cleared source root place last state greatest made
 
--- what a system has, as contracts see it: disks of copies and of new images, what was copied, got a name or was opened,
--- and what is left of an input
-pub record Files (Old New Input : Type 0) : Type 1 where
+-- what a system has, as contracts see it: disks of copies, of new images and of those that a command writes, what was
+-- copied, got a name or was opened, and what is left of an input
+pub record Files (Old New Image Input : Type 0) : Type 1 where
   pub old : Ghosts Old
   pub new : Ghosts New
+  pub image : Ghosts Image
   pub copied : List ℕ → Old → Type 0
   pub named : List ℕ → New → Type 0
+  pub held : List ℕ → Image → Type 0
   pub opened : List ℕ → Input → Type 0
   pub left : Input → Option (List ℕ)
 
 -- WHAT A TASK HAS DONE AT ITS END, of the tasks whose files contracts name: its engine, over what has the task's names.
-abbrev pub Runs : {Old New Input : Type 0} → Files Old New Input → Task → Ending → Type 0
+abbrev pub Runs : {Old New Image Input : Type 0} → Files Old New Image Input → Task → Ending → Type 0
 Runs s (Lines engine None) ending = Works s.opened s.left engine (codes "-") ending
 Runs s (Lines engine (Some file)) ending = Works s.opened s.left engine file.now ending
-Runs {Old} {New} {Input} s (Format image sectors) ending = IsUnmade ending image.now
+Runs {Old} {New} {Image} {Input} s (Format image sectors) ending = IsUnmade ending image.now
     ⊎ ((ending ≡ Clean) × (made : New) × s.named image.now made × IsFormatted s.new sectors made)
-Runs {Old} {New} {Input} s (Copy image file) ending = (IsUncopied ending image.now ⊎ IsUnmade ending file.now)
+Runs {Old} {New} {Image} {Input} s (Copy image file) ending = (IsUncopied ending image.now ⊎ IsUnmade ending file.now)
     ⊎ ((ending ≡ Clean) × (copy : Old) × (read : Old) × (made : New) × s.copied image.now copy
     × s.named file.now made × IsCopied s.old s.new copy read made)
 Runs s (Rescue image file) ending = ending ≡ Clean → Rescues s.old s.new (s.copied image.now) (s.named file.now)
 Runs s (Sheet page file) ending = Compares s.opened s.left page.now file.now ending
-Runs s (Run task) ending = Unit {0}
+Runs s (Run task) ending = Refuses ending
+    ⊎ Scripted s.image (s.held task.image.now) (s.opened task.script.now) s.left task.script.now ending
 Runs s (Report image table is_json) ending = Unit {0}
 Runs s (Inspect image) ending = Unit {0}
 Runs s (Values image layout) ending = Unit {0}
 Runs s (Status image silent layout) ending = Unit {0}
-Runs s (Fit image list) ending = Unit {0}
-Runs s (Order task) ending = Unit {0}
-Runs s (Poll task) ending = Unit {0}
+Runs s (Fit image list) ending = Refuses ending ⊎ Fitted s.image (s.held image.now) ending
+Runs s (Order task) ending = Refuses ending ⊎ Ordered s.image (s.held task.image.now) task ending
+Runs s (Poll task) ending = Refuses ending ⊎ Polled s.image (s.held task.image.now) task.image.now ending
 Runs s (Bus task) ending = Unit {0}
 Runs s Demo ending = Unit {0}

@@ -1,6 +1,7 @@
 //! The links of the bus lines on this system.
 
-ghost use Rattle.std.specs.Prelude.{⊤};
+ghost use Rattle.std.specs.Prelude.{⊤, IfErr};
+ghost use Rattle.mbdc.specs.Commands.{Refuses};
 
 use libc::net::poll;
 use mbdc_bus::trace::{Observed, Observer};
@@ -36,6 +37,7 @@ type Connected<'a, R> = Result<Vec<Option<Peer<R>>>, Ending<'a>>;
 pub fn connected<'a, R>(host: &Host<'_, R>, links: &[Option<LinkName<'_>>; 1]) -> Connected<'a, R>
 where
     R: Files<File = File> + Net<Stream = TcpStream> + Clock + Copy + Eprint + AllocGlobal,
+    ensures { IfErr result (λ ending. Refuses ending) }
 {
     let mut linker = Linker {
         rt: host.rt,
@@ -57,6 +59,7 @@ where
 pub fn reached<'a, R>(host: &Host<'_, R>, links: &Links<'_>, again: bool) -> Connected<'a, R>
 where
     R: Files<File = File> + Net<Stream = TcpStream> + Clock + Copy + Eprint + AllocGlobal,
+    ensures { IfErr result (λ ending. Refuses ending) }
 {
     let mut linker = Linker {
         rt: host.rt,
@@ -86,6 +89,7 @@ pub fn buses_of<'p, 'e, O, R>(
 where
     O: Observer + Drop,
     R: Net<Stream = TcpStream> + Clock + Copy + AllocGlobal,
+    ensures { IfErr result (λ ending. Refuses ending) }
 {
     let mut buses = Vec::new(host.rt.alloc());
     for (peer, observer) in peers.iter().zip(observers) {

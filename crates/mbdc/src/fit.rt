@@ -1,37 +1,45 @@
 //! The command `fit`: the meters of a list, added to the register of an image in a file.
 
-ghost use Rattle.std.specs.Prelude.{◌≡◌, IfOk, IfSome};
+ghost use Rattle.std.specs.Prelude.{◌≡◌, ◌⊎◌, IfOk, IfSome};
+ghost use Rattle.mbdc.specs.Commands.{Fitted, IsDone, Refuses};
 
 use crate::journal::Noting;
+use crate::system::System;
 use dc_meters::House;
-use dc_sectors::FileDisk;
+use dc_sectors::Disk;
 use mbdc_commands::fit_over;
 use mbdc_ending::{Ending, ProgramFault};
-use mbdc_files::{Host, Noted, Output, open_disk};
+use mbdc_files::{Host, Output};
 use mbdc_fit::list::{Wish, read_list};
-use mbdc_io::{CHUNK, MOST, NoMemory, ReadSource, Source, read_input, room};
+use mbdc_io::{CHUNK, MOST, NoMemory, Source, read_input, room};
 use mbdc_log::Greatest;
 use mbdc_looks::register_of;
 use std::alloc::Global;
-use std::fs::{File, OpenFile};
-use std::os::unix::fs::FileExt;
+use std::fs::File;
+use std::io;
 use std::rt::{Clock, Files};
-use std::{fs, io};
 
 /// Adds the meters of the list in that file to the image in that file.
-pub fn fit_on_image<'a, R>(host: &Host<'_, R>, image: &'a str, list: &'a str) -> Ending<'a>
+pub fn fit_on_image<'a, R, S>(
+    host: &Host<'_, R>,
+    system: &S,
+    image: &'a str,
+    list: &'a str,
+) -> Ending<'a>
 where
     R: Files<File = File> + Clock + Print + Eprint + AllocGlobal,
+    S: System<'a>,
+    ensures { Refuses result ⊎ Fitted S.Image.Disk (S.held system.now image.now) result }
 {
-    let rows = match fs::open(host.rt, list) {
-        Ok(rows) => Noted::new(rows, host.why),
-        Err(error) => return host.why.file(list, error),
+    let mut rows = match system.lines(list, false) {
+        Ok(rows) => rows,
+        Err(ending) => return ending,
     };
-    let mut disk = match open_disk(host, image) {
+    let mut disk = match system.image(image) {
         Ok(disk) => disk,
         Err(ending) => return ending,
     };
-    let rows = match read_whole(host.rt.alloc(), &mut ReadSource::new(rows)) {
+    let rows = match read_whole(host.rt.alloc(), &mut rows) {
         Ok(rows) => rows,
         Err(fault) => return host.why.ended(Err(fault), list),
     };
@@ -49,14 +57,15 @@ where
 /// Does what is asked on the image with this register, and puts the commands that were done into its journal.
 pub fn wished<'a, D, R>(
     host: &Host<'_, R>,
-    disk: FileDisk<D>,
+    disk: D,
     image: &str,
     house: Option<House<Global>>,
     wish: &Wish<'_>,
 ) -> Ending<'a>
 where
-    D: FileExt + OpenFile + Drop,
+    D: Disk + Drop,
     R: Files<File = File> + Clock + Print + Eprint + AllocGlobal,
+    ensures { IsDone D.Disk wish.now disk result }
 {
     let out = Output::new(io::writer(host.rt), host, false);
     let mut notes = Noting::new(host, image, house);

@@ -1,7 +1,9 @@
 //! The meters that words name, in the register of an image.
 
-ghost use Rattle.std.specs.Prelude.{IfOk};
+ghost use Rattle.std.specs.Prelude.{IfErr, IfOk, IfSome};
 ghost use Rattle.dc_meters.specs.Means.{AreMeant};
+ghost use Rattle.dc_sectors.specs.Runs.{OnlyLooked};
+ghost use Rattle.mbdc.specs.Commands.{Refuses};
 
 use dc_address::Identity;
 use dc_meters::House;
@@ -30,39 +32,42 @@ pub fn meters_of<'a, R: AllocGlobal, D: Disk>(
     disk: &mut D,
     names: &[Named],
     image: &'a str,
-) -> Result<(Vec<Identity>, Option<House<Global>>), Ending<'a>> {
+) -> Result<(Vec<Identity>, Option<House<Global>>), Ending<'a>>
+    ensures meant { IfOk result (λ found. IfSome found.1 (λ house. AreMeant house.state names.now found.0.items)) }
+    ensures looked { OnlyLooked D.Disk disk.old disk.new }
+    ensures refused { IfErr result (λ ending. Refuses ending) }
+{
     let alloc = host.rt.alloc();
     match register_of(alloc, disk, &Greatest::NONE) {
         // A poll refuses an image that is behind by itself.
         Ok((house, _)) => {
-            let meters = meters_in(alloc, &house, names, ONLY)?;
-            Ok((meters, Some(house)))
+            match resolve_all(alloc, &house, names) {
+                Ok(meters) => Ok((meters, Some(house))),
+                Err(fault) => Err(mistaken(alloc, &house, fault, ONLY)),
+            }
         }
         Err(_) if names.is_empty() => Ok((Vec::new(alloc), None)),
         Err(fault) => Err(ending_of(Err(fault), image)),
     }
 }
 
-/// The meters that these names mean in a register.
-///
-/// # Errors
-/// The ending of the command: a number names no meter or several, which the mistake lists.
-pub fn meters_in<'a>(
+/// The ending by a name that means no meter of a register, or several, which the mistake lists. The option that the name
+/// is of stands before it.
+pub fn mistaken<'a>(
     alloc: Global,
     house: &House<Global>,
-    names: &[Named],
+    fault: NameFault,
     option: &str,
-) -> Result<Vec<Identity>, Ending<'a>>
-    ensures { IfOk result (λ meters. AreMeant house.now.state names.now meters.items) }
+) -> Ending<'a>
+    ensures { Refuses result }
 {
-    let (digits, several) = match resolve_all(alloc, house, names) {
-        Ok(meters) => return Ok(meters),
-        Err(NameFault::NoMemory) => return Err(Ending::Memory),
-        Err(NameFault::Unknown(digits)) => (digits, Ok(Vec::new(alloc))),
-        Err(NameFault::Several(digits)) => (digits, having(alloc, house, &digits)),
+    let (digits, several) = match fault {
+        NameFault::NoMemory => return Ending::Memory,
+        NameFault::Unknown(digits) => (digits, Ok(Vec::new(alloc))),
+        NameFault::Several(digits) => (digits, having(alloc, house, &digits)),
     };
     let Ok(several) = several else {
-        return Err(Ending::Memory);
+        return Ending::Memory;
     };
     let mut said = Bytes::new(alloc);
     let begun = match several.len() as u64 {
@@ -80,23 +85,25 @@ pub fn meters_in<'a>(
     for meter in &several {
         let text = meter.text();
         if put_pieces(&mut said, &[Piece::Text(before), Piece::Text(&text)]).is_err() {
-            return Err(Ending::Memory);
+            return Ending::Memory;
         }
         before = b", ";
     }
     if begun.is_err() {
-        return Err(Ending::Memory);
+        return Ending::Memory;
     }
     let pieces = [
         Piece::Text(option.as_bytes()),
         Piece::Text(&digits),
         Piece::Text(said.as_slice()),
     ];
-    Err(leaked(alloc, &pieces))
+    leaked(alloc, &pieces)
 }
 
 /// The ending by a mistake in the words. The text stays until the program ends, which it does next.
-pub fn leaked<'a>(alloc: Global, mistake: &[Piece<'_>]) -> Ending<'a> {
+pub fn leaked<'a>(alloc: Global, mistake: &[Piece<'_>]) -> Ending<'a>
+    ensures { Refuses result }
+{
     let mut text = Bytes::new(alloc);
     if put_pieces(&mut text, mistake).is_err() {
         return Ending::Memory;

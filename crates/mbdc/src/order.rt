@@ -1,12 +1,17 @@
 //! The commands `swap`, `move` and `out`: one command on the register of an image in a file.
 
+ghost use Rattle.std.specs.Prelude.{◌⊎◌, IfErr, IfOk};
+ghost use Rattle.mbdc.specs.Commands.{IsAsked, Ordered, Refuses};
+
 use crate::fit::wished;
-use crate::names::{leaked, meters_in};
+use crate::names::{leaked, mistaken};
+use crate::system::System;
 use dc_meters::House;
+use dc_meters::named::resolve;
 use mbdc_commands::words::{OrderTask, Turn};
 use mbdc_decode::tokens::{Piece, put_pieces};
 use mbdc_ending::{Ending, ending_of};
-use mbdc_files::{Host, open_disk};
+use mbdc_files::Host;
 use mbdc_fit::list::{Order, Wish};
 use mbdc_io::{Bytes, IoFault, Sink, put_number};
 use mbdc_log::Greatest;
@@ -17,12 +22,14 @@ use std::rt::{Clock, Files};
 use std::str;
 
 /// Does one command on the image in that file. A terminal first shows what will be done.
-pub fn order_on_image<'a, R>(host: &Host<'_, R>, task: &OrderTask<'a>) -> Ending<'a>
+pub fn order_on_image<'a, R, S>(host: &Host<'_, R>, system: &S, task: &OrderTask<'a>) -> Ending<'a>
 where
     R: Files<File = File> + Clock + Print + Eprint + AllocGlobal,
+    S: System<'a>,
+    ensures { Refuses result ⊎ Ordered S.Image.Disk (S.held system.now task.now.image.now) task.now result }
 {
     let alloc = host.rt.alloc();
-    let mut disk = match open_disk(host, task.image) {
+    let mut disk = match system.image(task.image) {
         Ok(disk) => disk,
         Err(ending) => return ending,
     };
@@ -50,10 +57,13 @@ fn order_of<'a>(
     alloc: Global,
     house: &House<Global>,
     task: &OrderTask<'_>,
-) -> Result<Order, Ending<'a>> {
-    let meters = meters_in(alloc, house, &[task.meter], "")?;
-    let Some(meter) = meters.first().copied() else {
-        return Err(Ending::Memory);
+) -> Result<Order, Ending<'a>>
+    ensures asked { IfOk result (λ order. IsAsked house.now.state task.now order) }
+    ensures refused { IfErr result (λ ending. Refuses ending) }
+{
+    let meter = match resolve(alloc, house, task.meter) {
+        Ok(meter) => meter,
+        Err(fault) => return Err(mistaken(alloc, house, fault, "")),
     };
     match task.turn {
         Turn::Swap { new, address, flat } => {

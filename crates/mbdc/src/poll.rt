@@ -1,43 +1,48 @@
 //! The command `poll`: the registered meters of an image are read over the bus lines.
 
+ghost use Rattle.std.specs.Prelude.{◌⊎◌};
+ghost use Rattle.mbdc.specs.Commands.{IsPolled, Polled, Refuses};
+
 use crate::clock::moment;
 use crate::connecting::{buses_of, reached, released};
 use crate::exchanged::{Attending, Missing, look_for_missing};
 use crate::journal::Noting;
 use crate::names::meters_of;
+use crate::system::System;
 use crate::tracing::{Trace, shows_progress, trace_of, tracers_of};
 use dc_address::Identity;
 use dc_meters::House;
-use dc_sectors::FileDisk;
+use dc_sectors::Disk;
 use mbdc_bus::HalfBus;
 use mbdc_bus::trace::Observer;
 use mbdc_change::Moment;
 use mbdc_commands::words::PollTask;
 use mbdc_commands::{Printing, SparingWatch, poll_over};
 use mbdc_ending::Ending;
-use mbdc_files::{Host, Output, open_disk};
+use mbdc_files::{Host, Output};
 use mbdc_io::NoMemory;
 use mbdc_poll::events::{Form, Notes};
 use mbdc_poll::{Doubt, Plan, Remembering, Retrying, Sparing};
 use mbdc_raw::links::{Peer, Watched};
 use std::alloc::Global;
-use std::fs::{File, OpenFile};
+use std::fs::File;
 use std::io;
 use std::net::{Net, TcpStream};
-use std::os::unix::fs::FileExt;
 use std::rt::{Clock, Files};
 
 /// Reads the registered meters of the image in that file over the links of their lines, or only
 /// those that are named.
-pub fn poll_on_image<'a, R>(host: &Host<'a, R>, task: &PollTask<'a>) -> Ending<'a>
+pub fn poll_on_image<'a, R, S>(host: &Host<'a, R>, system: &S, task: &PollTask<'a>) -> Ending<'a>
 where
     R: Files<File = File> + Net<Stream = TcpStream> + Clock + Copy + Print + Eprint + AllocGlobal,
+    S: System<'a>,
+    ensures { Refuses result ⊎ Polled S.Image.Disk (S.held system.now task.now.image.now) task.now.image.now result }
 {
     // No reading gets a stamp that is no time.
     let Some(begun) = moment(host.rt) else {
         return Ending::Clock;
     };
-    let mut disk = match open_disk(host, task.image) {
+    let mut disk = match system.image(task.image) {
         Ok(disk) => disk,
         Err(ending) => return ending,
     };
@@ -70,7 +75,7 @@ where
 // Reads the meters of this register, or only those that are named, over connected links.
 fn poll_reached<'a, D, R>(
     host: &Host<'_, R>,
-    disk: FileDisk<D>,
+    disk: D,
     peers: &[Option<Peer<R>>],
     trace: Option<&Trace<'_, R>>,
     known: (Vec<Identity>, Option<House<Global>>),
@@ -78,8 +83,9 @@ fn poll_reached<'a, D, R>(
     task: &PollTask<'a>,
 ) -> Ending<'a>
 where
-    D: FileExt + OpenFile + Drop,
+    D: Disk + Drop,
     R: Files<File = File> + Net<Stream = TcpStream> + Clock + Copy + Print + Eprint + AllocGlobal,
+    ensures { Refuses result ⊎ IsPolled D.Disk task.now.image.now disk result }
 {
     let (only, house) = known;
     let printing = Printing {
@@ -116,7 +122,7 @@ where
 // checker meets its step limit over the parts of a trace, and the notes, for their lifetimes.
 fn poll_peers<'a, D, O, J, R>(
     host: &Host<'_, R>,
-    disk: FileDisk<D>,
+    disk: D,
     peers: &[Option<Peer<R>>],
     observers: Vec<O>,
     doubts: &mut [Vec<Doubt>],
@@ -127,10 +133,11 @@ fn poll_peers<'a, D, O, J, R>(
     task: &PollTask<'a>,
 ) -> Ending<'a>
 where
-    D: FileExt + OpenFile + Drop,
+    D: Disk + Drop,
     O: Observer + Drop,
     J: Notes + Drop,
     R: Files<File = File> + Net<Stream = TcpStream> + Clock + Copy + Print + Eprint + AllocGlobal,
+    ensures { Refuses result ⊎ IsPolled D.Disk task.now.image.now disk result }
 {
     let notes = Attending { notes, missing };
     match buses_of(host, peers, observers, task.patience) {
@@ -143,7 +150,7 @@ where
 // asks who is busy again. They are any, as the observers are. A copy that comes of a first question is no silence.
 fn poll_sparing<'a, D, B, J, R>(
     host: &Host<'_, R>,
-    disk: FileDisk<D>,
+    disk: D,
     buses: Vec<B>,
     doubts: &mut [Vec<Doubt>],
     only: &[Identity],
@@ -152,10 +159,11 @@ fn poll_sparing<'a, D, B, J, R>(
     task: &PollTask<'a>,
 ) -> Ending<'a>
 where
-    D: FileExt + OpenFile + Drop,
+    D: Disk + Drop,
     B: HalfBus + Watched + Drop,
     J: Notes + Drop,
     R: Files<File = File> + Clock + Print + Eprint + AllocGlobal,
+    ensures { Refuses result ⊎ IsPolled D.Disk task.now.image.now disk result }
 {
     let mut retrying = Vec::new(host.rt.alloc());
     for (bus, silent) in buses.into_iter().zip(doubts.iter_mut()) {

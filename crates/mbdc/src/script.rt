@@ -1,59 +1,65 @@
 //! The command `run`: a script over an image in a file.
 
+ghost use Rattle.std.specs.Prelude.{◌⊎◌};
+ghost use Rattle.mbdc.specs.Commands.{Refuses, RunsLines, Scripted};
+
 use crate::connecting::{connected, released};
 use crate::fit::read_whole;
 use crate::journal::Noting;
-use dc_sectors::FileDisk;
+use crate::system::System;
+use dc_sectors::Disk;
 use mbdc_bus::Both;
 use mbdc_commands::run_over;
 use mbdc_commands::words::RunTask;
 use mbdc_ending::Ending;
-use mbdc_files::{Host, Noted, Output, open_disk};
-use mbdc_io::ReadSource;
+use mbdc_files::{Host, Output};
+use mbdc_io::Source;
 use mbdc_log::Greatest;
 use mbdc_looks::register_of;
 use mbdc_raw::links::{Peer, Waiter};
-use std::fs::{File, OpenFile};
-use std::io::Read;
+use std::fs::File;
+use std::io;
 use std::net::{Net, TcpStream};
-use std::os::unix::fs::FileExt;
 use std::rt::{Clock, Files};
-use std::{fs, io};
 
 /// Runs the script over the image, from file to file, over the gateway.
-pub fn run_on_image<'a, R>(host: &Host<'_, R>, task: &RunTask<'a>) -> Ending<'a>
+pub fn run_on_image<'a, R, S>(host: &Host<'_, R>, system: &S, task: &RunTask<'a>) -> Ending<'a>
 where
     R: Files<File = File> + Net<Stream = TcpStream> + Clock + Copy + Print + Eprint + AllocGlobal,
+    S: System<'a>,
+    ensures { Refuses result ⊎ Scripted S.Image.Disk (S.held system.now task.now.image.now)
+        (S.opened system.now task.now.script.now) S.Lines.left task.now.script.now result }
 {
-    let disk = match open_disk(host, task.image) {
+    let disk = match system.image(task.image) {
         Ok(disk) => disk,
         Err(ending) => return ending,
     };
-    let lines = match fs::open(host.rt, task.script) {
-        Ok(lines) => Noted::new(lines, host.why),
-        Err(error) => return host.why.file(task.script, error),
+    let mut lines = match system.lines(task.script, false) {
+        Ok(lines) => lines,
+        Err(ending) => return ending,
     };
     let peers = match connected(host, &[task.gateway]) {
         Ok(peers) => peers,
         Err(ending) => return ending,
     };
-    let ending = run_over_peers(host, disk, lines, peers.as_slice(), task);
+    let ending = run_over_peers(host, disk, &mut lines, peers.as_slice(), task);
     released(host, peers.as_slice());
     ending
 }
 
-// Runs the lines of a file over a disk, with a connected gateway. They are read before the image is looked at.
-fn run_over_peers<'a, F, D, R>(
+// Runs the lines of an input over a disk, with a connected gateway. They are read before the image is looked at.
+fn run_over_peers<'a, I, D, R>(
     host: &Host<'_, R>,
-    disk: FileDisk<D>,
-    lines: F,
+    disk: D,
+    lines: &mut I,
     peers: &[Option<Peer<R>>],
     task: &RunTask<'a>,
 ) -> Ending<'a>
 where
-    F: Read + Drop,
-    D: FileExt + OpenFile + Drop,
+    I: Source,
+    D: Disk + Drop,
     R: Files<File = File> + Net<Stream = TcpStream> + Clock + Copy + Print + Eprint + AllocGlobal,
+    ensures { Refuses result ⊎ RunsLines D.Disk disk (I.left lines.old) task.now.script.now result }
 {
     let mut gateway = match peers {
         [Some(peer)] => match peer.bus(*host.rt, task.patience) {
@@ -62,7 +68,7 @@ where
         },
         _ => None,
     };
-    let lines = match read_whole(host.rt.alloc(), &mut ReadSource::new(lines)) {
+    let lines = match read_whole(host.rt.alloc(), lines) {
         Ok(lines) => lines,
         Err(fault) => return host.why.ended(Err(fault), task.script),
     };

@@ -19,7 +19,7 @@ use std::rt::Files;
 const ROOM: usize = 65_536;
 
 /// Audits the file of that name, and compares the page with it.
-pub fn audit_sheet<'a, R: Files<File = File> + Print + Eprint + AllocGlobal, S: System>(
+pub fn audit_sheet<'a, R: Files<File = File> + Print + Eprint + AllocGlobal, S: System<'a>>(
     host: &Host<'_, R>,
     system: &S,
     page: &'a str,

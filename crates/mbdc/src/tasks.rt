@@ -44,12 +44,14 @@ where
         + Print
         + Eprint
         + AllocGlobal,
-    S: System,
+    S: System<'a>,
     ensures { Runs (record {
       old = S.Old.Disk;
       new = S.New.Disk;
       copied = S.copied system.now;
+      image = S.Image.Disk;
       named = S.named system.now;
+      held = S.held system.now;
       opened = S.opened system.now;
       left = S.Lines.left;
     }) task.now result }
@@ -62,7 +64,7 @@ where
         Task::Lines { engine, file: None } => work_on(host, system, *engine, STREAM),
         Task::Sheet { page, file } => audit_sheet(host, system, page, file),
         Task::Format { image, sectors } => format_image(system, image, *sectors),
-        Task::Run(task) => run_on_image(host, task),
+        Task::Run(task) => run_on_image(host, system, task),
         Task::Report {
             image,
             table,
@@ -75,13 +77,13 @@ where
             silent,
             layout,
         } => tell(host, image, Some(*silent), *layout, screen),
-        Task::Fit { image, list } => fit_on_image(host, image, list),
-        Task::Order(task) => order_on_image(host, task),
+        Task::Fit { image, list } => fit_on_image(host, system, image, list),
+        Task::Order(task) => order_on_image(host, system, task),
         Task::Copy { image, file } => back_up(system, image, file),
         Task::Rescue { image, file } => rescue_image(host, system, image, file),
         Task::Bus(task) => on_bus(host, task),
         Task::Poll(task) => {
-            let ending = poll_on_image(host, task);
+            let ending = poll_on_image(host, system, task);
             let is_polled = matches!(ending, Ending::Clean | Ending::Faulty);
             if screen.is_terminal && is_polled && !task.is_json {
                 let _ = tell(host, task.image, None, Layout::Table, screen);
@@ -93,7 +95,7 @@ where
 }
 
 // Runs the engine over the input of that name, and ends by its answer.
-fn work_on<'a, R: Files<File = File> + Print + Eprint + AllocGlobal, S: System>(
+fn work_on<'a, R: Files<File = File> + Print + Eprint + AllocGlobal, S: System<'a>>(
     host: &Host<'_, R>,
     system: &S,
     engine: Engine,
@@ -116,34 +118,22 @@ fn work<R: Files<File = File> + Print + Eprint + AllocGlobal, S: Source>(
 ) -> Result<bool, ProgramFault>
     ensures { IfOk result (λ faulty. Answers engine (S.left reader.old) faulty) }
 {
+    let alloc = host.rt.alloc();
     let printer = Output::new(io::writer(host.rt), host, false);
-    let mut writer = Buffered::new(host.rt.alloc(), ROOM, WriteSink::new(printer))?;
-    let faulty = answer_of(host, engine, reader, &mut writer)?;
+    let mut writer = Buffered::new(alloc, ROOM, WriteSink::new(printer))?;
+    let faulty = match engine {
+        Engine::Decode(Form::Text) => decode_lines(alloc, reader, &mut writer)?,
+        Engine::Decode(Form::Json) => json_lines(alloc, reader, &mut writer)?,
+        Engine::Decode(Form::Table) => explain_lines(alloc, reader, &mut writer)?,
+        Engine::Fold => fold_lines(alloc, reader, &mut writer)?,
+        Engine::Audit => !audit(alloc, reader, &mut writer)?,
+        Engine::Fill => filled(host, reader, &mut writer)?,
+    };
     let (mut output, put) = writer.finish();
     if put.is_err() || output.flush().is_err() {
         return Err(ProgramFault::Write);
     }
     Ok(faulty)
-}
-
-// Runs the engine from the source to the sink.
-fn answer_of<R: Files<File = File> + Eprint + AllocGlobal, S: Source, W: Sink>(
-    host: &Host<'_, R>,
-    engine: Engine,
-    reader: &mut S,
-    writer: &mut W,
-) -> Result<bool, ProgramFault>
-    ensures { IfOk result (λ faulty. Answers engine (S.left reader.old) faulty) }
-{
-    let alloc = host.rt.alloc();
-    match engine {
-        Engine::Decode(Form::Text) => Ok(decode_lines(alloc, reader, writer)?),
-        Engine::Decode(Form::Json) => Ok(json_lines(alloc, reader, writer)?),
-        Engine::Decode(Form::Table) => Ok(explain_lines(alloc, reader, writer)?),
-        Engine::Fold => fold_lines(alloc, reader, writer),
-        Engine::Audit => Ok(!audit(alloc, reader, writer)?),
-        Engine::Fill => filled(host, reader, writer),
-    }
 }
 
 // Fills a file of published numbers in, and says on standard error what differs.

@@ -1,5 +1,8 @@
 //! The trace of what goes over the bus lines, where one is asked for.
 
+ghost use Rattle.std.specs.Prelude.{IfErr};
+ghost use Rattle.mbdc.specs.Commands.{Refuses};
+
 use mbdc_bus::trace::{Observer, TraceFile, TraceLines, Tracer};
 use mbdc_ending::Ending;
 use mbdc_files::{Host, file_limit};
@@ -113,7 +116,9 @@ pub fn tracers_of<'t, 'h, 'e, R: Clock + Eprint + AllocGlobal>(
     host: &Host<'_, R>,
     trace: Option<&'t Trace<'h, R>>,
     lines: usize,
-) -> Result<Vec<LineTracer<'t, 'h, R>>, Ending<'e>> {
+) -> Result<Vec<LineTracer<'t, 'h, R>>, Ending<'e>>
+    ensures { IfErr result (λ ending. Refuses ending) }
+{
     let file = match trace {
         Some(trace) => Some(&trace.file),
         None => None,

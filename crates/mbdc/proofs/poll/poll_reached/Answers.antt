@@ -1,0 +1,14 @@
+use Rattle.std.proofs.Common.{◌≡◌, ◌⊎◌, inl, arith, sym, subst}
+use Rattle.mbdc_ending.specs.declared.ending.Ending.{Ending}
+use Rattle.mbdc.specs.Commands.{IsPolled, Refuses}
+use Rattle.mbdc.proofs.poll.poll_reached.Goals as goal
+use Rattle.mbdc.proofs.poll.poll_reached.Goals.{in-Ok-Ok, in_default-Err, in-Err-default}
+
+pub returns : goal.returns
+returns g c =
+    let ends = λ (e : Ending). Refuses e ⊎ IsPolled g.D.Disk c.args.task.now.image.now c.args.disk e in
+    elim c.match-tracers_of.branch [
+      | in-Ok-Ok w ↦ subst ends (sym w.ending-is) w.poll_peers-ending.ensures
+      | in_default-Err w ↦ subst ends (sym w.ending-is) (inl (omega (arith)))
+      | in-Err-default w ↦ subst ends (sym w.ending-is) (inl w.in-Err-default.ensures)
+    ]

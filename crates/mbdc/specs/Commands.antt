@@ -1,0 +1,135 @@
+-- What the commands that write an image have done at their end: `fit`, `swap`, `move`, `out`, `run` and `poll` (this
+-- product).
+use Rattle.std.specs.Prelude.{◌≡◌, ◌⊎◌, ◌≤◌, ℕ, Bool, List, Option, None, Some, IfSome, Result}
+use Rattle.dc_address.specs.declared.identity.Identity.{Identity}
+use Rattle.dc_meters.specs.Means.{Means}
+use Rattle.dc_poller.specs.Link.{Link}
+use Rattle.dc_sectors.specs.Runs.{OnlyLooked}
+use Rattle.dc_sectors.specs.declared.device.Disk.{Ghosts}
+use Rattle.mbdc_change.specs.State.{Held, MeterRow, State, row_of}
+use Rattle.mbdc_commands.specs.FitOver.{FitsOver}
+use Rattle.mbdc_commands.specs.Ending.{PollEnds}
+use Rattle.mbdc_commands.specs.Guard.{Guards}
+use Rattle.mbdc_commands.specs.PollOver.{PollLeaves}
+use Rattle.mbdc_commands.specs.RunOver.{Over, RunsOver}
+use Rattle.mbdc_commands.specs.declared.words.task.OrderTask.{OrderTask}
+use Rattle.mbdc_commands.specs.declared.words.task.Turn.{Turn}
+use Rattle.mbdc_commands.specs.declared.words.task.Turn.TheVariants.{Swap, Move, Out}
+use Rattle.mbdc_ending.specs.Ending.{status_of}
+use Rattle.mbdc_ending.specs.Outcome.{EndsAs}
+use Rattle.mbdc_ending.specs.declared.ending.Ending.{Ending}
+use Rattle.mbdc_ending.specs.declared.fault.ProgramFault.{ProgramFault}
+use Rattle.mbdc_fit.specs.Order.{subject_of}
+use Rattle.mbdc_fit.specs.declared.list.order.Order.{Order}
+use Rattle.mbdc_fit.specs.declared.list.order.Order.TheVariants.{Swap as Swapped, Move as Moved, Out as Gone}
+use Rattle.mbdc_fit.specs.declared.list.wish.Wish.{Wish}
+use Rattle.mbdc_fit.specs.declared.list.wish.Wish.TheVariants.{List as Listed, One}
+use Rattle.mbdc_log.specs.declared.greatest.Greatest.{Greatest}
+use Rattle.mbdc_looks.specs.Register.{IsRegisterOf}
+use Rattle.mbdc_poll.specs.declared.outcome.Outcome.{Outcome}
+
+-- it ends without an answer: for its words, a file, a link, the clock, the image or memory
+abbrev pub Refuses : Ending → Type 0
+Refuses ending = 2 ≤ status_of ending
+
+-- ---- the command that the words ask for
+
+-- the command of this meter
+abbrev pub order_for : Turn → Identity → Order
+order_for (Swap new address flat) meter = Swapped meter new address
+order_for (Move flat) meter = Moved meter flat
+order_for Out meter = Gone meter
+
+-- the flat in which the meter has to be, if one is named
+abbrev pub flat_in : Turn → Option (List ℕ)
+flat_in (Swap new address flat) = flat
+flat_in (Move flat) = None
+flat_in Out = None
+
+-- THE COMMAND THAT THE WORDS ASK FOR: it is that of the meter which they name, and the register has the meter in the flat
+-- that they name, where they name one and it has the meter.
+pub record IsAsked (state : State) (task : OrderTask) (order : Order) : Type 0 where
+  pub meant : Means state task.meter (subject_of order)
+  pub same : order ≡ order_for task.turn (subject_of order)
+  pub there : IfSome (flat_in task.turn) (λ flat. IfSome (row_of (subject_of order) state) (λ row. row.flat ≡ flat))
+
+-- ---- the image
+
+-- ALL THAT IS ASKED IS DONE, OR NOTHING OF IT, to the image on this disk, whatever became of it before.
+abbrev pub IsDone : {D : Type 0} → Ghosts D → Wish → D → Ending → Type 0
+IsDone {D} g wish disk ending = (left : D) × Guards g disk left ending (λ ready.
+    FitsOver g wish (λ (writer : D). None) ready ready left ending)
+
+-- it is a list, and no command
+abbrev pub IsList : Wish → Type 0
+IsList (Listed list) = Unit {0}
+IsList (One order) = ⊥
+
+-- A LIST IS PUT INTO THE REGISTER of an image that was opened, and at first only looked at.
+pub record Fitted {D : Type 0} (g : Ghosts D) (held : D → Type 0) (ending : Ending) : Type 0 where
+  pub disk : D
+  pub is_held : held disk
+  pub looked : D
+  pub looks : OnlyLooked g disk looked
+  pub wish : Wish
+  pub is_list : IsList wish
+  pub done : IsDone g wish looked ending
+
+-- A COMMAND IS DONE on the register of an image that was opened, and at first only looked at: the one that the words ask
+-- for, by what the image reads as.
+pub record Ordered {D : Type 0} (g : Ghosts D) (held : D → Type 0) (task : OrderTask) (ending : Ending) : Type 0 where
+  pub disk : D
+  pub is_held : held disk
+  pub looked : D
+  pub looks : OnlyLooked g disk looked
+  pub house : Held
+  pub greatest : Greatest
+  pub ahead : Option ℕ
+  pub read : g.keeps looked → IsRegisterOf (g.sectors disk) greatest (g.reads disk) house ahead
+  pub order : Order
+  pub asked : IsAsked house.state task order
+  pub done : IsDone g (One order) looked ending
+
+-- ---- a script
+
+-- a gateway of whose exchanges nothing is said
+abbrev pub AnyGateway : Over
+AnyGateway said = said (λ exchanges. Unit {0})
+
+-- THE LINES OF AN INPUT ARE RUN over the image on this disk, which is at first only looked at.
+pub record RunsLines {D : Type 0} (g : Ghosts D) (disk : D) (input : Option (List ℕ)) (name : List ℕ) (ending : Ending)
+    : Type 0 where
+  pub looked : D
+  pub looks : OnlyLooked g disk looked
+  pub script : List ℕ
+  pub script_is : IfSome input (λ text. script ≡ text)
+  pub link : Link
+  pub left : D
+  pub ran : Guards g looked left ending (λ ready. (ran : Result Bool ProgramFault) × EndsAs ran name ending
+      × RunsOver g link (Some script) AnyGateway (λ (writer : D). None) ready ready left ran)
+
+-- A SCRIPT IS RUN over an image: both were opened.
+pub record Scripted {D Input : Type 0} (g : Ghosts D) (held : D → Type 0) (opened : Input → Type 0)
+    (left : Input → Option (List ℕ)) (name : List ℕ) (ending : Ending) : Type 0 where
+  pub disk : D
+  pub is_held : held disk
+  pub input : Input
+  pub is_opened : opened input
+  pub runs : RunsLines g disk (left input) name ending
+
+-- ---- a poll
+
+-- A POLL IS DONE on the image on this disk, whatever became of it before: turns of the concentrator that was opened leave
+-- it, and the ending is the poll's.
+abbrev pub IsPolled : {D : Type 0} → Ghosts D → (name : List ℕ) → D → Ending → Type 0
+IsPolled {D} g name disk ending = (left : D) × Guards g disk left ending (λ ready.
+    (outcome : Result Outcome ProgramFault) × (is_printed : Bool) × PollEnds outcome is_printed name ending
+    × PollLeaves g (λ done core happened. Unit {0}) ready left outcome)
+
+-- A POLL IS DONE over an image that was opened, and at first only looked at.
+pub record Polled {D : Type 0} (g : Ghosts D) (held : D → Type 0) (name : List ℕ) (ending : Ending) : Type 0 where
+  pub disk : D
+  pub is_held : held disk
+  pub looked : D
+  pub looks : OnlyLooked g disk looked
+  pub done : IsPolled g name looked ending
