@@ -2,6 +2,7 @@
  * a commit or a command, an index for each question. Words: the database, the script. It takes the lines that the benches
  * write, checks a frame's lengths and checksum, prints what mbdc prints, and refuses nothing. */
 #include <sqlite3.h>
+#include <stdarg.h>
 #include <stdio.h>
 #include <stdlib.h>
 #include <string.h>
@@ -83,6 +84,26 @@ static void done(sqlite3_stmt *it)
     sqlite3_reset(it);
 }
 
+/* Binds values in their order, each by a letter of its kind: an int, a number, a text, or bytes with their length. */
+static sqlite3_stmt *with(sqlite3_stmt *it, const char *kinds, ...)
+{
+    va_list given;
+    va_start(given, kinds);
+    for (int place = 1; kinds[place - 1]; place++) {
+        const void *bytes;
+        switch (kinds[place - 1]) {
+        case 'i': sqlite3_bind_int(it, place, va_arg(given, int)); break;
+        case 'n': sqlite3_bind_int64(it, place, va_arg(given, number)); break;
+        case 't': sqlite3_bind_text(it, place, va_arg(given, const char *), -1, SQLITE_STATIC); break;
+        case 'b':
+            bytes = va_arg(given, const void *);
+            sqlite3_bind_blob(it, place, bytes, va_arg(given, int), SQLITE_STATIC);
+        }
+    }
+    va_end(given);
+    return it;
+}
+
 static const char *text(sqlite3_stmt *it, int column)
 {
     return (const char *)sqlite3_column_text(it, column);
@@ -143,12 +164,8 @@ static void keep_point(int line, const byte *b, int n)
     number value = 0;
     for (int i = 21; i > 17; i--)
         value = value * 100 + (b[i] >> 4) * 10 + (b[i] & 15);
-    sqlite3_bind_int(add_point, 1, (2000 + (b[14] >> 5) + (b[15] >> 4) * 8) * 10000 + (b[15] & 15) * 100 + (b[14] & 31));
-    sqlite3_bind_text(add_point, 2, lines[line].ident, -1, SQLITE_STATIC);
-    sqlite3_bind_int64(add_point, 3, serial);
-    sqlite3_bind_text(add_point, 4, lines[line].flat, -1, SQLITE_STATIC);
-    sqlite3_bind_int64(add_point, 5, value);
-    done(add_point);
+    int date = (2000 + (b[14] >> 5) + (b[15] >> 4) * 8) * 10000 + (b[15] & 15) * 100 + (b[14] & 31);
+    done(with(add_point, "itntn", date, lines[line].ident, serial, lines[line].flat, value));
 }
 
 static void hear(int line, const char *hex)
@@ -163,18 +180,11 @@ static void hear(int line, const char *hex)
         stop("a frame");
     int more = body[n - 1] == 0x1F;
     need_transaction();
-    sqlite3_bind_int64(add_part, 1, lines[line].readout);
-    sqlite3_bind_int(add_part, 2, ++lines[line].part);
-    sqlite3_bind_int64(add_part, 3, moment);
-    sqlite3_bind_blob(add_part, 4, body, n, SQLITE_STATIC);
-    done(add_part);
+    done(with(add_part, "ninb", lines[line].readout, ++lines[line].part, moment, body, n));
     if (!more) {
-        sqlite3_bind_int64(add_reading, 1, ++serial);
-        sqlite3_bind_text(add_reading, 2, lines[line].ident, -1, SQLITE_STATIC);
-        sqlite3_bind_text(add_reading, 3, lines[line].flat, -1, SQLITE_STATIC);
-        sqlite3_bind_int64(add_reading, 4, lines[line].readout);
-        sqlite3_bind_int(add_reading, 5, lines[line].part);
-        done(add_reading);
+        ++serial;
+        done(with(add_reading, "nttni", serial, lines[line].ident, lines[line].flat, lines[line].readout,
+                  lines[line].part));
         keep_point(line, body, n);
     }
     printf("PART %d %s\n", lines[line].part, more ? "MORE" : "LAST");
@@ -185,8 +195,7 @@ static void start(int line, const char *ident)
     snprintf(lines[line].ident, sizeof lines[line].ident, "%.31s", ident);
     lines[line].part = 0;
     lines[line].readout = ++readouts;
-    sqlite3_bind_text(flat_of, 1, ident, -1, SQLITE_STATIC);
-    if (sqlite3_step(flat_of) != SQLITE_ROW)
+    if (sqlite3_step(with(flat_of, "t", ident)) != SQLITE_ROW)
         stop("a meter");
     snprintf(lines[line].flat, sizeof lines[line].flat, "%s", text(flat_of, 0));
     sqlite3_reset(flat_of);
@@ -196,11 +205,10 @@ static void start(int line, const char *ident)
 static void show_window(number from, number count)
 {
     number shown = 0;
-    sqlite3_bind_int64(window, 1, from);
-    sqlite3_bind_int64(window, 2, count);
+    with(window, "nn", from, count);
     for (; sqlite3_step(window) == SQLITE_ROW; shown++) {
         printf("READING %lld %s %s %d\n", sqlite3_column_int64(window, 0), text(window, 1), text(window, 2), sqlite3_column_int(window, 3));
-        sqlite3_bind_int64(parts, 1, sqlite3_column_int64(window, 4));
+        with(parts, "n", (number)sqlite3_column_int64(window, 4));
         while (sqlite3_step(parts) == SQLITE_ROW) {
             printf("PART %d %lld ", sqlite3_column_int(parts, 0), sqlite3_column_int64(parts, 1));
             put_hex(sqlite3_column_blob(parts, 2), sqlite3_column_bytes(parts, 2));
@@ -225,7 +233,7 @@ static void show_due(int year, int month, int day)
 {
     number shown = 0;
     puts("flat,meter,serial,storage,function,tariff,subunit,value,unit");
-    sqlite3_bind_int(due, 1, year * 10000 + month * 100 + day);
+    with(due, "i", year * 10000 + month * 100 + day);
     for (; sqlite3_step(due) == SQLITE_ROW; shown++) {
         number value = sqlite3_column_int64(due, 3);
         printf("%s,%s,%lld,1,0,0,0,%lld.%03lld,m3\n", text(due, 0), text(due, 1), sqlite3_column_int64(due, 2), value / 1000, value % 1000);
@@ -234,19 +242,10 @@ static void show_due(int year, int month, int day)
     printf("END %lld\n", shown);
 }
 
-static void drop(sqlite3_stmt *it, number upto)
-{
-    sqlite3_bind_int64(it, 1, upto);
-    done(it);
-}
-
 /* A command, its number and its line, in one transaction. */
 static void end_command(number n, const char *line, number mark)
 {
-    sqlite3_bind_int64(set_last, 1, n);
-    sqlite3_bind_text(set_last, 2, line, -1, SQLITE_STATIC);
-    sqlite3_bind_int64(set_last, 3, mark);
-    done(set_last);
+    done(with(set_last, "ntn", n, line, mark));
     settle();
     printf("OK %lld\n", n);
 }
@@ -265,17 +264,13 @@ static void office(const char *line)
         show_due(year, month, day);
     } else if (sscanf(line, "%lld FIT %31s %d %7s %15s", &n, ident, &bus, addr, flat) == 5) {
         need_transaction();
-        sqlite3_bind_text(add_meter, 1, ident, -1, SQLITE_STATIC);
-        sqlite3_bind_int(add_meter, 2, bus);
-        sqlite3_bind_text(add_meter, 3, addr, -1, SQLITE_STATIC);
-        sqlite3_bind_text(add_meter, 4, flat, -1, SQLITE_STATIC);
-        done(add_meter);
+        done(with(add_meter, "titt", ident, bus, addr, flat));
         end_command(n, line, 0);
     } else if (sscanf(line, "%lld CONFIRM %lld", &n, &upto) == 2) {
         need_transaction();
-        drop(drop_points, upto);
-        drop(drop_parts, upto);
-        drop(drop_readings, upto);
+        done(with(drop_points, "n", upto));
+        done(with(drop_parts, "n", upto));
+        done(with(drop_readings, "n", upto));
         end_command(n, line, upto);
     } else {
         stop(line);

@@ -95,18 +95,15 @@ class Browser:
 
     def said(self) -> str:
         """What the page says last."""
-        said: str = self.run("return document.getElementById('said').textContent;")
-        return said
+        return str(self.run("return document.getElementById('said').textContent;"))
 
     def shown(self) -> str:
         """The text of the frames."""
-        shown: str = self.run("return document.getElementById('frames').innerText;")
-        return shown
+        return str(self.run("return document.getElementById('frames').innerText;"))
 
     def focus(self) -> str:
         """The element that the keyboard is at: its id, or its tag."""
-        at: str = self.run("return document.activeElement.id || document.activeElement.tagName;")
-        return at
+        return str(self.run("return document.activeElement.id || document.activeElement.tagName;"))
 
     def press(self, *keys: str) -> None:
         from selenium.webdriver.common.action_chains import ActionChains
