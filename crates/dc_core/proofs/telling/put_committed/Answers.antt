@@ -1,6 +1,7 @@
 use Rattle.std.proofs.Common.{◌++◌, codes, sym, subst, refl, arith, Result, ℕ}
+use Rattle.std.proofs.lemmas.Grind.{common_steps}
 use Rattle.mbdc_io.specs.Stream.{PutsFront}
-use Rattle.mbdc_io.proofs.Pieces.{puts_front-first, puts_front-within}
+use Rattle.mbdc_io.proofs.Pieces.{puts_front-first, puts_front-within, written}
 use Rattle.mbdc_io.specs.Words.{number_word}
 use Rattle.dc_core.specs.declared.fault.CommitFault.{CommitFault}
 use Rattle.dc_core.specs.Text.{committed_text}
@@ -23,3 +24,9 @@ returns-in_err-put_number_word g c =
     subst (λ (answer : Result ℕ CommitFault). PutsFront was is (committed_text answer)) (sym c.in-Ok.is)
     (puts_front-within (codes "COMMITTED") (number_word c.in-Ok.count) (codes "\n") c.in_ok-put.ensures.bytes refl c.in_err-put_number_word.ensures.2) in
     grind arith
+
+pub returns-in-Err : goal.returns-in-Err
+returns-in-Err g c = grind (arith, written)
+
+pub returns : goal.returns
+returns g c = grind (arith, common_steps)

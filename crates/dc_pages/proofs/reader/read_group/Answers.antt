@@ -1,6 +1,7 @@
 use Rattle.std.proofs.Common.{◌≡◌, ◌+◌, Bool, false, Ok, Err, arith, subst, ap, ◌∙◌, refl}
 use Rattle.std.specs.Prelude.{if◌then◌else◌}
 use Rattle.std.proofs.lemmas.Result.{err_from_is_err_and}
+use Rattle.std.proofs.lemmas.Grind.{common_steps}
 use Rattle.dc_sectors.proofs.Moments.{looked_next, counts_pass, counts_none}
 use Rattle.dc_pages.specs.Group.{site_of}
 use Rattle.dc_pages.specs.Judging.{IsStep}
@@ -71,3 +72,12 @@ loop-at-preserved g c =
       looked = looked_next g.D.Disk c.args.disk.now c.loop-at.disk c.read_next.new.disk so_far.looked next.reads next.choices next.time next.before;
       counts = counts_none g.D.Disk c.args.disk.now c.loop-at.disk c.read_next.new.disk _ ⊥ so_far.counts next.counts (λ is. cc is) (λ is. is);
     }
+
+pub loop-at-init : goal.loop-at-init
+loop-at-init g c = grind (arith, common_steps)
+
+pub returns-in_err-read_next-clause-group : goal.returns-in_err-read_next-clause-group
+returns-in_err-read_next-clause-group g c = grind (arith, common_steps)
+
+pub returns-clause-counts : goal.returns-clause-counts
+returns-clause-counts g c = grind (arith, common_steps)

@@ -1,4 +1,5 @@
-use Rattle.std.proofs.Common.{◌∙◌}
+use Rattle.std.proofs.Common.{◌∙◌, arith}
+use Rattle.std.proofs.lemmas.Grind.{common_steps}
 use Rattle.dc_report.proofs.PlainFields.{plain_as, flat_is_plain, meter_is_plain, number_is_plain, value_is_plain, unit_is_plain}
 use Rattle.dc_report.proofs.due.put_row.Goals as goal
 
@@ -28,3 +29,6 @@ put_line-requires-clause-plain g c = (
     ),
   ),
 )
+
+pub returns-clause-text : goal.returns-clause-text
+returns-clause-text g c = grind (arith, common_steps)

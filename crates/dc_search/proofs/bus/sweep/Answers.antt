@@ -1,7 +1,8 @@
 -- The sweep makes the selections of the walk in turn, and a whole walk finds every meter.
-use Rattle.std.proofs.Common.{◌≡◌, ℕ, ◌≤◌, Bool, false, List, Result, Ok, Err, filter, take, length, ap, sym, ◌∙◌, subst}
+use Rattle.std.proofs.Common.{◌≡◌, ℕ, ◌≤◌, Bool, false, List, Result, Ok, Err, filter, take, length, ap, sym, ◌∙◌, subst, arith}
 use Rattle.std.specs.Result.{OnOk, is_err}
 use Rattle.std.proofs.lemmas.List.{take_all}
+use Rattle.std.proofs.lemmas.Grind.{common_steps}
 use Rattle.dc_address.specs.Mask.{MaskParts, matches}
 use Rattle.dc_address.specs.declared.identity.Identity.{Identity}
 use Rattle.dc_search.specs.Bus.{visited}
@@ -51,3 +52,6 @@ returns g c =
       whole = whole_walk c.args.bus.now s.found s.shared c.args.budget out.found_so out.shared_so;
       bound = length-walk_of-le c.args.bus.now;
     }
+
+pub loop-mask-smaller : goal.loop-mask-smaller
+loop-mask-smaller g c = grind (arith, common_steps)

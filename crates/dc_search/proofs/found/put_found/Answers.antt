@@ -16,3 +16,9 @@ returns-in_err-put_meter g c =
     let front : PutsFront (g.W.Sink.written c.args.out.now) (g.W.Sink.written c.put_meter.new.out) (flat_map found_line meters) =
     front_of_all _ _ _ (found_line meter) (flat_map found_line (drop (i + 1) meters)) _ _ (ap (flat_map found_line) next) c.loop-meter.invariant.text c.in_err-put_meter.ensures.2 in
     grind arith
+
+pub loop-meter-preserved : goal.loop-meter-preserved
+loop-meter-preserved g c = grind (arith, common_steps)
+
+pub returns : goal.returns
+returns g c = grind (arith, common_steps)

@@ -1,4 +1,5 @@
 use Rattle.std.proofs.Common.{◌++◌, ℕ, List, codes, map, ap, arith}
+use Rattle.std.proofs.lemmas.Grind.{common_steps}
 use Rattle.dc_address.specs.Digits.{decimal_digits}
 use Rattle.dc_address.specs.Text.{decimal_code}
 use Rattle.mbdc_io.specs.Stream.{PutsFront}
@@ -18,3 +19,6 @@ returns-in_err-put-2 g c =
     puts_front-within (codes "SHARED ") c.eight_digits.result (codes "\n") c.in_ok-put.ensures.bytes
     (ap (λ (digits : List ℕ). codes "SHARED " ++ (digits ++ codes "\n")) c.eight_digits.ensures) c.in_err-put-2.ensures.err in
     grind arith
+
+pub returns : goal.returns
+returns g c = grind (arith, common_steps)

@@ -15,3 +15,9 @@ returns-in_err-put_number g c =
     let front : PutsFront (g.W.Sink.written c.args.out.now) (g.W.Sink.written c.put_number.new.out) (flat_map shared_line numbers) =
     front_of_all _ _ _ (shared_line number) (flat_map shared_line (drop (i + 1) numbers)) _ _ (ap (flat_map shared_line) next) c.loop-number.invariant.text c.in_err-put_number.ensures.2 in
     grind arith
+
+pub loop-number-preserved : goal.loop-number-preserved
+loop-number-preserved g c = grind (arith, common_steps)
+
+pub returns : goal.returns
+returns g c = grind (arith, common_steps)

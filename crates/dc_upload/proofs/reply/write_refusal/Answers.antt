@@ -14,3 +14,7 @@ returns-in_err-put-2 g c = grind (arith, written)
 pub returns : goal.returns
 unfolding refusal_line
 returns g c = grind (arith, written)
+
+pub returns-in_err-put_detail : goal.returns-in_err-put_detail
+unfolding refusal_line
+returns-in_err-put_detail g c = grind (arith, written)

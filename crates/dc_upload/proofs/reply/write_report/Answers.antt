@@ -1,5 +1,6 @@
 use Rattle.std.proofs.Common.{ℕ, List, ◌++◌, ap, ◌∙◌, subst, arith}
 use Rattle.std.specs.Io.KnownBytes.{append_known}
+use Rattle.std.proofs.lemmas.Grind.{common_steps}
 use Rattle.mbdc_io.specs.Stream.{PutsFront}
 use Rattle.dc_report.specs.DueTable.{due_text}
 use Rattle.dc_upload.specs.Reply.{end_line, report_text}
@@ -24,3 +25,27 @@ returns-in_err-put_table-clause-fault g c =
     ∙ ap (λ (rows : ℕ). table ++ end_line rows) c.in_ok-table.ensures.count in
     let front : PutsFront before after (report_text c.args.date c.args.house.now.state) = subst (PutsFront before after) same c.in_err-put_table.ensures.2 in
     grind arith
+
+pub returns-in_err-table-clause-text : goal.returns-in_err-table-clause-text
+unfolding report_text
+returns-in_err-table-clause-text g c = grind (arith, common_steps)
+
+pub returns-in_err-table-clause-well : goal.returns-in_err-table-clause-well
+unfolding report_text
+returns-in_err-table-clause-well g c = grind (arith, common_steps)
+
+pub returns-in_err-table-clause-fault : goal.returns-in_err-table-clause-fault
+unfolding report_text
+returns-in_err-table-clause-fault g c = grind (arith, common_steps)
+
+pub returns-in_err-put_table-clause-text : goal.returns-in_err-put_table-clause-text
+unfolding report_text
+returns-in_err-put_table-clause-text g c = grind (arith, common_steps)
+
+pub returns-in_err-put_table-clause-well : goal.returns-in_err-put_table-clause-well
+unfolding report_text
+returns-in_err-put_table-clause-well g c = grind (arith, common_steps)
+
+pub returns-clause-well : goal.returns-clause-well
+unfolding report_text
+returns-clause-well g c = grind (arith, common_steps)

@@ -1,4 +1,5 @@
 use Rattle.std.proofs.Common.{◌≡◌, ◌++◌, ℕ, List, codes, ap, ◌∙◌, sym, arith, append_assoc}
+use Rattle.std.proofs.lemmas.Grind.{common_steps}
 use Rattle.mbdc_io.specs.Stream.{PutsFront}
 use Rattle.mbdc_io.proofs.Pieces.{puts_front-first, puts_front-within, puts-both}
 use Rattle.mbdc_io.specs.Words.{number_word}
@@ -37,3 +38,7 @@ returns-in_err-put_owner g c =
     puts_front-within (codes "READING" ++ number_word c.serial.result) (owner_words reading) (codes "\n") went
     (append_assoc (codes "READING") (number_word c.serial.result) (owner_words reading ++ codes "\n") ∙ line_is reading c.serial.result c.serial.ensures.serial) c.in_err-put_owner.ensures.2 in
     grind arith
+
+pub returns : goal.returns
+unfolding reading_line
+returns g c = grind (arith, common_steps)

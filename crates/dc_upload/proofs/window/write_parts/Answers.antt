@@ -15,3 +15,6 @@ returns-in_err-write_part g c =
     let front : PutsFront (g.W.Sink.written c.args.out.now) (g.W.Sink.written c.write_part.new.out) (part_lines 1 parts) =
     front_of_all _ _ _ (part_line (i + 1) part) (part_lines (i + 1 + 1) (drop (i + 1) parts)) _ _ (ap (part_lines (i + 1)) next) c.loop-i.invariant.text c.in_err-write_part.ensures.2 in
     grind arith
+
+pub returns : goal.returns
+returns g c = grind (arith, common_steps)

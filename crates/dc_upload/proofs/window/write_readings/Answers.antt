@@ -2,8 +2,9 @@ use Rattle.std.proofs.Common.{◌≡◌, ℕ, ◌-◌, ◌+◌, List, ◌++◌, 
 use Rattle.std.specs.Prelude.{flat_map}
 use Rattle.std.specs.Io.KnownBytes.{append_known}
 use Rattle.std.specs.VecDeque.Iter.{deque_iter_rest}
+use Rattle.std.proofs.lemmas.Grind.{common_steps}
 use Rattle.mbdc_io.specs.Stream.{PutsFront}
-use Rattle.mbdc_io.proofs.Pieces.{append_known-more}
+use Rattle.mbdc_io.proofs.Pieces.{append_known-more, written}
 use Rattle.mbdc_change.specs.State.{ReadingRow}
 use Rattle.dc_upload.specs.Window.{reading_lines}
 use Rattle.dc_upload.proofs.Prefixes.{front_of_all}
@@ -35,3 +36,9 @@ loop-preserved g c =
           ∙ append_known-more before (reading_lines reading) (flat_map reading_lines (take left rest)) ∙ ap (append_known before) (sym shown) ∙ c.loop.invariant.text;
       well = c.in_ok-write_reading.ensures.1 ∙ c.loop.invariant.well;
     }
+
+pub returns-after-loop : goal.returns-after-loop
+returns-after-loop g c = grind (arith, written)
+
+pub returns-in_default : goal.returns-in_default
+returns-in_default g c = grind (arith, common_steps)

@@ -16,3 +16,7 @@ returns-in_err-write_readings g c =
     let front : PutsFront (g.W.Sink.written c.args.out.now) (g.W.Sink.written c.write_readings.new.out) (window_text c.args.from c.args.count c.args.house.now.state) =
     puts_front-first _ (subst (λ (rows : List ReadingRow). PutsFront (g.W.Sink.written c.args.out.now) (g.W.Sink.written c.write_readings.new.out) (flat_map reading_lines rows)) shown c.in_err-write_readings.ensures.2) in
     grind arith
+
+pub returns : goal.returns
+unfolding window_text
+returns g c = grind (arith, common_steps)

@@ -2,13 +2,14 @@ use Rattle.std.proofs.Common.{◌≡◌, length, List, ℕ, [], Err, Some, refl,
 use Rattle.std.proofs.lemmas.Bool.Decides.{nat_tests}
 use Rattle.std.proofs.lemmas.List.{nil_from_length}
 use Rattle.std.proofs.lemmas.Result.{err_from_is_err_and}
+use Rattle.std.proofs.lemmas.Grind.{common_steps}
 use Rattle.mbdc_change.specs.declared.decode_fault.DecodeFault.{DecodeFault}
 use Rattle.mbdc_change.specs.Reading.{Head}
 use Rattle.mbdc_change.proofs.Runs.{is_bad}
-use Rattle.dc_meters.specs.declared.house.decode.Head as declared
 use Rattle.dc_meters.proofs.Decoded.{behind_head, no_head, too_large, behind_meters, ascend_of, behind_readings, line_within, IsDecoded, state_with, decoded}
 use Rattle.dc_meters.proofs.house.House.decode.Given.{Over}
 use Rattle.dc_meters.proofs.house.House.decode.Goals.{Else-not-is_empty}
+use Rattle.dc_meters.specs.declared.house.decode.Head as declared
 use Rattle.dc_meters.proofs.house.House.decode.Goals as goal
 
 abbrev head_in : declared.Head → Head
@@ -83,3 +84,6 @@ invariant_of-result g c = rw c.in-Some-new.ensures.1 (is_decoded g c).kept
 
 pub returns-clause-found : goal.returns-clause-found
 returns-clause-found g c = (rw c.in-Some-new.ensures.1 (is_decoded g c).spells, refl)
+
+pub returns-clause-bad : goal.returns-clause-bad
+returns-clause-bad g c = grind (arith, common_steps)

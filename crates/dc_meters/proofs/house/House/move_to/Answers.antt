@@ -1,4 +1,5 @@
 use Rattle.std.proofs.Common.{◌≡◌, ℕ, ◌+◌, ◌-◌, ◌≤◌, List, length, Option, Some, ap, subst, sym, ◌∙◌, arith}
+use Rattle.std.proofs.lemmas.Grind.{common_steps}
 use Rattle.mbdc_change.specs.State.{State, Held, MeterRow, row_of}
 use Rattle.mbdc_change.specs.Apply.{moved}
 use Rattle.mbdc_change.specs.Flat.{IsFlat}
@@ -59,3 +60,9 @@ pub returns-clause-ok : goal.returns-clause-ok
 returns-clause-ok g c =
     let found = sym c.in-Some.ensures.value in
     rw (← c.self.view_is, c.in_ok-move_to.ensures.entries, found)
+
+pub invariant_of-self : goal.invariant_of-self
+invariant_of-self g c = grind (arith, common_steps)
+
+pub returns-in_err-move_to-clause-ok : goal.returns-in_err-move_to-clause-ok
+returns-in_err-move_to-clause-ok g c = grind (arith, common_steps)

@@ -2,6 +2,7 @@ use Rattle.std.proofs.Common.{◌≡◌, ◌+◌, ◌-◌, ◌≤◌, List, [], 
 use Rattle.std.specs.Map.{keys_of, lookup, remove_entry}
 use Rattle.std.specs.BTreeMap.{is_at}
 use Rattle.std.specs.List.Sorted.{IsStrictlySortedBy}
+use Rattle.std.proofs.lemmas.Grind.{common_steps}
 use Rattle.dc_address.specs.declared.identity.Identity.{Identity}
 use Rattle.dc_address.specs.Identity.{identity_cmp}
 use Rattle.mbdc_change.specs.State.{State, Held, MeterRow, row_of}
@@ -66,3 +67,18 @@ pub returns-clause-ok : goal.returns-clause-ok
 returns-clause-ok g c =
     let found = sym c.in-Some.ensures.value in
     rw (← c.self.view_is, c.remove.ensures.entries, c.in_ok-insert.ensures.entries, c.new-row.ensures.row, c.line.ensures.line, c.flat.ensures.flat, found)
+
+pub new-row-requires : goal.new-row-requires
+new-row-requires g c = grind (arith, common_steps)
+
+pub invariant_of-self : goal.invariant_of-self
+invariant_of-self g c = grind (arith, common_steps)
+
+pub returns-in_err-insert-clause-ok : goal.returns-in_err-insert-clause-ok
+returns-in_err-insert-clause-ok g c = grind (arith, common_steps)
+
+pub returns-in_err-insert-clause-err : goal.returns-in_err-insert-clause-err
+returns-in_err-insert-clause-err g c = grind (arith, common_steps)
+
+pub unwrap-gone-requires : goal.unwrap-gone-requires
+unwrap-gone-requires g c = grind (arith, common_steps)

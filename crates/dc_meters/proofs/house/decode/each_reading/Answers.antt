@@ -1,4 +1,6 @@
 use Rattle.std.proofs.lemmas.Result.{err_from_is_err_and}
+use Rattle.std.proofs.Common.{arith}
+use Rattle.std.proofs.lemmas.Grind.{common_steps}
 use Rattle.mbdc_change.specs.Pieces.{many}
 use Rattle.mbdc_change.specs.Reading.{reading_at}
 use Rattle.dc_meters.proofs.Counts.{ends, is_done}
@@ -30,3 +32,6 @@ loop-preserved g c =
 
 pub returns-clause-found : goal.returns-clause-found
 returns-clause-found g c = is_done reading_at c.loop.readings.items c.args.count c.loop.counter c.loop.rest.now (many reading_at c.args.count c.args.bytes.now) c.loop-test.false c.loop.invariant.read
+
+pub returns-in_err-push-clause-bad : goal.returns-in_err-push-clause-bad
+returns-in_err-push-clause-bad g c = grind (arith, common_steps)

@@ -1,11 +1,11 @@
-use Rattle.std.proofs.Common.{rules, ◌≡◌, List, [], ◌∷◌, ◌++◌, ap, sym, subst, ◌∙◌, append_assoc}
+use Rattle.std.proofs.Common.{rules, ◌≡◌, List, [], ◌∷◌, ◌++◌, ap, sym, subst, ◌∙◌, append_assoc, arith}
 use Rattle.std.specs.List.{flat_map}
 use Rattle.std.specs.VecDeque.Iter.{deque_iter_rest}
+use Rattle.std.proofs.lemmas.Grind.{common_steps}
 use Rattle.mbdc_change.specs.State.{ReadingRow}
 use Rattle.mbdc_change.specs.Encoding.{reading_bytes}
 use Rattle.mbdc_io.specs.Written.{IsStopped}
-use Rattle.mbdc_io.proofs.Writes.{written_none, written_both, stopped_first, stopped_second}
-use Rattle.mbdc_io.proofs.Writes.{on_any_err}
+use Rattle.mbdc_io.proofs.Writes.{written_none, written_both, stopped_first, stopped_second, on_any_err}
 use Rattle.dc_meters.proofs.house.encode.put_each_reading.Goals as goal
 
 pub loop-reading-init : goal.loop-reading-init
@@ -30,3 +30,6 @@ returns-in_err-put_reading-clause-err g c =
     let all : (before.0 ++ reading_bytes r) ++ flat_map reading_bytes (deque_iter_rest c.next.new.self) ≡ flat_map reading_bytes c.args.readings.now.items =
     append_assoc before.0 (reading_bytes r) (flat_map reading_bytes (deque_iter_rest c.next.new.self)) ∙ ap (λ (rs : List ReadingRow). before.0 ++ flat_map reading_bytes rs) (sym left) ∙ before.2 in
     on_any_err _ (subst (IsStopped g.S.Sink c.args.sink.now c.put_reading.new.sink) all (stopped_first (flat_map reading_bytes (deque_iter_rest c.next.new.self)) (stopped_second before.1 c.in_err-put_reading.ensures.err)))
+
+pub returns-clause-ok : goal.returns-clause-ok
+returns-clause-ok g c = grind (arith, common_steps)

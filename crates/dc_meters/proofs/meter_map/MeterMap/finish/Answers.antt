@@ -1,6 +1,7 @@
-use Rattle.std.proofs.Common.{◌≡◌, Option, true, ap, subst, sym, ◌∙◌}
+use Rattle.std.proofs.Common.{◌≡◌, Option, true, ap, subst, sym, ◌∙◌, arith}
 use Rattle.std.specs.Map.{lookup}
 use Rattle.std.specs.BTreeMap.{is_at}
+use Rattle.std.proofs.lemmas.Map.Steps.{set_value_same}
 use Rattle.dc_address.specs.Identity.{identity_cmp}
 use Rattle.mbdc_change.specs.State.{MeterRow}
 use Rattle.mbdc_change.specs.Accepts.{continues}
@@ -33,3 +34,21 @@ returns-clause-read g c = λ row found_row.
       size_is = rw same at c.in_ok-size.ensures.size;
       is_reading = rw same at c.in_ok-size.ensures.is_reading;
     }
+
+pub unreachable-requires : goal.unreachable-requires
+unreachable-requires g c = grind (arith, set_value_same)
+
+pub finish-requires-clause-later : goal.finish-requires-clause-later
+finish-requires-clause-later g c = grind (arith, set_value_same)
+
+pub invariant_of-self : goal.invariant_of-self
+invariant_of-self g c = grind (arith, set_value_same)
+
+pub returns-in_err-size-clause-closed : goal.returns-in_err-size-clause-closed
+returns-in_err-size-clause-closed g c = grind (arith, set_value_same)
+
+pub returns-in_err-size-clause-read : goal.returns-in_err-size-clause-read
+returns-in_err-size-clause-read g c = grind (arith, set_value_same)
+
+pub returns-in_err-size-clause-err : goal.returns-in_err-size-clause-err
+returns-in_err-size-clause-err g c = grind (arith, set_value_same)

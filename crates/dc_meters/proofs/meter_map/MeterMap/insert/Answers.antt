@@ -1,6 +1,7 @@
-use Rattle.std.proofs.Common.{◌≡◌, None, ap, ◌∙◌}
+use Rattle.std.proofs.Common.{◌≡◌, None, ap, ◌∙◌, arith}
 use Rattle.std.specs.Map.{lookup}
 use Rattle.std.specs.BTreeMap.{is_at}
+use Rattle.std.proofs.lemmas.Grind.{common_steps}
 use Rattle.dc_address.specs.Identity.{identity_cmp}
 use Rattle.dc_meters.specs.Places.{MeterRows, place_cmp, bus_cmp, is_in_flat, hangs_at, meter_by_flat, meter_on_bus}
 use Rattle.dc_meters.proofs.Placed.{nowhere, placed_back}
@@ -41,3 +42,12 @@ invariant_of-self-in-Ok g c =
 
 pub returns-in-Ok-clause-others : goal.returns-in-Ok-clause-others
 returns-in-Ok-clause-others g c = λ k other. c.in-Ok.ensures.updates.2 k other ∙ ap (λ (m : MeterRows). lookup (is_at (identity_cmp k)) m.entries) c.self.view_is
+
+pub returns-in_err-file-clause-entries : goal.returns-in_err-file-clause-entries
+returns-in_err-file-clause-entries g c = grind (arith, common_steps)
+
+pub returns-in_err-file-clause-others : goal.returns-in_err-file-clause-others
+returns-in_err-file-clause-others g c = grind (arith, common_steps)
+
+pub returns-in_err-file-clause-err : goal.returns-in_err-file-clause-err
+returns-in_err-file-clause-err g c = grind (arith, common_steps)

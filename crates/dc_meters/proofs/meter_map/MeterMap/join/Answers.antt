@@ -1,6 +1,7 @@
-use Rattle.std.proofs.Common.{◌≡◌, Option, true, ap, subst, sym, ◌∙◌}
+use Rattle.std.proofs.Common.{◌≡◌, Option, true, ap, subst, sym, ◌∙◌, arith}
 use Rattle.std.specs.Map.{lookup}
 use Rattle.std.specs.BTreeMap.{is_at}
+use Rattle.std.proofs.lemmas.Map.Steps.{set_value_same}
 use Rattle.dc_address.specs.Identity.{identity_cmp}
 use Rattle.mbdc_change.specs.State.{MeterRow}
 use Rattle.mbdc_change.specs.Accepts.{continues}
@@ -32,3 +33,15 @@ returns-clause-joined g c = λ row found_row.
       size_is = c.size.ensures.size ∙ ap (λ (m : MeterRow). meter_size m) after;
       is_meter = subst IsMeter after c.size.ensures.is_meter;
     }
+
+pub unreachable-requires : goal.unreachable-requires
+unreachable-requires g c = grind (arith, set_value_same)
+
+pub invariant_of-self : goal.invariant_of-self
+invariant_of-self g c = grind (arith, set_value_same)
+
+pub returns-in_err-join-clause-joined : goal.returns-in_err-join-clause-joined
+returns-in_err-join-clause-joined g c = grind (arith, set_value_same)
+
+pub returns-in_err-join-clause-err : goal.returns-in_err-join-clause-err
+returns-in_err-join-clause-err g c = grind (arith, set_value_same)

@@ -1,8 +1,9 @@
-use Rattle.std.proofs.Common.{◌≡◌, List, ℕ, Bool, true, false, not, Some, ap, subst, sym, refl, ◌∙◌}
+use Rattle.std.proofs.Common.{◌≡◌, List, ℕ, Bool, true, false, not, Some, ap, subst, sym, refl, ◌∙◌, arith}
 use Rattle.std.specs.Prelude.{IsSome}
 use Rattle.std.specs.Option.{option_copied_mut}
 use Rattle.std.specs.Map.{lookup}
 use Rattle.std.specs.BTreeMap.{is_at}
+use Rattle.std.proofs.lemmas.Grind.{common_steps}
 use Rattle.dc_address.specs.Identity.{identity_cmp}
 use Rattle.mbdc_change.specs.State.{MeterRow}
 use Rattle.mbdc_change.proofs.Exact.{some_is}
@@ -46,3 +47,6 @@ invariant_of-self-2 g c =
     (λ q. c.in_ok-insert.ensures.updates.0 q ∙ put_in _ (among place_cmp inside.orders.by_flat.keys q) _ (own_place c.args.meter c.args.flat after q flat))
     (λ q. c.remove.ensures.updates.0 q ∙ taken_out _ (among place_cmp c.insert.new.self.keys q) _ (own_place c.args.meter c.flat-before.result row q (sym c.flat-before.ensures.flat)))
     (λ q. refl) updates.0 written.4
+
+pub invariant_of-self-then-not-branch : goal.invariant_of-self-then-not-branch
+invariant_of-self-then-not-branch g c = grind (arith, common_steps)

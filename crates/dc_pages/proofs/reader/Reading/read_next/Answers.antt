@@ -1,4 +1,5 @@
 use Rattle.std.proofs.Common.{◌+◌, ◌++◌, ℕ, List, take, drop, arith, sym, subst}
+use Rattle.std.proofs.lemmas.Grind.{common_steps}
 use Rattle.dc_pages.specs.Reading.{IsBegun}
 use Rattle.dc_pages.proofs.Collected.{cut_neither, begun_page}
 use Rattle.dc_pages.proofs.reader.Reading.read_next.Goals as goal
@@ -22,3 +23,6 @@ returns-in-Ok-take-clause-step g c h at lt begun =
     (subst (λ (s : ℕ). IsBegun reading.site s (reading.payload.items ++ content) (reading.pages + 1) image) (sym more.session)
     (begun_page reading.site reading.session c.in-Page.session c.in-Page.used reading.payload.items c.in-Ok.bytes reading.pages c.args.at image
     begun more.long (omega arith) judged.0 judged.1 judged.2 at lt (c.in-Ok.ensures.answer h) judged.3)))
+
+pub returns-in-Err-Unreadable-clause-step : goal.returns-in-Err-Unreadable-clause-step
+returns-in-Err-Unreadable-clause-step g c = grind (arith, common_steps)

@@ -1,5 +1,6 @@
 use Rattle.std.proofs.Common.{arith, ◌≡◌, ◌++◌, List, ℕ, length, ap, ◌∙◌}
 use Rattle.std.proofs.lemmas.List.{length-take-le}
+use Rattle.std.proofs.lemmas.Grind.{common_steps}
 use Rattle.dc_pages.specs.Draft.{Draft}
 use Rattle.dc_pages.proofs.Buffers.{filled, filled_buffer}
 use Rattle.dc_pages.proofs.writer.GroupWriter.fill.Goals as goal
@@ -21,3 +22,6 @@ returns-clause-filled c =
     ap with_buffer (filled inside.used c.min-count.result _ inside.page c.copy_from_slice.new.self c.self.invariant (omega arith) all (omega arith))
     ∙ ap (λ (d : Draft). record d { buffer = d.buffer ++ c.copy_from_slice.new.self }) c.self.view_is
     ∙ ap (λ (l : List ℕ). record c.args.self.now { buffer = c.args.self.now.buffer ++ l }) c.copy_from_slice.ensures.after
+
+pub copy_from_slice-requires : goal.copy_from_slice-requires
+copy_from_slice-requires c = grind (arith, common_steps)

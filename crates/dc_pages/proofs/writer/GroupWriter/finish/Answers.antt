@@ -1,4 +1,4 @@
-use Rattle.std.proofs.Common.{◌≡◌, ◌+◌, ◌++◌, List, ℕ, drop, replicate, inl, inr, arith, ap, subst, sym, ◌∙◌}
+use Rattle.std.proofs.Common.{◌≡◌, ◌+◌, ◌++◌, List, ℕ, drop, replicate, inl, inr, arith, ap, subst, sym, ◌∙◌, rules}
 use Rattle.dc_sectors.specs.Disk.{Image, put}
 use Rattle.dc_pages.specs.Draft.{Draft}
 use Rattle.dc_pages.specs.Group.{commit_kind, piece, head_bytes, commit_bytes}
@@ -71,3 +71,12 @@ returns-in_err-write-clause-elsewhere g c = spares g (goal.at.returns-in_err-wri
 
 pub returns-clause-elsewhere : goal.returns-clause-elsewhere
 returns-clause-elsewhere g c = spares g (goal.at.returns-clause-elsewhere g c).After-write
+
+pub returns-in_err-write-clause-counts : goal.returns-in_err-write-clause-counts
+returns-in_err-write-clause-counts g c = search rules
+
+pub returns-clause-counts : goal.returns-clause-counts
+returns-clause-counts g c = search rules
+
+pub returns-in_err-flush_page-clause-closed : goal.returns-in_err-flush_page-clause-closed
+returns-in_err-flush_page-clause-closed g c = search rules

@@ -1,4 +1,4 @@
-use Rattle.std.proofs.Common.{◌≡◌, List, ℕ, arith, ap, subst, sym}
+use Rattle.std.proofs.Common.{◌≡◌, List, ℕ, arith, ap, subst, sym, rules}
 use Rattle.dc_pages.specs.Draft.{Draft}
 use Rattle.dc_pages.specs.Group.{piece}
 use Rattle.dc_pages.specs.PagesWriting.{IsGoing}
@@ -32,3 +32,6 @@ returns-clause-going g c start payload is =
     let on_disk = c.in_ok-flush_page.ensures.on_disk start payload (buffered g (goal.at.returns-clause-going g c).After-flush_page start payload is) is.on_disk in
     subst (λ (d : Draft). IsGoing g.D.Disk start c.flush_page.new.disk d payload) (sym c.in_ok-flush_page.ensures.flushed)
     (going_flushed g.D.Disk start c.args.disk.now c.flush_page.new.disk draft payload (omega arith) (omega arith) is on_disk)
+
+pub returns-clause-length : goal.returns-clause-length
+returns-clause-length g c = search rules

@@ -1,4 +1,5 @@
 use Rattle.std.proofs.Common.{List, length, replicate, sym, ap, subst, ◌∙◌, arith}
+use Rattle.std.proofs.lemmas.Grind.{common_steps}
 use Rattle.dc_sectors.specs.Disk.{Image, IsImage}
 use Rattle.dc_sectors.specs.Record.{image_of, reads_after, writes_after}
 use Rattle.dc_sectors.specs.declared.sector.Sector.{Sector}
@@ -33,3 +34,12 @@ returns-clause-choice g c =
     ∙ c.pick_each.ensures ∙ ap (λ (l : List Event). picked_from (image_of c.deref.result.now) l picks) (c.deref-2.ensures.value ∙ events)
     ∙ ap (λ (l : List Sector). picked_from (image_of l) was.events picks) (c.deref.ensures.value ∙ start) in
     subst (λ (image : Image). IsImage (choices_of was) image) (sym left) (picked_is_image (image_of was.start) was.events picks)
+
+pub returns-clause-picked : goal.returns-clause-picked
+returns-clause-picked g c = grind (arith, common_steps)
+
+pub returns-clause-only : goal.returns-clause-only
+returns-clause-only g c = grind (arith, common_steps)
+
+pub returns-clause-count : goal.returns-clause-count
+returns-clause-count g c = grind (arith, common_steps)

@@ -1,4 +1,5 @@
-use Rattle.std.proofs.Common.{ap, rules}
+use Rattle.std.proofs.Common.{ap, rules, arith}
+use Rattle.std.proofs.lemmas.Grind.{common_steps}
 use Rattle.dc_sectors.specs.Memory.{Memory}
 use Rattle.dc_sectors.specs.Disk.{settled}
 use Rattle.dc_sectors.specs.Images.{image_within, settled_within}
@@ -37,3 +38,9 @@ returns-clause-time g c =
     let start = image_of was.start in
     elapses_pushed was.start c.self.inside.start.items was.events c.push.new.self.items Sync _ (ap (λ (d : Memory). d.start) c.self.view_is) (search rules)
     (image_within (settled (reads_after start was.events)) (choices_after start was.events) (settled_within (choices_after start was.events) (reads_after start was.events) (reads_a_choice start was.events)))
+
+pub returns-then-is_err-clause-exact : goal.returns-then-is_err-clause-exact
+returns-then-is_err-clause-exact g c = grind (arith, common_steps)
+
+pub returns-clause-counts : goal.returns-clause-counts
+returns-clause-counts g c = grind (arith, common_steps)

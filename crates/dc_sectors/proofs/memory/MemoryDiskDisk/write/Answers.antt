@@ -1,4 +1,5 @@
 use Rattle.std.proofs.Common.{◌<◌, length, true, false, inl, ap, ◌∙◌, rules, arith}
+use Rattle.std.proofs.lemmas.Grind.{common_steps}
 use Rattle.dc_sectors.specs.Memory.{Memory, reads_of}
 use Rattle.dc_sectors.specs.Images.{put_elsewhere}
 use Rattle.dc_sectors.specs.declared.event.Event.TheVariants.{Write}
@@ -60,3 +61,18 @@ pub returns-clause-time : goal.returns-clause-time
 returns-clause-time g c =
     let was = c.args.self.now in
     elapses_pushed was.start c.self.inside.start.items was.events c.push.new.self.items (Write c.args.n c.args.bytes.now true) _ (ap (λ (d : Memory). d.start) c.self.view_is) (search rules) (λ image is. is)
+
+pub returns-then-is_err-clause-choices_err : goal.returns-then-is_err-clause-choices_err
+returns-then-is_err-clause-choices_err g c = grind (arith, common_steps)
+
+pub returns-then-is_err-clause-counts : goal.returns-then-is_err-clause-counts
+returns-then-is_err-clause-counts g c = grind (arith, common_steps)
+
+pub returns-then-not-done-clause-exact : goal.returns-then-not-done-clause-exact
+returns-then-not-done-clause-exact g c = grind (arith, common_steps)
+
+pub returns-then-not-done-clause-counts : goal.returns-then-not-done-clause-counts
+returns-then-not-done-clause-counts g c = grind (arith, common_steps)
+
+pub index_mut-requires-2 : goal.index_mut-requires-2
+index_mut-requires-2 g c = grind (arith, common_steps)

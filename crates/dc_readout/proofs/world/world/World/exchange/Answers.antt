@@ -1,4 +1,5 @@
-use Rattle.std.proofs.Common.{◌<◌, length, refl, sym, ◌∙◌, ap, subst}
+use Rattle.std.proofs.Common.{◌<◌, length, refl, sym, ◌∙◌, ap, subst, arith}
+use Rattle.std.proofs.lemmas.Grind.{common_steps}
 use Rattle.dc_readout.specs.Answer.{max_parts}
 use Rattle.dc_readout.specs.Summary.{asked_by}
 use Rattle.dc_readout.specs.World.{World, Running}
@@ -28,3 +29,9 @@ carry-reply-requires-clause-asks g c =
       positions_are = ap (λ (w : World). w.positions) (sym c.self.view_is) ∙ sym c.deref_mut.ensures.value;
       place_is = ap (λ (r : Running). r.meter) (sym c.running.view_is);
     }
+
+pub returns-in_err-self-inside : goal.returns-in_err-self-inside
+returns-in_err-self-inside g c = grind (arith, common_steps)
+
+pub returns : goal.returns
+returns g c = grind (arith, common_steps)

@@ -1,4 +1,5 @@
-use Rattle.std.proofs.Common.{rules, ◌≡◌, ◌∷◌, ◌++◌, [], Some, List, sym, subst}
+use Rattle.std.proofs.Common.{rules, ◌≡◌, ◌∷◌, ◌++◌, [], Some, List, sym, subst, arith}
+use Rattle.std.proofs.lemmas.Grind.{common_steps}
 use Rattle.dc_sectors.specs.declared.sector.Sector.{Sector}
 use Rattle.dc_sectors.specs.Readings.{Reading, IsSampled, given, call_of}
 use Rattle.dc_sectors.proofs.Readings.{read_called, sampled_push}
@@ -17,3 +18,12 @@ invariant_of-self-else-is_err g c = record {
       subst (λ (kept : List Reading). IsSampled kept new) (sym items)
       (sampled_push c.args.self.now.kept.items old new n content (search rules) (search rules) (search rules) called);
 }
+
+pub returns-then-is_err-clause-counts : goal.returns-then-is_err-clause-counts
+returns-then-is_err-clause-counts g c = grind (arith, common_steps)
+
+pub returns-else-is_err-clause-counts : goal.returns-else-is_err-clause-counts
+returns-else-is_err-clause-counts g c = grind (arith, common_steps)
+
+pub returns-in-None-clause-counts : goal.returns-in-None-clause-counts
+returns-in-None-clause-counts g c = grind (arith, common_steps)

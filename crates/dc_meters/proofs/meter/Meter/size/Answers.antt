@@ -1,0 +1,9 @@
+use Rattle.std.proofs.Common.{arith}
+use Rattle.std.proofs.lemmas.Grind.{common_steps}
+use Rattle.dc_meters.proofs.meter.Meter.size.Goals as goal
+
+pub returns-clause-size : goal.returns-clause-size
+returns-clause-size g c = grind (arith, common_steps)
+
+pub returns-clause-is_meter : goal.returns-clause-is_meter
+returns-clause-is_meter g c = grind (arith, common_steps)
