@@ -24,3 +24,6 @@ returns c = λ few.
     let two : length v ≡ (len - 2) + 2 = omega arith in
     let next : len - 1 ≡ (len - 2) + 1 = omega arith in
     cut v s _ (len - 2) (len - 1) is two next c.if-last-ne0.false c.if-code-lt128.false c.if-code.false
+
+pub returns-then-len-lt2 : goal.returns-then-len-lt2
+returns-then-len-lt2 c = grind (arith, common_steps)

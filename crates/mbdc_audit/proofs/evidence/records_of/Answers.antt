@@ -1,5 +1,6 @@
-use Rattle.std.proofs.Common.{ℕ, sym, ap, ◌∙◌, subst, map, List, Result, Ok, Err}
+use Rattle.std.proofs.Common.{ℕ, sym, ap, ◌∙◌, subst, map, List, Result, Ok, Err, arith}
 use Rattle.std.specs.Prelude.{IfErr}
+use Rattle.std.proofs.lemmas.Grind.{common_steps}
 use Rattle.dc_records.specs.Body.{continues}
 use Rattle.dc_records.specs.Record.{view}
 use Rattle.dc_records.specs.Telegram.{Parsed, parsed}
@@ -7,8 +8,8 @@ use Rattle.mbdc_audit.specs.Evidence.{AreOf, IsOf}
 use Rattle.mbdc_audit.specs.Walk.{IsRefused}
 use Rattle.mbdc_audit.proofs.Bare.{nil}
 use Rattle.mbdc_audit.proofs.Readouts.{Continues, Walked, done, goes_by, goes_none, none, only_one, step, stops}
-use Rattle.mbdc_audit.proofs.evidence.records_of.Goals as goal
 use Rattle.mbdc_audit.proofs.evidence.records_of.Goals.{else-not-is_empty-via-then-not-is_empty+else-not-more_follows, else-not-is_empty-via-else-not-is_empty}
+use Rattle.mbdc_audit.proofs.evidence.records_of.Goals as goal
 
 for_err : {T E : Type 0} (r : Result T E) (P : E → Type 0) → ((e : E) → P e) → IfErr r P
 for_err (Ok x) P f = tt
@@ -61,3 +62,21 @@ returns-clause-one g c =
     let all = map (λ b. b.items) c.args.bodies.now in
     only_one id all _ (subst (λ l. Walked id all (map (λ b. b.items) l) (map view c.bodies.records.items))
     (nil c.bodies.left.now c.in_default.ensures.cases) c.bodies.invariant)
+
+pub returns-in_err-telegram-clause-ok : goal.returns-in_err-telegram-clause-ok
+returns-in_err-telegram-clause-ok g c = grind (arith, common_steps)
+
+pub returns-in_err-telegram-clause-one : goal.returns-in_err-telegram-clause-one
+returns-in_err-telegram-clause-one g c = grind (arith, common_steps)
+
+pub returns-in_err-push_records-clause-ok : goal.returns-in_err-push_records-clause-ok
+returns-in_err-push_records-clause-ok g c = grind (arith, common_steps)
+
+pub returns-in_err-push_records-clause-one : goal.returns-in_err-push_records-clause-one
+returns-in_err-push_records-clause-one g c = grind (arith, common_steps)
+
+pub returns-in_err-push_records-clause-only : goal.returns-in_err-push_records-clause-only
+returns-in_err-push_records-clause-only g c = grind (arith, common_steps)
+
+pub bodies-smaller : goal.bodies-smaller
+bodies-smaller g c = grind (arith, common_steps)

@@ -1,4 +1,5 @@
-use Rattle.std.proofs.Common.{◌≡◌, ℕ, Some, None, sym, ap, ◌∙◌, subst, map, List}
+use Rattle.std.proofs.Common.{◌≡◌, ℕ, Some, None, sym, ap, ◌∙◌, subst, map, List, arith}
+use Rattle.std.proofs.lemmas.Grind.{common_steps}
 use Rattle.dc_records.specs.Record.{Entry, view}
 use Rattle.mbdc_audit.specs.Evidence.{AreOf, Gives, main}
 use Rattle.mbdc_audit.specs.Walk.{day_meant}
@@ -31,3 +32,33 @@ returns-clause-only g c = λ refused n t.
     none_some n (c.in-None.ensures.only n
     (subst (λ (l : List Entry). Gives c.as_slice-2.result.now c.args.counted (day_meant c.args.meant) l n) records
     (subst (λ (v : List ℕ). Gives v c.args.counted (day_meant c.args.meant) (main t.telegrams) n) vib t.gives)))
+
+pub returns-in_err-named-clause-ok : goal.returns-in_err-named-clause-ok
+returns-in_err-named-clause-ok g c = grind (arith, common_steps)
+
+pub returns-in_err-named-clause-one : goal.returns-in_err-named-clause-one
+returns-in_err-named-clause-one g c = grind (arith, common_steps)
+
+pub returns-in_err-named-clause-only : goal.returns-in_err-named-clause-only
+returns-in_err-named-clause-only g c = grind (arith, common_steps)
+
+pub returns-in_err-bodies-clause-ok : goal.returns-in_err-bodies-clause-ok
+returns-in_err-bodies-clause-ok g c = grind (arith, common_steps)
+
+pub returns-in_err-bodies-clause-one : goal.returns-in_err-bodies-clause-one
+returns-in_err-bodies-clause-one g c = grind (arith, common_steps)
+
+pub returns-in_err-bodies-clause-only : goal.returns-in_err-bodies-clause-only
+returns-in_err-bodies-clause-only g c = grind (arith, common_steps)
+
+pub returns-in_err-records-clause-ok : goal.returns-in_err-records-clause-ok
+returns-in_err-records-clause-ok g c = grind (arith, common_steps)
+
+pub returns-in_err-records-clause-one : goal.returns-in_err-records-clause-one
+returns-in_err-records-clause-one g c = grind (arith, common_steps)
+
+pub returns-in-Err-clause-only : goal.returns-in-Err-clause-only
+returns-in-Err-clause-only g c = grind (arith, common_steps)
+
+pub returns-in-Some-clause-ok : goal.returns-in-Some-clause-ok
+returns-in-Some-clause-ok g c = grind (arith, common_steps)

@@ -1,6 +1,6 @@
-use Rattle.std.proofs.Common.{◌≡◌, ◌↔◌, ◌<◌, [], Any, IsTrue, map, length, arith, sym, ap, ◌∙◌, refl, subst}
-use Rattle.std.proofs.Common.{eqb-true}
+use Rattle.std.proofs.Common.{◌≡◌, ◌↔◌, ◌<◌, [], Any, IsTrue, map, length, arith, sym, ap, ◌∙◌, refl, subst, eqb-true}
 use Rattle.std.proofs.lemmas.List.{length-map, nil_from_length}
+use Rattle.std.proofs.lemmas.Grind.{common_steps}
 use Rattle.mbdc_audit.specs.View.{house_of, number_of, place_of}
 use Rattle.mbdc_audit.proofs.SomethingAsked.{asked, not_zero}
 use Rattle.mbdc_audit.proofs.sound.is_asked.Goals as goal
@@ -15,3 +15,9 @@ returns-else-not-is_empty g c =
     let some : 0 < length (house_of c.args.house.now).places =
     omega (arith, there, ap length c.as_slice-places.ensures.value, length-map c.args.house.now.places.items place_of) in
     (λ t. (some, n.1 (a.0 t)), λ r. a.1 (n.0 r.1))
+
+pub returns-then-is_empty : goal.returns-then-is_empty
+returns-then-is_empty g c = grind (arith, common_steps)
+
+pub returns-then-not-is_empty : goal.returns-then-not-is_empty
+returns-then-not-is_empty g c = grind (arith, common_steps)

@@ -1,5 +1,6 @@
-use Rattle.std.proofs.Common.{◌≡◌, ◌==◌, ◌&&◌, ℕ, Bool, not, List, Some, length, sym, ap, ◌∙◌}
+use Rattle.std.proofs.Common.{◌≡◌, ◌==◌, ◌&&◌, ℕ, Bool, not, List, Some, length, sym, ap, ◌∙◌, arith}
 use Rattle.std.specs.Prelude.{option_map}
+use Rattle.std.proofs.lemmas.Grind.{common_steps}
 use Rattle.dc_address.specs.Mask.{MaskParts, mask_wire}
 use Rattle.dc_linkframe.specs.Control.{selection_by}
 use Rattle.dc_linkframe.specs.Frame.{spelling}
@@ -36,3 +37,9 @@ returns-else-are_several-clause-asked g c =
     let several : Bool → Bool = λ (b : Bool). b && not (length due.0 == 8) in
     selects due.0 (selection s c.in-Select.field-0 due.0 c.args.request.now (sym c.in-Select.ensures) c.requires.due due.4) c.insist-answer.ensures.asked
     (c.if-are_several.false ∙ sym (ap several (sym c.are_several.ensures ∙ c.if-are_several.false)))
+
+pub returns-in_default : goal.returns-in_default
+returns-in_default g c = grind (arith, common_steps)
+
+pub returns-in_default-2 : goal.returns-in_default-2
+returns-in_default-2 g c = grind (arith, common_steps)

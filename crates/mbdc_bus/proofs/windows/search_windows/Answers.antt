@@ -1,6 +1,7 @@
-use Rattle.std.proofs.Common.{◌≡◌, ◌⊎◌, inl, inr, ◌<◌, ℕ, Bool, false, List, [], Option, Some, None, Result, Ok, Err, ap, sym, ◌∙◌, subst, refl}
+use Rattle.std.proofs.Common.{◌≡◌, ◌⊎◌, inl, inr, ◌<◌, ℕ, Bool, false, List, [], Option, Some, None, Result, Ok, Err, ap, sym, ◌∙◌, subst, refl, arith}
 use Rattle.std.specs.Prelude.{IfSome, option_map}
 use Rattle.std.specs.Result.{OnOk, is_err}
+use Rattle.std.proofs.lemmas.Grind.{common_steps}
 use Rattle.dc_address.specs.declared.identity.Identity.{Identity}
 use Rattle.dc_linkframe.specs.Frame.{spelling}
 use Rattle.dc_search.specs.Request.{request_by}
@@ -119,3 +120,9 @@ returns-clause-walk g c =
     let none = sym (ap (λ (t : Step). option_map spelling (request_by t)) c.next.ensures) ∙ sym c.request.ensures.exact ∙ none_of c.request.result c.in_default.not-Some in
     each_told (λ told. (c.steps.has_several ≡ false) × Searching told c.args.budget s chosen) (λ told. IsSearched told c.args.budget s) (g.B.Bus.meters c.args.bus.now)
     (λ told searching. searched told c.args.budget s chosen none searching.1) c.steps.invariant.walk
+
+pub steps-init : goal.steps-init
+steps-init g c = grind (arith, common_steps)
+
+pub returns-then-is_err-clause-untouched : goal.returns-then-is_err-clause-untouched
+returns-then-is_err-clause-untouched g c = grind (arith, common_steps)

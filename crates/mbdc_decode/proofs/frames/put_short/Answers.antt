@@ -1,6 +1,6 @@
 use Rattle.std.proofs.Common.{◌++◌, codes, arith}
 use Rattle.mbdc_io.specs.Stream.{PutsFront}
-use Rattle.mbdc_io.proofs.Pieces.{puts_front-first, puts_front-second}
+use Rattle.mbdc_io.proofs.Pieces.{puts_front-first, puts_front-second, joined}
 use Rattle.mbdc_io.specs.Words.{byte_word}
 use Rattle.mbdc_decode.specs.Frames.{short_line}
 use Rattle.mbdc_decode.proofs.frames.put_short.Goals as goal
@@ -27,3 +27,7 @@ returns-in_err-put_byte_word-2 g c =
     puts_front-second (codes "SHORT") c.in_ok-put.ensures.bytes (puts_front-second (byte_word c.args.control) c.in_ok-put_byte_word.ensures.0
     (puts_front-first (codes "\n") c.in_err-put_byte_word-2.ensures.2)) in
     grind arith
+
+pub returns : goal.returns
+unfolding short_line
+returns g c = grind (arith, joined)

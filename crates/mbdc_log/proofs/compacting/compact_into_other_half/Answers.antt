@@ -1,4 +1,5 @@
 use Rattle.std.proofs.Common.{◌≡◌, ◌+◌, ℕ, zero, arith, ap, refl, subst, sym, ◌∙◌}
+use Rattle.std.proofs.lemmas.Grind.{common_steps}
 use Rattle.dc_sectors.specs.Disk.{Image, settled}
 use Rattle.dc_sectors.specs.Runs.{LeavesOnly, IsSettled}
 use Rattle.dc_pages.specs.declared.site.Site.{Site}
@@ -128,3 +129,30 @@ pub returns-in-Err-clause-elsewhere : goal.returns-in-Err-clause-elsewhere
 returns-in-Err-clause-elsewhere g c =
     let at = goal.at.returns-in-Err-clause-elsewhere g c in
     root_spares g at.After-put_root (state_spares g at.After-write_state)
+
+pub returns-in_err-count-clause-ready : goal.returns-in_err-count-clause-ready
+returns-in_err-count-clause-ready g c = grind (arith, common_steps)
+
+pub returns-in_err-count-clause-counts : goal.returns-in_err-count-clause-counts
+returns-in_err-count-clause-counts g c = grind (arith, common_steps)
+
+pub returns-in_err-sync-clause-ready : goal.returns-in_err-sync-clause-ready
+returns-in_err-sync-clause-ready g c = grind (arith, common_steps)
+
+pub returns-in_err-sync-clause-counts : goal.returns-in_err-sync-clause-counts
+returns-in_err-sync-clause-counts g c = grind (arith, common_steps)
+
+pub overflow_add-result : goal.overflow_add-result
+overflow_add-result g c = grind (arith, common_steps)
+
+pub returns-in-Ok-clause-from : goal.returns-in-Ok-clause-from
+returns-in-Ok-clause-from g c = grind (arith, common_steps)
+
+pub returns-in-Ok-clause-within : goal.returns-in-Ok-clause-within
+returns-in-Ok-clause-within g c = grind (arith, common_steps)
+
+pub returns-in-Ok-clause-counts : goal.returns-in-Ok-clause-counts
+returns-in-Ok-clause-counts g c = grind (arith, common_steps)
+
+pub returns-in-Err-clause-counts : goal.returns-in-Err-clause-counts
+returns-in-Err-clause-counts g c = grind (arith, common_steps)

@@ -1,4 +1,5 @@
-use Rattle.std.proofs.Common.{◌≡◌, ℕ, inl, inr, ap, sym, subst, ◌∙◌}
+use Rattle.std.proofs.Common.{◌≡◌, ℕ, inl, inr, ap, sym, subst, ◌∙◌, arith}
+use Rattle.std.proofs.lemmas.Grind.{common_steps}
 use Rattle.dc_sectors.specs.Disk.{IsImage, settled}
 use Rattle.dc_sectors.specs.Runs.{LeavesOnly, IsSettled}
 use Rattle.dc_sectors.proofs.Moments.{started, weakened, followed, counted_on}
@@ -117,3 +118,12 @@ returns-in-Ok-lay_out-clause-counts g c =
     counted_on g.D.Disk disk c.choose.new.disk c.lay_out.new.disk ⊥ _ _
     (counted_on g.D.Disk disk c.sync.new.self c.choose.new.disk _ _ ⊥ c.in-Ok.ensures.counts (λ is. cc is) chosen.ensures.counts (λ is. cc (is, chosen.field-0-is)) (λ is. absurd is)) (λ is. is)
     c.in-Ok-lay_out.ensures.counts (λ is. absurd (cc is)) (λ is. absurd (cc is))
+
+pub returns-in-Err-clause-spares_images : goal.returns-in-Err-clause-spares_images
+returns-in-Err-clause-spares_images g c = grind (arith, common_steps)
+
+pub returns-in-Ok-choose-clause-counts : goal.returns-in-Ok-choose-clause-counts
+returns-in-Ok-choose-clause-counts g c = grind (arith, common_steps)
+
+pub returns-in-Err-lay_out-clause-counts : goal.returns-in-Err-lay_out-clause-counts
+returns-in-Err-lay_out-clause-counts g c = grind (arith, common_steps)

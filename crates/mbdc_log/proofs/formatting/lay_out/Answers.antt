@@ -1,4 +1,5 @@
 use Rattle.std.proofs.Common.{⊎_elim, ◌≤◌, ◌<◌, ◌+◌, ◌*◌, ℕ, List, zero, inl, inr, arith, ap, subst, sym, ◌∙◌}
+use Rattle.std.proofs.lemmas.Grind.{common_steps}
 use Rattle.dc_sectors.specs.Disk.{Image, settled}
 use Rattle.dc_sectors.specs.Runs.{LeavesOnly, IsSettled}
 use Rattle.dc_pages.specs.declared.site.Site.{Site}
@@ -151,3 +152,21 @@ pub returns-in-Err-clause-elsewhere : goal.returns-in-Err-clause-elsewhere
 returns-in-Err-clause-elsewhere g c =
     let at = goal.at.returns-in-Err-clause-elsewhere g c in
     root_spares g at.After-put_root (group_spares g at.After-write_group (sync_spares g at.After-sync))
+
+pub returns-in_err-sync-clause-counts : goal.returns-in_err-sync-clause-counts
+returns-in_err-sync-clause-counts g c = grind (arith, common_steps)
+
+pub write_group-requires-clause-some : goal.write_group-requires-clause-some
+write_group-requires-clause-some g c = grind (arith, common_steps)
+
+pub write_group-requires-clause-room : goal.write_group-requires-clause-room
+write_group-requires-clause-room g c = grind (arith, common_steps)
+
+pub returns-in_err-write_group-clause-counts : goal.returns-in_err-write_group-clause-counts
+returns-in_err-write_group-clause-counts g c = grind (arith, common_steps)
+
+pub returns-in_err-sync-2-clause-counts : goal.returns-in_err-sync-2-clause-counts
+returns-in_err-sync-2-clause-counts g c = grind (arith, common_steps)
+
+pub returns-in-Ok-clause-before : goal.returns-in-Ok-clause-before
+returns-in-Ok-clause-before g c = grind (arith, common_steps)

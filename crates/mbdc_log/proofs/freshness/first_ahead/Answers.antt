@@ -1,4 +1,5 @@
-use Rattle.std.proofs.Common.{◌≡◌, ◌≤◌, ◌∙◌, ℕ, None, ap, subst}
+use Rattle.std.proofs.Common.{◌≡◌, ◌≤◌, ◌∙◌, ℕ, None, ap, subst, arith}
+use Rattle.std.proofs.lemmas.Grind.{common_steps}
 use Rattle.mbdc_log.specs.Behind.{IsBehindAt}
 use Rattle.mbdc_log.specs.Halves.{half_of, half_len_of}
 use Rattle.mbdc_log.proofs.Behinds.{one_behind, read_tells}
@@ -23,3 +24,9 @@ returns-clause-none g c state stands h =
     let at : c.half_len_of.result ≡ half_of g.D.Disk c.args.disk.now = c.half_len_of.ensures.exact ∙ ap half_len_of c.count-count.ensures in
     let most = subst (λ (n : ℕ). n ≤ 65536) at c.half_len_of.ensures.most in
     one_behind g.K.Language (half_of g.D.Disk c.args.disk.now) most (g.D.Disk.reads c.args.disk.now) c.in_ok-ahead.ahead None (told g (goal.at.returns-clause-none g c).In_ok-ahead h) (state, stands)
+
+pub returns-in_err-ahead-clause-counts : goal.returns-in_err-ahead-clause-counts
+returns-in_err-ahead-clause-counts g c = grind (arith, common_steps)
+
+pub returns-clause-counts : goal.returns-clause-counts
+returns-clause-counts g c = grind (arith, common_steps)

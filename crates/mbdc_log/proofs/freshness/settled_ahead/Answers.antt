@@ -1,4 +1,5 @@
-use Rattle.std.proofs.Common.{◌≡◌, ◌∙◌, ℕ, Result, Option, Ok, None, IfOk, ap, subst, sym}
+use Rattle.std.proofs.Common.{◌≡◌, ◌∙◌, ℕ, Result, Option, Ok, None, IfOk, ap, subst, sym, arith}
+use Rattle.std.proofs.lemmas.Grind.{common_steps}
 use Rattle.dc_sectors.specs.Disk.{Image, Choices, IsImage}
 use Rattle.dc_sectors.specs.Images.{settled_image}
 use Rattle.mbdc_log.specs.Behind.{IsBehindAt}
@@ -30,3 +31,6 @@ returns-clause-none g c state stands h =
     c.first_ahead.ensures.none state
     (subst (λ (n : ℕ). Stands lang n state (g.D.Disk.reads synced)) half
     (subst (λ (i : Image). Stands lang (half_of g.D.Disk c.args.disk.now) state i) (sym c.sync.ensures.reads) stands)) h
+
+pub returns-in-Err-clause-spares : goal.returns-in-Err-clause-spares
+returns-in-Err-clause-spares g c = grind (arith, common_steps)

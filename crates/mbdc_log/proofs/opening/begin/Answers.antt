@@ -1,4 +1,5 @@
 use Rattle.std.proofs.Common.{◌≡◌, ⊎_elim, ℕ, zero, suc, ◌+◌, ap, sym, subst, arith}
+use Rattle.std.proofs.lemmas.Grind.{common_steps}
 use Rattle.dc_sectors.specs.Runs.{LeavesOnly, IsSettled}
 use Rattle.dc_sectors.proofs.Moments.{followed}
 use Rattle.dc_roots.specs.declared.root.Root.{Root}
@@ -75,3 +76,21 @@ returns-in-Ok-clause-elsewhere g c = spares g (goal.at.returns-in-Ok-clause-else
 
 pub returns-in-Err-clause-elsewhere : goal.returns-in-Err-clause-elsewhere
 returns-in-Err-clause-elsewhere g c = spares g (goal.at.returns-in-Err-clause-elsewhere g c).After-compact_into_other_half
+
+pub returns-then-begun-eq-VERSION-clause-from : goal.returns-then-begun-eq-VERSION-clause-from
+returns-then-begun-eq-VERSION-clause-from g c = grind (arith, common_steps)
+
+pub returns-then-begun-eq-VERSION-clause-within : goal.returns-then-begun-eq-VERSION-clause-within
+returns-then-begun-eq-VERSION-clause-within g c = grind (arith, common_steps)
+
+pub returns-then-begun-eq-VERSION-clause-counts : goal.returns-then-begun-eq-VERSION-clause-counts
+returns-then-begun-eq-VERSION-clause-counts g c = grind (arith, common_steps)
+
+pub returns-in-Ok-clause-from : goal.returns-in-Ok-clause-from
+returns-in-Ok-clause-from g c = grind (arith, common_steps)
+
+pub returns-in-Ok-clause-counts : goal.returns-in-Ok-clause-counts
+returns-in-Ok-clause-counts g c = grind (arith, common_steps)
+
+pub returns-in-Err-clause-counts : goal.returns-in-Err-clause-counts
+returns-in-Err-clause-counts g c = grind (arith, common_steps)

@@ -1,4 +1,6 @@
-use Rattle.std.proofs.Common.{◌≡◌, ◌+◌, ℕ, Err, ap, refl, subst, sym, ◌∙◌}
+use Rattle.std.proofs.Common.{◌≡◌, ◌+◌, ℕ, Err, ap, refl, subst, sym, ◌∙◌, arith}
+use Rattle.std.proofs.lemmas.Grind.{common_steps}
+use Rattle.std.proofs.lemmas.Result.{err_from_is_err_and}
 use Rattle.dc_sectors.specs.Disk.{Image, IsImage, settled}
 use Rattle.dc_sectors.specs.Runs.{LeavesOnly, IsSettled}
 use Rattle.mbdc_log.specs.Halves.{SparesRest}
@@ -12,10 +14,9 @@ use Rattle.mbdc_log.proofs.Refusals.{not_worn}
 use Rattle.mbdc_log.proofs.Spared.{spared_same, spared_through}
 use Rattle.mbdc_log.proofs.opening.open_on.Given.{Over}
 use Rattle.mbdc_log.proofs.opening.open_on.Goals.{After-read_chain, After-is_spent, After-begin}
-use Rattle.mbdc_log.proofs.opening.open_on.Goals as goal
-use Rattle.std.proofs.lemmas.Result.{err_from_is_err_and}
 use Rattle.dc_sectors.proofs.Moments.{counted_on}
 use Rattle.mbdc_log.specs.declared.fault.OpenFault.TheVariants.{Device}
+use Rattle.mbdc_log.proofs.opening.open_on.Goals as goal
 
 -- the sync and the reading wrote nothing
 looked : (g : Over) (c : After-read_chain g) → LeavesOnly g.D.Disk c.args.disk.now c.read_chain.new.disk (IsImage (g.D.Disk.choices c.args.disk.now))
@@ -187,3 +188,51 @@ returns-in_err-begin-clause-counts g c =
     counted_on g.D.Disk disk c.read_chain.new.disk c.begin.new.disk ⊥ _ _
     (counted_on g.D.Disk disk c.sync.new.self c.read_chain.new.disk _ _ ⊥ c.in-Ok.ensures.counts (λ is. cc is) c.in_ok-found.ensures.counts (λ is. cc is) (λ is. absurd is)) (λ is. is)
     c.in_err-begin.ensures.counts (λ is. let e : fault ≡ Device = cc is in same ∙ ap Err e) (λ is. let e : fault ≡ Device = cc (is, same) in ap Err e)
+
+pub returns-in-Err-clause-unwritten : goal.returns-in-Err-clause-unwritten
+returns-in-Err-clause-unwritten g c = grind (arith, common_steps)
+
+pub returns-in-Err-clause-spares_images : goal.returns-in-Err-clause-spares_images
+returns-in-Err-clause-spares_images g c = grind (arith, common_steps)
+
+pub returns-in-Err-clause-counts : goal.returns-in-Err-clause-counts
+returns-in-Err-clause-counts g c = grind (arith, common_steps)
+
+pub returns-in_err-found-clause-counts : goal.returns-in_err-found-clause-counts
+returns-in_err-found-clause-counts g c = grind (arith, common_steps)
+
+pub returns-then-is_spent-clause-counts : goal.returns-then-is_spent-clause-counts
+returns-then-is_spent-clause-counts g c = grind (arith, common_steps)
+
+pub begin-requires-clause-budget : goal.begin-requires-clause-budget
+begin-requires-clause-budget g c = grind (arith, common_steps)
+
+pub begin-requires-clause-within : goal.begin-requires-clause-within
+begin-requires-clause-within g c = grind (arith, common_steps)
+
+pub begin-requires-clause-unspent : goal.begin-requires-clause-unspent
+begin-requires-clause-unspent g c = grind (arith, common_steps)
+
+pub returns-in_err-begin-clause-reads : goal.returns-in_err-begin-clause-reads
+returns-in_err-begin-clause-reads g c = grind (arith, common_steps)
+
+pub returns-in_err-begin-clause-refused : goal.returns-in_err-begin-clause-refused
+returns-in_err-begin-clause-refused g c = grind (arith, common_steps)
+
+pub returns-in_err-begin-clause-root : goal.returns-in_err-begin-clause-root
+returns-in_err-begin-clause-root g c = grind (arith, common_steps)
+
+pub returns-in_err-begin-clause-not_worn : goal.returns-in_err-begin-clause-not_worn
+returns-in_err-begin-clause-not_worn g c = grind (arith, common_steps)
+
+pub returns-clause-budget : goal.returns-clause-budget
+returns-clause-budget g c = grind (arith, common_steps)
+
+pub returns-clause-from : goal.returns-clause-from
+returns-clause-from g c = grind (arith, common_steps)
+
+pub returns-clause-within : goal.returns-clause-within
+returns-clause-within g c = grind (arith, common_steps)
+
+pub returns-clause-counts : goal.returns-clause-counts
+returns-clause-counts g c = grind (arith, common_steps)

@@ -1,4 +1,5 @@
-use Rattle.std.proofs.Common.{ℕ, List, subst, sym}
+use Rattle.std.proofs.Common.{ℕ, List, subst, sym, arith}
+use Rattle.std.proofs.lemmas.Grind.{common_steps}
 use Rattle.mbdc_log.specs.Halves.{budget_of}
 use Rattle.mbdc_log.proofs.Steps.{base_reached, base_cut, base_bad}
 use Rattle.mbdc_log.proofs.reading.read_base.Goals as goal
@@ -19,3 +20,30 @@ returns-in-Err-Bad-clause-refused g c h current =
     (λ state spells. c.decode.ensures.bad (cc) state
     (subst (λ (b : ℕ). g.K.Language.SpellsState b c.as_slice.result.now state) (sym c.budget_of.ensures)
     (subst (λ (l : List ℕ). g.K.Language.SpellsState (budget_of c.args.half_len) l state) (sym c.as_slice.ensures.value) spells)))
+
+pub returns-in-Err-Incomplete-clause-counts : goal.returns-in-Err-Incomplete-clause-counts
+returns-in-Err-Incomplete-clause-counts g c = grind (arith, common_steps)
+
+pub returns-in-Err-Device-clause-counts : goal.returns-in-Err-Device-clause-counts
+returns-in-Err-Device-clause-counts g c = grind (arith, common_steps)
+
+pub returns-in-Err-NoMemory-clause-counts : goal.returns-in-Err-NoMemory-clause-counts
+returns-in-Err-NoMemory-clause-counts g c = grind (arith, common_steps)
+
+pub overflow_add-result : goal.overflow_add-result
+overflow_add-result g c = grind (arith, common_steps)
+
+pub returns-in-Ok-decode-clause-budget : goal.returns-in-Ok-decode-clause-budget
+returns-in-Ok-decode-clause-budget g c = grind (arith, common_steps)
+
+pub returns-in-Ok-decode-clause-from : goal.returns-in-Ok-decode-clause-from
+returns-in-Ok-decode-clause-from g c = grind (arith, common_steps)
+
+pub returns-in-Ok-decode-clause-within : goal.returns-in-Ok-decode-clause-within
+returns-in-Ok-decode-clause-within g c = grind (arith, common_steps)
+
+pub returns-in-Ok-decode-clause-counts : goal.returns-in-Ok-decode-clause-counts
+returns-in-Ok-decode-clause-counts g c = grind (arith, common_steps)
+
+pub returns-clause-counts : goal.returns-clause-counts
+returns-clause-counts g c = grind (arith, common_steps)

@@ -1,5 +1,6 @@
-use Rattle.std.proofs.Common.{◌≡◌, ◌∙◌, ap, sym, subst, Err}
+use Rattle.std.proofs.Common.{◌≡◌, ◌∙◌, ap, sym, subst, Err, arith}
 use Rattle.std.proofs.lemmas.Result.{err_from_is_err_and}
+use Rattle.std.proofs.lemmas.Grind.{common_steps}
 use Rattle.dc_sectors.specs.Disk.{Image}
 use Rattle.dc_sectors.specs.Runs.{OnlyLooked}
 use Rattle.dc_roots.specs.declared.root.Root.{Root}
@@ -9,8 +10,8 @@ use Rattle.mbdc_log.specs.Stands.{IsCurrent, IsReached, IsRead}
 use Rattle.mbdc_log.proofs.ReadMoments.{looked_on}
 use Rattle.mbdc_log.proofs.reading.read_chain.Given.{Over}
 use Rattle.mbdc_log.proofs.reading.read_chain.Goals.{In_ok-root, In_ok-found}
-use Rattle.mbdc_log.proofs.reading.read_chain.Goals as goal
 use Rattle.dc_sectors.proofs.Moments.{counted_on}
+use Rattle.mbdc_log.proofs.reading.read_chain.Goals as goal
 
 -- ---- BEFORE THE GROUPS: the root that was chosen, and the base that it led to
 
@@ -76,3 +77,15 @@ returns-in_err-read_groups-clause-refused g c h =
     let fault = c.in_err-read_groups.field-0.0 in
     let same : told.result ≡ Err fault = cc (p.1, p.2) in
     rw same (subst (λ (i : Image). IsUnread g.K.Language c.args.half_len i fault) based.reads_same (c.in_err-read_groups.ensures.refused h c.in_ok-found.ensures.budget based.reached))
+
+pub read_groups-requires-clause-within : goal.read_groups-requires-clause-within
+read_groups-requires-clause-within g c = grind (arith, common_steps)
+
+pub returns-clause-budget : goal.returns-clause-budget
+returns-clause-budget g c = grind (arith, common_steps)
+
+pub returns-clause-within : goal.returns-clause-within
+returns-clause-within g c = grind (arith, common_steps)
+
+pub returns-clause-counts : goal.returns-clause-counts
+returns-clause-counts g c = grind (arith, common_steps)

@@ -1,15 +1,16 @@
 use Rattle.std.proofs.Common.{arith, ap, subst, sym, ◌∙◌, ◌≡◌, Ok, Err}
+use Rattle.std.proofs.lemmas.Result.{err_from_is_err_and}
+use Rattle.std.proofs.lemmas.Grind.{common_steps}
 use Rattle.dc_sectors.specs.Disk.{Image}
 use Rattle.dc_pages.specs.Group.{IsComplete}
 use Rattle.mbdc_log.specs.Sites.{change_site}
 use Rattle.mbdc_log.specs.Stands.{IsReached}
 use Rattle.mbdc_log.specs.Refusal.{IsUnread}
 use Rattle.mbdc_log.specs.declared.fault.OpenFault.TheVariants.{Device}
-use Rattle.std.proofs.lemmas.Result.{err_from_is_err_and}
 use Rattle.mbdc_log.proofs.ReadMoments.{looked_on}
 use Rattle.mbdc_log.proofs.Steps.{all_read}
-use Rattle.mbdc_log.proofs.reading.read_groups.Goals as goal
 use Rattle.dc_sectors.proofs.Moments.{counted_on, counts_pass, counts_none}
+use Rattle.mbdc_log.proofs.reading.read_groups.Goals as goal
 
 pub returns-clause-all : goal.returns-clause-all
 returns-clause-all g c h budget reached =
@@ -72,3 +73,6 @@ groups-preserved g c =
       looked = looked_on g.D.Disk c.args.disk.now c.groups.disk c.read_next.new.disk so_far.looked next.looked;
       counts = counted_on g.D.Disk c.args.disk.now c.groups.disk c.read_next.new.disk ⊥ _ ⊥ so_far.counts (λ is. is) next.counts (λ is. cc is) (λ is. absurd is);
     }
+
+pub groups-init : goal.groups-init
+groups-init g c = grind (arith, common_steps)

@@ -1,4 +1,5 @@
 use Rattle.std.proofs.Common.{◌+◌, ℕ, List, arith, subst, sym, inr, refl}
+use Rattle.std.proofs.lemmas.Grind.{common_steps}
 use Rattle.dc_pages.specs.Group.{IsComplete, change_kind}
 use Rattle.dc_pages.specs.Reading.{IsCutAt}
 use Rattle.dc_pages.specs.declared.site.Site.{Site}
@@ -33,3 +34,18 @@ returns-clause-more g c h budget reached =
     (subst (λ (l : List ℕ). g.K.Language.SpellsChanges l took.0) c.as_slice.ensures.value took.1)
     (subst (λ (b : ℕ). g.K.Language.Accepts b (g.K.Language.state found.house) took.0) budget took.2)
     took.3
+
+pub returns-then-found-clause-looked : goal.returns-then-found-clause-looked
+returns-then-found-clause-looked g c = grind (arith, common_steps)
+
+pub returns-in-Err-Bad-clause-further : goal.returns-in-Err-Bad-clause-further
+returns-in-Err-Bad-clause-further g c = grind (arith, common_steps)
+
+pub returns-clause-further : goal.returns-clause-further
+returns-clause-further g c = grind (arith, common_steps)
+
+pub returns-clause-within : goal.returns-clause-within
+returns-clause-within g c = grind (arith, common_steps)
+
+pub returns-clause-counts : goal.returns-clause-counts
+returns-clause-counts g c = grind (arith, common_steps)

@@ -1,4 +1,5 @@
-use Rattle.std.proofs.Common.{◌≡◌, ◌∙◌, ℕ, ap, subst, sym}
+use Rattle.std.proofs.Common.{◌≡◌, ◌∙◌, ℕ, ap, subst, sym, arith}
+use Rattle.std.proofs.lemmas.Grind.{common_steps}
 use Rattle.dc_sectors.specs.Disk.{Image}
 use Rattle.mbdc_log.specs.Halves.{half_of, half_len_of}
 use Rattle.mbdc_log.specs.Refusal.{IsUnread}
@@ -29,3 +30,12 @@ returns-in-Err-read_parts-clause-lost g c enough h of =
     subst (λ (n : ℕ). IsLost g.K.Language n last (g.D.Disk.reads c.args.copy.now)) half
     (subst (λ (i : Image). IsLost g.K.Language c.half_len_of-half_len.result last i) (chain ∙ first)
     (c.in-Err-read_parts.ensures.lost h unread of))
+
+pub returns-in-Ok-read_chain-clause-greatest : goal.returns-in-Ok-read_chain-clause-greatest
+returns-in-Ok-read_chain-clause-greatest g c = grind (arith, common_steps)
+
+pub returns-in-Ok-read_parts-clause-greatest : goal.returns-in-Ok-read_parts-clause-greatest
+returns-in-Ok-read_parts-clause-greatest g c = grind (arith, common_steps)
+
+pub returns-in-Ok-read_parts-clause-counts : goal.returns-in-Ok-read_parts-clause-counts
+returns-in-Ok-read_parts-clause-counts g c = grind (arith, common_steps)

@@ -1,4 +1,5 @@
-use Rattle.std.proofs.Common.{◌≡◌, ◌∙◌, [], ap, subst}
+use Rattle.std.proofs.Common.{◌≡◌, ◌∙◌, [], ap, subst, arith}
+use Rattle.std.proofs.lemmas.Grind.{common_steps}
 use Rattle.dc_sectors.specs.Runs.{IsSettled}
 use Rattle.dc_pages.specs.Draft.{Draft}
 use Rattle.dc_pages.specs.PagesWriting.{SameOutside}
@@ -51,3 +52,9 @@ returns-clause-elsewhere g c m out =
     = c.in_ok-put.ensures.same ∙ ap (λ (d : Draft). record d { pages = c.put.new.self.pages; buffer = c.put.new.self.buffer }) c.begin-writer.ensures in
     subst (λ (d : Draft). SameOutside d.site (g.D.Disk.reads c.put.new.disk) (g.D.Disk.reads c.finish.new.disk)) same c.finish.ensures.elsewhere m out
     ∙ subst (λ (d : Draft). SameOutside d.site (g.D.Disk.reads c.args.disk.now) (g.D.Disk.reads c.put.new.disk)) c.begin-writer.ensures c.put.ensures.elsewhere m out
+
+pub returns-in_err-count-clause-counts : goal.returns-in_err-count-clause-counts
+returns-in_err-count-clause-counts g c = grind (arith, common_steps)
+
+pub returns-clause-counts : goal.returns-clause-counts
+returns-clause-counts g c = grind (arith, common_steps)

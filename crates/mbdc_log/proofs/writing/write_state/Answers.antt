@@ -1,4 +1,5 @@
-use Rattle.std.proofs.Common.{◌≡◌, ◌∙◌, [], rules, ap, subst}
+use Rattle.std.proofs.Common.{◌≡◌, ◌∙◌, [], rules, ap, subst, arith}
+use Rattle.std.proofs.lemmas.Grind.{common_steps}
 use Rattle.dc_sectors.specs.Runs.{LeavesOnly, IsSettled}
 use Rattle.dc_pages.specs.Draft.{Draft}
 use Rattle.dc_pages.specs.PagesWriting.{SameOutside}
@@ -77,3 +78,9 @@ returns-clause-elsewhere g c =
     subst (Spares g (goal.at.returns-clause-elsewhere g c).After-begin) (search rules)
     (λ m out. subst (λ (d : Draft). SameOutside d.site (g.D.Disk.reads c.encode_into.new.sink.disk.now) (g.D.Disk.reads c.finish.new.disk)) same c.finish.ensures.elsewhere m out
     ∙ subst (λ (d : Draft). SameOutside d.site (g.D.Disk.reads c.args.disk.now) (g.D.Disk.reads c.encode_into.new.sink.disk.now)) c.begin.ensures c.in_ok-encode_into.ensures.goes_into.elsewhere m out)
+
+pub returns-in_err-count-clause-counts : goal.returns-in_err-count-clause-counts
+returns-in_err-count-clause-counts g c = grind (arith, common_steps)
+
+pub returns-clause-counts : goal.returns-clause-counts
+returns-clause-counts g c = grind (arith, common_steps)

@@ -1,7 +1,8 @@
-use Rattle.std.proofs.Common.{◌≡◌, ◌==◌, ◌&&◌, ◌∙◌, Bool, refl, rules, sym, tests, true, false}
+use Rattle.std.proofs.Common.{◌≡◌, ◌==◌, ◌&&◌, ◌∙◌, Bool, refl, rules, sym, tests, true, false, arith}
 use Rattle.std.specs.Str.{bytes_eq}
 use Rattle.std.proofs.lemmas.Iterator.{YieldsList-from_slice}
 use Rattle.std.proofs.lemmas.Iterator.Search.{any_from_yields_List}
+use Rattle.std.proofs.lemmas.Grind.{common_steps}
 use Rattle.mbdc_audit.specs.declared.house.Window as window_type
 use Rattle.mbdc_audit.proofs.house.Place.is_own.Goals as goal
 
@@ -17,3 +18,6 @@ returns-then-eq g c =
     c.any-has_window.ensures.ran (YieldsList-from_slice p.windows.items cc) (λ x b q k. search (rules, tests)) in
     let own : c.if-self-used.value ≡ ((p.used == c.args.used) && bytes_eq c.args.flat.now p.flat.now) = search (rules, tests) in
     has ∙ both _ _ _ (sym c.if-eq.true ∙ own)
+
+pub returns-else-eq : goal.returns-else-eq
+returns-else-eq g c = grind (arith, common_steps)

@@ -1,16 +1,17 @@
-use Rattle.std.proofs.Common.{◌≡◌, ◌++◌, ◌∷◌, ◌==◌, ◌&&◌, [], List, map, rules, tests, sym, ap, subst, ◌∙◌}
+use Rattle.std.proofs.Common.{◌≡◌, ◌++◌, ◌∷◌, ◌==◌, ◌&&◌, [], List, map, rules, tests, sym, ap, subst, ◌∙◌, arith}
 use Rattle.std.proofs.lemmas.Iterator.{YieldsList-from_slice}
 use Rattle.std.proofs.lemmas.Iterator.Search.{any_from_yields_List}
 use Rattle.std.proofs.lemmas.List.{map_push}
+use Rattle.std.proofs.lemmas.Grind.{common_steps}
 use Rattle.mbdc_audit.specs.House.{Allowed}
 use Rattle.mbdc_audit.specs.Reader.{AddsNothing}
 use Rattle.mbdc_audit.specs.File.{Adds, first_named}
 use Rattle.mbdc_audit.specs.View.{allowed_of, house_of}
-use Rattle.mbdc_audit.specs.declared.house.Allowed as allowed_type
 use Rattle.mbdc_audit.proofs.Added.{adds_allowed}
 use Rattle.mbdc_audit.proofs.Classes.{at_fault, no_allowed}
 use Rattle.mbdc_audit.proofs.Named.{one_meant}
 use Rattle.mbdc_audit.proofs.Tests.{allowed_twice, not_allowed, was_false, was_true}
+use Rattle.mbdc_audit.specs.declared.house.Allowed as allowed_type
 use Rattle.mbdc_audit.proofs.reader.Reader.add_allowed.Goals as goal
 
 pub returns-in_err-only_if-clause-err : goal.returns-in_err-only_if-clause-err
@@ -42,3 +43,30 @@ returns-clause-ok g c =
     (ap (first_named h) (sym c.field.ensures) ∙ c.in_ok-used.ensures.ok) (sym c.number.ensures) (sym c.field-2.ensures)
     (not_allowed xs c.in_ok-used.field-0 c.number.result
     (sym there ∙ was_false c.any-is_there.result c.in_ok-only_if.ensures.ok)))
+
+pub returns-in_err-used-clause-ok : goal.returns-in_err-used-clause-ok
+returns-in_err-used-clause-ok g c = grind (arith, common_steps)
+
+pub returns-in_err-used-clause-err : goal.returns-in_err-used-clause-err
+returns-in_err-used-clause-err g c = grind (arith, common_steps)
+
+pub returns-in_err-used-clause-kept : goal.returns-in_err-used-clause-kept
+returns-in_err-used-clause-kept g c = grind (arith, common_steps)
+
+pub returns-in_err-only_if-clause-ok : goal.returns-in_err-only_if-clause-ok
+returns-in_err-only_if-clause-ok g c = grind (arith, common_steps)
+
+pub returns-in_err-only_if-clause-kept : goal.returns-in_err-only_if-clause-kept
+returns-in_err-only_if-clause-kept g c = grind (arith, common_steps)
+
+pub returns-in_err-push-clause-ok : goal.returns-in_err-push-clause-ok
+returns-in_err-push-clause-ok g c = grind (arith, common_steps)
+
+pub returns-in_err-push-clause-err : goal.returns-in_err-push-clause-err
+returns-in_err-push-clause-err g c = grind (arith, common_steps)
+
+pub returns-in_err-push-clause-kept : goal.returns-in_err-push-clause-kept
+returns-in_err-push-clause-kept g c = grind (arith, common_steps)
+
+pub returns-clause-kept : goal.returns-clause-kept
+returns-clause-kept g c = grind (arith, common_steps)

@@ -1,10 +1,10 @@
-use Rattle.std.proofs.Common.{◌≡◌, ◌<◌, ◌+◌, ◌++◌, ◌∷◌, [], ℕ, List, length, map, refl, sym, ap, subst, ◌∙◌}
+use Rattle.std.proofs.Common.{◌≡◌, ◌<◌, ◌+◌, ◌++◌, ◌∷◌, [], ℕ, List, length, map, refl, sym, ap, subst, ◌∙◌, arith}
 use Rattle.std.proofs.lemmas.List.{length-map, map_push}
+use Rattle.std.proofs.lemmas.Grind.{common_steps}
 use Rattle.mbdc_audit.specs.Amount.{last_of}
-use Rattle.mbdc_audit.specs.File.{IsVib}
+use Rattle.mbdc_audit.specs.File.{IsVib, Adds}
 use Rattle.mbdc_audit.specs.House.{Place, Run}
 use Rattle.mbdc_audit.specs.Reader.{AddsNothing}
-use Rattle.mbdc_audit.specs.File.{Adds}
 use Rattle.mbdc_audit.specs.View.{house_of, place_of, run_of}
 use Rattle.mbdc_audit.proofs.Added.{adds_run}
 use Rattle.mbdc_audit.proofs.Classes.{at_fault, no_run}
@@ -50,3 +50,48 @@ returns-clause-ok g c =
     (sym c.field.ensures ∙ c.in-Ok.ensures.found) (sym c.number.ensures) (sym c.maybe.ensures) (sym c.number-2.ensures)
     (sym c.number-3.ensures) (subst (λ (t : List ℕ). IsVib t r.vib) c.field-2.ensures c.vib.ensures)
     (any_one (λ (q : Place). (n ≡ length q.runs) × (n < 16)) (last_of h.places) (place_of x) it (refl, few)))
+
+pub returns-in_default-clause-err : goal.returns-in_default-clause-err
+returns-in_default-clause-err g c = grind (arith, common_steps)
+
+pub returns-in_default-clause-kept : goal.returns-in_default-clause-kept
+returns-in_default-clause-kept g c = grind (arith, common_steps)
+
+pub returns-in_err-place-clause-ok : goal.returns-in_err-place-clause-ok
+returns-in_err-place-clause-ok g c = grind (arith, common_steps)
+
+pub returns-in_err-place-clause-err : goal.returns-in_err-place-clause-err
+returns-in_err-place-clause-err g c = grind (arith, common_steps)
+
+pub returns-in_err-place-clause-kept : goal.returns-in_err-place-clause-kept
+returns-in_err-place-clause-kept g c = grind (arith, common_steps)
+
+pub overflow_add-len : goal.overflow_add-len
+overflow_add-len g c = grind (arith, common_steps)
+
+pub returns-in_err-only_if-clause-ok : goal.returns-in_err-only_if-clause-ok
+returns-in_err-only_if-clause-ok g c = grind (arith, common_steps)
+
+pub returns-in_err-only_if-clause-kept : goal.returns-in_err-only_if-clause-kept
+returns-in_err-only_if-clause-kept g c = grind (arith, common_steps)
+
+pub returns-in_err-only_if-2-clause-ok : goal.returns-in_err-only_if-2-clause-ok
+returns-in_err-only_if-2-clause-ok g c = grind (arith, common_steps)
+
+pub returns-in_err-only_if-2-clause-err : goal.returns-in_err-only_if-2-clause-err
+returns-in_err-only_if-2-clause-err g c = grind (arith, common_steps)
+
+pub returns-in_err-only_if-2-clause-kept : goal.returns-in_err-only_if-2-clause-kept
+returns-in_err-only_if-2-clause-kept g c = grind (arith, common_steps)
+
+pub returns-in_err-push-clause-ok : goal.returns-in_err-push-clause-ok
+returns-in_err-push-clause-ok g c = grind (arith, common_steps)
+
+pub returns-in_err-push-clause-err : goal.returns-in_err-push-clause-err
+returns-in_err-push-clause-err g c = grind (arith, common_steps)
+
+pub returns-in_err-push-clause-kept : goal.returns-in_err-push-clause-kept
+returns-in_err-push-clause-kept g c = grind (arith, common_steps)
+
+pub returns-clause-kept : goal.returns-clause-kept
+returns-clause-kept g c = grind (arith, common_steps)

@@ -1,5 +1,6 @@
-use Rattle.std.proofs.Common.{◌≡◌, ◌+◌, ◌++◌, ◌∷◌, [], ℕ, List, length, map, sym, ap, subst, ◌∙◌}
+use Rattle.std.proofs.Common.{◌≡◌, ◌+◌, ◌++◌, ◌∷◌, [], ℕ, List, length, map, sym, ap, subst, ◌∙◌, arith}
 use Rattle.std.proofs.lemmas.List.{length-map, map_push}
+use Rattle.std.proofs.lemmas.Grind.{common_steps}
 use Rattle.mbdc_audit.specs.House.{Place, Run, Window}
 use Rattle.mbdc_audit.specs.File.{Adds, first_named}
 use Rattle.mbdc_audit.specs.View.{house_of, place_of, run_of, window_of}
@@ -25,3 +26,42 @@ returns-clause-ok g c =
     (sym c.number.ensures ∙ (next ∙ ap (λ (n : ℕ). n + 1) long)) (sym c.field.ensures)
     (ap (first_named h) (sym c.field-2.ensures) ∙ c.in_ok-used.ensures.ok) (sym c.number-2.ensures)
     (below_by c.len-count.result (length h.places) 16384 c.in_ok-only_if-2.ensures.ok long))
+
+pub returns-in_err-only_if-clause-ok : goal.returns-in_err-only_if-clause-ok
+returns-in_err-only_if-clause-ok g c = grind (arith, common_steps)
+
+pub returns-in_err-only_if-clause-err : goal.returns-in_err-only_if-clause-err
+returns-in_err-only_if-clause-err g c = grind (arith, common_steps)
+
+pub returns-in_err-only_if-clause-kept : goal.returns-in_err-only_if-clause-kept
+returns-in_err-only_if-clause-kept g c = grind (arith, common_steps)
+
+pub returns-in_err-only_if-2-clause-ok : goal.returns-in_err-only_if-2-clause-ok
+returns-in_err-only_if-2-clause-ok g c = grind (arith, common_steps)
+
+pub returns-in_err-only_if-2-clause-err : goal.returns-in_err-only_if-2-clause-err
+returns-in_err-only_if-2-clause-err g c = grind (arith, common_steps)
+
+pub returns-in_err-only_if-2-clause-kept : goal.returns-in_err-only_if-2-clause-kept
+returns-in_err-only_if-2-clause-kept g c = grind (arith, common_steps)
+
+pub returns-in_err-used-clause-ok : goal.returns-in_err-used-clause-ok
+returns-in_err-used-clause-ok g c = grind (arith, common_steps)
+
+pub returns-in_err-used-clause-err : goal.returns-in_err-used-clause-err
+returns-in_err-used-clause-err g c = grind (arith, common_steps)
+
+pub returns-in_err-used-clause-kept : goal.returns-in_err-used-clause-kept
+returns-in_err-used-clause-kept g c = grind (arith, common_steps)
+
+pub returns-in_err-push-clause-ok : goal.returns-in_err-push-clause-ok
+returns-in_err-push-clause-ok g c = grind (arith, common_steps)
+
+pub returns-in_err-push-clause-err : goal.returns-in_err-push-clause-err
+returns-in_err-push-clause-err g c = grind (arith, common_steps)
+
+pub returns-in_err-push-clause-kept : goal.returns-in_err-push-clause-kept
+returns-in_err-push-clause-kept g c = grind (arith, common_steps)
+
+pub returns-clause-kept : goal.returns-clause-kept
+returns-clause-kept g c = grind (arith, common_steps)

@@ -1,5 +1,6 @@
-use Rattle.std.proofs.Common.{◌≡◌, ◌<◌, ◌++◌, ◌∷◌, [], ℕ, List, length, map, None, Some, sym, ap, subst, ◌∙◌}
+use Rattle.std.proofs.Common.{◌≡◌, ◌<◌, ◌++◌, ◌∷◌, [], ℕ, List, length, map, None, Some, sym, ap, subst, ◌∙◌, arith}
 use Rattle.std.proofs.lemmas.List.{length-map, map_push}
+use Rattle.std.proofs.lemmas.Grind.{common_steps}
 use Rattle.mbdc_audit.specs.House.{Use}
 use Rattle.mbdc_audit.specs.Reader.{AddsNothing}
 use Rattle.mbdc_audit.specs.File.{Adds, first_named}
@@ -31,3 +32,39 @@ returns-clause-ok g c =
     let few : length h.uses < 64 = below_by c.len.result (length h.uses) 64 c.in_ok-only_if-2.ensures.ok (c.len.ensures ∙ (c.args.self.now.house.uses.ok.0 ∙ sym (length-map us use_of))) in
     subst (λ (vs : List Use). Adds h c.args.line.now (record h { uses = vs })) (sym pushed)
     (adds_use h c.args.line.now u c.requires (sym c.field-name.ensures) (ap counted_named (sym c.field.ensures) ∙ (sym c.named.ensures ∙ c.in_ok-counts.ensures.ok_part)) (ap (first_named h) (sym c.field-name.ensures) ∙ none) few)
+
+pub returns-in_err-only_if-clause-ok : goal.returns-in_err-only_if-clause-ok
+returns-in_err-only_if-clause-ok g c = grind (arith, common_steps)
+
+pub returns-in_err-only_if-clause-kept : goal.returns-in_err-only_if-clause-kept
+returns-in_err-only_if-clause-kept g c = grind (arith, common_steps)
+
+pub returns-in_err-only_if-2-clause-ok : goal.returns-in_err-only_if-2-clause-ok
+returns-in_err-only_if-2-clause-ok g c = grind (arith, common_steps)
+
+pub returns-in_err-only_if-2-clause-err : goal.returns-in_err-only_if-2-clause-err
+returns-in_err-only_if-2-clause-err g c = grind (arith, common_steps)
+
+pub returns-in_err-only_if-2-clause-kept : goal.returns-in_err-only_if-2-clause-kept
+returns-in_err-only_if-2-clause-kept g c = grind (arith, common_steps)
+
+pub returns-in_err-counts-clause-ok : goal.returns-in_err-counts-clause-ok
+returns-in_err-counts-clause-ok g c = grind (arith, common_steps)
+
+pub returns-in_err-counts-clause-err : goal.returns-in_err-counts-clause-err
+returns-in_err-counts-clause-err g c = grind (arith, common_steps)
+
+pub returns-in_err-counts-clause-kept : goal.returns-in_err-counts-clause-kept
+returns-in_err-counts-clause-kept g c = grind (arith, common_steps)
+
+pub returns-in_err-push-clause-ok : goal.returns-in_err-push-clause-ok
+returns-in_err-push-clause-ok g c = grind (arith, common_steps)
+
+pub returns-in_err-push-clause-err : goal.returns-in_err-push-clause-err
+returns-in_err-push-clause-err g c = grind (arith, common_steps)
+
+pub returns-in_err-push-clause-kept : goal.returns-in_err-push-clause-kept
+returns-in_err-push-clause-kept g c = grind (arith, common_steps)
+
+pub returns-clause-kept : goal.returns-clause-kept
+returns-clause-kept g c = grind (arith, common_steps)

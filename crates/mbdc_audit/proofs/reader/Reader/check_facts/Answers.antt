@@ -1,8 +1,9 @@
-use Rattle.std.proofs.Common.{◌<◌, length, sym, ◌∙◌}
+use Rattle.std.proofs.Common.{◌<◌, length, sym, ◌∙◌, arith}
 use Rattle.std.specs.Prelude.{All, IsSome}
 use Rattle.std.proofs.lemmas.List.{length-map}
 use Rattle.std.proofs.lemmas.List.Elements.{All-append}
 use Rattle.std.proofs.lemmas.Result.{IfOk-weaker}
+use Rattle.std.proofs.lemmas.Grind.{common_steps}
 use Rattle.mbdc_audit.specs.declared.house.Fact.{Fact}
 use Rattle.mbdc_audit.specs.Published.{Has, declared, of_factor, of_word}
 use Rattle.mbdc_audit.specs.View.{house_of, key_of, span_of}
@@ -37,3 +38,12 @@ returns-clause-err g c =
     let k = key_of c.args.number.now in
     if_err_weaker c.check_fact.result (All (λ (f : Fact). IsSome (declared h f c.args.span)) (of_word k.word k) → ⊥) (Has h k c.args.span → ⊥)
     (λ none has. none (all_right (λ (f : Fact). IsSome (declared h f c.args.span)) (of_factor h k.used k.unit) (of_word k.word k) has.facts)) c.check_fact.ensures.err
+
+pub returns-in_err-only_if-clause-ok : goal.returns-in_err-only_if-clause-ok
+returns-in_err-only_if-clause-ok g c = grind (arith, common_steps)
+
+pub returns-in_err-only_if-clause-err : goal.returns-in_err-only_if-clause-err
+returns-in_err-only_if-clause-err g c = grind (arith, common_steps)
+
+pub returns-in_err-check_factor-clause-ok : goal.returns-in_err-check_factor-clause-ok
+returns-in_err-check_factor-clause-ok g c = grind (arith, common_steps)

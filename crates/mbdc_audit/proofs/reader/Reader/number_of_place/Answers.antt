@@ -1,6 +1,7 @@
 use Rattle.std.proofs.Common.{◌≡◌, ◌+◌, ◌∷◌, [], ℕ, length, map, refl, sym, ap, subst, ◌∙◌, arith}
 use Rattle.std.proofs.lemmas.Option.{same_Some}
 use Rattle.std.proofs.lemmas.Result.{IfOk-from_err}
+use Rattle.std.proofs.lemmas.Grind.{common_steps}
 use Rattle.mbdc_audit.specs.Amount.{last_of}
 use Rattle.mbdc_audit.specs.House.{Key, Number}
 use Rattle.mbdc_audit.specs.Line.{number_at}
@@ -167,3 +168,15 @@ returns-in_ok-only_if-in_default g c =
           (subst (λ (k : ℕ). Has h (key_of n) k) span c.in_ok-check_facts-in_default.ensures.ok));
       err = tt;
     }
+
+pub returns-in_err-place-clause-ok : goal.returns-in_err-place-clause-ok
+returns-in_err-place-clause-ok g c = grind (arith, common_steps)
+
+pub returns-in_err-place-clause-err : goal.returns-in_err-place-clause-err
+returns-in_err-place-clause-err g c = grind (arith, common_steps)
+
+pub returns-in_err-window-clause-ok : goal.returns-in_err-window-clause-ok
+returns-in_err-window-clause-ok g c = grind (arith, common_steps)
+
+pub returns-in_err-size-in-Value-clause-ok : goal.returns-in_err-size-in-Value-clause-ok
+returns-in_err-size-in-Value-clause-ok g c = grind (arith, common_steps)

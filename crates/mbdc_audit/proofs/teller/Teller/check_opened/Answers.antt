@@ -1,19 +1,19 @@
-use Rattle.std.proofs.Common.{◌≡◌, List, All, map, sym, ap, ◌∙◌, subst, Some}
-use Rattle.mbdc_audit.specs.Walk.{Walks}
-use Rattle.mbdc_audit.specs.View.{run_of, span_of, window_of, place_of}
-use Rattle.std.proofs.Common.{slice_get, IsSome}
-use Rattle.mbdc_audit.proofs.Checks.{at_map}
+use Rattle.std.proofs.Common.{◌≡◌, List, All, map, sym, ap, ◌∙◌, subst, Some, slice_get, IsSome, arith}
 use Rattle.std.proofs.lemmas.Result.{on_ok_weaker}
-use Rattle.mbdc_audit.proofs.Ends.{walks_then, walks_same, walks_by, walks_ends}
 use Rattle.std.specs.BTreeMap.{get}
 use Rattle.std.specs.Ordering.{nat_cmp}
 use Rattle.std.proofs.lemmas.Option.{same_Some}
 use Rattle.std.proofs.lemmas.List.{append-nil}
+use Rattle.std.proofs.lemmas.Grind.{common_steps}
+use Rattle.mbdc_audit.specs.Walk.{Walks}
+use Rattle.mbdc_audit.specs.View.{run_of, span_of, window_of, place_of}
+use Rattle.mbdc_audit.proofs.Checks.{at_map}
+use Rattle.mbdc_audit.proofs.Ends.{walks_then, walks_same, walks_by, walks_ends}
 use Rattle.mbdc_audit.specs.House.{Span, at}
-use Rattle.mbdc_audit.specs.declared.curve.Run as run_type
-use Rattle.mbdc_audit.specs.declared.house.Span as span_type
 use Rattle.mbdc_audit.specs.Sound.{AreTimed, ends_of, from, to}
 use Rattle.mbdc_audit.proofs.Timed.{from_at, to_at}
+use Rattle.mbdc_audit.specs.declared.curve.Run as run_type
+use Rattle.mbdc_audit.specs.declared.house.Span as span_type
 use Rattle.mbdc_audit.proofs.teller.Teller.check_opened.Goals as goal
 
 pub returns : goal.returns
@@ -34,3 +34,6 @@ returns g c = λ s found all.
     (walks_then timed (walks_by (get nat_cmp c.check_values.new.offsets) parts))))
     (c.check_parts.ensures s (c.reach.ensures.from ∙ (from_at c.args.place.now.runs.items (at (span_of c.in-Some.span.now).from) ∙ ap (λ (x : Span). from p x) (sym is)))
     (c.reach.ensures.to ∙ (to_at c.args.place.now.runs.items (at (span_of c.in-Some.span.now).to) ∙ ap (λ (x : Span). to p x) (sym is))))
+
+pub returns-in_err-check_values : goal.returns-in_err-check_values
+returns-in_err-check_values g c = grind (arith, common_steps)

@@ -1,16 +1,14 @@
-use Rattle.std.proofs.Common.{◌≡◌, ◌↔◌, ◌≤◌, ℕ, List, IsTrue, map, arith, subst, Some}
-use Rattle.mbdc_audit.specs.Walk.{is_clean}
-use Rattle.mbdc_audit.proofs.Checks.{link, nothing, same}
-use Rattle.mbdc_audit.specs.View.{house_of, span_of, window_of}
-use Rattle.std.proofs.Common.{slice_get}
-use Rattle.mbdc_audit.proofs.Checks.{at_map, pair}
+use Rattle.std.proofs.Common.{◌≡◌, ◌↔◌, ◌≤◌, ℕ, List, IsTrue, map, arith, subst, Some, slice_get, max, min}
 use Rattle.std.proofs.lemmas.Result.{on_ok_weaker}
-use Rattle.std.proofs.Common.{max, min}
-use Rattle.mbdc_audit.specs.declared.house.Span as span_type
+use Rattle.std.proofs.lemmas.Grind.{common_steps}
+use Rattle.mbdc_audit.specs.Walk.{is_clean}
+use Rattle.mbdc_audit.proofs.Checks.{link, nothing, same, at_map, pair}
+use Rattle.mbdc_audit.specs.View.{house_of, span_of, window_of}
 use Rattle.mbdc_audit.specs.House.{at}
 use Rattle.mbdc_audit.specs.Amount.{deciding}
 use Rattle.mbdc_audit.specs.Sound.{AreAlike}
 use Rattle.mbdc_audit.proofs.Curves.{no_end, one_end, two_ends}
+use Rattle.mbdc_audit.specs.declared.house.Span as span_type
 use Rattle.mbdc_audit.proofs.teller.Teller.check_two.Goals as goal
 
 pub returns : goal.returns
@@ -68,3 +66,6 @@ returns-then-from-to-2 g c = λ one other.
     let to : c.min-to.result ≡ min (at s.to) (at r.to) = omega (arith, c.min-to.ensures, c.moment-3.ensures, c.moment-4.ensures) in
     same (subst (λ (t : ℕ). IsTrue (is_clean c.check_end.new.self.counts) ↔ (IsTrue (is_clean c.args.self.now.counts) × AreAlike (deciding t w.values) (deciding t x.values))) from (c.in_ok-check_end.ensures one other))
     (one_end h w x s r at_w at_x (omega (arith, c.if-from-to-2.true)))
+
+pub returns-in_err-check_end : goal.returns-in_err-check_end
+returns-in_err-check_end g c = grind (arith, common_steps)

@@ -1,4 +1,5 @@
 use Rattle.std.proofs.Common.{arith, ◌≤◌, ◌<◌, length, map, ◌∙◌}
+use Rattle.std.proofs.lemmas.Grind.{common_steps}
 use Rattle.mbdc_audit.specs.Settled.{AreCounted, AreKnown}
 use Rattle.mbdc_audit.specs.Sound.{IsRead}
 use Rattle.mbdc_audit.specs.View.{run_of, window_of}
@@ -37,3 +38,9 @@ pub returns-clause-parts : goal.returns-clause-parts
 returns-clause-parts g c =
     let past : length c.windows.windows ≤ c.windows.window-index = omega (arith, c.windows-test.false) in
     (all_full (λ w. AreCounted (map run_of c.args.runs.now) w) c.windows.windows c.windows.window-index past).0 c.windows.invariant.3
+
+pub offset_bounds-windows-window-index : goal.offset_bounds-windows-window-index
+offset_bounds-windows-window-index g c = grind (arith, common_steps)
+
+pub returns-clause-kept : goal.returns-clause-kept
+returns-clause-kept g c = grind (arith, common_steps)

@@ -1,5 +1,6 @@
 use Rattle.std.proofs.Common.{◌≡◌, inr, ◌+◌, ◌<◌, Result, Ok, Err, arith, refl, ◌∙◌}
 use Rattle.std.specs.Result.{OnErr}
+use Rattle.std.proofs.lemmas.Grind.{common_steps}
 use Rattle.mbdc_bus.specs.Blocks.{most_blocks}
 use Rattle.mbdc_bus.proofs.Reading.{front_cut, front_none, front_past, reading_fits, reading_more}
 use Rattle.mbdc_bus.proofs.Missing.{lost, overran}
@@ -73,3 +74,9 @@ pub returns-else-count-eq0-2-clause-read : goal.returns-else-count-eq0-2-clause-
 returns-else-count-eq0-2-clause-read g c =
     front_past (g.R.Source.left c.args.reader.now) (g.R.Source.left c.loop-number.reader) (g.R.Source.left c.take_length-2.new.reader) c.loop-number.number c.in_ok-count-2.count
     c.loop-number.answer c.loop-number.invariant.so (omega (arith, c.loop-number.auto.number-end, c.loop-number-test.false)) c.in_ok-count-2.ensures.bytes (omega (arith, c.if-count-eq0-2.false))
+
+pub returns-then-count-eq0-clause-answer : goal.returns-then-count-eq0-clause-answer
+returns-then-count-eq0-clause-answer g c = grind (arith, common_steps)
+
+pub returns-then-count-eq0-2-clause-answer : goal.returns-then-count-eq0-2-clause-answer
+returns-then-count-eq0-2-clause-answer g c = grind (arith, common_steps)

@@ -1,5 +1,6 @@
-use Rattle.std.proofs.Common.{◌≡◌, ◌-◌, ◌≤◌, ℕ, List, length, take, arith, sym, ◌∙◌, refl, subst}
+use Rattle.std.proofs.Common.{◌≡◌, ◌-◌, ◌≤◌, ℕ, List, length, take, arith, sym, ◌∙◌, refl, subst, rules}
 use Rattle.std.proofs.lemmas.List.{take-append-le}
+use Rattle.std.proofs.lemmas.Grind.{common_steps}
 use Rattle.mbdc_io.specs.Stream.{Takes}
 use Rattle.mbdc_bus.proofs.Taking.{so_far_none, so_far_more}
 use Rattle.mbdc_bus.proofs.blocks.block.take_content.Goals as goal
@@ -29,3 +30,21 @@ takes-preserved g c =
           (subst (λ (xs : List ℕ). Takes (g.R.Source.left c.takes.reader) (g.R.Source.left c.take.new.self) xs) is c.in_ok-came.ensures.bytes)
           (omega (arith, c.split_at.ensures.front_len, count, front)) c.append.ensures;
     }
+
+pub returns-in_err-came-clause-well : goal.returns-in_err-came-clause-well
+returns-in_err-came-clause-well g c = grind (arith, common_steps)
+
+pub returns-in_err-came-clause-cut : goal.returns-in_err-came-clause-cut
+returns-in_err-came-clause-cut g c = grind (arith, common_steps)
+
+pub returns-in_err-came-clause-stopped : goal.returns-in_err-came-clause-stopped
+returns-in_err-came-clause-stopped g c = grind (arith, common_steps)
+
+pub returns-then-came-eq0-clause-cut : goal.returns-then-came-eq0-clause-cut
+returns-then-came-eq0-clause-cut g c = search rules
+
+pub split_at-requires : goal.split_at-requires
+split_at-requires g c = grind (arith, common_steps)
+
+pub overflow_sub-left : goal.overflow_sub-left
+overflow_sub-left g c = grind (arith, common_steps)

@@ -1,4 +1,5 @@
 use Rattle.std.proofs.Common.{◌≡◌, ◌+◌, ℕ, zero, arith, ap, subst, sym, ◌∙◌, refl}
+use Rattle.std.proofs.lemmas.Grind.{common_steps}
 use Rattle.dc_sectors.specs.Disk.{Image, settled}
 use Rattle.dc_sectors.specs.Runs.{IsSettled}
 use Rattle.dc_sectors.proofs.Moments.{started}
@@ -58,3 +59,27 @@ returns-in-Ok-clause-elsewhere g c = spares g (goal.at.returns-in-Ok-clause-else
 
 pub returns-in-Err-clause-elsewhere : goal.returns-in-Err-clause-elsewhere
 returns-in-Err-clause-elsewhere g c = spares g (goal.at.returns-in-Err-clause-elsewhere g c).After-compact_into_other_half
+
+pub returns-then-self-clause-worn : goal.returns-then-self-clause-worn
+returns-then-self-clause-worn g c = grind (arith, common_steps)
+
+pub returns-then-self-clause-any_moment : goal.returns-then-self-clause-any_moment
+returns-then-self-clause-any_moment g c = grind (arith, common_steps)
+
+pub invariant_of-self : goal.invariant_of-self
+invariant_of-self g c = grind (arith, common_steps)
+
+pub invariant_of-self-in-Err : goal.invariant_of-self-in-Err
+invariant_of-self-in-Err g c = grind (arith, common_steps)
+
+pub returns-in-Ok-clause-worn : goal.returns-in-Ok-clause-worn
+returns-in-Ok-clause-worn g c = grind (arith, common_steps)
+
+pub returns-in-Ok-clause-counts : goal.returns-in-Ok-clause-counts
+returns-in-Ok-clause-counts g c = grind (arith, common_steps)
+
+pub returns-in-Err-clause-worn : goal.returns-in-Err-clause-worn
+returns-in-Err-clause-worn g c = grind (arith, common_steps)
+
+pub returns-in-Err-clause-counts : goal.returns-in-Err-clause-counts
+returns-in-Err-clause-counts g c = grind (arith, common_steps)

@@ -1,4 +1,5 @@
-use Rattle.std.proofs.Common.{ℕ, subst, sym}
+use Rattle.std.proofs.Common.{ℕ, subst, sym, arith}
+use Rattle.std.proofs.lemmas.Grind.{common_steps}
 use Rattle.mbdc_log.specs.Halves.{half_of, half_len_of}
 use Rattle.mbdc_log.specs.Roots.{first_root}
 use Rattle.mbdc_log.specs.Stands.{IsReadyFor}
@@ -17,3 +18,6 @@ returns-in-Ok-clause-root g c =
     let disk = c.format_on.new.disk in
     let ready = subst (λ (s : ℕ). IsReadyFor g.S.Any.Language (half_len_of s) (first_root (half_len_of s)) g.S.Any.Language.empty (g.D.Disk.reads disk)) (sym c.format_on.ensures.counts.count) (c.in-Ok.ensures.ready) in
     ready.ready.stands.reads.chosen
+
+pub returns-in-Err-clause-counts : goal.returns-in-Err-clause-counts
+returns-in-Err-clause-counts g c = grind (arith, common_steps)

@@ -1,4 +1,5 @@
-use Rattle.std.proofs.Common.{◌≡◌, ◌≤◌, ◌+◌, ℕ, ap, subst, sym, ◌∙◌, refl}
+use Rattle.std.proofs.Common.{◌≡◌, ◌≤◌, ◌+◌, ℕ, ap, subst, sym, ◌∙◌, refl, arith}
+use Rattle.std.proofs.lemmas.Grind.{common_steps}
 use Rattle.dc_sectors.specs.Runs.{LeavesOnly}
 use Rattle.mbdc_log.specs.Halves.{half_of, half_len_of, SparesRest}
 use Rattle.dc_roots.specs.declared.root.Root.{Root}
@@ -95,3 +96,15 @@ returns-in-Err-clause-refused g c enough h =
     let disk = c.args.disk in
     let at : c.half_len_of.result ≡ half_of g.D.Disk disk = c.half_len_of.ensures.exact ∙ ap half_len_of c.count-count.ensures in
     subst (λ (n : ℕ). IsRefused g.S.Value.Language n (g.D.Disk.reads disk) c.in-Err.fault) at (c.in-Err.ensures.refused h)
+
+pub returns-in-Ok-clause-reads : goal.returns-in-Ok-clause-reads
+returns-in-Ok-clause-reads g c = grind (arith, common_steps)
+
+pub returns-in-Ok-clause-counts : goal.returns-in-Ok-clause-counts
+returns-in-Ok-clause-counts g c = grind (arith, common_steps)
+
+pub returns-in-Err-clause-spares_images : goal.returns-in-Err-clause-spares_images
+returns-in-Err-clause-spares_images g c = grind (arith, common_steps)
+
+pub returns-in-Err-clause-counts : goal.returns-in-Err-clause-counts
+returns-in-Err-clause-counts g c = grind (arith, common_steps)

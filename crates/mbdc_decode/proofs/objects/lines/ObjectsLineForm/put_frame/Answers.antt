@@ -1,0 +1,18 @@
+use Rattle.std.proofs.Common.{arith}
+use Rattle.std.proofs.lemmas.Grind.{common_steps}
+use Rattle.mbdc_decode.proofs.Adding.{whole}
+use Rattle.mbdc_io.proofs.Pieces.{written}
+use Rattle.mbdc_decode.specs.JsonText.{value_line}
+use Rattle.mbdc_decode.proofs.objects.lines.ObjectsLineForm.put_frame.Goals as goal
+
+pub returns-in_err-outcome-clause-wrote : goal.returns-in_err-outcome-clause-wrote
+unfolding value_line
+returns-in_err-outcome-clause-wrote g c = grind (arith, whole, written)
+
+pub returns-in_err-put-clause-wrote : goal.returns-in_err-put-clause-wrote
+unfolding value_line
+returns-in_err-put-clause-wrote g c = grind (arith, common_steps)
+
+pub returns-clause-wrote : goal.returns-clause-wrote
+unfolding value_line
+returns-clause-wrote g c = grind (arith, whole, written)
