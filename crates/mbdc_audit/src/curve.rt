@@ -67,7 +67,7 @@ impl Run<'_> {
     pub fn is_over(&self, moment: u64) -> bool
         ensures { result ≡ is_by moment self.now.end }
     {
-        self.end.is_some_and(|end| end <= moment)
+        matches!(self.end, Some(end) if end <= moment)
     }
 }
 
@@ -164,7 +164,7 @@ impl Value<'_> {
     fn is_estimate(&self) -> bool
         ensures { result ≡ is_estimate self.now.typed }
     {
-        self.typed.is_some_and(|typed| typed.is_guess)
+        matches!(self.typed, Some(typed) if typed.is_guess)
     }
 
     // As an entry.

@@ -20,7 +20,7 @@ use crate::moment::DayEnd;
 use crate::smallest::Spelled;
 
 /// The word of a line.
-#[derive(Clone, Copy, PartialEq, Eq)]
+#[derive(Clone, Copy)]
 pub enum Word {
     Audit,
     Use,

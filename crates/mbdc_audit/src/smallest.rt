@@ -29,7 +29,7 @@ const MOST_POWER: u32 = 38;
 pub const OF_RATIO: u64 = 1_000_000;
 
 /// A decimal: its digits as a number, and how many of them are after the point.
-#[derive(Clone, Copy, PartialEq, Eq)]
+#[derive(Clone, Copy)]
 pub struct Spelled {
     pub digits: u64,
     pub decimals: u32,

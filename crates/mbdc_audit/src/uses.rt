@@ -11,7 +11,7 @@ use crate::field::is_word;
 use dc_units::Quantity;
 
 /// What a meter counts.
-#[derive(Clone, Copy, PartialEq, Eq)]
+#[derive(Clone, Copy)]
 pub enum Counted {
     Energy,
     Volume,
@@ -20,7 +20,7 @@ pub enum Counted {
 }
 
 /// The unit of a published number.
-#[derive(Clone, Copy, PartialEq, Eq)]
+#[derive(Clone, Copy)]
 pub enum Unit {
     Kwh,
     CubicMetre,

@@ -40,7 +40,7 @@ fn copy_of<A: Allocator + Copy>(alloc: A, house: &House<A>) -> Result<House<A>, 
 fn fit<D: Disk + Drop, A: Allocator + Copy>(
     alloc: A,
     store: &mut Store<D>,
-    house: House<A>,
+    mut house: House<A>,
     wish: &Wish<'_>,
 ) -> Result<Plan<A>, FitFault>
     requires { house.budget ≡ budget_of (half_of D.Disk store.old.disk) }
@@ -61,7 +61,6 @@ fn fit<D: Disk + Drop, A: Allocator + Copy>(
     if plan.changes().is_empty() {
         return Ok(plan);
     }
-    let mut house = house;
     match house.replay(plan.changes()) {
         Ok(()) => {}
         Err(DecodeFault::NoMemory) => return Err(FitFault::NoMemory),
@@ -110,8 +109,7 @@ pub fn fit_on<D: Disk + Drop, A: Allocator + Copy>(
         e ≡ Device → HasRisen (D.failures disk) (D.failures result.0))) }
 {
     match Store::open(alloc, disk) {
-        Ok((store, house)) => {
-            let mut store = store;
+        Ok((mut store, house)) => {
             let fitted = fit(alloc, &mut store, house, wish);
             (store.close(), fitted)
         }

@@ -265,14 +265,7 @@ impl<R: Read + AsRawFd + Drop, W: Write + Link + Drop, C: Clock + Drop> PollWire
             return Ok(Came::Bytes(count));
         }
         self.hold(is_new);
-        let still = self.nothing()?;
-        match still {
-            Came::Bytes(_) => Err(IoFault),
-            Came::Nothing => Ok(Came::Nothing),
-            Came::Gap => Ok(Came::Gap),
-            Came::Overdue => Ok(Came::Overdue),
-            Came::Silence => Ok(Came::Silence),
-        }
+        self.nothing()
     }
 
     // Some bytes came. A longer time than the patience since the last ones counts as one: the line

@@ -185,14 +185,13 @@ impl<A: Allocator + Copy> Plan<A> {
 pub fn plan_for<A: Allocator + Copy>(
     alloc: A,
     order: &Order,
-    house: House<A>,
+    mut house: House<A>,
 ) -> Result<Plan<A>, NoMemory>
     ensures ordered { IfOk result (λ plan. IsOrdered order.now house plan) }
     ensures one_group { IfOk result (λ plan. IsOneGroup house plan) }
 {
     let verdict = verdict_for(order, &house);
     let mut plan = Plan::empty(alloc);
-    let mut house = house;
     plan.add_order(verdict, order, &mut house)?;
     Ok(plan)
 }

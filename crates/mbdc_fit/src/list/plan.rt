@@ -191,7 +191,7 @@ impl<A: Allocator + Copy> Plan<A> {
 pub fn plan_on<A: Allocator + Copy>(
     alloc: A,
     list: &Listing,
-    house: House<A>,
+    mut house: House<A>,
 ) -> Result<Plan<A>, NoMemory>
     ensures planned { IfOk result (λ plan. IsPlanned list.now house plan) }
     ensures one_group { IfOk result (λ plan. IsOneGroup house plan) }
@@ -204,7 +204,6 @@ pub fn plan_on<A: Allocator + Copy>(
             Ok(plan)
         }
         Listing::Rows(rows) => {
-            let mut house = house;
             plan.add_rows(rows.as_slice(), &mut house)?;
             Ok(plan)
         }

@@ -15,7 +15,7 @@ pub returns-in-Number-clause-ok : goal.returns-in-Number-clause-ok
 returns-in-Number-clause-ok c = for_some c.of_decimal.result _ (λ n e.
     let d = c.in-Number.decimal in
     let s = sound d.mantissa d.exponent c.in_ok-found.size n (sym c.of_decimal.ensures.value ∙ e) in
-    let same : c.in_ok-found.found ≡ c.args.counted = same_true the_type (search rules) _ _ (sym c.if-eq.ensures) in record {
+    let same : c.in_ok-found.found ≡ c.args.counted = same_true the_type (search rules) _ _ c.if-found-counted.true in record {
       point = c.in-Point.point;
       seen_as = sym c.in-Point.ensures.exact;
       size = c.in_ok-found.size;

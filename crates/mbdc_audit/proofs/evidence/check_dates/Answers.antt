@@ -1,4 +1,5 @@
 use Rattle.std.proofs.Common.{rules, tests, map, refl}
+use Rattle.std.proofs.lemmas.Bool.{false≢true}
 use Rattle.std.proofs.lemmas.Iterator.{YieldsList-from_slice}
 use Rattle.std.proofs.lemmas.Iterator.Search.{all_from_yields_List}
 use Rattle.dc_records.specs.Record.{view}
@@ -11,19 +12,19 @@ pub returns-then-not-all : goal.returns-then-not-all
 returns-then-not-all c =
     let rs = c.args.records.now in
     let all = all_from_yields_List (λ (r : Record). is_once (map view rs) (view r)) _ _ c.all.result c.all.ensures.ran (YieldsList-from_slice rs cc) (λ x b q k. search (rules, tests)) in
-    (λ e. absurd cc, λ h. absurd (not_once view rs c.all.result all c.if-not-all.true h.0))
+    (λ e. absurd (false≢true e), λ h. absurd (not_once view rs c.all.result all c.if-not-all.true h.0))
 
 pub returns-then-not-all-2 : goal.returns-then-not-all-2
 returns-then-not-all-2 c =
     let rs = c.args.records.now in
     let all = all_from_yields_List (λ (r : Record). may_be_own c.args.meant (view r)) _ _ c.all-2.result c.all-2.ensures.ran (YieldsList-from_slice rs cc) (λ x b q k. search (rules, tests)) in
-    (λ e. absurd cc, λ h. absurd (not_own c.args.meant view rs c.all-2.result all c.if-not-all-2.true h.1))
+    (λ e. absurd (false≢true e), λ h. absurd (not_own c.args.meant view rs c.all-2.result all c.if-not-all-2.true h.1))
 
 pub returns-then-not-all-3 : goal.returns-then-not-all-3
 returns-then-not-all-3 c =
     let rs = c.args.records.now in
     let all = all_from_yields_List (λ (r : Record). may_be_stored c.args.meant (view r)) _ _ c.all-3.result c.all-3.ensures.ran (YieldsList-from_slice rs cc) (λ x b q k. search (rules, tests)) in
-    (λ e. absurd cc, λ h. absurd (not_stored c.args.meant view rs c.all-3.result all c.if-not-all-3.true h.1))
+    (λ e. absurd (false≢true e), λ h. absurd (not_stored c.args.meant view rs c.all-3.result all c.if-not-all-3.true h.1))
 
 pub returns : goal.returns
 returns c =

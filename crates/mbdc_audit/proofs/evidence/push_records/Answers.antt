@@ -7,3 +7,6 @@ returns-in_default-clause-memory g c = grind (arith, common_steps)
 
 pub records-preserved : goal.records-preserved
 records-preserved g c = grind (arith, common_steps)
+
+pub records-preserved-then-record-eq0-3 : goal.records-preserved-then-record-eq0-3
+records-preserved-then-record-eq0-3 g c = grind (arith, common_steps)

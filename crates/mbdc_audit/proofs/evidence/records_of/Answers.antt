@@ -1,5 +1,6 @@
 use Rattle.std.proofs.Common.{ℕ, sym, ap, ◌∙◌, subst, map, List, Result, Ok, Err, arith}
 use Rattle.std.specs.Prelude.{IfErr}
+use Rattle.std.proofs.lemmas.Bool.{false≢true}
 use Rattle.std.proofs.lemmas.Grind.{common_steps}
 use Rattle.dc_records.specs.Body.{continues}
 use Rattle.dc_records.specs.Record.{view}
@@ -31,9 +32,7 @@ returns-then-not-more_follows-clause-only g c = λ refused.
     none id all _ _ _ w (λ t is goes.
     let more = stops (λ b. b.items) c.in-Some.rest.now t c.if-not-is_empty.ensures goes in
     let same = c.in_ok-telegram.ensures.one t (subst (λ (x : List ℕ). IsOf id x t) (sym c.as_slice.ensures.value) is) in
-    let less = c.if-not-more_follows.ensures in
-    let less' = ap (λ (x : Parsed). continues x.ending) same in
-    absurd cc)
+    absurd (false≢true (c.if-not-more_follows.ensures ∙ (ap (λ (x : Parsed). continues x.ending) same ∙ more))))
 
 pub bodies-preserved : goal.bodies-preserved
 bodies-preserved g c =

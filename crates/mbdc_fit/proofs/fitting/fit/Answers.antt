@@ -36,8 +36,8 @@ returns-in-Ok-write_changes-clause-fitted g c =
     (λ keeps. c.write_changes.ensures.any_moment c.args.house.state changes keeps written fine all.3)
     (λ keeps. c.in-Ok-write_changes.ensures.kept c.args.house.state changes keeps written fine all.3)
 
-pub returns-in-Err-clause-broken : goal.returns-in-Err-clause-broken
-returns-in-Err-clause-broken g c =
+pub returns-clause-broken : goal.returns-clause-broken
+returns-clause-broken g c =
     let plan = c.in_ok-plan.plan in
     let planned = subst (λ (h : Held). IsMetBy c.args.wish.now h plan) c.in_ok-copy.ensures c.in_ok-plan.ensures.met in
     let all = c.in-Ok.ensures.ok in

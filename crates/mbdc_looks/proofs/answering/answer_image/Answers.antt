@@ -36,3 +36,8 @@ returns-in-Ok-answer_of-clause-told g c kept =
       text_is = c.in-Ok-answer_of.ensures;
       silent_is = c.has_silent-is_silent.ensures;
     }
+
+pub returns-in_err-look-clause-looked : goal.returns-in_err-look-clause-looked
+returns-in_err-look-clause-looked g c =
+    looked_on g.D.Disk c.args.disk.now c.read_slots.new.disk c.look_at.new.disk
+    c.read_slots.ensures.looked c.look_at.ensures.looked

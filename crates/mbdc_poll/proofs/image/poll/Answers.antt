@@ -1,4 +1,4 @@
-use Rattle.std.proofs.Common.{◌≡◌, ℕ, List, length, map, take, ap, refl, sym, subst, ◌∙◌}
+use Rattle.std.proofs.Common.{◌≡◌, ℕ, List, length, map, take, ap, refl, sym, subst, ◌∙◌, arith}
 use Rattle.std.specs.Prelude.{min}
 use Rattle.std.specs.List.{All}
 use Rattle.dc_address.specs.declared.identity.Identity.{Identity}
@@ -13,7 +13,8 @@ use Rattle.mbdc_poll.specs.Round.{IsFresh, most_lines}
 use Rattle.mbdc_poll.specs.declared.station.Station.{Station}
 use Rattle.mbdc_poll.proofs.Exhausting.{all_fresh}
 use Rattle.mbdc_poll.proofs.Planning.{planned_by}
-use Rattle.mbdc_poll.proofs.Running.{runs_from, runs_none}
+use Rattle.mbdc_poll.proofs.Running.{runs_from, runs_none, runs_as}
+use Rattle.std.proofs.lemmas.List.{length-take, length-map}
 use Rattle.mbdc_poll.proofs.image.poll.Goals as goal
 
 pub returns-in-Err-clause-went : goal.returns-in-Err-clause-went
@@ -107,3 +108,57 @@ read_all-requires-clause-sound g c =
     let planned : ArePlanned lost c.house.result.now.state only all stations =
     planned_by (λ v. v.items) lost c.house.result.now.state only all c.truncate.new.self.items c.in-Ok.queues.items stations cut queues count buses each in
     all_fresh g.B.HalfBus c.args.plan.tries c.as_mut_slice-2.result.now c.requires (subst (λ (xs : List (Station g.row.B.Denot)). All IsFresh xs) (sym slice) (λ k d below. (planned.each k d below).fresh))
+
+pub queues_of-requires : goal.queues_of-requires
+queues_of-requires g c =
+    let few = length-take most_lines c.args.plan.buses.items in
+    omega (arith, few, ap length c.as_slice.ensures.value, ap length c.truncate.ensures.items)
+
+pub returns-in-Err-clause-write : goal.returns-in-Err-clause-write
+returns-in-Err-clause-write g c is = absurd cc
+
+pub stations_of-requires : goal.stations_of-requires
+stations_of-requires g c =
+    ap length c.as_mut_slice.ensures.value ∙ c.in-Ok.ensures.count ∙ ap length c.as_slice.ensures.value
+
+pub returns-in-Err-stations_of-clause-write : goal.returns-in-Err-stations_of-clause-write
+returns-in-Err-stations_of-clause-write g c is = absurd cc
+
+pub returns-in-Err-asked_for-clause-write : goal.returns-in-Err-asked_for-clause-write
+returns-in-Err-asked_for-clause-write g c is = absurd cc
+
+pub returns-in-Err-refuse_others-clause-starved : goal.returns-in-Err-refuse_others-clause-starved
+returns-in-Err-refuse_others-clause-starved g c is = absurd cc
+
+pub returns-in-Err-refuse_others-clause-write : goal.returns-in-Err-refuse_others-clause-write
+returns-in-Err-refuse_others-clause-write g c is = c.in-Err-refuse_others.ensures.counted.1
+
+pub read_all-requires-clause-lines : goal.read_all-requires-clause-lines
+read_all-requires-clause-lines g c =
+    let few = length-take most_lines c.args.plan.buses.items in
+    let same = length-map c.in-Ok-stations_of.stations.items (λ (s : Station g.row.B.Denot). s.bus) in
+    omega (
+      arith,
+      few,
+      same,
+      ap length c.as_mut_slice-2.ensures.value,
+      ap length c.in-Ok-stations_of.ensures.buses,
+      ap length c.truncate.ensures.items,
+    )
+
+pub read_all-requires-clause-few : goal.read_all-requires-clause-few
+read_all-requires-clause-few g c = omega (arith, c.in-Ok-refuse_others.ensures.count)
+
+pub returns-in-Ok-read_all-clause-starved : goal.returns-in-Ok-read_all-clause-starved
+returns-in-Ok-read_all-clause-starved g c is = absurd cc
+
+pub returns-in-Ok-read_all-clause-write : goal.returns-in-Ok-read_all-clause-write
+returns-in-Ok-read_all-clause-write g c is = absurd cc
+
+pub returns-clause-went : goal.returns-clause-went
+returns-clause-went g c =
+    runs_as g.D.Disk _ _ c.args.concentrator.now c.read_all.new.concentrator
+    c.in-Err-read_all.ensures.went (λ core happened a. tt)
+
+pub returns-clause-starved : goal.returns-clause-starved
+returns-clause-starved g c is = absurd cc

@@ -1,4 +1,4 @@
-use Rattle.std.proofs.Common.{rules, ◌≡◌, ◌+◌, ◌≤◌, List, [], ◌∷◌, ℕ, drop, map, refl, ap, sym, subst, ◌∙◌, arith}
+use Rattle.std.proofs.Common.{◌≡◌, ◌+◌, ◌≤◌, List, [], ◌∷◌, ℕ, drop, map, refl, ap, sym, subst, ◌∙◌, arith}
 use Rattle.std.specs.Prelude.{min}
 use Rattle.std.proofs.lemmas.List.{drop_all, drop_more}
 use Rattle.dc_address.specs.declared.identity.Identity.{Identity}
@@ -23,8 +23,8 @@ meters-preserved g c =
       events = λ last more. c.meters.invariant.events last (subst (λ (xs : List Identity). TakesAll takes c.meters.teller last (events xs)) (sym next)
           (takes_both takes c.meters.teller c.tell_refusal.new.teller last _ (events (drop (at + 1) all)) one more));
       well = told.1 ∙ c.meters.invariant.well;
-      small = search rules;
-      count = search rules;
+      small = omega (arith, c.saturating_add-refused.ensures);
+      count = grind arith;
     }
 
 pub returns-clause-told : goal.returns-clause-told

@@ -3,6 +3,7 @@ use Rattle.std.specs.Vec.Iter.{into_iter_items}
 use Rattle.mbdc_poll.specs.Planned.{AreStations}
 use Rattle.mbdc_poll.specs.declared.station.Station.{Station}
 use Rattle.mbdc_poll.proofs.Planning.{buses_more, first_after, rest_after, stations_more}
+use Rattle.std.proofs.lemmas.Grind.{common_steps}
 use Rattle.mbdc_poll.proofs.image.stations_of.Goals as goal
 
 pub lines-preserved : goal.lines-preserved
@@ -30,3 +31,18 @@ lines-preserved g c =
             fresh = record { first = fresh.pass; all = fresh.due ∙ ap length (sym fresh.left); free = fresh.phase; quiet = fresh.request };
           }));
     }
+
+pub lines-init : goal.lines-init
+lines-init g c = grind (arith, common_steps)
+
+pub returns-in_default-clause-buses : goal.returns-in_default-clause-buses
+returns-in_default-clause-buses g c = grind (arith, common_steps)
+
+pub returns-in_default-clause-each : goal.returns-in_default-clause-each
+returns-in_default-clause-each g c = c.lines.invariant.each
+
+pub returns-clause-buses : goal.returns-clause-buses
+returns-clause-buses g c = grind (arith, common_steps)
+
+pub returns-clause-each : goal.returns-clause-each
+returns-clause-each g c = c.lines.invariant.each

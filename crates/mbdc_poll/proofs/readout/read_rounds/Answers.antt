@@ -1,4 +1,4 @@
-use Rattle.std.proofs.Common.{◌<◌, List, Ok, length, get_or, refl, sym, ◌∙◌, arith}
+use Rattle.std.proofs.Common.{◌<◌, List, Ok, length, get_or, refl, sym, ◌∙◌, arith, ℕ, ◌+◌, subst}
 use Rattle.std.specs.List.{All}
 use Rattle.mbdc_poll.specs.Telling.{TakesAll}
 use Rattle.mbdc_poll.specs.Round.{IsOver}
@@ -6,6 +6,8 @@ use Rattle.mbdc_poll.specs.declared.station.Station.{Station}
 use Rattle.mbdc_poll.proofs.Exhausting.{all_done, all_less, all_over, all_silent, most_rounds, over_one}
 use Rattle.mbdc_poll.proofs.Polling.{polled_none, polled_over, polled_unkept, polls_first, polls_kept}
 use Rattle.mbdc_poll.proofs.Running.{runs_as, runs_then}
+use Rattle.mbdc_io.specs.Failures.{HasRisen}
+use Rattle.mbdc_poll.specs.declared.outcome.Outcome.{Outcome}
 use Rattle.mbdc_poll.proofs.readout.read_rounds.Goals as goal
 
 pub returns-in-Err-clause-went : goal.returns-in-Err-clause-went
@@ -86,3 +88,61 @@ returns-clause-went g c =
     let most = most_rounds b c.args.tries (get_or olds k d) c.ranges.tries.fits (fresh k d within) (few k d within) in
     omega (arith, less, most, c.rounds-test.false)) in
     (over, all_silent b c.args.tries news c.rounds.invariant.sound over)))
+
+pub returns-in-Err-clause-few : goal.returns-in-Err-clause-few
+returns-in-Err-clause-few g c =
+    subst (λ (o : Outcome). o.read + o.failed < 13835058055282163712) (sym c.outcome_of.ensures)
+    (omega (arith, c.requires.few))
+
+pub returns-in-Err-clause-budget : goal.returns-in-Err-clause-budget
+returns-in-Err-clause-budget g c = c.commit_all.ensures.budget
+
+pub returns-in-Err-clause-counted : goal.returns-in-Err-clause-counted
+returns-in-Err-clause-counted g c = (refl, tt)
+
+pub returns-then-is_over-clause-few : goal.returns-then-is_over-clause-few
+returns-then-is_over-clause-few g c =
+    subst (λ (o : Outcome). o.read + o.failed < 13835058055282163712) (sym c.outcome_of-then-is_over.ensures)
+    (omega (arith, c.requires.few, c.rounds.invariant.few, c.rounds-test.true))
+
+pub returns-then-is_over-clause-budget : goal.returns-then-is_over-clause-budget
+returns-then-is_over-clause-budget g c = c.rounds.invariant.budget
+
+pub returns-then-is_over-clause-counted : goal.returns-then-is_over-clause-counted
+returns-then-is_over-clause-counted g c = (c.rounds.invariant.well, tt)
+
+pub round-requires-clause-lines : goal.round-requires-clause-lines
+round-requires-clause-lines g c = omega (arith, c.requires.lines, c.rounds.invariant.count)
+
+pub round-requires-clause-sound : goal.round-requires-clause-sound
+round-requires-clause-sound g c = c.rounds.invariant.sound
+
+pub round-requires-clause-few : goal.round-requires-clause-few
+round-requires-clause-few g c = omega (arith, c.requires.few, c.rounds.invariant.few, c.rounds-test.true)
+
+pub returns-in-Ok-Some-clause-few : goal.returns-in-Ok-Some-clause-few
+returns-in-Ok-Some-clause-few g c =
+    subst (λ (o : Outcome). o.read + o.failed < 13835058055282163712) (sym c.outcome_of-in-Ok-Some.ensures)
+    (omega (arith, c.requires.few, c.rounds.invariant.few, c.rounds-test.true, c.in-Ok-Some.ensures.few))
+
+pub returns-in-Ok-Some-clause-budget : goal.returns-in-Ok-Some-clause-budget
+returns-in-Ok-Some-clause-budget g c = c.round.ensures.budget ∙ c.rounds.invariant.budget
+
+pub returns-in-Ok-Some-clause-counted : goal.returns-in-Ok-Some-clause-counted
+returns-in-Ok-Some-clause-counted g c = (c.in-Ok-Some.ensures.counted.0 ∙ c.rounds.invariant.well, tt)
+
+pub returns-in-Err-round-clause-budget : goal.returns-in-Err-round-clause-budget
+returns-in-Err-round-clause-budget g c = c.round.ensures.budget ∙ c.rounds.invariant.budget
+
+pub returns-in-Err-round-clause-counted : goal.returns-in-Err-round-clause-counted
+returns-in-Err-round-clause-counted g c = (
+  tt,
+  subst (λ (n : ℕ). HasRisen n (g.N.Teller.failures c.round.new.teller)) c.rounds.invariant.well
+      c.in-Err-round.ensures.counted.1,
+)
+
+pub returns-clause-budget : goal.returns-clause-budget
+returns-clause-budget g c = c.rounds.invariant.budget
+
+pub returns-clause-counted : goal.returns-clause-counted
+returns-clause-counted g c = (c.rounds.invariant.well, tt)

@@ -1,8 +1,8 @@
-use Rattle.std.proofs.Common.{◌≡◌, ℕ, List, ◌∷◌, drop, ap, sym, ◌∙◌}
+use Rattle.std.proofs.Common.{◌≡◌, ℕ, List, ◌∷◌, drop, ap, sym, ◌∙◌, arith}
 use Rattle.dc_core.specs.Event.{hears, heard}
 use Rattle.mbdc_poll.specs.Missed.{and_heard}
 use Rattle.mbdc_poll.specs.declared.phase.Request.TheVariants.{Answered}
-use Rattle.mbdc_poll.proofs.Becoming.{busy_due, fewer_judged, first_of, taken_is, line_judged}
+use Rattle.mbdc_poll.proofs.Becoming.{busy_due, fewer_judged, first_of, taken_is, line_judged, sound_judged}
 use Rattle.mbdc_poll.proofs.Hearing.{hears_one}
 use Rattle.mbdc_poll.proofs.Running.{runs_as, runs_one}
 use Rattle.mbdc_poll.proofs.stepping.judge.Goals as goal
@@ -27,3 +27,14 @@ hear-answer-requires g c = c.args.moment.fits
 
 pub returns-clause-fewer : goal.returns-clause-fewer
 returns-clause-fewer g c = fewer_judged g.B.HalfBus c.args.tries c.in-Busy.asks c.in-Some.meter c.hear-answer.result c.args.station.now c.judged.new.self c.in-Busy.is c.requires.sound c.judged.ensures.after
+
+pub judged-requires-clause-busy : goal.judged-requires-clause-busy
+judged-requires-clause-busy g c = c.in-Busy.is
+
+pub returns-clause-sound : goal.returns-clause-sound
+returns-clause-sound g c =
+    sound_judged g.B.HalfBus c.args.tries c.in-Busy.asks c.in-Some.meter c.hear-answer.result
+    c.args.station.now c.judged.new.self c.in-Busy.is c.requires.sound c.judged.ensures.after
+
+pub returns-clause-budget : goal.returns-clause-budget
+returns-clause-budget g c = grind arith

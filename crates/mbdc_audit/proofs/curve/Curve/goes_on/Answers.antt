@@ -7,3 +7,9 @@ returns-then-first-value g c = grind (arith, common_steps)
 
 pub returns : goal.returns
 returns g c = grind (arith, common_steps)
+
+pub values-preserved : goal.values-preserved
+values-preserved g c = grind (arith, common_steps)
+
+pub values-preserved-then-value-to : goal.values-preserved-then-value-to
+values-preserved-then-value-to g c = grind (arith, common_steps)

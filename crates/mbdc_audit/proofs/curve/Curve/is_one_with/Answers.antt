@@ -25,6 +25,6 @@ returns-else-is_same g c =
     record { same = one.counted; before = c.deciding.ensures.last; after = c.deciding.ensures.next } in
     let e : Decides c.args.moment other.values.items c.deciding-2.result.0 c.deciding-2.result.1 =
     record { same = other.counted; before = c.deciding-2.ensures.last; after = c.deciding-2.ensures.next } in (
-      λ so. absurd cc,
+      λ so. absurd (never _ so c.if-is_same.false),
       λ h. let both = alike_from _ _ _ _ _ _ _ d e h in absurd (never _ (c.is_same.ensures.1 both.0) c.if-is_same.false),
     )

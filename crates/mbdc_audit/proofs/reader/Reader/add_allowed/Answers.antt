@@ -1,4 +1,4 @@
-use Rattle.std.proofs.Common.{◌≡◌, ◌++◌, ◌∷◌, ◌==◌, ◌&&◌, [], List, map, rules, tests, sym, ap, subst, ◌∙◌, arith}
+use Rattle.std.proofs.Common.{◌≡◌, ◌++◌, ◌∷◌, ◌==◌, ◌&&◌, [], List, map, rules, tests, refl, sym, ap, subst, ◌∙◌, arith}
 use Rattle.std.proofs.lemmas.Iterator.{YieldsList-from_slice}
 use Rattle.std.proofs.lemmas.Iterator.Search.{any_from_yields_List}
 use Rattle.std.proofs.lemmas.List.{map_push}
@@ -51,13 +51,13 @@ pub returns-in_err-used-clause-err : goal.returns-in_err-used-clause-err
 returns-in_err-used-clause-err g c = grind (arith, common_steps)
 
 pub returns-in_err-used-clause-kept : goal.returns-in_err-used-clause-kept
-returns-in_err-used-clause-kept g c = grind (arith, common_steps)
+returns-in_err-used-clause-kept g c = (refl, refl)
 
 pub returns-in_err-only_if-clause-ok : goal.returns-in_err-only_if-clause-ok
 returns-in_err-only_if-clause-ok g c = grind (arith, common_steps)
 
 pub returns-in_err-only_if-clause-kept : goal.returns-in_err-only_if-clause-kept
-returns-in_err-only_if-clause-kept g c = grind (arith, common_steps)
+returns-in_err-only_if-clause-kept g c = (refl, refl)
 
 pub returns-in_err-push-clause-ok : goal.returns-in_err-push-clause-ok
 returns-in_err-push-clause-ok g c = grind (arith, common_steps)
@@ -66,7 +66,7 @@ pub returns-in_err-push-clause-err : goal.returns-in_err-push-clause-err
 returns-in_err-push-clause-err g c = grind (arith, common_steps)
 
 pub returns-in_err-push-clause-kept : goal.returns-in_err-push-clause-kept
-returns-in_err-push-clause-kept g c = grind (arith, common_steps)
+returns-in_err-push-clause-kept g c = (refl, refl)
 
 pub returns-clause-kept : goal.returns-clause-kept
-returns-clause-kept g c = grind (arith, common_steps)
+returns-clause-kept g c = (refl, refl)

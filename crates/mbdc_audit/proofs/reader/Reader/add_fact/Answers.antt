@@ -65,3 +65,18 @@ returns-clause-ok g c =
     ap is_some (sym c.declared.ensures) ∙ (c.is_none.ensures ∙ ap not c.in_ok-only_if.ensures.ok) in
     subst (λ (ds : List Declared). Adds h l (record h { facts = ds })) (sym c.in_ok-push.ensures.items)
     (adds_fact h l d c.in_ok-fact.ensures.ok.0 counts ratio (not_declared h d none) there c.in_ok-fact.ensures.ok.1)
+
+pub returns-in_err-fact-clause-kept : goal.returns-in_err-fact-clause-kept
+returns-in_err-fact-clause-kept g c = (refl, refl)
+
+pub returns-in_err-span-clause-kept : goal.returns-in_err-span-clause-kept
+returns-in_err-span-clause-kept g c = (refl, refl)
+
+pub returns-in_err-only_if-clause-kept : goal.returns-in_err-only_if-clause-kept
+returns-in_err-only_if-clause-kept g c = (refl, refl)
+
+pub returns-in_err-push-clause-kept : goal.returns-in_err-push-clause-kept
+returns-in_err-push-clause-kept g c = (refl, refl)
+
+pub returns-clause-kept : goal.returns-clause-kept
+returns-clause-kept g c = (refl, refl)

@@ -55,7 +55,7 @@ pub returns-in_default-clause-err : goal.returns-in_default-clause-err
 returns-in_default-clause-err g c = grind (arith, common_steps)
 
 pub returns-in_default-clause-kept : goal.returns-in_default-clause-kept
-returns-in_default-clause-kept g c = grind (arith, common_steps)
+returns-in_default-clause-kept g c = (refl, refl)
 
 pub returns-in_err-place-clause-ok : goal.returns-in_err-place-clause-ok
 returns-in_err-place-clause-ok g c = grind (arith, common_steps)
@@ -64,7 +64,7 @@ pub returns-in_err-place-clause-err : goal.returns-in_err-place-clause-err
 returns-in_err-place-clause-err g c = grind (arith, common_steps)
 
 pub returns-in_err-place-clause-kept : goal.returns-in_err-place-clause-kept
-returns-in_err-place-clause-kept g c = grind (arith, common_steps)
+returns-in_err-place-clause-kept g c = (refl, refl)
 
 pub overflow_add-len : goal.overflow_add-len
 overflow_add-len g c = grind (arith, common_steps)
@@ -73,7 +73,7 @@ pub returns-in_err-only_if-clause-ok : goal.returns-in_err-only_if-clause-ok
 returns-in_err-only_if-clause-ok g c = grind (arith, common_steps)
 
 pub returns-in_err-only_if-clause-kept : goal.returns-in_err-only_if-clause-kept
-returns-in_err-only_if-clause-kept g c = grind (arith, common_steps)
+returns-in_err-only_if-clause-kept g c = (refl, refl)
 
 pub returns-in_err-only_if-2-clause-ok : goal.returns-in_err-only_if-2-clause-ok
 returns-in_err-only_if-2-clause-ok g c = grind (arith, common_steps)
@@ -82,7 +82,7 @@ pub returns-in_err-only_if-2-clause-err : goal.returns-in_err-only_if-2-clause-e
 returns-in_err-only_if-2-clause-err g c = grind (arith, common_steps)
 
 pub returns-in_err-only_if-2-clause-kept : goal.returns-in_err-only_if-2-clause-kept
-returns-in_err-only_if-2-clause-kept g c = grind (arith, common_steps)
+returns-in_err-only_if-2-clause-kept g c = (refl, refl)
 
 pub returns-in_err-push-clause-ok : goal.returns-in_err-push-clause-ok
 returns-in_err-push-clause-ok g c = grind (arith, common_steps)
@@ -91,7 +91,7 @@ pub returns-in_err-push-clause-err : goal.returns-in_err-push-clause-err
 returns-in_err-push-clause-err g c = grind (arith, common_steps)
 
 pub returns-in_err-push-clause-kept : goal.returns-in_err-push-clause-kept
-returns-in_err-push-clause-kept g c = grind (arith, common_steps)
+returns-in_err-push-clause-kept g c = (refl, refl)
 
 pub returns-clause-kept : goal.returns-clause-kept
-returns-clause-kept g c = grind (arith, common_steps)
+returns-clause-kept g c = (refl, refl)

@@ -1,4 +1,5 @@
-use Rattle.std.proofs.Common.{◌≡◌, ◌++◌, ◌∷◌, [], Bool, true, false, List, map, rules, tests, sym, ap, subst, ◌∙◌}
+use Rattle.std.proofs.Common.{◌≡◌, ◌++◌, ◌∷◌, [], Bool, true, false, List, map, rules, tests, refl, sym, ap, subst, ◌∙◌, arith}
+use Rattle.std.proofs.lemmas.Grind.{common_steps}
 use Rattle.std.proofs.lemmas.List.{map_push}
 use Rattle.mbdc_audit.specs.Amount.{last_of}
 use Rattle.mbdc_audit.specs.House.{Number, Place, Window}
@@ -61,3 +62,57 @@ returns-clause-ok g c =
     found.0 found.1 found'.0 found'.1 (ap (λ (ns : List Number). record (window_of y) { numbers = ns }) pushed) in
     subst (λ (ps : List Place). Adds h l (record h { places = ps })) (sym changed)
     (subst (λ (b : Bool). Adds h l (with_number b n h)) of_place (adds_number h l n made))
+
+pub returns-in_err-place-clause-kept : goal.returns-in_err-place-clause-kept
+returns-in_err-place-clause-kept g c = (refl, refl)
+
+pub returns-in_err-window-clause-kept : goal.returns-in_err-window-clause-kept
+returns-in_err-window-clause-kept g c = (refl, refl)
+
+pub returns-then-not-is_of_place-clause-kept : goal.returns-then-not-is_of_place-clause-kept
+returns-then-not-is_of_place-clause-kept g c = (refl, refl)
+
+pub returns-clause-kept : goal.returns-clause-kept
+returns-clause-kept g c = (refl, refl)
+
+pub returns-in_err-number-clause-kept : goal.returns-in_err-number-clause-kept
+returns-in_err-number-clause-kept g c = (refl, refl)
+
+pub returns-in_err-push-clause-kept : goal.returns-in_err-push-clause-kept
+returns-in_err-push-clause-kept g c = (refl, refl)
+
+pub returns-in_err-number-2-clause-kept : goal.returns-in_err-number-2-clause-kept
+returns-in_err-number-2-clause-kept g c = (refl, refl)
+
+pub returns-in_err-push-2-clause-kept : goal.returns-in_err-push-2-clause-kept
+returns-in_err-push-2-clause-kept g c = (refl, refl)
+
+pub returns-in_err-number-clause-ok : goal.returns-in_err-number-clause-ok
+returns-in_err-number-clause-ok g c = grind (arith, common_steps)
+
+pub returns-in_err-number-clause-err : goal.returns-in_err-number-clause-err
+returns-in_err-number-clause-err g c = grind (arith, common_steps)
+
+pub returns-in_err-push-clause-ok : goal.returns-in_err-push-clause-ok
+returns-in_err-push-clause-ok g c = grind (arith, common_steps)
+
+pub returns-in_err-number-2-clause-ok : goal.returns-in_err-number-2-clause-ok
+returns-in_err-number-2-clause-ok g c = grind (arith, common_steps)
+
+pub returns-in_err-number-2-clause-err : goal.returns-in_err-number-2-clause-err
+returns-in_err-number-2-clause-err g c = grind (arith, common_steps)
+
+pub returns-in_err-place-clause-ok : goal.returns-in_err-place-clause-ok
+returns-in_err-place-clause-ok g c = grind (arith, common_steps)
+
+pub returns-in_err-place-clause-err : goal.returns-in_err-place-clause-err
+returns-in_err-place-clause-err g c = grind (arith, common_steps)
+
+pub returns-in_err-window-clause-ok : goal.returns-in_err-window-clause-ok
+returns-in_err-window-clause-ok g c = grind (arith, common_steps)
+
+pub returns-in_err-push-2-clause-ok : goal.returns-in_err-push-2-clause-ok
+returns-in_err-push-2-clause-ok g c = grind (arith, common_steps)
+
+pub returns-in_err-push-2-clause-err : goal.returns-in_err-push-2-clause-err
+returns-in_err-push-2-clause-err g c = grind (arith, common_steps)

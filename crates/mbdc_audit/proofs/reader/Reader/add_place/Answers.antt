@@ -1,4 +1,4 @@
-use Rattle.std.proofs.Common.{◌≡◌, ◌+◌, ◌++◌, ◌∷◌, [], ℕ, List, length, map, sym, ap, subst, ◌∙◌, arith}
+use Rattle.std.proofs.Common.{◌≡◌, ◌+◌, ◌++◌, ◌∷◌, [], ℕ, List, length, map, refl, sym, ap, subst, ◌∙◌, arith}
 use Rattle.std.proofs.lemmas.List.{length-map, map_push}
 use Rattle.std.proofs.lemmas.Grind.{common_steps}
 use Rattle.mbdc_audit.specs.House.{Place, Run, Window}
@@ -34,7 +34,7 @@ pub returns-in_err-only_if-clause-err : goal.returns-in_err-only_if-clause-err
 returns-in_err-only_if-clause-err g c = grind (arith, common_steps)
 
 pub returns-in_err-only_if-clause-kept : goal.returns-in_err-only_if-clause-kept
-returns-in_err-only_if-clause-kept g c = grind (arith, common_steps)
+returns-in_err-only_if-clause-kept g c = (refl, refl)
 
 pub returns-in_err-only_if-2-clause-ok : goal.returns-in_err-only_if-2-clause-ok
 returns-in_err-only_if-2-clause-ok g c = grind (arith, common_steps)
@@ -43,7 +43,7 @@ pub returns-in_err-only_if-2-clause-err : goal.returns-in_err-only_if-2-clause-e
 returns-in_err-only_if-2-clause-err g c = grind (arith, common_steps)
 
 pub returns-in_err-only_if-2-clause-kept : goal.returns-in_err-only_if-2-clause-kept
-returns-in_err-only_if-2-clause-kept g c = grind (arith, common_steps)
+returns-in_err-only_if-2-clause-kept g c = (refl, refl)
 
 pub returns-in_err-used-clause-ok : goal.returns-in_err-used-clause-ok
 returns-in_err-used-clause-ok g c = grind (arith, common_steps)
@@ -52,7 +52,7 @@ pub returns-in_err-used-clause-err : goal.returns-in_err-used-clause-err
 returns-in_err-used-clause-err g c = grind (arith, common_steps)
 
 pub returns-in_err-used-clause-kept : goal.returns-in_err-used-clause-kept
-returns-in_err-used-clause-kept g c = grind (arith, common_steps)
+returns-in_err-used-clause-kept g c = (refl, refl)
 
 pub returns-in_err-push-clause-ok : goal.returns-in_err-push-clause-ok
 returns-in_err-push-clause-ok g c = grind (arith, common_steps)
@@ -61,7 +61,7 @@ pub returns-in_err-push-clause-err : goal.returns-in_err-push-clause-err
 returns-in_err-push-clause-err g c = grind (arith, common_steps)
 
 pub returns-in_err-push-clause-kept : goal.returns-in_err-push-clause-kept
-returns-in_err-push-clause-kept g c = grind (arith, common_steps)
+returns-in_err-push-clause-kept g c = (refl, refl)
 
 pub returns-clause-kept : goal.returns-clause-kept
-returns-clause-kept g c = grind (arith, common_steps)
+returns-clause-kept g c = (refl, refl)

@@ -1,4 +1,4 @@
-use Rattle.std.proofs.Common.{◌≡◌, ◌+◌, ◌++◌, ◌∷◌, [], ℕ, List, length, map, sym, ap, subst, ◌∙◌}
+use Rattle.std.proofs.Common.{◌≡◌, ◌+◌, ◌++◌, ◌∷◌, [], ℕ, List, length, map, refl, sym, ap, subst, ◌∙◌}
 use Rattle.std.proofs.lemmas.List.{length-map, map_push}
 use Rattle.mbdc_audit.specs.House.{Span}
 use Rattle.mbdc_audit.specs.declared.line.Word.{Word}
@@ -25,3 +25,15 @@ returns-clause-ok g c =
     (sym (c.day_end.ensures.day bound.0.0), sym (c.day_end.ensures.offset bound.0.1))
     (sym (c.day_end-2.ensures.day bound.1.0), sym (c.day_end-2.ensures.offset bound.1.1))
     (below_by c.len-count.result (length h.spans) 4 c.in_ok-only_if-2.ensures.ok long))
+
+pub returns-in_err-only_if-clause-kept : goal.returns-in_err-only_if-clause-kept
+returns-in_err-only_if-clause-kept g c = (refl, refl)
+
+pub returns-in_err-only_if-2-clause-kept : goal.returns-in_err-only_if-2-clause-kept
+returns-in_err-only_if-2-clause-kept g c = (refl, refl)
+
+pub returns-in_err-push-clause-kept : goal.returns-in_err-push-clause-kept
+returns-in_err-push-clause-kept g c = (refl, refl)
+
+pub returns-clause-kept : goal.returns-clause-kept
+returns-clause-kept g c = (refl, refl)

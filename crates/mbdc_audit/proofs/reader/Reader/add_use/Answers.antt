@@ -1,4 +1,4 @@
-use Rattle.std.proofs.Common.{◌≡◌, ◌<◌, ◌++◌, ◌∷◌, [], ℕ, List, length, map, None, Some, sym, ap, subst, ◌∙◌, arith}
+use Rattle.std.proofs.Common.{◌≡◌, ◌<◌, ◌++◌, ◌∷◌, [], ℕ, List, length, map, None, Some, refl, sym, ap, subst, ◌∙◌, arith}
 use Rattle.std.proofs.lemmas.List.{length-map, map_push}
 use Rattle.std.proofs.lemmas.Grind.{common_steps}
 use Rattle.mbdc_audit.specs.House.{Use}
@@ -37,7 +37,7 @@ pub returns-in_err-only_if-clause-ok : goal.returns-in_err-only_if-clause-ok
 returns-in_err-only_if-clause-ok g c = grind (arith, common_steps)
 
 pub returns-in_err-only_if-clause-kept : goal.returns-in_err-only_if-clause-kept
-returns-in_err-only_if-clause-kept g c = grind (arith, common_steps)
+returns-in_err-only_if-clause-kept g c = (refl, refl)
 
 pub returns-in_err-only_if-2-clause-ok : goal.returns-in_err-only_if-2-clause-ok
 returns-in_err-only_if-2-clause-ok g c = grind (arith, common_steps)
@@ -46,7 +46,7 @@ pub returns-in_err-only_if-2-clause-err : goal.returns-in_err-only_if-2-clause-e
 returns-in_err-only_if-2-clause-err g c = grind (arith, common_steps)
 
 pub returns-in_err-only_if-2-clause-kept : goal.returns-in_err-only_if-2-clause-kept
-returns-in_err-only_if-2-clause-kept g c = grind (arith, common_steps)
+returns-in_err-only_if-2-clause-kept g c = (refl, refl)
 
 pub returns-in_err-counts-clause-ok : goal.returns-in_err-counts-clause-ok
 returns-in_err-counts-clause-ok g c = grind (arith, common_steps)
@@ -55,7 +55,7 @@ pub returns-in_err-counts-clause-err : goal.returns-in_err-counts-clause-err
 returns-in_err-counts-clause-err g c = grind (arith, common_steps)
 
 pub returns-in_err-counts-clause-kept : goal.returns-in_err-counts-clause-kept
-returns-in_err-counts-clause-kept g c = grind (arith, common_steps)
+returns-in_err-counts-clause-kept g c = (refl, refl)
 
 pub returns-in_err-push-clause-ok : goal.returns-in_err-push-clause-ok
 returns-in_err-push-clause-ok g c = grind (arith, common_steps)
@@ -64,7 +64,7 @@ pub returns-in_err-push-clause-err : goal.returns-in_err-push-clause-err
 returns-in_err-push-clause-err g c = grind (arith, common_steps)
 
 pub returns-in_err-push-clause-kept : goal.returns-in_err-push-clause-kept
-returns-in_err-push-clause-kept g c = grind (arith, common_steps)
+returns-in_err-push-clause-kept g c = (refl, refl)
 
 pub returns-clause-kept : goal.returns-clause-kept
-returns-clause-kept g c = grind (arith, common_steps)
+returns-clause-kept g c = (refl, refl)

@@ -1,4 +1,4 @@
-use Rattle.std.proofs.Common.{◌≡◌, ◌++◌, ◌∷◌, [], List, length, map, sym, ap, subst, ◌∙◌}
+use Rattle.std.proofs.Common.{◌≡◌, ◌++◌, ◌∷◌, [], List, length, map, refl, sym, ap, subst, ◌∙◌}
 use Rattle.std.proofs.lemmas.List.{length-map, map_push}
 use Rattle.mbdc_audit.specs.House.{User}
 use Rattle.mbdc_audit.specs.File.{Adds}
@@ -19,3 +19,15 @@ returns-clause-ok g c =
     subst (λ (us : List User). Adds h l (record h { users = us })) (sym pushed)
     (adds_user h l u c.requires (sym c.number-number.ensures) (sym c.field.ensures) (sym c.maybe.ensures)
     (c.is_next_user.ensures.0 c.in_ok-only_if.ensures.ok) (below_by c.len.result (length h.users) 4096 c.in_ok-only_if-2.ensures.ok long))
+
+pub returns-in_err-only_if-clause-kept : goal.returns-in_err-only_if-clause-kept
+returns-in_err-only_if-clause-kept g c = (refl, refl)
+
+pub returns-in_err-only_if-2-clause-kept : goal.returns-in_err-only_if-2-clause-kept
+returns-in_err-only_if-2-clause-kept g c = (refl, refl)
+
+pub returns-in_err-push-clause-kept : goal.returns-in_err-push-clause-kept
+returns-in_err-push-clause-kept g c = (refl, refl)
+
+pub returns-clause-kept : goal.returns-clause-kept
+returns-clause-kept g c = (refl, refl)

@@ -1,4 +1,5 @@
 use Rattle.std.proofs.Common.{◌≡◌, ◌<◌, ◌+◌, ◌-◌, ◌⊎◌, inl, inr, ◌++◌, ◌∷◌, [], ℕ, List, length, map, Some, true, refl, sym, ap, subst, ◌∙◌, arith}
+use Rattle.std.proofs.lemmas.Grind.{common_steps}
 use Rattle.std.specs.Prelude.{slice_get}
 use Rattle.std.proofs.lemmas.List.{length-map, map_push}
 use Rattle.std.proofs.lemmas.Option.{same_Some, slice_get_within}
@@ -164,3 +165,36 @@ returns-in_ok-push-in_default g c =
       err = tt;
       kept = (refl, refl);
     }
+
+pub returns-in_err-place-clause-kept : goal.returns-in_err-place-clause-kept
+returns-in_err-place-clause-kept g c = (refl, refl)
+
+pub returns-in_err-meter-clause-kept : goal.returns-in_err-meter-clause-kept
+returns-in_err-meter-clause-kept g c = (refl, refl)
+
+pub returns-in_err-window-clause-kept : goal.returns-in_err-window-clause-kept
+returns-in_err-window-clause-kept g c = (refl, refl)
+
+pub returns-in_ok-push-in-Struck-clause-kept : goal.returns-in_ok-push-in-Struck-clause-kept
+returns-in_ok-push-in-Struck-clause-kept g c = (refl, refl)
+
+pub returns-in_err-push-in-Struck-clause-kept : goal.returns-in_err-push-in-Struck-clause-kept
+returns-in_err-push-in-Struck-clause-kept g c = (refl, refl)
+
+pub returns-in_err-place-clause-ok : goal.returns-in_err-place-clause-ok
+returns-in_err-place-clause-ok g c = grind (arith, common_steps)
+
+pub returns-in_err-place-clause-err : goal.returns-in_err-place-clause-err
+returns-in_err-place-clause-err g c = grind (arith, common_steps)
+
+pub returns-in_err-meter-clause-ok : goal.returns-in_err-meter-clause-ok
+returns-in_err-meter-clause-ok g c = grind (arith, common_steps)
+
+pub returns-in_err-window-clause-ok : goal.returns-in_err-window-clause-ok
+returns-in_err-window-clause-ok g c = grind (arith, common_steps)
+
+pub returns-in_err-push-in-Struck-clause-ok : goal.returns-in_err-push-in-Struck-clause-ok
+returns-in_err-push-in-Struck-clause-ok g c = grind (arith, common_steps)
+
+pub returns-in_err-push-in-Struck-clause-err : goal.returns-in_err-push-in-Struck-clause-err
+returns-in_err-push-in-Struck-clause-err g c = grind (arith, common_steps)

@@ -1,4 +1,5 @@
-use Rattle.std.proofs.Common.{◌≡◌, ◌-◌, ℕ, map, refl, sym, ap, subst, ◌∙◌}
+use Rattle.std.proofs.Common.{◌≡◌, ◌-◌, ℕ, map, refl, sym, ap, subst, ◌∙◌, arith}
+use Rattle.std.proofs.lemmas.Grind.{common_steps}
 use Rattle.mbdc_audit.specs.House.{Key, Number}
 use Rattle.mbdc_audit.specs.declared.line.Word.{Word}
 use Rattle.mbdc_audit.specs.File.{text_at}
@@ -84,3 +85,18 @@ returns-clause-ok g c =
     (c.in_ok-check_number.ensures.ok (unit_is l.word h c.in_ok-used.used c.in_ok-unit_of.field-0 l
     (named_there h c.field.result.now c.in_ok-used.used c.in_ok-used.ensures.ok) c.in_ok-unit_of.ensures.ok))
     (named_meant h c.field.result.now c.in_ok-used.used c.in_ok-used.ensures.ok))
+
+pub returns-in_err-used-clause-ok : goal.returns-in_err-used-clause-ok
+returns-in_err-used-clause-ok g c = grind (arith, common_steps)
+
+pub returns-in_err-unit_of-clause-ok : goal.returns-in_err-unit_of-clause-ok
+returns-in_err-unit_of-clause-ok g c = grind (arith, common_steps)
+
+pub returns-in_err-span-clause-ok : goal.returns-in_err-span-clause-ok
+returns-in_err-span-clause-ok g c = grind (arith, common_steps)
+
+pub returns-in_err-other-clause-ok : goal.returns-in_err-other-clause-ok
+returns-in_err-other-clause-ok g c = grind (arith, common_steps)
+
+pub returns-in_err-check_number-clause-ok : goal.returns-in_err-check_number-clause-ok
+returns-in_err-check_number-clause-ok g c = grind (arith, common_steps)

@@ -1,4 +1,5 @@
-use Rattle.std.proofs.Common.{◌≡◌, ◌<◌, ◌+◌, ◌++◌, ◌∷◌, [], ℕ, List, length, map, sym, ap, subst, ◌∙◌, arith}
+use Rattle.std.proofs.Common.{◌≡◌, ◌<◌, ◌+◌, ◌++◌, ◌∷◌, [], ℕ, List, length, map, refl, sym, ap, subst, ◌∙◌, arith}
+use Rattle.std.proofs.lemmas.Grind.{common_steps}
 use Rattle.std.specs.Prelude.{All}
 use Rattle.std.proofs.lemmas.Bool.{false≢true}
 use Rattle.std.proofs.lemmas.List.{length-map, map_push}
@@ -57,3 +58,36 @@ returns-clause-ok g c =
     (adds_window h l n c.requires (sym c.number.ensures ∙ c.in_ok-span.ensures.ok.0)
     (any_one (λ (q : Place). All (λ (w : Window). w.span < n) (last_of q.windows)) (last_of h.places) (place_of x) it
     (c.is_next_window.ensures.0 c.in_ok-only_if.ensures.ok)) there)
+
+pub returns-in_err-span-clause-kept : goal.returns-in_err-span-clause-kept
+returns-in_err-span-clause-kept g c = (refl, refl)
+
+pub returns-in_err-place-clause-kept : goal.returns-in_err-place-clause-kept
+returns-in_err-place-clause-kept g c = (refl, refl)
+
+pub returns-in_err-only_if-clause-kept : goal.returns-in_err-only_if-clause-kept
+returns-in_err-only_if-clause-kept g c = (refl, refl)
+
+pub returns-in_err-push-clause-kept : goal.returns-in_err-push-clause-kept
+returns-in_err-push-clause-kept g c = (refl, refl)
+
+pub returns-clause-kept : goal.returns-clause-kept
+returns-clause-kept g c = (refl, refl)
+
+pub returns-in_err-span-clause-ok : goal.returns-in_err-span-clause-ok
+returns-in_err-span-clause-ok g c = grind (arith, common_steps)
+
+pub returns-in_err-span-clause-err : goal.returns-in_err-span-clause-err
+returns-in_err-span-clause-err g c = grind (arith, common_steps)
+
+pub returns-in_err-place-clause-ok : goal.returns-in_err-place-clause-ok
+returns-in_err-place-clause-ok g c = grind (arith, common_steps)
+
+pub returns-in_err-place-clause-err : goal.returns-in_err-place-clause-err
+returns-in_err-place-clause-err g c = grind (arith, common_steps)
+
+pub returns-in_err-only_if-clause-ok : goal.returns-in_err-only_if-clause-ok
+returns-in_err-only_if-clause-ok g c = grind (arith, common_steps)
+
+pub returns-in_err-push-clause-ok : goal.returns-in_err-push-clause-ok
+returns-in_err-push-clause-ok g c = grind (arith, common_steps)

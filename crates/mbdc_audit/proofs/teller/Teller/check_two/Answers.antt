@@ -1,4 +1,4 @@
-use Rattle.std.proofs.Common.{◌≡◌, ◌↔◌, ◌≤◌, ℕ, List, IsTrue, map, arith, subst, Some, slice_get, max, min}
+use Rattle.std.proofs.Common.{◌≡◌, ◌↔◌, ◌≤◌, ℕ, zero, suc, List, [], ◌∷◌, IsTrue, length, map, arith, subst, sym, Some, slice_get, max, min}
 use Rattle.std.proofs.lemmas.Result.{on_ok_weaker}
 use Rattle.std.proofs.lemmas.Grind.{common_steps}
 use Rattle.mbdc_audit.specs.Walk.{is_clean}
@@ -10,6 +10,11 @@ use Rattle.mbdc_audit.specs.Sound.{AreAlike}
 use Rattle.mbdc_audit.proofs.Curves.{no_end, one_end, two_ends}
 use Rattle.mbdc_audit.specs.declared.house.Span as span_type
 use Rattle.mbdc_audit.proofs.teller.Teller.check_two.Goals as goal
+
+past : {X Y : Type 0} (f : X → Y) (xs : List X) (i : ℕ) (y : Y) → length xs ≤ i → slice_get (map f xs) i ≡ Some y → ⊥
+past f [] i y le e = absurd cc
+past f (x ∷ xs) zero y le e = absurd (omega (arith, le))
+past f (x ∷ xs) (suc i) y le e = past f xs i y (omega (arith, le)) e
 
 pub returns : goal.returns
 returns g c = λ one other.
@@ -69,3 +74,13 @@ returns-then-from-to-2 g c = λ one other.
 
 pub returns-in_err-check_end : goal.returns-in_err-check_end
 returns-in_err-check_end g c = grind (arith, common_steps)
+
+pub returns-in_default : goal.returns-in_default
+returns-in_default g c = λ one other. nothing (λ s r at_w at_x t common.
+    absurd (past span_of c.as_slice-spans.result.now c.args.one.0.now.span r c.in_default.ensures.lookup.3
+    (subst (λ (ss : List span_type.Span). slice_get (map span_of ss) c.args.one.0.now.span ≡ Some r) (sym c.as_slice-spans.ensures.value) at_x)))
+
+pub returns-in_default-get : goal.returns-in_default-get
+returns-in_default-get g c = λ one other. nothing (λ s r at_w at_x t common.
+    absurd (past span_of c.as_slice-spans.result.now c.args.other.0.now.span s c.in_default-get.ensures.lookup.3
+    (subst (λ (ss : List span_type.Span). slice_get (map span_of ss) c.args.other.0.now.span ≡ Some s) (sym c.as_slice-spans.ensures.value) at_w)))

@@ -7,7 +7,7 @@ use Rattle.mbdc_audit.proofs.totals.Sums.has_whole.Goals as goal
 
 pub returns-in_default : goal.returns-in_default
 returns-in_default g c =
-    let e : find (λ u. u.number == c.args.number.now.user) c.args.self.now.house.now.users.items ≡ None = cc in
+    let e : find (λ u. u.number == c.args.number.now.user) c.args.self.now.house.now.users.items ≡ None = sym c.user.ensures ∙ c.in_default.is in
     sym (no_user c.args.self.now.house.now c.args.span c.args.number.now.user c.args.number.now.used e)
 
 pub returns-in_default-get : goal.returns-in_default-get
@@ -19,7 +19,7 @@ returns-in_default-get g c =
 
 pub returns : goal.returns
 returns g c =
-    let found : find (λ u. u.number == c.args.number.now.user) c.args.self.now.house.now.users.items ≡ Some c.in-Some.user = cc in
+    let found : find (λ u. u.number == c.args.number.now.user) c.args.self.now.house.now.users.items ≡ Some c.in-Some.user = sym c.user.ensures ∙ c.in-Some.is in
     let there : slice_get c.args.self.now.house.now.spans.items c.args.span ≡ Some c.in-Some-get.within.now =
     ap (λ (xs : List Span). slice_get xs c.args.span) (sym c.deref.ensures.value)
     ∙ slice_get_read c.deref.result.now (length c.deref.result.now) c.args.span c.in-Some-get.within.now refl
