@@ -36,23 +36,23 @@ fn copy_of<A: Allocator + Copy>(alloc: A, house: &House<A>) -> Result<House<A>, 
     }
 }
 
-// Plans what is asked, and writes it where nothing is wrong. The result is the plan.
+// Plans what is asked, and writes it where nothing is wrong. The result is the plan. The house isn't used any more.
 fn fit<D: Disk + Drop, A: Allocator + Copy>(
     alloc: A,
     store: &mut Store<D>,
-    mut house: House<A>,
+    house: &mut House<A>,
     wish: &Wish<'_>,
 ) -> Result<Plan<A>, FitFault>
-    requires { house.budget ≡ budget_of (half_of D.Disk store.old.disk) }
-    ensures fitted { IfOk result (λ plan. ListsAll D.Disk wish.now house plan store.old store.new) }
+    requires { house.old.budget ≡ budget_of (half_of D.Disk store.old.disk) }
+    ensures fitted { IfOk result (λ plan. ListsAll D.Disk wish.now house.old plan store.old store.new) }
     ensures broken { IfErr result (λ fault. IfDisk fault (λ e.
-        Lists D.Disk wish.now house store.old store.new)) }
+        Lists D.Disk wish.now house.old store.old store.new)) }
     ensures before { IfErr result (λ fault. IsBefore fault → store.new ≡ store.old) }
     ensures opened { IfErr result (λ fault. IfOpen fault (λ e. ⊥)) }
     ensures back { D.keeps store.new.disk → D.keeps store.old.disk }
     ensures count { D.sectors store.new.disk ≡ D.sectors store.old.disk }
 {
-    let copy = copy_of(alloc, &house)?;
+    let copy = copy_of(alloc, house)?;
     let plan = plan_wish(alloc, wish, copy)?;
     let is_wrong = plan.is_wrong();
     if is_wrong {
@@ -66,7 +66,7 @@ fn fit<D: Disk + Drop, A: Allocator + Copy>(
         Err(DecodeFault::NoMemory) => return Err(FitFault::NoMemory),
         Err(DecodeFault::Bad) => unreachable!(),
     }
-    match write_changes(store, plan.changes(), &house) {
+    match write_changes(store, plan.changes(), house) {
         Ok(()) => Ok(plan),
         Err(fault) => Err(FitFault::Disk(fault)),
     }
@@ -109,8 +109,8 @@ pub fn fit_on<D: Disk + Drop, A: Allocator + Copy>(
         e ≡ Device → HasRisen (D.failures disk) (D.failures result.0))) }
 {
     match Store::open(alloc, disk) {
-        Ok((mut store, house)) => {
-            let fitted = fit(alloc, &mut store, house, wish);
+        Ok((mut store, mut house)) => {
+            let fitted = fit(alloc, &mut store, &mut house, wish);
             (store.close(), fitted)
         }
         Err((fault, disk)) => (disk, Err(FitFault::Open(fault))),

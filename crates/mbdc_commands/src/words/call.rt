@@ -37,23 +37,25 @@ pub fn call_of<'a>(alloc: Global, words: &'a [String]) -> Result<Call<'a>, Words
         Err(error) => return Err(WordsFault::Clap(error)),
     };
     let task = match matches.subcommand() {
-        None => Task::Lines {
+        None => Ok(Task::Lines {
             engine: Engine::Decode(Form::Text),
             file: None,
-        },
+        }),
         Some((name, inner)) => match name {
-            "audit" if inner.get_str("PAGE").is_some() => Task::Sheet {
-                page: file_of(inner, "PAGE")?,
-                file: file_of(inner, "FILE")?,
-            },
-            "decode" | "fold" | "audit" => lines_task(name, inner),
-            "demo" => Task::Demo,
-            "scan" | "read" | "address" => bus_task(name, inner)?,
-            _ => image_task(alloc, name, inner)?,
+            "audit" if inner.get_str("PAGE").is_some() => {
+                match (file_of(inner, "PAGE"), file_of(inner, "FILE")) {
+                    (Ok(page), Ok(file)) => Ok(Task::Sheet { page, file }),
+                    (Err(fault), _) | (_, Err(fault)) => Err(fault),
+                }
+            }
+            "decode" | "fold" | "audit" => Ok(lines_task(name, inner)),
+            "demo" => Ok(Task::Demo),
+            "scan" | "read" | "address" => bus_task(name, inner),
+            _ => image_task(alloc, name, inner),
         },
     };
     Ok(Call {
-        task,
+        task: task?,
         is_verbose: matches.get_flag("VERBOSE"),
     })
 }

@@ -36,18 +36,18 @@ fn command_of<'a>(alloc: Global, row: &CommandRow) -> Result<Command<'a>, AllocE
 
 /// The program, as `clap` reads its words.
 pub(crate) fn program<'a>(alloc: Global) -> Result<Command<'a>, AllocError> {
-    let mut commands = Vec::new(alloc);
-    for row in [LINES, READING, IMAGES, BUS].into_iter().flatten() {
-        commands.push(command_of(alloc, row)?)?;
-    }
     let verbose = arg_of(alloc, &VERBOSE)?;
     // It may stand before a command and after it.
     let verbose = verbose.global(true).display_order(LAST);
-    Command::new(alloc, "mbdc")
+    let mut program = Command::new(alloc, "mbdc")
         .version(help::VERSION)
         .override_help(help::PROGRAM)
-        .arg(verbose)?
-        .subcommands(commands)
+        .arg(verbose)?;
+    for row in [LINES, READING, IMAGES, BUS].into_iter().flatten() {
+        let command = command_of(alloc, row)?;
+        program = program.subcommand(command)?;
+    }
+    Ok(program)
 }
 
 // An argument of a command.

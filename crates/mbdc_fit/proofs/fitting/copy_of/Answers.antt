@@ -1,5 +1,4 @@
-use Rattle.std.proofs.Common.{◌≡◌, ◌∙◌, arith, rules}
-use Rattle.mbdc_change.specs.State.{State}
+use Rattle.std.proofs.Common.{◌∙◌, arith, rules}
 use Rattle.mbdc_change.specs.Spelled.{SpellsState}
 use Rattle.dc_meters.specs.Language.{one_register}
 use Rattle.mbdc_fit.proofs.Copies.{same_held}
