@@ -4,3 +4,5 @@
 mod Shown
 -- what the commands that write an image have done, and what stops them before
 mod Commands
+-- whom a poll asks
+mod Asked

@@ -1,12 +1,14 @@
 -- What the commands that write an image have done at their end: `fit`, `swap`, `move`, `out`, `run` and `poll` (this
 -- product).
-use Rattle.std.specs.Prelude.{◌≡◌, ◌⊎◌, ◌≤◌, ℕ, Bool, List, Option, None, Some, IfSome, Result}
+use Rattle.std.specs.Prelude.{◌≡◌, ◌≤◌, ℕ, Bool, List, [], Option, None, Some, IfSome, IfNone, Result, All, Contains}
 use Rattle.dc_address.specs.declared.identity.Identity.{Identity}
-use Rattle.dc_meters.specs.Means.{Means}
+use Rattle.dc_core.specs.Core.{present}
+use Rattle.dc_meters.specs.Means.{AreMeant, Means}
+use Rattle.dc_meters.specs.declared.named.name.Named.{Named}
 use Rattle.dc_poller.specs.Link.{Link}
 use Rattle.dc_sectors.specs.Runs.{OnlyLooked}
 use Rattle.dc_sectors.specs.declared.device.Disk.{Ghosts}
-use Rattle.mbdc_change.specs.State.{Held, MeterRow, State, row_of}
+use Rattle.mbdc_change.specs.State.{Held, State, row_of}
 use Rattle.mbdc_commands.specs.FitOver.{FitsOver}
 use Rattle.mbdc_commands.specs.Ending.{PollEnds}
 use Rattle.mbdc_commands.specs.Guard.{Guards}
@@ -26,6 +28,9 @@ use Rattle.mbdc_fit.specs.declared.list.wish.Wish.{Wish}
 use Rattle.mbdc_fit.specs.declared.list.wish.Wish.TheVariants.{List as Listed, One}
 use Rattle.mbdc_log.specs.declared.greatest.Greatest.{Greatest}
 use Rattle.mbdc_looks.specs.Register.{IsRegisterOf}
+use Rattle.mbdc_poll.specs.Happening.{Happening, happened_on}
+use Rattle.mbdc_poll.specs.Planned.{wanted_on}
+use Rattle.mbdc_poll.specs.Queue.{starts_in}
 use Rattle.mbdc_poll.specs.declared.outcome.Outcome.{Outcome}
 
 -- it ends without an answer: for its words, a file, a link, the clock, the image or memory
@@ -65,23 +70,21 @@ abbrev pub IsList : Wish → Type 0
 IsList (Listed list) = Unit {0}
 IsList (One order) = ⊥
 
--- A LIST IS PUT INTO THE REGISTER of an image that was opened, and at first only looked at.
-pub record Fitted {D : Type 0} (g : Ghosts D) (held : D → Type 0) (ending : Ending) : Type 0 where
+-- AN IMAGE IS WRITTEN that was opened, and at first only looked at: this is done of the disk that was opened, and of what
+-- the look left of it.
+pub record OnImage {D : Type 0} (g : Ghosts D) (held : D → Type 0) (Done : (disk looked : D) → Type 0) : Type 0 where
   pub disk : D
   pub is_held : held disk
   pub looked : D
   pub looks : OnlyLooked g disk looked
-  pub wish : Wish
-  pub is_list : IsList wish
-  pub done : IsDone g wish looked ending
+  pub done : Done disk looked
 
--- A COMMAND IS DONE on the register of an image that was opened, and at first only looked at: the one that the words ask
--- for, by what the image reads as.
-pub record Ordered {D : Type 0} (g : Ghosts D) (held : D → Type 0) (task : OrderTask) (ending : Ending) : Type 0 where
-  pub disk : D
-  pub is_held : held disk
-  pub looked : D
-  pub looks : OnlyLooked g disk looked
+-- A LIST IS PUT INTO THE REGISTER of an image.
+abbrev pub Fitted : {D : Type 0} → Ghosts D → (D → Type 0) → Ending → Type 0
+Fitted {D} g held ending = OnImage g held (λ disk looked. (wish : Wish) × IsList wish × IsDone g wish looked ending)
+
+-- the command that the words ask for, by what the image reads as, is done on its register
+pub record IsObeyed {D : Type 0} (g : Ghosts D) (task : OrderTask) (ending : Ending) (disk looked : D) : Type 0 where
   pub house : Held
   pub greatest : Greatest
   pub ahead : Option ℕ
@@ -89,6 +92,10 @@ pub record Ordered {D : Type 0} (g : Ghosts D) (held : D → Type 0) (task : Ord
   pub order : Order
   pub asked : IsAsked house.state task order
   pub done : IsDone g (One order) looked ending
+
+-- A COMMAND IS DONE on the register of an image.
+abbrev pub Ordered : {D : Type 0} → Ghosts D → (D → Type 0) → OrderTask → Ending → Type 0
+Ordered {D} g held task ending = OnImage g held (IsObeyed g task ending)
 
 -- ---- a script
 
@@ -119,17 +126,27 @@ pub record Scripted {D Input : Type 0} (g : Ghosts D) (held : D → Type 0) (ope
 
 -- ---- a poll
 
--- A POLL IS DONE on the image on this disk, whatever became of it before: turns of the concentrator that was opened leave
--- it, and the ending is the poll's.
-abbrev pub IsPolled : {D : Type 0} → Ghosts D → (name : List ℕ) → D → Ending → Type 0
-IsPolled {D} g name disk ending = (left : D) × Guards g disk left ending (λ ready.
-    (outcome : Result Outcome ProgramFault) × (is_printed : Bool) × PollEnds outcome is_printed name ending
-    × PollLeaves g (λ done core happened. Unit {0}) ready left outcome)
+-- the meters that these names mean, by what the image reads as; where it doesn't, none is named
+pub record AreNamed {D : Type 0} (g : Ghosts D) (names : List Named) (disk looked : D) (only : List Identity) : Type 0 where
+  pub house : Option Held
+  pub read : IfSome house (λ it. (greatest : Greatest) × (ahead : Option ℕ) × (g.keeps looked
+      → IsRegisterOf (g.sectors disk) greatest (g.reads disk) it ahead))
+  pub meant : IfSome house (λ it. AreMeant it.state names only)
+  pub none : IfNone house ((names ≡ []) × (only ≡ []))
 
--- A POLL IS DONE over an image that was opened, and at first only looked at.
-pub record Polled {D : Type 0} (g : Ghosts D) (held : D → Type 0) (name : List ℕ) (ending : Ending) : Type 0 where
-  pub disk : D
-  pub is_held : held disk
-  pub looked : D
-  pub looks : OnlyLooked g disk looked
-  pub done : IsPolled g name looked ending
+-- NO OTHER METER IS ASKED: on each line none but the registered meters that hang there and are among these; where these
+-- are none, any that hangs there.
+abbrev pub AsksOnly : State → List Identity → List Happening → Type 0
+AsksOnly state only happened = (line : ℕ) → All (Contains (wanted_on state only line)) (starts_in (happened_on line happened))
+
+-- A POLL IS DONE on the image on this disk, whatever became of it before: turns of the concentrator that was opened leave
+-- it, which ask no other meter than these, and the ending is the poll's.
+abbrev pub IsPolled : {D : Type 0} → Ghosts D → (only : List Identity) → (name : List ℕ) → D → Ending → Type 0
+IsPolled {D} g only name disk ending = (left : D) × Guards g disk left ending (λ ready.
+    (outcome : Result Outcome ProgramFault) × (is_printed : Bool) × PollEnds outcome is_printed name ending
+    × PollLeaves g (λ done core happened. AsksOnly (present core) only happened) ready left outcome)
+
+-- A POLL IS DONE over an image, of the meters that the words name.
+abbrev pub Polled : {D : Type 0} → Ghosts D → (D → Type 0) → List Named → (name : List ℕ) → Ending → Type 0
+Polled {D} g held names name ending = OnImage g held (λ disk looked. (only : List Identity) × AreNamed g names disk looked only
+    × IsPolled g only name looked ending)

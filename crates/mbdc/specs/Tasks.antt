@@ -94,6 +94,6 @@ Runs s (Values image layout) ending = Unit {0}
 Runs s (Status image silent layout) ending = Unit {0}
 Runs s (Fit image list) ending = Refuses ending ⊎ Fitted s.image (s.held image.now) ending
 Runs s (Order task) ending = Refuses ending ⊎ Ordered s.image (s.held task.image.now) task ending
-Runs s (Poll task) ending = Refuses ending ⊎ Polled s.image (s.held task.image.now) task.image.now ending
+Runs s (Poll task) ending = Refuses ending ⊎ Polled s.image (s.held task.image.now) task.only.items task.image.now ending
 Runs s (Bus task) ending = Unit {0}
 Runs s Demo ending = Unit {0}

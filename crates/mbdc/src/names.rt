@@ -1,9 +1,8 @@
 //! The meters that words name, in the register of an image.
 
-ghost use Rattle.std.specs.Prelude.{IfErr, IfOk, IfSome};
-ghost use Rattle.dc_meters.specs.Means.{AreMeant};
+ghost use Rattle.std.specs.Prelude.{IfErr, IfOk};
 ghost use Rattle.dc_sectors.specs.Runs.{OnlyLooked};
-ghost use Rattle.mbdc.specs.Commands.{Refuses};
+ghost use Rattle.mbdc.specs.Commands.{AreNamed, Refuses};
 
 use dc_address::Identity;
 use dc_meters::House;
@@ -33,7 +32,7 @@ pub fn meters_of<'a, R: AllocGlobal, D: Disk>(
     names: &[Named],
     image: &'a str,
 ) -> Result<(Vec<Identity>, Option<House<Global>>), Ending<'a>>
-    ensures meant { IfOk result (λ found. IfSome found.1 (λ house. AreMeant house.state names.now found.0.items)) }
+    ensures named { IfOk result (λ found. AreNamed D.Disk names.now disk.old disk.new found.0.items) }
     ensures looked { OnlyLooked D.Disk disk.old disk.new }
     ensures refused { IfErr result (λ ending. Refuses ending) }
 {

@@ -36,7 +36,8 @@ pub fn poll_on_image<'a, R, S>(host: &Host<'a, R>, system: &S, task: &PollTask<'
 where
     R: Files<File = File> + Net<Stream = TcpStream> + Clock + Copy + Print + Eprint + AllocGlobal,
     S: System<'a>,
-    ensures { Refuses result ⊎ Polled S.Image.Disk (S.held system.now task.now.image.now) task.now.image.now result }
+    ensures { Refuses result ⊎ Polled S.Image.Disk (S.held system.now task.now.image.now) task.now.only.items
+        task.now.image.now result }
 {
     // No reading gets a stamp that is no time.
     let Some(begun) = moment(host.rt) else {
@@ -85,7 +86,7 @@ fn poll_reached<'a, D, R>(
 where
     D: Disk + Drop,
     R: Files<File = File> + Net<Stream = TcpStream> + Clock + Copy + Print + Eprint + AllocGlobal,
-    ensures { Refuses result ⊎ IsPolled D.Disk task.now.image.now disk result }
+    ensures { Refuses result ⊎ IsPolled D.Disk known.0.items task.now.image.now disk result }
 {
     let (only, house) = known;
     let printing = Printing {
@@ -137,7 +138,7 @@ where
     O: Observer + Drop,
     J: Notes + Drop,
     R: Files<File = File> + Net<Stream = TcpStream> + Clock + Copy + Print + Eprint + AllocGlobal,
-    ensures { Refuses result ⊎ IsPolled D.Disk task.now.image.now disk result }
+    ensures { Refuses result ⊎ IsPolled D.Disk only.now task.now.image.now disk result }
 {
     let notes = Attending { notes, missing };
     match buses_of(host, peers, observers, task.patience) {
@@ -163,7 +164,7 @@ where
     B: HalfBus + Watched + Drop,
     J: Notes + Drop,
     R: Files<File = File> + Clock + Print + Eprint + AllocGlobal,
-    ensures { Refuses result ⊎ IsPolled D.Disk task.now.image.now disk result }
+    ensures { Refuses result ⊎ IsPolled D.Disk only.now task.now.image.now disk result }
 {
     let mut retrying = Vec::new(host.rt.alloc());
     for (bus, silent) in buses.into_iter().zip(doubts.iter_mut()) {

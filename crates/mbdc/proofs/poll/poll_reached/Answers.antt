@@ -1,4 +1,5 @@
-use Rattle.std.proofs.Common.{◌≡◌, ◌⊎◌, inl, arith, sym, subst}
+use Rattle.std.proofs.Common.{◌⊎◌, List, inl, arith, sym, subst}
+use Rattle.dc_address.specs.declared.identity.Identity.{Identity}
 use Rattle.mbdc_ending.specs.declared.ending.Ending.{Ending}
 use Rattle.mbdc.specs.Commands.{IsPolled, Refuses}
 use Rattle.mbdc.proofs.poll.poll_reached.Goals as goal
@@ -6,9 +7,10 @@ use Rattle.mbdc.proofs.poll.poll_reached.Goals.{in-Ok-Ok, in_default-Err, in-Err
 
 pub returns : goal.returns
 returns g c =
-    let ends = λ (e : Ending). Refuses e ⊎ IsPolled g.D.Disk c.args.task.now.image.now c.args.disk e in
+    let ends = λ (only : List Identity) (e : Ending). Refuses e ⊎ IsPolled g.D.Disk only c.args.task.now.image.now c.args.disk e in
     elim c.match-tracers_of.branch [
-      | in-Ok-Ok w ↦ subst ends (sym w.ending-is) w.poll_peers-ending.ensures
-      | in_default-Err w ↦ subst ends (sym w.ending-is) (inl (omega (arith)))
-      | in-Err-default w ↦ subst ends (sym w.ending-is) (inl w.in-Err-default.ensures)
+      | in-Ok-Ok w ↦ subst (ends c.args.known.0.items) (sym w.ending-is)
+          (subst (λ (only : List Identity). ends only w.poll_peers-ending.result) w.as_slice.ensures.value w.poll_peers-ending.ensures)
+      | in_default-Err w ↦ subst (ends c.args.known.0.items) (sym w.ending-is) (inl (omega (arith)))
+      | in-Err-default w ↦ subst (ends c.args.known.0.items) (sym w.ending-is) (inl w.in-Err-default.ensures)
     ]
