@@ -126,9 +126,9 @@ pub record Scripted {D Input : Type 0} (g : Ghosts D) (held : D → Type 0) (ope
 
 -- ---- a poll
 
--- the meters that these names mean, by what the image reads as; where it doesn't, none is named
-pub record AreNamed {D : Type 0} (g : Ghosts D) (names : List Named) (disk looked : D) (only : List Identity) : Type 0 where
-  pub house : Option Held
+-- the meters that these names mean in this register, which the image reads as; where it doesn't, none is named
+pub record AreNamed {D : Type 0} (g : Ghosts D) (names : List Named) (disk looked : D) (house : Option Held)
+    (only : List Identity) : Type 0 where
   pub read : IfSome house (λ it. (greatest : Greatest) × (ahead : Option ℕ) × (g.keeps looked
       → IsRegisterOf (g.sectors disk) greatest (g.reads disk) it ahead))
   pub meant : IfSome house (λ it. AreMeant it.state names only)
@@ -148,5 +148,5 @@ IsPolled {D} g only name disk ending = (left : D) × Guards g disk left ending (
 
 -- A POLL IS DONE over an image, of the meters that the words name.
 abbrev pub Polled : {D : Type 0} → Ghosts D → (D → Type 0) → List Named → (name : List ℕ) → Ending → Type 0
-Polled {D} g held names name ending = OnImage g held (λ disk looked. (only : List Identity) × AreNamed g names disk looked only
-    × IsPolled g only name looked ending)
+Polled {D} g held names name ending = OnImage g held (λ disk looked. (house : Option Held) × (only : List Identity)
+    × AreNamed g names disk looked house only × IsPolled g only name looked ending)

@@ -32,7 +32,7 @@ pub fn meters_of<'a, R: AllocGlobal, D: Disk>(
     names: &[Named],
     image: &'a str,
 ) -> Result<(Vec<Identity>, Option<House<Global>>), Ending<'a>>
-    ensures named { IfOk result (λ found. AreNamed D.Disk names.now disk.old disk.new found.0.items) }
+    ensures named { IfOk result (λ found. AreNamed D.Disk names.now disk.old disk.new found.1 found.0.items) }
     ensures looked { OnlyLooked D.Disk disk.old disk.new }
     ensures refused { IfErr result (λ ending. Refuses ending) }
 {
