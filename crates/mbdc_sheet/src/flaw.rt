@@ -1,13 +1,11 @@
 //! What is wrong with a piece of a page.
 
 ghost use Rattle.std.specs.Prelude.{◌≡◌, codes, option_map};
-ghost use Rattle.mbdc_sheet.specs.Line.{is_text};
-ghost use Rattle.mbdc_sheet.specs.Sheet.{are_hex, flaw_in_number, flaw_in_text, flaw_of, is_fixed};
-ghost use Rattle.mbdc_sheet.specs.Sheet.{is_main, is_number, named, quoted, unless, user_in};
+ghost use Rattle.mbdc_sheet.specs.Sheet.{are_hex, flaw_in_number, flaw_in_text, flaw_of, is_fixed, is_number, named};
 ghost use Rattle.mbdc_sheet.specs.View.{known_of, piece_at};
 
 use crate::line::{digits_on, has_meter, has_span, line_at, number_in};
-use crate::parts::{Piece, part_at};
+use crate::parts::{Piece, is_part, part_at};
 use crate::tag::{is_plain, is_tag, name_of};
 use crate::text::{has_shape, is_date, is_quiet};
 use crate::written::{Marks, shows};
@@ -55,16 +53,6 @@ pub(crate) struct Known<'a> {
     pub file: &'a [u8],
 }
 
-// Whether a part of a tag between its quotation marks is this text.
-fn is_quoted(tag: &[u8], at: usize, text: &[u8]) -> bool
-    ensures { result ≡ is_text text.now (quoted tag.now at) }
-{
-    match part_at(tag, b'"', at) {
-        Some(part) => part == text,
-        None => false,
-    }
-}
-
 /// The value of a tag's first attribute, if it has this name.
 pub(crate) fn named<'t>(name: &[u8], tag: &'t [u8]) -> Option<&'t [u8]>
     ensures { option_map (λ v. v.now) result ≡ named name.now tag.now }
@@ -75,24 +63,6 @@ pub(crate) fn named<'t>(name: &[u8], tag: &'t [u8]) -> Option<&'t [u8]>
     } else {
         None
     }
-}
-
-/// The user whom a tag of the page's main part names.
-pub(crate) fn user_in(tag: &[u8]) -> Option<&[u8]>
-    ensures { option_map (λ u. u.now) result ≡ user_in tag.now }
-{
-    if is_quoted(tag, 0, b"main data-user=") {
-        part_at(tag, b'"', 1)
-    } else {
-        None
-    }
-}
-
-// A flaw unless something holds.
-fn unless(holds: bool, flaw: Flaw) -> Option<Flaw>
-    ensures { result ≡ unless holds flaw }
-{
-    if holds { None } else { Some(flaw) }
 }
 
 // Whether a text is hex digits.
@@ -140,7 +110,7 @@ impl<'a> Known<'a> {
         let Some(number) = number_in(self.user, line) else {
             return Some(Flaw::Line);
         };
-        unless(shows(self.marks, number, text), Flaw::Number)
+        (!shows(self.marks, number, text)).then_some(Flaw::Number)
     }
 
     // What is wrong with a text.
@@ -152,19 +122,9 @@ impl<'a> Known<'a> {
             return self.flaw_in_number(line, piece.text);
         }
         match named(b" data-fixed=", piece.tag) {
-            Some(kind) => unless(self.is_fixed(kind, piece.tag, piece.text), Flaw::Fixed),
-            None => unless(is_quiet(piece.text), Flaw::Digits),
+            Some(kind) => (!self.is_fixed(kind, piece.tag, piece.text)).then_some(Flaw::Fixed),
+            None => (!is_quiet(piece.text)).then_some(Flaw::Digits),
         }
-    }
-
-    // Whether the tag of the page's main part says whose it is, and of which month.
-    fn is_main(&self, tag: &[u8]) -> bool
-        ensures { result ≡ is_main (known_of self.now) tag.now }
-    {
-        is_quoted(tag, 0, b"main data-user=")
-            && is_quoted(tag, 1, self.user)
-            && is_quoted(tag, 2, b" data-label=")
-            && is_quoted(tag, 3, self.label)
     }
 
     /// What is wrong with a piece.
@@ -175,9 +135,14 @@ impl<'a> Known<'a> {
             return Some(Flaw::Element);
         }
         if piece.tag == "style".as_bytes() {
-            return unless(is_plain(piece.text), Flaw::Digits);
+            return (!is_plain(piece.text)).then_some(Flaw::Digits);
         }
-        if piece.tag.starts_with(b"main") && !self.is_main(piece.tag) {
+        // The page's main part says whose it is, and of which month.
+        let is_main = is_part(piece.tag, b'"', 0, b"main data-user=")
+            && is_part(piece.tag, b'"', 1, self.user)
+            && is_part(piece.tag, b'"', 2, b" data-label=")
+            && is_part(piece.tag, b'"', 3, self.label);
+        if piece.tag.starts_with(b"main") && !is_main {
             return Some(Flaw::Main);
         }
         self.flaw_in_text(piece)

@@ -3,24 +3,14 @@
 ghost use Rattle.std.specs.Prelude.{◌≡◌, ◌<◌, ◌*◌, option_map};
 ghost use Rattle.std.specs.List.{list_any};
 ghost use Rattle.mbdc_io.specs.Lines.{lines_of};
-ghost use Rattle.mbdc_sheet.specs.Line.{digits_on, field_at, is_meter, is_span, is_text, is_wanted, line_at};
+ghost use Rattle.mbdc_sheet.specs.Line.{digits_on, is_meter, is_span, is_wanted, line_at};
 ghost use Rattle.mbdc_sheet.specs.Line.{number_in, places_of};
 
-use crate::parts::{is_one_of, part_at};
+use crate::parts::{is_one_of, is_part, part_at};
 use mbdc_io::first_line;
 
 // What no number of a line reaches.
 const END_OF_LINES: usize = 100_000_000;
-
-// Whether a field of a line is this text.
-fn is_field(line: &[u8], at: usize, text: &[u8]) -> bool
-    ensures { result ≡ is_text text.now (field_at line.now at) }
-{
-    match part_at(line, b',', at) {
-        Some(field) => field == text,
-        None => false,
-    }
-}
 
 // Where a line of this word has its number, and its user.
 fn places_of(word: &[u8]) -> Option<(usize, usize)>
@@ -50,7 +40,7 @@ pub(crate) fn number_in<'l>(user: &[u8], line: &'l [u8]) -> Option<&'l [u8]>
     ensures { option_map (λ f. f.now) result ≡ number_in user.now line.now }
 {
     let (number, of) = places_of(part_at(line, b',', 0)?)?;
-    if of == 0 || is_field(line, of, user) {
+    if of == 0 || is_part(line, b',', of, user) {
         part_at(line, b',', number)
     } else {
         None
@@ -67,7 +57,7 @@ pub(crate) fn is_wanted(user: &[u8], line: &[u8]) -> bool
     let Some((number, of)) = places_of(word) else {
         return false;
     };
-    of != 0 && is_field(line, of, user) && !is_field(line, number, b"-")
+    of != 0 && is_part(line, b',', of, user) && !is_part(line, b',', number, b"-")
 }
 
 /// The number that digits go on from n.
@@ -114,25 +104,12 @@ pub(crate) fn has_meter(file: &[u8], identity: &[u8]) -> bool
     let mut left = file;
     'lines: while !left.is_empty() {
         let (line, rest) = first_line(left);
-        if is_field(line, 0, b"meter") && is_field(line, 2, identity) {
+        if is_part(line, b',', 0, b"meter") && is_part(line, b',', 2, identity) {
             return true;
         }
         left = rest;
     }
     false
-}
-
-// Whether a line is of a span that ends in the month.
-fn is_span(month: &[u8], line: &[u8]) -> bool
-    ensures { result ≡ is_span month.now line.now }
-{
-    if !is_field(line, 0, b"span") {
-        return false;
-    }
-    match part_at(line, b',', 4) {
-        Some(day) => day.starts_with(month),
-        None => false,
-    }
 }
 
 /// Whether a span of the file ends in the month.
@@ -143,7 +120,8 @@ pub(crate) fn has_span(file: &[u8], month: &[u8]) -> bool
     let mut left = file;
     'lines: while !left.is_empty() {
         let (line, rest) = first_line(left);
-        if is_span(month, line) {
+        let day = part_at(line, b',', 4);
+        if is_part(line, b',', 0, b"span") && day.is_some_and(|day| day.starts_with(month)) {
             return true;
         }
         left = rest;

@@ -1,6 +1,7 @@
 //! The parts of a text, and the pieces of a page.
 
 ghost use Rattle.std.specs.Prelude.{◌≡◌, ◌<◌, ◌+◌, ◌∷◌, IfNone, IfSome, drop, length, option_map};
+ghost use Rattle.mbdc_sheet.specs.Line.{is_text};
 ghost use Rattle.mbdc_sheet.specs.Parts.{is_one_of, left_parts, part_at, parts_of, piece_of};
 
 use memchr::memchr;
@@ -39,6 +40,16 @@ pub(crate) fn part_at(text: &[u8], mark: u8, at: usize) -> Option<&[u8]>
         return Some(part);
     }
     part_at(rest?, mark, at - 1)
+}
+
+/// Whether a part of a text is this one.
+pub(crate) fn is_part(text: &[u8], mark: u8, at: usize, wanted: &[u8]) -> bool
+    ensures { result ≡ is_text wanted.now (part_at mark text.now at) }
+{
+    match part_at(text, mark, at) {
+        Some(part) => part == wanted,
+        None => false,
+    }
 }
 
 /// Whether a word is one of these, with spaces between them.

@@ -7,9 +7,9 @@ ghost use Rattle.mbdc_sheet.specs.Parts.{parts_of};
 ghost use Rattle.mbdc_sheet.specs.Sheet.{are_shown, first_user, is_fine, is_line, is_sheet, is_sheet_in};
 ghost use Rattle.mbdc_sheet.specs.View.{known_of};
 
-use crate::flaw::{Known, named, user_in};
+use crate::flaw::{Known, named};
 use crate::line::{digits_on, is_wanted, line_at};
-use crate::parts::{first_part, part_at, piece_of};
+use crate::parts::{first_part, is_part, part_at, piece_of};
 use crate::written::{Marks, strip};
 use mbdc_io::{IoFault, Sink, first_line, put_number};
 
@@ -28,22 +28,15 @@ fn first_user(page: &[u8]) -> Option<&[u8]>
     let mut left = Some(page);
     'parts: while let Some(rest) = left {
         let (part, next) = first_part(rest, b'<');
-        if let Some(user) = user_in(piece_of(part).tag) {
+        let tag = piece_of(part).tag;
+        if is_part(tag, b'"', 0, b"main data-user=")
+            && let Some(user) = part_at(tag, b'"', 1)
+        {
             return Some(user);
         }
         left = next;
     }
     None
-}
-
-// Whether a part of a page names the line.
-fn is_line(number: usize, part: &[u8]) -> bool
-    ensures { result ≡ is_line number part.now }
-{
-    let Some(text) = named(b" data-line=", piece_of(part).tag) else {
-        return false;
-    };
-    digits_on(0, text) == Some(number)
 }
 
 // Whether any part of a page names the line.
@@ -53,7 +46,9 @@ fn is_shown(page: &[u8], number: usize) -> bool
     let mut left = Some(page);
     'parts: while let Some(rest) = left {
         let (part, next) = first_part(rest, b'<');
-        if is_line(number, part) {
+        if let Some(text) = named(b" data-line=", piece_of(part).tag)
+            && digits_on(0, text) == Some(number)
+        {
             return true;
         }
         left = next;

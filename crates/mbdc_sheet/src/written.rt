@@ -1,8 +1,7 @@
 //! Numbers as a language writes them.
 
 ghost use Rattle.std.specs.Prelude.{◌≡◌, option_map};
-ghost use Rattle.mbdc_sheet.specs.Parts.{left_parts};
-ghost use Rattle.mbdc_sheet.specs.Written.{after_decimals, grouped, shows, stripped};
+ghost use Rattle.mbdc_sheet.specs.Written.{grouped, shows, stripped};
 
 use crate::parts::first_part;
 use crate::text::is_quiet;
@@ -54,21 +53,6 @@ fn strip_grouped<'t>(mark: u8, digits: &[u8], text: &'t [u8]) -> Option<&'t [u8]
     }
 }
 
-// What is left of a text after the decimals of a number, if it has any.
-fn strip_decimals<'t>(mark: u8, decimals: Option<&[u8]>, text: &'t [u8]) -> Option<&'t [u8]>
-    ensures { option_map (λ t. t.now) result
-        ≡ after_decimals mark (left_parts 46 (option_map (λ d. d.now) decimals.entry)) text.now }
-{
-    let Some(decimals) = decimals else {
-        return Some(text);
-    };
-    let (decimals, _) = first_part(decimals, b'.');
-    match text {
-        [first, text @ ..] if *first == mark => strip(decimals, text),
-        _ => None,
-    }
-}
-
 /// Whether a text shows a number.
 pub(crate) fn shows(marks: Marks, number: &[u8], text: &[u8]) -> bool
     ensures { result ≡ shows marks number.now text.now }
@@ -80,8 +64,14 @@ pub(crate) fn shows(marks: Marks, number: &[u8], text: &[u8]) -> bool
     let Some(rest) = strip_grouped(marks.thousands, whole, text) else {
         return false;
     };
-    match strip_decimals(marks.decimals, decimals, rest) {
-        Some(rest) => is_quiet(rest),
-        None => false,
+    let Some(decimals) = decimals else {
+        return is_quiet(rest);
+    };
+    let (decimals, _) = first_part(decimals, b'.');
+    match rest {
+        [first, rest @ ..] if *first == marks.decimals => {
+            strip(decimals, rest).is_some_and(is_quiet)
+        }
+        _ => false,
     }
 }
