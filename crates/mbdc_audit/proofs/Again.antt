@@ -3,10 +3,10 @@ use Rattle.std.proofs.Common.{arith, ◌≡◌, ◌≤◌, ◌&&◌, ◌||◌, �
 use Rattle.std.specs.Prelude.{◌==◌, is_some, nat_lt, zip}
 use Rattle.std.specs.List.{list_all, list_any}
 use Rattle.std.proofs.lemmas.Bool.Decides.{nat_tests}
-use Rattle.mbdc_consumption.specs.Mark.{exchanges_in, marked_in}
-use Rattle.mbdc_consumption.specs.Order.{IsInOrder}
-use Rattle.mbdc_consumption.specs.Period.{consumption}
-use Rattle.mbdc_consumption.specs.declared.entry.Entry.{Entry}
+use Rattle.mbdc_audit.specs.Consumption.Mark.{exchanges_in, marked_in}
+use Rattle.mbdc_audit.specs.Consumption.Order.{IsInOrder}
+use Rattle.mbdc_audit.specs.Consumption.Period.{consumption}
+use Rattle.mbdc_audit.specs.declared.consumption.entry.Entry.{Entry}
 use Rattle.mbdc_audit.specs.Amount.{ahead, amount, are_whole, counting, deciding, due, entry_of, grade, is_below, is_by, is_exchange, is_final, is_guess, is_near_pair, is_put, is_until, last_of, lies_at, passed}
 use Rattle.mbdc_audit.specs.Grade.{has_number}
 use Rattle.mbdc_audit.specs.House.{Run, Value}

@@ -3,9 +3,9 @@ use Rattle.std.proofs.Common.{arith, ◌≡◌, ◌≤◌, ◌&&◌, ◌||◌, �
 use Rattle.std.specs.Prelude.{◌==◌, is_some, nat_lt}
 use Rattle.std.specs.List.{list_any}
 use Rattle.std.proofs.lemmas.Bool.Decides.{nat_tests}
-use Rattle.mbdc_consumption.specs.Mark.{marked_in}
-use Rattle.mbdc_consumption.specs.Order.{IsInOrder}
-use Rattle.mbdc_consumption.specs.declared.entry.Entry.{Entry}
+use Rattle.mbdc_audit.specs.Consumption.Mark.{marked_in}
+use Rattle.mbdc_audit.specs.Consumption.Order.{IsInOrder}
+use Rattle.mbdc_audit.specs.declared.consumption.entry.Entry.{Entry}
 use Rattle.mbdc_audit.specs.Amount.{amount, basis, counting, entries, entry_of, grade, is_clear, is_final, is_guess, is_measured, is_near, is_put, is_same, is_told, mark, put_mark, told, unless_told}
 use Rattle.mbdc_audit.specs.Grade.{has_number}
 use Rattle.mbdc_audit.specs.House.{Run, Value}

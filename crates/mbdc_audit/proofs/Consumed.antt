@@ -28,5 +28,3 @@ pub mod Refuted
 pub mod Replaced
 -- where no step of a period is marked, its values count
 pub mod Clean
--- the entries that count are in order
-pub mod Kept

@@ -1,7 +1,7 @@
 -- The parts of sound places say what their places consumed.
 use Rattle.std.proofs.Common.{arith, ◌≡◌, ◌≤◌, ℕ, zero, suc, List, [], ◌∷◌, map, get_or, sym, subst, Some}
 use Rattle.std.specs.Prelude.{All, slice_get}
-use Rattle.mbdc_consumption.specs.Order.{IsInOrder}
+use Rattle.mbdc_audit.specs.Consumption.Order.{IsInOrder}
 use Rattle.mbdc_audit.specs.Amount.{entries}
 use Rattle.mbdc_audit.specs.House.{House, Span, Value}
 use Rattle.mbdc_audit.specs.Settled.{AreCounted, AreKnown}

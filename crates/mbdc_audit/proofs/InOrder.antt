@@ -3,8 +3,8 @@ use Rattle.std.proofs.Common.{arith, ◌≡◌, ◌≤◌, ◌<◌, ◌&&◌, �
 use Rattle.std.proofs.Common.{refl, subst, if◌then◌else◌, get_or, Some}
 use Rattle.std.specs.Prelude.{AllPairs, ◌==◌}
 use Rattle.std.specs.List.{list_any}
-use Rattle.mbdc_consumption.specs.declared.entry.Entry.{Entry}
-use Rattle.mbdc_consumption.specs.Order.{IsInOrder}
+use Rattle.mbdc_audit.specs.declared.consumption.entry.Entry.{Entry}
+use Rattle.mbdc_audit.specs.Consumption.Order.{IsInOrder}
 use Rattle.mbdc_audit.specs.House.{House, Part, Place, Run, Span, Value, Window, put}
 use Rattle.mbdc_audit.specs.Amount.{amount, counting, entries, entry_of, is_again, known, no_text}
 use Rattle.mbdc_audit.specs.Sound.{IsWindow, Tile, from, to}

@@ -1,5 +1,7 @@
 -- lemmas by topic
 
+-- what a place consumed in any period
+mod Consumed
 -- powers of ten
 pub mod Powers
 -- the fields of a text

@@ -3,11 +3,11 @@ use Rattle.std.proofs.Common.{arith, ◌≡◌, ◌≤◌, ◌<◌, ◌&&◌, �
 use Rattle.std.specs.Prelude.{All, ◌==◌, is_some, nat_eq, nat_lt}
 use Rattle.std.specs.List.{list_any}
 use Rattle.std.proofs.lemmas.Bool.Decides.{nat_tests}
-use Rattle.mbdc_consumption.specs.Mark.{exchanges_in, marked_in}
-use Rattle.mbdc_consumption.specs.Period.{checked, consumption}
-use Rattle.mbdc_consumption.specs.declared.entry.Entry.{Entry}
-use Rattle.mbdc_consumption.specs.declared.fault.AmountFault.{AmountFault}
-use Rattle.mbdc_consumption.specs.declared.fault.AmountFault.TheVariants.{TooLarge}
+use Rattle.mbdc_audit.specs.Consumption.Mark.{exchanges_in, marked_in}
+use Rattle.mbdc_audit.specs.Consumption.Period.{checked, consumption}
+use Rattle.mbdc_audit.specs.declared.consumption.entry.Entry.{Entry}
+use Rattle.mbdc_audit.specs.declared.consumption.fault.AmountFault.{AmountFault}
+use Rattle.mbdc_audit.specs.declared.consumption.fault.AmountFault.TheVariants.{TooLarge}
 use Rattle.mbdc_audit.specs.Amount.{amount, are_whole, basis, counting, due, entries, entry_of, grade, is_below, is_final, is_near}
 use Rattle.mbdc_audit.specs.Grade.{has_number}
 use Rattle.mbdc_audit.specs.House.{Run, Value}

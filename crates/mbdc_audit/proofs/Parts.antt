@@ -1,11 +1,11 @@
 -- The amounts of parts that tile a period add up to the period's.
 use Rattle.std.proofs.Common.{arith, ◌≡◌, ◌≤◌, ◌<◌, ◌+◌, ℕ, List, [], ◌∷◌, map, Option, None, Some, refl, ap, ◌∙◌}
-use Rattle.mbdc_consumption.specs.declared.entry.Entry.{Entry}
-use Rattle.mbdc_consumption.specs.Curve.{curve}
-use Rattle.mbdc_consumption.specs.Order.{IsInOrder}
-use Rattle.mbdc_consumption.specs.Period.{added, consumption, sum_of}
-use Rattle.mbdc_consumption.proofs.Rising.{two_periods}
-use Rattle.mbdc_consumption.proofs.Risen.{rising_curve}
+use Rattle.mbdc_audit.specs.declared.consumption.entry.Entry.{Entry}
+use Rattle.mbdc_audit.specs.Consumption.Curve.{curve}
+use Rattle.mbdc_audit.specs.Consumption.Order.{IsInOrder}
+use Rattle.mbdc_audit.specs.Consumption.Period.{added, consumption, sum_of}
+use Rattle.mbdc_audit.proofs.Consumed.Rising.{two_periods}
+use Rattle.mbdc_audit.proofs.Consumed.Risen.{rising_curve}
 use Rattle.mbdc_audit.specs.House.{Part}
 use Rattle.mbdc_audit.specs.Sound.{Tile}
 

@@ -1,7 +1,7 @@
 -- What a place consumed in a period is the number that is defined.
 use Rattle.std.proofs.Common.{arith, ◌≡◌, ◌&&◌, ◌+◌, ◌*◌, ◌≤◌, ℕ, List, [], ◌∷◌, true, map, Option, None, Some}
 use Rattle.std.proofs.Common.{sym, ap, ◌∙◌, subst, if◌then◌else◌, is_some}
-use Rattle.mbdc_consumption.specs.Order.{IsInOrder}
+use Rattle.mbdc_audit.specs.Consumption.Order.{IsInOrder}
 use Rattle.mbdc_audit.specs.declared.curve.Amount as amount_type
 use Rattle.mbdc_audit.specs.declared.curve.Run as run_type
 use Rattle.mbdc_audit.specs.declared.exact.Exact.{Exact}

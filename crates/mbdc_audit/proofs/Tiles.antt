@@ -1,12 +1,12 @@
 -- Two windows that agree on what decides a moment tile.
 use Rattle.std.proofs.Common.{arith, ◌≡◌, ◌≤◌, ◌<◌, ◌++◌, ℕ, List, [], ◌∷◌, Option, sym, ap, subst, ◌∙◌}
-use Rattle.mbdc_consumption.specs.declared.entry.Entry.{Entry}
-use Rattle.mbdc_consumption.specs.Curve.{curve}
-use Rattle.mbdc_consumption.specs.Order.{IsInOrder}
-use Rattle.mbdc_consumption.specs.Period.{added, consumption}
-use Rattle.mbdc_consumption.proofs.Local.{consumption_is_local}
-use Rattle.mbdc_consumption.proofs.Rising.{two_periods}
-use Rattle.mbdc_consumption.proofs.Risen.{rising_curve}
+use Rattle.mbdc_audit.specs.declared.consumption.entry.Entry.{Entry}
+use Rattle.mbdc_audit.specs.Consumption.Curve.{curve}
+use Rattle.mbdc_audit.specs.Consumption.Order.{IsInOrder}
+use Rattle.mbdc_audit.specs.Consumption.Period.{added, consumption}
+use Rattle.mbdc_audit.proofs.Consumed.Local.{consumption_is_local}
+use Rattle.mbdc_audit.proofs.Consumed.Rising.{two_periods}
+use Rattle.mbdc_audit.proofs.Consumed.Risen.{rising_curve}
 
 below : (a b : ℕ) → a < b → a ≤ b
 below a b lt = omega arith

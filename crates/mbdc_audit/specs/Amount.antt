@@ -4,9 +4,9 @@ use Rattle.std.specs.Prelude.{List, [], ◌∷◌, ◌++◌, length, filter, map
 use Rattle.std.specs.List.{list_any, list_all}
 use Rattle.std.specs.Prelude.{zip}
 use Rattle.std.specs.Str.{bytes_eq}
-use Rattle.mbdc_consumption.specs.declared.entry.Entry.{Entry}
-use Rattle.mbdc_consumption.specs.Mark.{exchanges_in, marked_in}
-use Rattle.mbdc_consumption.specs.Period.{consumption}
+use Rattle.mbdc_audit.specs.declared.consumption.entry.Entry.{Entry}
+use Rattle.mbdc_audit.specs.Consumption.Mark.{exchanges_in, marked_in}
+use Rattle.mbdc_audit.specs.Consumption.Period.{consumption}
 use Rattle.mbdc_audit.specs.House.{Run, Value, Spelled, Source, current, ended, anew, put, first, last}
 use Rattle.mbdc_audit.specs.declared.grade.Grade.{Grade}
 use Rattle.mbdc_audit.specs.declared.grade.Grade.TheVariants.{Measured, Hand, Provisional, Estimated, Unclear, Disturbed, Missing}

@@ -4,8 +4,6 @@
 pub mod Step
 -- entries in order of moment
 pub mod Order
--- which entries count
-pub mod Counted
 -- the curve of a place
 pub mod Curve
 -- which steps of a period are marked

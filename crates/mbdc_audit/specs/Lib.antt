@@ -2,6 +2,8 @@
 
 -- the house that a file spells
 pub mod House
+-- what a place consumed in any period, by its readings
+pub mod Consumption
 -- what a place consumed, and the mark of that number
 pub mod Amount
 -- which value telegrams give

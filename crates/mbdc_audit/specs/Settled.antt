@@ -1,7 +1,7 @@
 -- The values of a window once they are looked at beside each other, and what its parts say then (this product).
 use Rattle.std.specs.Prelude.{◌≡◌, ◌≤◌, ◌↔◌, ◌&&◌, ℕ, true, All, List, Ok, Some, flat_map, length, slice_get, zip}
 use Rattle.std.specs.List.{list_any}
-use Rattle.mbdc_consumption.specs.Order.{IsInOrder}
+use Rattle.mbdc_audit.specs.Consumption.Order.{IsInOrder}
 use Rattle.mbdc_audit.specs.Amount.{entries, known, of_run}
 use Rattle.mbdc_audit.specs.House.{Place, Run, Struck, Use}
 use Rattle.mbdc_audit.specs.Sound.{Falls, IfAnew, IsRead}

@@ -7,31 +7,26 @@
 //! the old meter's last value and the new one's first. Between two entries consumption is taken as even, and rounded
 //! down.
 //!
-//! Of several entries of one meter at one moment the last counts: [`counted`] drops the others.
 //! The place's curve is all that it consumed from its first entry up to a moment. [`consumption`] is
-//! what it consumed in a period, a difference of the curve. A [`Period`] has its marks, too:
-//! [`backwards`] counts the steps of a period that are doubtful (the meter ran backwards, or rose by
-//! more than it can have counted), and those before and after such a step, since it doesn't say which
-//! of its two values is false; [`exchanges`] counts the steps between different meters.
+//! what it consumed in a period, a difference of the curve. [`backwards`] counts the steps of a period
+//! that are doubtful (the meter ran backwards, or rose by more than it can have counted), and those
+//! before and after such a step, since it doesn't say which of its two values is false; [`exchanges`]
+//! counts the steps between different meters.
 //!
 //! Proved: each result is its definition, and an amount is a fault only where it is 2^64 or more.
 //! Theorems: the functions of `laws`.
-#![tactic(auto)]
 
 mod between;
 mod checked;
-mod counting;
 mod entry;
 mod fault;
 mod laws;
 mod mark;
 mod order;
-mod period;
 mod reached;
 mod walk;
 
 pub use between::consumption;
-pub use counting::counted;
 pub use entry::Entry;
 pub use fault::AmountFault;
 pub use laws::{
@@ -44,4 +39,3 @@ pub use laws::{
 };
 pub use mark::{backwards, exchanges};
 pub use order::is_in_order;
-pub use period::Period;

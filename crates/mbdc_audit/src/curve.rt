@@ -15,17 +15,17 @@ ghost use Rattle.mbdc_audit.specs.Kept.{IsMarked, capped, known_by};
 ghost use Rattle.mbdc_audit.specs.Sound.{AreAlike, is_word};
 ghost use Rattle.mbdc_audit.specs.Walk.{IsGraded, is_found};
 ghost use Rattle.mbdc_audit.specs.View.{is_told_word, known_in, run_of, seen_value, source_of};
-ghost use Rattle.mbdc_consumption.specs.Mark.{exchanges_in};
-ghost use Rattle.mbdc_consumption.specs.Order.{IsInOrder};
-ghost use Rattle.mbdc_consumption.specs.Period.{consumption};
+ghost use Rattle.mbdc_audit.specs.Consumption.Mark.{exchanges_in};
+ghost use Rattle.mbdc_audit.specs.Consumption.Order.{IsInOrder};
+ghost use Rattle.mbdc_audit.specs.Consumption.Period.{consumption};
 
+use crate::consumption::{Entry, backwards, consumption, exchanges, is_in_order};
 use crate::fault::Stop;
 use crate::grade::{Grade, UNCLEAR};
 use crate::house::Value;
 use crate::line::Word;
 use crate::smallest::END_OF_VALUES;
 use dc_address::Identity;
-use mbdc_consumption::{Entry, backwards, consumption, exchanges, is_in_order};
 use std::alloc::{AllocError, Allocator};
 
 /// A meter at a place from its beginning to its end; a counter that began anew is another run.

@@ -2,9 +2,9 @@
 
 ghost use Rattle.std.specs.Prelude.{◌≡◌, ◌<◌, ◌≤◌, ◌∷◌, ◌++◌, ℕ, false, true, Some, All, List, Option};
 ghost use Rattle.std.specs.Prelude.{length, map, slice_index_or};
-ghost use Rattle.mbdc_consumption.specs.declared.entry.Entry.{Entry};
-ghost use Rattle.mbdc_consumption.specs.Order.{IsInOrder};
-ghost use Rattle.mbdc_consumption.specs.Period.{added, consumption, sum_of};
+ghost use Rattle.mbdc_audit.specs.declared.consumption.entry.Entry.{Entry};
+ghost use Rattle.mbdc_audit.specs.Consumption.Order.{IsInOrder};
+ghost use Rattle.mbdc_audit.specs.Consumption.Period.{added, consumption, sum_of};
 ghost use Rattle.mbdc_audit.specs.House.{House, Part, Place, Run, Span, Value, Window};
 ghost use Rattle.mbdc_audit.specs.Amount.{amount, entries, known, mark, told};
 ghost use Rattle.dc_records.specs.Record.{Entry as Record};

@@ -5,6 +5,7 @@
 #![tactic(auto)]
 
 mod apart;
+pub mod consumption;
 mod curve;
 mod engine;
 mod evidence;

@@ -5,7 +5,7 @@ ghost use Rattle.std.specs.Prelude.{AllPairs, Contains, IfErr, IfOk, IsTrue, Non
 ghost use Rattle.std.specs.Prelude.{slice_get};
 ghost use Rattle.std.specs.Str.{bytes_eq};
 ghost use Rattle.dc_units.specs.Text.{decimal_text};
-ghost use Rattle.mbdc_consumption.specs.Order.{IsInOrder};
+ghost use Rattle.mbdc_audit.specs.Consumption.Order.{IsInOrder};
 ghost use Rattle.mbdc_audit.specs.Amount.{entries, is_same, known};
 ghost use Rattle.mbdc_audit.specs.declared.exact.Exact.{Exact};
 ghost use Rattle.mbdc_audit.specs.Exact.{FitsRounded};

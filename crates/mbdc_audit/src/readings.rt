@@ -4,7 +4,7 @@ ghost use Rattle.std.specs.Prelude.{◌≡◌, ◌≤◌, ◌&&◌, ◌==◌, �
 ghost use Rattle.std.specs.Prelude.{filter, flat_map, map, nat_lt, slice_get, take};
 ghost use Rattle.std.specs.List.{list_any};
 ghost use Rattle.mbdc_audit.specs.House.{Use as UseOf};
-ghost use Rattle.mbdc_consumption.specs.Order.{IsInOrder};
+ghost use Rattle.mbdc_audit.specs.Consumption.Order.{IsInOrder};
 ghost use Rattle.mbdc_audit.specs.Amount.{entries, last_of, of_run};
 ghost use Rattle.mbdc_audit.specs.Evidence.{IsSpelled, list_of};
 ghost use Rattle.mbdc_audit.specs.Settled.{AreCounted, AreKnown, AreSettled, IsReadBy, IsSettled, IsTold};

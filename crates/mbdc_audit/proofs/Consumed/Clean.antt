@@ -2,17 +2,17 @@
 use Rattle.std.proofs.Common.{◌≡◌, ℕ, suc, ◌-◌, ◌<◌, ◌≤◌, ⊎_elim, Bool, true, false, cond, List, [], ◌∷◌, ◌++◌, length, Some, refl, sym, ap, ◌∙◌, subst, append_assoc, arith}
 use Rattle.std.specs.Prelude.{All}
 use Rattle.std.proofs.lemmas.Bool.{cases_lt, false≢true}
-use Rattle.mbdc_consumption.specs.declared.entry.Entry.{Entry}
-use Rattle.mbdc_consumption.specs.Step.{is_backwards, is_turn, total}
-use Rattle.mbdc_consumption.specs.Order.{IsInOrder}
-use Rattle.mbdc_consumption.specs.Period.{consumption}
-use Rattle.mbdc_consumption.specs.Run.{HasNoTurn, IsSettled}
-use Rattle.mbdc_consumption.specs.Mark.{Step, marked_in}
-use Rattle.mbdc_consumption.proofs.Turns.{falls}
-use Rattle.mbdc_consumption.proofs.Grown.{Ascends, end_of, end_later, none_passed, total-one}
-use Rattle.mbdc_consumption.proofs.Local.{end_of-append, ascends_front, ascends_in}
-use Rattle.mbdc_consumption.proofs.Marked.{passes, passes-cons, touched, ends_in, touched-marked}
-use Rattle.mbdc_consumption.proofs.Runs.{RunsOn, run_rises, total-run, consumption_at_entries}
+use Rattle.mbdc_audit.specs.declared.consumption.entry.Entry.{Entry}
+use Rattle.mbdc_audit.specs.Consumption.Step.{is_backwards, is_turn, total}
+use Rattle.mbdc_audit.specs.Consumption.Order.{IsInOrder}
+use Rattle.mbdc_audit.specs.Consumption.Period.{consumption}
+use Rattle.mbdc_audit.specs.Consumption.Run.{HasNoTurn, IsSettled}
+use Rattle.mbdc_audit.specs.Consumption.Mark.{Step, marked_in}
+use Rattle.mbdc_audit.proofs.Consumed.Turns.{falls}
+use Rattle.mbdc_audit.proofs.Consumed.Grown.{Ascends, end_of, end_later, none_passed, total-one}
+use Rattle.mbdc_audit.proofs.Consumed.Local.{end_of-append, ascends_front, ascends_in}
+use Rattle.mbdc_audit.proofs.Consumed.Marked.{passes, passes-cons, touched, ends_in, touched-marked}
+use Rattle.mbdc_audit.proofs.Consumed.Runs.{RunsOn, run_rises, total-run, consumption_at_entries}
 
 passes-one_more : (test : Entry → Entry → Bool) (x : Entry) (entries : List Entry) → passes test entries ≤ passes test (x ∷ entries)
 passes-one_more test x [] = omega arith

@@ -3,13 +3,13 @@ use Rattle.std.proofs.Common.{◌≡◌, ℕ, suc, ◌≤◌, List, [], ◌∷�
 use Rattle.std.specs.Prelude.{All}
 use Rattle.std.specs.List.{AllByRecursion}
 use Rattle.std.specs.List.Sorted.{IsNonDecreasing}
-use Rattle.mbdc_consumption.specs.declared.entry.Entry.{Entry}
-use Rattle.mbdc_consumption.specs.Step.{with_next}
-use Rattle.mbdc_consumption.specs.Order.{IsInOrder}
-use Rattle.mbdc_consumption.specs.Curve.{curve}
-use Rattle.mbdc_consumption.specs.Period.{between, added, sum_of, consumption, consumptions, house_curve, house_consumption, house_consumptions}
-use Rattle.mbdc_consumption.proofs.Rising.{IsRising, Climbs, climbs, climbs_to, many_periods, rising_sum, sum_of_periods}
-use Rattle.mbdc_consumption.proofs.Risen.{rising_curve}
+use Rattle.mbdc_audit.specs.declared.consumption.entry.Entry.{Entry}
+use Rattle.mbdc_audit.specs.Consumption.Step.{with_next}
+use Rattle.mbdc_audit.specs.Consumption.Order.{IsInOrder}
+use Rattle.mbdc_audit.specs.Consumption.Curve.{curve}
+use Rattle.mbdc_audit.specs.Consumption.Period.{between, added, sum_of, consumption, consumptions, house_curve, house_consumption, house_consumptions}
+use Rattle.mbdc_audit.proofs.Consumed.Rising.{IsRising, Climbs, climbs, climbs_to, many_periods, rising_sum, sum_of_periods}
+use Rattle.mbdc_audit.proofs.Consumed.Risen.{rising_curve}
 
 all_rising : (places : List (List Entry)) → All IsInOrder places → AllByRecursion (λ (entries : List Entry). IsRising (curve entries)) places
 all_rising [] all = tt

@@ -1,15 +1,15 @@
 -- Where the curve is known, and that it is never negative.
 use Rattle.std.proofs.Common.{◌≡◌, ◌≢◌, ℕ, zero, suc, ◌+◌, ◌-◌, ◌<◌, ◌≤◌, List, [], ◌∷◌, length, get_or, Option, None, Some, IsSome, refl, sym, ap, ◌∙◌, subst, arith}
 use Rattle.std.specs.Prelude.{Any}
-use Rattle.mbdc_consumption.specs.declared.entry.Entry.{Entry}
-use Rattle.mbdc_consumption.specs.Step.{total}
-use Rattle.mbdc_consumption.specs.Order.{IsInOrder}
-use Rattle.mbdc_consumption.specs.Curve.{passed, curve}
-use Rattle.mbdc_consumption.specs.Period.{between, added, consumption, Rises}
-use Rattle.mbdc_consumption.specs.Run.{IsSettled}
-use Rattle.mbdc_consumption.proofs.Grown.{Ascends, end_of, ascends, end_later, total-one, total-cons, none_passed, passed_first, curve-nil, curve-within}
-use Rattle.mbdc_consumption.proofs.Risen.{known, rising_curve}
-use Rattle.mbdc_consumption.proofs.Turns.{step-exchange}
+use Rattle.mbdc_audit.specs.declared.consumption.entry.Entry.{Entry}
+use Rattle.mbdc_audit.specs.Consumption.Step.{total}
+use Rattle.mbdc_audit.specs.Consumption.Order.{IsInOrder}
+use Rattle.mbdc_audit.specs.Consumption.Curve.{passed, curve}
+use Rattle.mbdc_audit.specs.Consumption.Period.{between, added, consumption, Rises}
+use Rattle.mbdc_audit.specs.Consumption.Run.{IsSettled}
+use Rattle.mbdc_audit.proofs.Consumed.Grown.{Ascends, end_of, ascends, end_later, total-one, total-cons, none_passed, passed_first, curve-nil, curve-within}
+use Rattle.mbdc_audit.proofs.Consumed.Risen.{known, rising_curve}
+use Rattle.mbdc_audit.proofs.Consumed.Turns.{step-exchange}
 
 -- no entry is after the last one, and the last one is an entry
 later_than : (a : Entry) (rest : List Entry) → Ascends a rest → (k : ℕ) (x : Entry) → k < length (a ∷ rest) → get_or (a ∷ rest) k x ≡ x

@@ -1,14 +1,14 @@
 -- Which entries a consumption depends on.
 use Rattle.std.proofs.Common.{◌≡◌, ℕ, ◌+◌, ◌-◌, ◌<◌, ◌≤◌, ⊎_elim, List, [], ◌∷◌, ◌++◌, Some, refl, sym, ap, ◌∙◌, subst, append_assoc, zero-add, arith}
 use Rattle.std.proofs.lemmas.Bool.{cases_lt}
-use Rattle.mbdc_consumption.specs.declared.entry.Entry.{Entry}
-use Rattle.mbdc_consumption.specs.Step.{step, total}
-use Rattle.mbdc_consumption.specs.Order.{IsInOrder}
-use Rattle.mbdc_consumption.specs.Curve.{passed, curve}
-use Rattle.mbdc_consumption.specs.Period.{between, consumption}
-use Rattle.mbdc_consumption.specs.Run.{IsSettled}
-use Rattle.mbdc_consumption.proofs.Grown.{Ascends, end_of, grown, ascends, end_later, total-one, total-cons, none_passed, passed_first, curve-within}
-use Rattle.mbdc_consumption.proofs.Risen.{share-zero, grown-before, grown-past}
+use Rattle.mbdc_audit.specs.declared.consumption.entry.Entry.{Entry}
+use Rattle.mbdc_audit.specs.Consumption.Step.{step, total}
+use Rattle.mbdc_audit.specs.Consumption.Order.{IsInOrder}
+use Rattle.mbdc_audit.specs.Consumption.Curve.{passed, curve}
+use Rattle.mbdc_audit.specs.Consumption.Period.{between, consumption}
+use Rattle.mbdc_audit.specs.Consumption.Run.{IsSettled}
+use Rattle.mbdc_audit.proofs.Consumed.Grown.{Ascends, end_of, grown, ascends, end_later, total-one, total-cons, none_passed, passed_first, curve-within}
+use Rattle.mbdc_audit.proofs.Consumed.Risen.{share-zero, grown-before, grown-past}
 
 -- ---- lists that are joined
 

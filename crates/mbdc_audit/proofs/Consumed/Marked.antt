@@ -2,9 +2,9 @@
 use Rattle.std.proofs.Common.{◌≡◌, ℕ, ◌+◌, ◌<◌, ◌≤◌, Bool, true, false, ◌&&◌, ◌||◌, cond, ltb, leb, List, [], ◌∷◌, length, refl, arith}
 use Rattle.std.specs.Prelude.{filter}
 use Rattle.std.proofs.lemmas.Bool.{lt-ltb, le-leb, or_right, and_from}
-use Rattle.mbdc_consumption.specs.declared.entry.Entry.{Entry}
-use Rattle.mbdc_consumption.specs.Step.{with_next, is_backwards, is_doubtful, is_too_much}
-use Rattle.mbdc_consumption.specs.Mark.{Step, touches, is_doubtful_next, steps_after, is_marked_in}
+use Rattle.mbdc_audit.specs.declared.consumption.entry.Entry.{Entry}
+use Rattle.mbdc_audit.specs.Consumption.Step.{with_next, is_backwards, is_doubtful, is_too_much}
+use Rattle.mbdc_audit.specs.Consumption.Mark.{Step, touches, is_doubtful_next, steps_after, is_marked_in}
 
 -- how many of the steps pass a test
 abbrev pub passes : (Entry → Entry → Bool) → List Entry → ℕ

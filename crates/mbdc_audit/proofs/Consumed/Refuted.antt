@@ -2,11 +2,11 @@
 use Rattle.std.proofs.Common.{◌≡◌, ◌≢◌, ℕ, ◌+◌, ◌<◌, ◌≤◌, ◌⊎◌, inl, inr, ⊎_elim, Bool, true, false, ◌||◌, cond, List, [], ◌∷◌, ◌++◌, length, refl, ap, arith}
 use Rattle.std.specs.Prelude.{filter}
 use Rattle.std.proofs.lemmas.Bool.{and_from, false≢true, or_left, or_right}
-use Rattle.mbdc_consumption.specs.declared.entry.Entry.{Entry}
-use Rattle.mbdc_consumption.specs.Step.{is_backwards, is_doubtful, is_too_much, is_turn}
-use Rattle.mbdc_consumption.specs.Mark.{Step, is_doubtful_next, is_marked, is_marked_in, marked_in, steps_after, touches, touch_one}
-use Rattle.mbdc_consumption.proofs.Marked.{kept}
-use Rattle.mbdc_consumption.proofs.Turns.{falls}
+use Rattle.mbdc_audit.specs.declared.consumption.entry.Entry.{Entry}
+use Rattle.mbdc_audit.specs.Consumption.Step.{is_backwards, is_doubtful, is_too_much, is_turn}
+use Rattle.mbdc_audit.specs.Consumption.Mark.{Step, is_doubtful_next, is_marked, is_marked_in, marked_in, steps_after, touches, touch_one}
+use Rattle.mbdc_audit.proofs.Consumed.Marked.{kept}
+use Rattle.mbdc_audit.proofs.Consumed.Turns.{falls}
 
 -- how many steps are marked, the first of them after a doubtful one or not
 abbrev count : ℕ → ℕ → Bool → List Entry → ℕ

@@ -1,16 +1,16 @@
 -- Another value in the place of one.
 use Rattle.std.proofs.Common.{◌≡◌, ℕ, ◌+◌, ◌-◌, ◌<◌, ◌≤◌, ◌⊎◌, inl, inr, ⊎_elim, List, [], ◌∷◌, ◌++◌, Option, None, Some, refl, sym, ap, ◌∙◌, subst, arith}
 use Rattle.std.proofs.lemmas.Bool.{cases_lt}
-use Rattle.mbdc_consumption.specs.declared.entry.Entry.{Entry}
-use Rattle.mbdc_consumption.specs.Step.{step}
-use Rattle.mbdc_consumption.specs.Order.{IsInOrder}
-use Rattle.mbdc_consumption.specs.Curve.{curve}
-use Rattle.mbdc_consumption.specs.Period.{between, consumption, DifferByAtMost}
-use Rattle.mbdc_consumption.specs.Run.{valued}
-use Rattle.mbdc_consumption.proofs.Grown.{Ascends, ascends, end_of, grown, curve-after, curve-before, curve-within}
-use Rattle.mbdc_consumption.proofs.Local.{end_of-append}
-use Rattle.mbdc_consumption.proofs.Risen.{grown-before, grown-past, grown_rises, share-le-step}
-use Rattle.mbdc_consumption.proofs.Turns.{step-rising}
+use Rattle.mbdc_audit.specs.declared.consumption.entry.Entry.{Entry}
+use Rattle.mbdc_audit.specs.Consumption.Step.{step}
+use Rattle.mbdc_audit.specs.Consumption.Order.{IsInOrder}
+use Rattle.mbdc_audit.specs.Consumption.Curve.{curve}
+use Rattle.mbdc_audit.specs.Consumption.Period.{between, consumption, DifferByAtMost}
+use Rattle.mbdc_audit.specs.Consumption.Run.{valued}
+use Rattle.mbdc_audit.proofs.Consumed.Grown.{Ascends, ascends, end_of, grown, curve-after, curve-before, curve-within}
+use Rattle.mbdc_audit.proofs.Consumed.Local.{end_of-append}
+use Rattle.mbdc_audit.proofs.Consumed.Risen.{grown-before, grown-past, grown_rises, share-le-step}
+use Rattle.mbdc_audit.proofs.Consumed.Turns.{step-rising}
 
 -- the same, or both between a sum and the sum with a difference
 abbrev IsNear : ℕ → ℕ → ℕ → ℕ → Type 0

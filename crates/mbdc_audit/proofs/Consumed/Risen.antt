@@ -2,13 +2,13 @@
 use Rattle.std.proofs.Common.{◌≡◌, ℕ, ◌+◌, ◌-◌, ◌*◌, ◌/◌, ◌<◌, ◌≤◌, ⊎_elim, ltb, List, [], ◌∷◌, Option, None, Some, refl, sym, ap, ◌∙◌, subst, arith}
 use Rattle.std.proofs.Math.Nat.{mul-le-mul_left, mul_comm, div-le_of_le-mul, le-div_iff_mul-le, div-mul-le_self, mul-zero, zero-div, le_trans}
 use Rattle.std.proofs.lemmas.Bool.{cases_lt, cond-true, cond-false, lt-ltb, le-ltb}
-use Rattle.mbdc_consumption.specs.declared.entry.Entry.{Entry}
-use Rattle.mbdc_consumption.specs.Step.{step}
-use Rattle.mbdc_consumption.specs.Order.{IsInOrder}
-use Rattle.mbdc_consumption.specs.Curve.{share, curve}
-use Rattle.mbdc_consumption.proofs.Grown.{Ascends, end_of, grown, ascends, curve-nil, curve-before, curve-within, curve-after}
-use Rattle.mbdc_consumption.specs.Period.{Rises}
-use Rattle.mbdc_consumption.proofs.Rising.{Fills, IsRising}
+use Rattle.mbdc_audit.specs.declared.consumption.entry.Entry.{Entry}
+use Rattle.mbdc_audit.specs.Consumption.Step.{step}
+use Rattle.mbdc_audit.specs.Consumption.Order.{IsInOrder}
+use Rattle.mbdc_audit.specs.Consumption.Curve.{share, curve}
+use Rattle.mbdc_audit.proofs.Consumed.Grown.{Ascends, end_of, grown, ascends, curve-nil, curve-before, curve-within, curve-after}
+use Rattle.mbdc_audit.specs.Consumption.Period.{Rises}
+use Rattle.mbdc_audit.proofs.Consumed.Rising.{Fills, IsRising}
 
 pub share-le-step : (a b : Entry) (t : ℕ) → t ≤ b.moment → share a b t ≤ step a b
 share-le-step a b t le =

@@ -2,8 +2,8 @@
 use Rattle.std.proofs.Common.{◌≡◌, ℕ, ◌+◌, ◌-◌, ◌≤◌, List, [], ◌∷◌, ◌++◌, map, Option, None, Some, suc, refl, ap, ◌∙◌, arith}
 use Rattle.std.specs.List.{AllByRecursion}
 use Rattle.std.specs.List.Sorted.{IsNonDecreasing}
-use Rattle.mbdc_consumption.specs.Step.{with_next}
-use Rattle.mbdc_consumption.specs.Period.{between, added, sum_of, Rises}
+use Rattle.mbdc_audit.specs.Consumption.Step.{with_next}
+use Rattle.mbdc_audit.specs.Consumption.Period.{between, added, sum_of, Rises}
 
 -- what stands between two that are known is known
 abbrev pub Fills : Option ℕ → Option ℕ → Option ℕ → Type 0

@@ -1,13 +1,13 @@
 -- What a meter's own values say.
 use Rattle.std.proofs.Common.{◌≡◌, ◌≢◌, ℕ, suc, ◌+◌, ◌-◌, ◌≤◌, List, [], ◌∷◌, ◌++◌, Some, refl, sym, ap, ◌∙◌, subst, append_assoc, arith}
-use Rattle.mbdc_consumption.specs.declared.entry.Entry.{Entry}
-use Rattle.mbdc_consumption.specs.Step.{total}
-use Rattle.mbdc_consumption.specs.Order.{IsInOrder}
-use Rattle.mbdc_consumption.specs.Period.{consumption}
-use Rattle.mbdc_consumption.specs.Run.{IsRun, IsSettled}
-use Rattle.mbdc_consumption.proofs.Grown.{end_of, grown, total-one, total-cons}
-use Rattle.mbdc_consumption.proofs.Turns.{step-exchange, step-rising}
-use Rattle.mbdc_consumption.proofs.Local.{total-append, end_of-append, ascends_to, ascends_front, ascends_in, grown-here, grown-end, consumption-in}
+use Rattle.mbdc_audit.specs.declared.consumption.entry.Entry.{Entry}
+use Rattle.mbdc_audit.specs.Consumption.Step.{total}
+use Rattle.mbdc_audit.specs.Consumption.Order.{IsInOrder}
+use Rattle.mbdc_audit.specs.Consumption.Period.{consumption}
+use Rattle.mbdc_audit.specs.Consumption.Run.{IsRun, IsSettled}
+use Rattle.mbdc_audit.proofs.Consumed.Grown.{end_of, grown, total-one, total-cons}
+use Rattle.mbdc_audit.proofs.Consumed.Turns.{step-exchange, step-rising}
+use Rattle.mbdc_audit.proofs.Consumed.Local.{total-append, end_of-append, ascends_to, ascends_front, ascends_in, grown-here, grown-end, consumption-in}
 
 -- one meter that doesn't run backwards, from entry to entry
 abbrev pub RunsOn : Entry → List Entry → Type 0

@@ -2,8 +2,8 @@
 use Rattle.std.proofs.Common.{◌≡◌, ◌≢◌, ℕ, ◌+◌, ◌-◌, ◌%◌, ◌<◌, ◌≤◌, ◌⊎◌, inl, inr, ⊎_elim, true, false, cond, not, ◌&&◌, eqb, ltb, leb, sym, ap, ◌∙◌, subst, arith}
 use Rattle.std.proofs.Math.Nat.{add-mod-mod, add-mod_left, mod-eq_of_lt, mod-lt, add_comm}
 use Rattle.std.proofs.lemmas.Bool.{cases_lt, cond-true, cond-false, lt-ltb, le-ltb, le-leb, eq-eqb, ne_eqb, and_left, and_right, and_from, or_from}
-use Rattle.mbdc_consumption.specs.declared.entry.Entry.{Entry}
-use Rattle.mbdc_consumption.specs.Step.{around, is_backwards, is_doubtful, is_too_much, is_turn, room, step}
+use Rattle.mbdc_audit.specs.declared.consumption.entry.Entry.{Entry}
+use Rattle.mbdc_audit.specs.Consumption.Step.{around, is_backwards, is_doubtful, is_too_much, is_turn, room, step}
 
 -- what turns over falls
 pub rising_no_turn : (a b : Entry) → a.value ≤ b.value → is_turn a b ≡ false

@@ -3,11 +3,11 @@ use Rattle.std.proofs.Common.{◌≡◌, ℕ, zero, suc, ◌+◌, ◌-◌, ◌*�
 use Rattle.std.specs.List.{last_or, slice_get}
 use Rattle.std.proofs.lemmas.Bool.{cond-true, cond-false, cases_eq, eq-eqb, ne_eqb}
 use Rattle.std.proofs.lemmas.List.{get_or_default}
-use Rattle.mbdc_consumption.specs.declared.entry.Entry.{Entry}
-use Rattle.mbdc_consumption.specs.Step.{step, total_by, total}
-use Rattle.mbdc_consumption.specs.Order.{IsInOrder}
-use Rattle.mbdc_consumption.specs.Curve.{passed, ahead, share, amount_at, curve}
-use Rattle.mbdc_consumption.proofs.Grown.{ascends, total_by-one, total_by-cons, none_passed, passed_first, ahead_first, ahead_later}
+use Rattle.mbdc_audit.specs.declared.consumption.entry.Entry.{Entry}
+use Rattle.mbdc_audit.specs.Consumption.Step.{step, total_by, total}
+use Rattle.mbdc_audit.specs.Consumption.Order.{IsInOrder}
+use Rattle.mbdc_audit.specs.Consumption.Curve.{passed, ahead, share, amount_at, curve}
+use Rattle.mbdc_audit.proofs.Consumed.Grown.{ascends, total_by-one, total_by-cons, none_passed, passed_first, ahead_first, ahead_later}
 
 pub record IsOnWalk (moment : ℕ) (entries : List Entry) (count sum : ℕ) : Type 0 where
   pub within : count ≤ length entries

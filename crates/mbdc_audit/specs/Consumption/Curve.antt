@@ -2,8 +2,8 @@
 use Rattle.std.specs.Prelude.{ℕ, ◌+◌, ◌-◌, ◌*◌, ◌/◌, ◌==◌, if◌then◌else◌, nat_lt, nat_le, List}
 use Rattle.std.specs.Prelude.{filter, Option, None, Some}
 use Rattle.std.specs.List.{last_or, slice_get}
-use Rattle.mbdc_consumption.specs.declared.entry.Entry.{Entry}
-use Rattle.mbdc_consumption.specs.Step.{step, total}
+use Rattle.mbdc_audit.specs.declared.consumption.entry.Entry.{Entry}
+use Rattle.mbdc_audit.specs.Consumption.Step.{step, total}
 
 -- the entries at a moment or before it
 abbrev pub passed : ℕ → List Entry → List Entry

@@ -1,8 +1,8 @@
 -- Which steps of a period are marked (this product's rule). A doubtful step doesn't say which of its
 -- two values is false, so the step to the first one and the step from the second one are marked too.
 use Rattle.std.specs.Prelude.{ℕ, Bool, false, ◌&&◌, ◌||◌, nat_lt, nat_le, List, [], ◌∷◌, filter}
-use Rattle.mbdc_consumption.specs.declared.entry.Entry.{Entry}
-use Rattle.mbdc_consumption.specs.Step.{with_next, is_doubtful, is_exchange}
+use Rattle.mbdc_audit.specs.declared.consumption.entry.Entry.{Entry}
+use Rattle.mbdc_audit.specs.Consumption.Step.{with_next, is_doubtful, is_exchange}
 
 -- A step from a to b touches a period: it ends after the period begins, and begins before the
 -- period ends. One that takes no time touches the period that its moment ends.

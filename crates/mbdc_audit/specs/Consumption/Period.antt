@@ -1,13 +1,11 @@
 -- What a place consumes in a period, and in many (this product's rule).
 use Rattle.std.specs.Prelude.{ℕ, ◌+◌, ◌-◌, ◌^◌, ◌≤◌, if◌then◌else◌, nat_lt, List, [], ◌∷◌, map}
-use Rattle.std.specs.Prelude.{length, Option, None, Some, Result, Ok, Err}
-use Rattle.mbdc_consumption.specs.declared.entry.Entry.{Entry}
-use Rattle.mbdc_consumption.specs.declared.period.Period.{Period}
-use Rattle.mbdc_consumption.specs.declared.fault.AmountFault.{AmountFault}
-use Rattle.mbdc_consumption.specs.declared.fault.AmountFault.TheVariants.{TooLarge}
-use Rattle.mbdc_consumption.specs.Step.{with_next}
-use Rattle.mbdc_consumption.specs.Curve.{curve}
-use Rattle.mbdc_consumption.specs.Mark.{marked_in, exchanges_in}
+use Rattle.std.specs.Prelude.{Option, None, Some, Result, Ok, Err}
+use Rattle.mbdc_audit.specs.declared.consumption.entry.Entry.{Entry}
+use Rattle.mbdc_audit.specs.declared.consumption.fault.AmountFault.{AmountFault}
+use Rattle.mbdc_audit.specs.declared.consumption.fault.AmountFault.TheVariants.{TooLarge}
+use Rattle.mbdc_audit.specs.Consumption.Step.{with_next}
+use Rattle.mbdc_audit.specs.Consumption.Curve.{curve}
 
 -- the difference of two amounts, if both are known
 abbrev pub between : Option ℕ → Option ℕ → Option ℕ
@@ -27,16 +25,6 @@ consumptions entries boundaries = map (λ p. consumption entries p.0 p.1) (with_
 abbrev pub checked : Option ℕ → Result (Option ℕ) AmountFault
 checked None = Ok None
 checked (Some amount) = if nat_lt amount (2 ^ 64) then Ok (Some amount) else Err TooLarge
-
--- a period with its amount and its marks
-abbrev pub period_of : List Entry → ℕ → ℕ → Period
-period_of entries from to = record {
-  from = from;
-  to = to;
-  amount = checked (consumption entries from to);
-  backwards = length (marked_in entries from to);
-  exchanges = length (exchanges_in entries from to);
-}
 
 -- the sum of two amounts, if both are known
 abbrev pub added : Option ℕ → Option ℕ → Option ℕ

@@ -1,8 +1,8 @@
 -- How far a walk over the entries has come: for the contracts of private functions.
 use Rattle.std.specs.Prelude.{◌≡◌, ℕ, ◌<◌, ◌≤◌, List, length, take, slice_index_or}
-use Rattle.mbdc_consumption.specs.declared.entry.Entry.{Entry}
-use Rattle.mbdc_consumption.specs.declared.reached.Reached.{Reached}
-use Rattle.mbdc_consumption.specs.Step.{total}
+use Rattle.mbdc_audit.specs.declared.consumption.entry.Entry.{Entry}
+use Rattle.mbdc_audit.specs.declared.consumption.reached.Reached.{Reached}
+use Rattle.mbdc_audit.specs.Consumption.Step.{total}
 
 -- the walk has passed some entries, and none after the moment
 pub record IsBefore (moment : ℕ) (entries : List Entry) (reached : Reached) : Type 0 where

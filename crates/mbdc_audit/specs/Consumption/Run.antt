@@ -1,9 +1,9 @@
 -- Entries of one meter, and what the last entry of a moment is (this product's rule).
 use Rattle.std.specs.Prelude.{◌≡◌, ℕ, false, List, ◌∷◌, All}
 use Rattle.std.specs.List.Sorted.{IsNonDecreasingBy}
-use Rattle.mbdc_consumption.specs.declared.entry.Entry.{Entry}
-use Rattle.mbdc_consumption.specs.Step.{is_turn, total, with_next}
-use Rattle.mbdc_consumption.specs.Curve.{passed}
+use Rattle.mbdc_audit.specs.declared.consumption.entry.Entry.{Entry}
+use Rattle.mbdc_audit.specs.Consumption.Step.{is_turn, total, with_next}
+use Rattle.mbdc_audit.specs.Consumption.Curve.{passed}
 
 -- the entries are of that meter, which didn't run backwards and had no turn
 pub record IsRun (meter : ℕ) (entries : List Entry) : Type 0 where

@@ -2,7 +2,7 @@
 use Rattle.std.specs.Prelude.{ℕ, ◌+◌, ◌-◌, ◌*◌, ◌/◌, ◌==◌, ◌&&◌, ◌||◌, Bool, if◌then◌else◌, not}
 use Rattle.std.specs.Prelude.{nat_lt, nat_le, List, drop, sum_by}
 use Rattle.std.specs.List.{zip}
-use Rattle.mbdc_consumption.specs.declared.entry.Entry.{Entry}
+use Rattle.mbdc_audit.specs.declared.consumption.entry.Entry.{Entry}
 
 -- most that the meter can have counted between the entries: in the whole hours, and in two more
 abbrev pub room : Entry → Entry → ℕ

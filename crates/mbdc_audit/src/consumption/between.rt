@@ -1,12 +1,12 @@
 //! What a place consumed in a period.
 
 ghost use Rattle.std.specs.Prelude.{◌≡◌, ◌≤◌};
-ghost use Rattle.mbdc_consumption.specs.Order.{IsInOrder};
-ghost use Rattle.mbdc_consumption.specs.Period.{checked, consumption};
+ghost use Rattle.mbdc_audit.specs.Consumption.Order.{IsInOrder};
+ghost use Rattle.mbdc_audit.specs.Consumption.Period.{checked, consumption};
 
-use crate::checked::{checked, difference};
-use crate::walk::{amount_at, start, walk};
-use crate::{AmountFault, Entry};
+use crate::consumption::checked::{checked, difference};
+use crate::consumption::walk::{amount_at, start, walk};
+use crate::consumption::{AmountFault, Entry};
 
 /// What the place consumed from a moment to another, or `None` where one of them is before its
 /// first entry or after its last one.

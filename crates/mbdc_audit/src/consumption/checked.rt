@@ -1,9 +1,9 @@
 //! Amounts in 64 bits.
 
 ghost use Rattle.std.specs.Prelude.{◌≡◌};
-ghost use Rattle.mbdc_consumption.specs.Period.{between, checked, Rises};
+ghost use Rattle.mbdc_audit.specs.Consumption.Period.{between, checked, Rises};
 
-use crate::AmountFault;
+use crate::consumption::AmountFault;
 
 /// An amount that fits 64 bits.
 pub(crate) fn checked(amount: Option<u128>) -> Result<Option<u64>, AmountFault>

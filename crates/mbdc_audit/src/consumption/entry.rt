@@ -24,11 +24,10 @@ const SECONDS_OF_HOUR: u64 = 3_600;
 const SPARE_HOURS: u64 = 2;
 
 impl Entry {
-    ghost use Rattle.mbdc_consumption.specs.Step.{step, room, is_turn, is_backwards, is_exchange};
-    ghost use Rattle.mbdc_consumption.specs.Step.{is_too_much, is_doubtful};
-    ghost use Rattle.mbdc_consumption.specs.Counted.{is_repeated};
-    ghost use Rattle.mbdc_consumption.specs.Curve.{share};
-    ghost use Rattle.mbdc_consumption.specs.Mark.{touches};
+    ghost use Rattle.mbdc_audit.specs.Consumption.Step.{step, room, is_turn, is_backwards, is_exchange};
+    ghost use Rattle.mbdc_audit.specs.Consumption.Step.{is_too_much, is_doubtful};
+    ghost use Rattle.mbdc_audit.specs.Consumption.Curve.{share};
+    ghost use Rattle.mbdc_audit.specs.Consumption.Mark.{touches};
 
     /// Most that the meter can have counted from this entry to the next: `most` an hour, for the
     /// whole hours between them and two more.
@@ -95,13 +94,6 @@ impl Entry {
         ensures { result ≡ is_exchange self.now next.now }
     {
         self.meter != next.meter
-    }
-
-    /// Whether the next entry has this one's meter and moment.
-    pub fn is_repeated_by(&self, next: &Entry) -> bool
-        ensures { result ≡ is_repeated self.now next.now }
-    {
-        self.meter == next.meter && self.moment == next.moment
     }
 
     /// Whether the step to the next entry touches a period: it ends after the period begins, and

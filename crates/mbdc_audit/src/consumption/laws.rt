@@ -3,16 +3,16 @@
 ghost use Rattle.std.specs.Prelude.{◌≡◌, ◌≢◌, ◌<◌, ◌≤◌, ◌+◌, ◌-◌, ◌%◌, ◌++◌, ◌∷◌, ◌↔◌, ℕ, List, []};
 ghost use Rattle.std.specs.Prelude.{All, Any, IsSome, Some, map, false, true};
 ghost use Rattle.std.specs.List.Sorted.{IsNonDecreasing};
-ghost use Rattle.mbdc_consumption.specs.declared.entry.Entry.{Entry};
-ghost use Rattle.mbdc_consumption.specs.Curve.{curve};
-ghost use Rattle.mbdc_consumption.specs.Order.{IsInOrder};
-ghost use Rattle.mbdc_consumption.specs.Period.{added, between, sum_of, consumption, consumptions};
-ghost use Rattle.mbdc_consumption.specs.Period.{DifferByAtMost};
-ghost use Rattle.mbdc_consumption.specs.Period.{house_curve, house_consumption};
-ghost use Rattle.mbdc_consumption.specs.Period.{house_consumptions};
-ghost use Rattle.mbdc_consumption.specs.Mark.{marked_in, touch_one, touches};
-ghost use Rattle.mbdc_consumption.specs.Run.{HasNoTurn, IsRun, IsSettled, valued};
-ghost use Rattle.mbdc_consumption.specs.Step.{is_doubtful, is_turn, room, step};
+ghost use Rattle.mbdc_audit.specs.declared.consumption.entry.Entry.{Entry};
+ghost use Rattle.mbdc_audit.specs.Consumption.Curve.{curve};
+ghost use Rattle.mbdc_audit.specs.Consumption.Order.{IsInOrder};
+ghost use Rattle.mbdc_audit.specs.Consumption.Period.{added, between, sum_of, consumption, consumptions};
+ghost use Rattle.mbdc_audit.specs.Consumption.Period.{DifferByAtMost};
+ghost use Rattle.mbdc_audit.specs.Consumption.Period.{house_curve, house_consumption};
+ghost use Rattle.mbdc_audit.specs.Consumption.Period.{house_consumptions};
+ghost use Rattle.mbdc_audit.specs.Consumption.Mark.{marked_in, touch_one, touches};
+ghost use Rattle.mbdc_audit.specs.Consumption.Run.{HasNoTurn, IsRun, IsSettled, valued};
+ghost use Rattle.mbdc_audit.specs.Consumption.Step.{is_doubtful, is_turn, room, step};
 
 /// The curve is known from the first entry to the last one: at any moment that has an entry at or
 /// before it, and one at or after it.

@@ -1,9 +1,9 @@
 //! The steps of a period that are marked.
 
 ghost use Rattle.std.specs.Prelude.{◌≡◌, ◌≤◌, length};
-ghost use Rattle.mbdc_consumption.specs.Mark.{exchanges_in, is_doubtful_next, marked_in};
+ghost use Rattle.mbdc_audit.specs.Consumption.Mark.{exchanges_in, is_doubtful_next, marked_in};
 
-use crate::Entry;
+use crate::consumption::Entry;
 
 // Whether the step from an entry to the first of the later ones is doubtful.
 fn is_doubtful_next(entry: &Entry, later: &[Entry]) -> bool

@@ -1,9 +1,9 @@
 //! A test of an order.
 
 ghost use Rattle.std.specs.Prelude.{◌↔◌, IsTrue};
-ghost use Rattle.mbdc_consumption.specs.Order.{IsInOrder};
+ghost use Rattle.mbdc_audit.specs.Consumption.Order.{IsInOrder};
 
-use crate::Entry;
+use crate::consumption::Entry;
 
 /// Whether the entries are in order of moment. Several may have one moment, as at an exchange.
 pub fn is_in_order(entries: &[Entry]) -> bool

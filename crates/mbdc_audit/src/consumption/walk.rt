@@ -1,13 +1,13 @@
 //! A walk over the entries of a place.
 
 ghost use Rattle.std.specs.Prelude.{◌≡◌, ℕ, List};
-ghost use Rattle.mbdc_consumption.specs.declared.entry.Entry.{Entry};
-ghost use Rattle.mbdc_consumption.specs.Order.{IsInOrder};
-ghost use Rattle.mbdc_consumption.specs.Curve.{curve};
-ghost use Rattle.mbdc_consumption.specs.Reached.{IsBefore, HasReached};
+ghost use Rattle.mbdc_audit.specs.declared.consumption.entry.Entry.{Entry};
+ghost use Rattle.mbdc_audit.specs.Consumption.Order.{IsInOrder};
+ghost use Rattle.mbdc_audit.specs.Consumption.Curve.{curve};
+ghost use Rattle.mbdc_audit.specs.Consumption.Reached.{IsBefore, HasReached};
 
-use crate::Entry;
-use crate::reached::Reached;
+use crate::consumption::Entry;
+use crate::consumption::reached::Reached;
 
 /// A walk that has passed no entry.
 pub(crate) fn start() -> Reached

@@ -1,6 +1,6 @@
-use Rattle.mbdc_consumption.proofs.Rising.{two_periods}
-use Rattle.mbdc_consumption.proofs.Risen.{rising_curve}
-use Rattle.mbdc_consumption.specs.Curve.{curve}
+use Rattle.mbdc_audit.proofs.Consumed.Rising.{two_periods}
+use Rattle.mbdc_audit.proofs.Consumed.Risen.{rising_curve}
+use Rattle.mbdc_audit.specs.Consumption.Curve.{curve}
 use Rattle.mbdc_audit.specs.Amount.{entries}
 use Rattle.mbdc_audit.proofs.Parts.{add_up}
 use Rattle.mbdc_audit.proofs.Records.{one_amount}

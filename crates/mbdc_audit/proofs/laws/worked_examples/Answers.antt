@@ -1,6 +1,6 @@
 use Rattle.std.proofs.Common.{refl}
-use Rattle.mbdc_consumption.specs.Curve.{curve}
-use Rattle.mbdc_consumption.specs.Step.{total_by}
+use Rattle.mbdc_audit.specs.Consumption.Curve.{curve}
+use Rattle.mbdc_audit.specs.Consumption.Step.{total_by}
 use Rattle.mbdc_audit.proofs.laws.worked_examples.Goals as goal
 
 pub returns : goal.returns

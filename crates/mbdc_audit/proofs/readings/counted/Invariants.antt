@@ -1,7 +1,7 @@
 -- the parts so far are the same but for what they say, which is so
 use Rattle.std.proofs.Common.{◌≡◌, ◌≤◌, map, take}
 use Rattle.std.specs.Prelude.{All}
-use Rattle.mbdc_consumption.specs.Order.{IsInOrder}
+use Rattle.mbdc_audit.specs.Consumption.Order.{IsInOrder}
 use Rattle.mbdc_audit.specs.Amount.{entries}
 use Rattle.mbdc_audit.specs.View.{known_in, part_of, run_of}
 use Rattle.mbdc_audit.specs.Walk.{AreGraded}

@@ -1,5 +1,5 @@
-use Rattle.mbdc_consumption.proofs.Risen.{rises_along}
-use Rattle.mbdc_consumption.proofs.between.consumption.Goals as goal
+use Rattle.mbdc_audit.proofs.Consumed.Risen.{rises_along}
+use Rattle.mbdc_audit.proofs.consumption.between.consumption.Goals as goal
 
 pub walk-first-requires-clause-before : goal.walk-first-requires-clause-before
 walk-first-requires-clause-before c = c.start.ensures c.args.from c.args.entries.now

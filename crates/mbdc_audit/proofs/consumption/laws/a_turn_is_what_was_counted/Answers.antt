@@ -1,5 +1,5 @@
-use Rattle.mbdc_consumption.proofs.Turns.{turn-counted}
-use Rattle.mbdc_consumption.proofs.laws.a_turn_is_what_was_counted.Goals as goal
+use Rattle.mbdc_audit.proofs.Consumed.Turns.{turn-counted}
+use Rattle.mbdc_audit.proofs.consumption.laws.a_turn_is_what_was_counted.Goals as goal
 
 pub returns : goal.returns
 returns c = turn-counted

@@ -1,5 +1,5 @@
-use Rattle.mbdc_consumption.proofs.Replaced.{other_value}
-use Rattle.mbdc_consumption.proofs.laws.an_unmarked_value_changes_at_most_its_two_steps.Goals as goal
+use Rattle.mbdc_audit.proofs.Consumed.Replaced.{other_value}
+use Rattle.mbdc_audit.proofs.consumption.laws.an_unmarked_value_changes_at_most_its_two_steps.Goals as goal
 
 pub returns : goal.returns
 returns c = λ front v x y back other from to order le same same' low high low' high'.

@@ -1,5 +1,5 @@
-use Rattle.mbdc_consumption.proofs.Runs.{run_ascends, consumption_of_run}
-use Rattle.mbdc_consumption.proofs.laws.at_entries_of_a_meter_its_values_count.Goals as goal
+use Rattle.mbdc_audit.proofs.Consumed.Runs.{run_ascends, consumption_of_run}
+use Rattle.mbdc_audit.proofs.consumption.laws.at_entries_of_a_meter_its_values_count.Goals as goal
 
 pub returns : goal.returns
 returns c = λ front a middle b back meter order run settled settled'.

@@ -1,8 +1,8 @@
-use Rattle.mbdc_consumption.specs.Curve.{curve}
-use Rattle.mbdc_consumption.proofs.Rising.{two_periods}
-use Rattle.mbdc_consumption.proofs.Risen.{rising_curve}
-use Rattle.mbdc_consumption.proofs.House.{place_by_periods}
-use Rattle.mbdc_consumption.proofs.laws.the_parts_of_a_period_add_up_to_it.Goals as goal
+use Rattle.mbdc_audit.specs.Consumption.Curve.{curve}
+use Rattle.mbdc_audit.proofs.Consumed.Rising.{two_periods}
+use Rattle.mbdc_audit.proofs.Consumed.Risen.{rising_curve}
+use Rattle.mbdc_audit.proofs.Consumed.House.{place_by_periods}
+use Rattle.mbdc_audit.proofs.consumption.laws.the_parts_of_a_period_add_up_to_it.Goals as goal
 
 pub returns : goal.returns
 returns c = record {

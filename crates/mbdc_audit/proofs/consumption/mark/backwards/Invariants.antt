@@ -1,8 +1,8 @@
 -- the marked steps so far, and those still to come, are those of all the entries
 use Rattle.std.proofs.Common.{◌≡◌, ◌+◌, ◌≤◌, ◌∷◌, length}
 use Rattle.std.specs.Prelude.{filter}
-use Rattle.mbdc_consumption.specs.Mark.{is_marked_in, marked_in, steps_after}
-use Rattle.mbdc_consumption.proofs.mark.backwards.Given as goal
+use Rattle.mbdc_audit.specs.Consumption.Mark.{is_marked_in, marked_in, steps_after}
+use Rattle.mbdc_audit.proofs.consumption.mark.backwards.Given as goal
 
 abbrev pub invariant-steps : goal.invariant-steps
 invariant-steps l =

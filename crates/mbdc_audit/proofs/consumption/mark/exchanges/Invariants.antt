@@ -1,7 +1,7 @@
 -- the exchanges so far, and those still to come, are those of all the entries
 use Rattle.std.proofs.Common.{◌≡◌, ◌+◌, ◌≤◌, ◌∷◌, drop, length}
-use Rattle.mbdc_consumption.specs.Mark.{exchanges_in}
-use Rattle.mbdc_consumption.proofs.mark.exchanges.Given as goal
+use Rattle.mbdc_audit.specs.Consumption.Mark.{exchanges_in}
+use Rattle.mbdc_audit.proofs.consumption.mark.exchanges.Given as goal
 
 abbrev pub invariant-loop-after : goal.invariant-loop-after
 invariant-loop-after l =

@@ -1,8 +1,8 @@
 use Rattle.std.proofs.Common.{refl}
 use Rattle.std.proofs.lemmas.Bool.{false≢true}
-use Rattle.mbdc_consumption.specs.declared.entry.Entry.{Entry}
-use Rattle.mbdc_consumption.proofs.Ordered.{ordered_start, ordered_more, ordered_not, ordered_all}
-use Rattle.mbdc_consumption.proofs.order.is_in_order.Goals as goal
+use Rattle.mbdc_audit.specs.declared.consumption.entry.Entry.{Entry}
+use Rattle.mbdc_audit.proofs.Consumed.Ordered.{ordered_start, ordered_more, ordered_not, ordered_all}
+use Rattle.mbdc_audit.proofs.consumption.order.is_in_order.Goals as goal
 
 pub loop-entry-init : goal.loop-entry-init
 loop-entry-init c = ordered_start (λ (e : Entry). e.moment) c.args.entries.now

@@ -1,7 +1,7 @@
 use Rattle.std.proofs.Common.{ℕ, ◌+◌, ◌<◌, Some, sym, ap, ◌∙◌, arith}
-use Rattle.mbdc_consumption.specs.declared.entry.Entry.{Entry}
-use Rattle.mbdc_consumption.proofs.Walks.{curve-at_start, curve-between, curve-at_last, curve-past_last}
-use Rattle.mbdc_consumption.proofs.walk.amount_at.Goals as goal
+use Rattle.mbdc_audit.specs.declared.consumption.entry.Entry.{Entry}
+use Rattle.mbdc_audit.proofs.Consumed.Walks.{curve-at_start, curve-between, curve-at_last, curve-past_last}
+use Rattle.mbdc_audit.proofs.consumption.walk.amount_at.Goals as goal
 
 abbrev nothing : Entry
 nothing = record { moment = 0; meter = 0; value = 0; most = 0; size = 0 }

@@ -1,7 +1,7 @@
 use Rattle.std.proofs.Common.{sym, arith}
-use Rattle.mbdc_consumption.specs.Step.{step}
-use Rattle.mbdc_consumption.proofs.Walks.{total_by-take_none}
-use Rattle.mbdc_consumption.proofs.walk.start.Goals as goal
+use Rattle.mbdc_audit.specs.Consumption.Step.{step}
+use Rattle.mbdc_audit.proofs.Consumed.Walks.{total_by-take_none}
+use Rattle.mbdc_audit.proofs.consumption.walk.start.Goals as goal
 
 pub returns : goal.returns
 returns c = λ moment entries. record {

@@ -1,7 +1,7 @@
 use Rattle.std.proofs.Common.{ℕ, ◌+◌, inl, inr, ap, ◌∙◌, arith}
-use Rattle.mbdc_consumption.proofs.Walks.{on_walk_more, after_any}
-use Rattle.mbdc_consumption.proofs.walk.walk.Goals as goal
-use Rattle.mbdc_consumption.proofs.walk.walk.Goals.{then-count-gt0, else-count-gt0, then-loop-count-test+else-entries-count, else-loop-count-test}
+use Rattle.mbdc_audit.proofs.Consumed.Walks.{on_walk_more, after_any}
+use Rattle.mbdc_audit.proofs.consumption.walk.walk.Goals as goal
+use Rattle.mbdc_audit.proofs.consumption.walk.walk.Goals.{then-count-gt0, else-count-gt0, then-loop-count-test+else-entries-count, else-loop-count-test}
 
 pub loop-count-init : goal.loop-count-init
 loop-count-init c =

@@ -1,6 +1,6 @@
 use Rattle.std.proofs.Common.{List, ap, ◌∙◌}
-use Rattle.mbdc_consumption.specs.Period.{consumption}
-use Rattle.mbdc_consumption.specs.declared.entry.Entry.{Entry}
+use Rattle.mbdc_audit.specs.Consumption.Period.{consumption}
+use Rattle.mbdc_audit.specs.declared.consumption.entry.Entry.{Entry}
 use Rattle.mbdc_audit.specs.Kept.{capped}
 use Rattle.mbdc_audit.proofs.Marks.{capped_err, capped_ok}
 use Rattle.mbdc_audit.proofs.curve.Curve.amount.Goals as goal

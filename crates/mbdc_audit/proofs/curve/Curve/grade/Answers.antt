@@ -1,6 +1,6 @@
 use Rattle.std.proofs.Common.{◌∙◌, List, true, false, not, length, map, sym, ap}
-use Rattle.mbdc_consumption.specs.Mark.{marked_in}
-use Rattle.mbdc_consumption.specs.declared.entry.Entry.{Entry}
+use Rattle.mbdc_audit.specs.Consumption.Mark.{marked_in}
+use Rattle.mbdc_audit.specs.declared.consumption.entry.Entry.{Entry}
 use Rattle.mbdc_audit.specs.View.{run_of}
 use Rattle.mbdc_audit.proofs.Marks.{Known, is_by, is_disturbed, is_guessed, is_missing, is_provisional, is_unclear, more, none}
 use Rattle.mbdc_audit.proofs.curve.Curve.grade.Goals as goal

@@ -1,7 +1,7 @@
 use Rattle.std.proofs.Common.{rules, tests, ◌≡◌, ◌∙◌, ◌&&◌, List, length, map, ap}
 use Rattle.std.specs.Prelude.{◌==◌}
-use Rattle.mbdc_consumption.specs.Mark.{exchanges_in}
-use Rattle.mbdc_consumption.specs.declared.entry.Entry.{Entry}
+use Rattle.mbdc_audit.specs.Consumption.Mark.{exchanges_in}
+use Rattle.mbdc_audit.specs.declared.consumption.entry.Entry.{Entry}
 use Rattle.mbdc_audit.specs.Amount.{are_whole, due, is_below}
 use Rattle.mbdc_audit.specs.View.{known_in, run_of}
 use Rattle.mbdc_audit.proofs.Marks.{clear_none, clear_other, clear_some}

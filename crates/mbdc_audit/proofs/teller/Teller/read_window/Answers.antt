@@ -1,6 +1,6 @@
 use Rattle.std.proofs.Common.{◌≤◌, ap, ◌∙◌, List, map, subst, IsTrue}
 use Rattle.std.specs.Prelude.{All}
-use Rattle.mbdc_consumption.specs.Order.{IsInOrder}
+use Rattle.mbdc_audit.specs.Consumption.Order.{IsInOrder}
 use Rattle.mbdc_audit.specs.Amount.{entries}
 use Rattle.mbdc_audit.specs.Settled.{AreSettled}
 use Rattle.mbdc_audit.specs.View.{known_in, number_of, part_of, run_of, seen_value, struck_of}
