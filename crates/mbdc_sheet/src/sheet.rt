@@ -1,7 +1,8 @@
 //! The engine: compares a page with its file.
 
-ghost use Rattle.std.specs.Prelude.{◌≡◌, IfOk, Some, codes, option_map};
+ghost use Rattle.std.specs.Prelude.{◌≡◌, IfOk, OnErr, OnOk, Some, codes, option_map};
 ghost use Rattle.std.specs.List.{list_all, list_any};
+ghost use Rattle.mbdc_io.specs.Failures.{HasRisen};
 ghost use Rattle.mbdc_io.specs.Lines.{lines_of};
 ghost use Rattle.mbdc_sheet.specs.Parts.{parts_of};
 ghost use Rattle.mbdc_sheet.specs.Sheet.{are_shown, first_user, is_fine, is_line, is_sheet, is_sheet_in};
@@ -57,7 +58,10 @@ fn is_shown(page: &[u8], number: usize) -> bool
 }
 
 // Prints what is wrong with a line of a page.
-fn put_flaw<W: Sink>(out: &mut W, line: u64, name: &str) -> Result<(), IoFault> {
+fn put_flaw<W: Sink>(out: &mut W, line: u64, name: &str) -> Result<(), IoFault>
+    ensures well { OnOk result (W.put_failures out.new ≡ W.put_failures out.old) }
+    ensures failed { OnErr result (HasRisen (W.put_failures out.old) (W.put_failures out.new)) }
+{
     out.put(b"PAGE line ")?;
     put_number(out, line)?;
     out.put(b" ")?;
@@ -68,8 +72,10 @@ fn put_flaw<W: Sink>(out: &mut W, line: u64, name: &str) -> Result<(), IoFault> 
 impl<'a> Known<'a> {
     // Whether each part of a page is fine; prints what isn't.
     fn check_parts<W: Sink>(&self, page: &[u8], out: &mut W) -> Result<bool, IoFault>
-        ensures { IfOk result (λ fine. fine
+        ensures fine { IfOk result (λ fine. fine
             ≡ list_all (is_fine (known_of self.now)) (parts_of 60 page.now)) }
+        ensures well { OnOk result (W.put_failures out.new ≡ W.put_failures out.old) }
+        ensures failed { OnErr result (HasRisen (W.put_failures out.old) (W.put_failures out.new)) }
     {
         let mut is_fine = true;
         let mut line = FIRST_LINE;
@@ -89,8 +95,10 @@ impl<'a> Known<'a> {
     // Whether each number of the user is on a page; prints which isn't.
     #[tactic(auto, using(crate::proofs::Ends::no_lines))]
     fn check_lines<W: Sink>(&self, page: &[u8], out: &mut W) -> Result<bool, IoFault>
-        ensures { IfOk result (λ shown. shown
+        ensures shown { IfOk result (λ shown. shown
             ≡ are_shown self.now.user.now (parts_of 60 page.now) 1 (lines_of self.now.file.now)) }
+        ensures well { OnOk result (W.put_failures out.new ≡ W.put_failures out.old) }
+        ensures failed { OnErr result (HasRisen (W.put_failures out.old) (W.put_failures out.new)) }
     {
         let mut are_shown = true;
         let mut number = 1;
@@ -117,7 +125,9 @@ fn compare_parts<W: Sink>(
     file: &[u8],
     out: &mut W,
 ) -> Result<bool, IoFault>
-    ensures { IfOk result (λ right. right ≡ is_sheet_in marks (parts_of 60 page.now) (lines_of file.now)) }
+    ensures right { IfOk result (λ right. right ≡ is_sheet_in marks (parts_of 60 page.now) (lines_of file.now)) }
+    ensures well { OnOk result (W.put_failures out.new ≡ W.put_failures out.old) }
+    ensures failed { OnErr result (HasRisen (W.put_failures out.old) (W.put_failures out.new)) }
 {
     let label = line_at(file, 1).and_then(|line| part_at(line, b',', 2));
     let (Some(user), Some(label)) = (first_user(page), label) else {
@@ -141,7 +151,9 @@ fn compare_parts<W: Sink>(
 /// [`IoFault`] if the writer failed; something may have been written then.
 pub fn compare<W: Sink>(page: &[u8], file: &[u8], out: &mut W) -> Result<bool, IoFault>
     // True of a page that shows the numbers of its file, and no others, and of no other page.
-    ensures { IfOk result (λ right. right ≡ is_sheet page.now (lines_of file.now)) }
+    ensures right { IfOk result (λ right. right ≡ is_sheet page.now (lines_of file.now)) }
+    ensures well { OnOk result (W.put_failures out.new ≡ W.put_failures out.old) }
+    ensures failed { OnErr result (HasRisen (W.put_failures out.old) (W.put_failures out.new)) }
 {
     if let Some(rest) = strip(GERMAN, page) {
         let marks = Marks {

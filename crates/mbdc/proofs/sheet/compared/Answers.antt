@@ -16,7 +16,7 @@ returns g c = elim c.if-is_right.branch [
       let right = of_source (λ (input : List ℕ). IsRight false (lines_of input)) (λ b. drop b.taken b.bytes) c.in_ok-lines.lines _
       c.as_slice.result.now whole c.in_ok-lines.ensures c.as_slice.ensures.value refl (c.in_ok-is_right.ensures.right w.if-is_right.true) in
       let shown = subst (λ (text : List ℕ). is_sheet page (lines_of text) ≡ true) c.as_slice-2.ensures.value
-      (sym c.in-Ok.ensures ∙ is_shown _ _ well w.result-is) in
+      (sym c.in-Ok.ensures.right ∙ is_shown _ _ well w.result-is) in
       IfSome_then _ c.in_ok-file.ensures (λ input is. subst (ShowsRight page) is (both page whole right shown))
   | else-is_right w ↦ λ well. absurd (is_faulty _ well (w.result-is ∙ w.if-is_right.false))
 ]

@@ -13,3 +13,4 @@ invariant-lines g l =
     ((l.are_shown && are_shown l.self.user.now (parts_of 60 l.page) l.number (lines_of l.left))
     ≡ are_shown l.self.user.now (parts_of 60 l.page) 1 (lines_of l.self.file.now))
     × (l.number + length l.left ≤ length l.self.file.now + 1)
+    × (g.W.Sink.put_failures l.out ≡ g.W.Sink.put_failures l.fn.out)

@@ -11,4 +11,7 @@ abbrev pub decreases-parts : goal.decreases-parts
 decreases-parts g l = left_length l.left
 
 abbrev pub invariant-parts : goal.invariant-parts
-invariant-parts g l = (l.is_fine && list_all (is_fine (known_of l.self)) (left_parts 60 (option_map (λ s. s.now) l.left))) ≡ list_all (is_fine (known_of l.self)) (parts_of 60 l.fn.page)
+invariant-parts g l =
+    ((l.is_fine && list_all (is_fine (known_of l.self)) (left_parts 60 (option_map (λ s. s.now) l.left)))
+    ≡ list_all (is_fine (known_of l.self)) (parts_of 60 l.fn.page))
+    × (g.W.Sink.put_failures l.out ≡ g.W.Sink.put_failures l.fn.out)
