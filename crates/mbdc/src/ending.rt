@@ -24,7 +24,8 @@ use std::process::ExitCode;
 
 // A word that has to name a meter doesn't.
 const NO_METER: &str =
-    "a meter is its identity, as 12345678.PAD.01.07, or its number, as 12345678; for read also its primary address, 0 to 250";
+    "a meter is its identity, as 12345678.PAD.01.07, or its number, as 12345678; for read also its primary address, \
+    0 to 250";
 
 // A word that has to say how a meter is reached doesn't.
 const NO_OLD: &str =

@@ -122,8 +122,8 @@ where
     }
 }
 
-// Makes the buses of connected links, the first of which is that of line 1, and looks on each. The observers are any, for
-// the checker meets its step limit over the parts of a trace.
+// Makes the buses of connected links, the first of which is that of line 1, and looks on each. The observers are any,
+// for the checker meets its step limit over the parts of a trace.
 fn look_over<O, R>(
     host: &Host<'_, R>,
     peers: &[Option<Peer<R>>],

@@ -50,8 +50,8 @@ pub fn meters_of<'a, R: AllocGlobal, D: Disk>(
     }
 }
 
-/// The ending by a name that means no meter of a register, or several, which the mistake lists. The option that the name
-/// is of stands before it.
+/// The ending by a name that means no meter of a register, or several, which the mistake lists. The option that the
+/// name is of stands before it.
 pub fn mistaken<'a>(
     alloc: Global,
     house: &House<Global>,

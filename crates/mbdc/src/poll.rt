@@ -147,8 +147,8 @@ where
     }
 }
 
-// Reads the meters over these buses, each of which asks who was silent on it one question, drops copies of telegrams, and
-// asks who is busy again. They are any, as the observers are. A copy that comes of a first question is no silence.
+// Reads the meters over these buses, each of which asks who was silent on it one question, drops copies of telegrams,
+// and asks who is busy again. They are any, as the observers are. A copy that comes of a first question is no silence.
 fn poll_sparing<'a, D, B, J, R>(
     host: &Host<'_, R>,
     disk: D,

@@ -1,8 +1,8 @@
 //! The command `audit` over slices, under the names by which a web page knows it.
 //!
-//! [`mbdc_audit`] writes what `audit` prints of a file to the front of a slice, [`mbdc_sheet`] what `audit --sheet` prints
-//! of a page besides. Its memory comes from whoever links it:
-//! `tools/library` makes a module of it for a web page, with the heap of `library/heap.c`.
+//! [`mbdc_audit`] writes what `audit` prints of a file to the front of a slice, [`mbdc_sheet`] what `audit --sheet`
+//! prints of a page besides. Its memory comes from whoever links it: `tools/library` makes a module of it for a web
+//! page, with the heap of `library/heap.c`.
 #![tactic(auto)]
 
 ghost use Rattle.std.specs.Prelude.{◌≡◌, ◌<◌, ◌≤◌, false, length, true};

@@ -2,8 +2,8 @@
 
 ghost use Rattle.std.specs.Prelude.{◌≡◌};
 ghost use Rattle.mbdc_sheet.specs.Parts.{parts_of};
-ghost use Rattle.mbdc_sheet.specs.Tag.{after_name, are_attributes, are_calls, has_quote, is_attribute, is_named_fine, is_plain};
-ghost use Rattle.mbdc_sheet.specs.Tag.{is_tag, name_of};
+ghost use Rattle.mbdc_sheet.specs.Tag.{after_name, are_attributes, are_calls, has_quote, is_attribute};
+ghost use Rattle.mbdc_sheet.specs.Tag.{is_named_fine, is_plain, is_tag, name_of};
 
 use crate::parts::{first_part, is_one_of};
 use crate::text::is_date;
