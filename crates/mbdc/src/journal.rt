@@ -1,14 +1,15 @@
 //! What the commands put into the journal of their image: the events of a poll, and the commands that were done. A poll
-//! first reads there who was silent in the last one.
+//! first reads there who was silent in the last one, and how many telegrams each meter sent.
 
 use crate::clock::moment;
+use dc_address::Identity;
 use dc_meters::House;
 use dc_poller::CommandNotes;
 use dc_readout::Why;
 use mbdc_change::Numbered;
 use mbdc_files::{Host, Journal, journal_lines, own_lines};
 use mbdc_io::{Bytes, NoMemory};
-use mbdc_json::journal::read_journal;
+use mbdc_json::journal;
 use mbdc_poll::events::{Notes, put_command_note, put_note, put_object};
 use mbdc_poll::{Doubt, Event};
 use std::alloc::Global;
@@ -30,6 +31,8 @@ pub struct Noting<'h, 'i, R> {
     is_open: bool,
     // The register, for the flats.
     house: Option<House<Global>>,
+    // What the journal says of the last poll.
+    last: journal::Journal<Global>,
 }
 
 impl<'h, 'i, R: Files<File = File> + Clock + Eprint + AllocGlobal> Noting<'h, 'i, R> {
@@ -42,6 +45,7 @@ impl<'h, 'i, R: Files<File = File> + Clock + Eprint + AllocGlobal> Noting<'h, 'i
             journal: None,
             is_open: false,
             house,
+            last: journal::Journal::none(host.rt.alloc()),
         };
         let now = noting.now();
         let mut line = Bytes::new(host.rt.alloc());
@@ -78,7 +82,7 @@ impl<'h, 'i, R: Files<File = File> + Clock + Eprint + AllocGlobal> Noting<'h, 'i
         let own = str::from_utf8(own).unwrap_or_default();
         let begun = own.rsplit_once(END).map_or("", |(begun, _)| begun);
         let poll = begun.rsplit_once(END).map_or(begun, |(_, poll)| poll);
-        let noted = read_journal(alloc, poll.as_bytes(), now)?;
+        self.last = journal::read_journal(alloc, poll.as_bytes(), now)?;
         let mut doubts = Vec::new(alloc);
         for line in 1..=lines {
             let mut silent = Vec::new(alloc);
@@ -87,7 +91,7 @@ impl<'h, 'i, R: Files<File = File> + Clock + Eprint + AllocGlobal> Noting<'h, 'i
                 && !poll.contains(format!(in alloc; "{LOST}{line}")?.as_str())
             {
                 for (meter, row) in house.meters() {
-                    if let Some(failing) = noted.of(meter).failing
+                    if let Some(failing) = self.last.of(meter).failing
                         && failing.number == Why::NoAnswer.number()
                         && row.line() == line
                     {
@@ -98,6 +102,18 @@ impl<'h, 'i, R: Files<File = File> + Clock + Eprint + AllocGlobal> Noting<'h, 'i
             doubts.push(silent)?;
         }
         Ok(doubts)
+    }
+
+    // Says that a meter sent another number of telegrams than in the last poll: a meter sends as many each time.
+    fn compare(&self, meter: &Identity, count: usize) {
+        let before = self.last.bodies_of(meter).len();
+        if before != 0 && before != count {
+            let text = meter.text();
+            let name = str::from_utf8(&text).unwrap_or_default();
+            let _ = eprint!(self.rt;
+                "mbdc: parts: {name}: telegrams {count}, in the last poll {before}\n"
+            );
+        }
     }
 
     // Appends a line, or only one that isn't there.
@@ -125,6 +141,9 @@ impl<'h, 'i, R: Files<File = File> + Clock + Eprint + AllocGlobal> Noting<'h, 'i
 impl<R: Files<File = File> + Clock + Eprint + AllocGlobal> Notes for Noting<'_, '_, R> {
     fn note(&mut self, event: &Event<'_>) {
         let alloc = self.rt.alloc();
+        if let Event::Read { meter, bodies, .. } = event {
+            self.compare(meter, bodies.len());
+        }
         let meter = match event {
             Event::Read { meter, .. }
             | Event::Failed { meter, .. }

@@ -71,7 +71,7 @@ impl<A: Allocator + Copy> Journal<A> {
     }
 
     /// The bodies of a meter's last reading.
-    pub(crate) fn bodies_of(&self, meter: &Identity) -> Bodies<'_>
+    pub fn bodies_of(&self, meter: &Identity) -> Bodies<'_>
         ensures { result ≡ sent_in self.now.sent meter.now }
     {
         match self.sent.get(meter) {
