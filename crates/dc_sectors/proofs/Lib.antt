@@ -10,6 +10,8 @@ pub mod Texts
 pub mod Cuts
 -- a disk over a file, and that its hypothesis can be met
 pub mod Filed
+-- a file over another one
+pub mod Over
 -- numbers in a sector read back
 pub mod Numbers
 -- of this crate alone

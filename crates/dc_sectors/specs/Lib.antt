@@ -22,6 +22,8 @@ pub mod FileCalls
 pub mod Note
 -- a disk over a file, and the hypothesis on its calls
 pub mod File
+-- a file over another one
+pub mod Over
 -- numbers of several bytes at a place in a sector, the lowest byte first (this product's image format)
 pub mod Fields
 -- of the module `snapshot`

@@ -5,9 +5,8 @@ ghost use Rattle.std.specs.Prelude.{min, true, false, IfOk, OnOk, OnErr, IsErr, 
 ghost use Rattle.std.specs.Prelude.{IfSome, ◌≤ℤ◌, pos};
 ghost use Rattle.dc_sectors.specs.declared.sector.ReadFault.TheVariants.{Unreadable as CannotRead};
 ghost use Rattle.dc_sectors.specs.declared.sector.ReadFault.TheVariants.{Failed as ReadFailed};
-ghost use Rattle.dc_sectors.specs.FileCalls.{value_of};
 ghost use Rattle.dc_sectors.specs.Disk.{Answers, Elapses, IsImage, put, added, settled};
-ghost use Rattle.dc_sectors.specs.File.{failed_once_more, IsOpened, is_all, IsReadOf, IsWriteOf};
+ghost use Rattle.dc_sectors.specs.File.{failed_once_more, IsOpened, IsReadOf, IsWriteOf};
 ghost use Rattle.dc_sectors.specs.File.{IsSyncOf, reads_in, choices_in, moment_in, images_in};
 ghost use Rattle.dc_sectors.specs.File.{HasKept, FileCounts};
 
@@ -25,7 +24,7 @@ use std::rt::Files;
 ///
 /// A read, a write or a sync is one call of the file. Each fault of the file is a counted failure,
 /// including a short read or a short write. After a sync that failed every call fails. What only
-/// looks at an image opens its file with [`DiskOver::lenient`].
+/// looks at an image has a lenient file ([`Logged::new`]).
 ///
 /// That the file keeps the disk model is a hypothesis on its calls so far: `KeepsRule` of
 /// specs/File.
@@ -54,9 +53,6 @@ impl<C: FileCalls + Drop> Model for DiskOver<C> {
     } };
 }
 
-// The descriptor of standard error, the greatest of the three streams.
-const LAST_STREAM: i32 = 2;
-
 impl<F: FileExt + OpenFile + AsRawFd + Drop> DiskOver<Logged<F>> {
     /// Opens the file at that path, which must exist and be readable and writable, as a disk.
     ///
@@ -78,32 +74,7 @@ impl<F: FileExt + OpenFile + AsRawFd + Drop> DiskOver<Logged<F>> {
         ensures opened { IfOk result (λ disk. IsOpened [] disk) }
         ensures no_stream { IfSome (F.raw_fd file) (λ fd. fd ≤ℤ pos 2 → IsErr result) }
     {
-        Self::unless_stream(file, false)
-    }
-
-    /// Returns a disk over an open file, as [`DiskOver::new`] does, for what only looks at it: a sector that the
-    /// drive can't read (EIO of POSIX) is `Unreadable`, and no failure.
-    ///
-    /// # Errors
-    /// As of [`DiskOver::new`].
-    pub fn lenient(file: F) -> io::Result<DiskOver<Logged<F>>>
-        ensures opened { IfOk result (λ disk. IsOpened [] disk) }
-        ensures no_stream { IfSome (F.raw_fd file) (λ fd. fd ≤ℤ pos 2 → IsErr result) }
-    {
-        Self::unless_stream(file, true)
-    }
-
-    fn unless_stream(file: F, is_lenient: bool) -> io::Result<DiskOver<Logged<F>>>
-        ensures opened { IfOk result (λ disk. IsOpened [] disk) }
-        ensures no_stream { IfSome (F.raw_fd file) (λ fd. fd ≤ℤ pos 2 → IsErr result) }
-    {
-        if file.as_raw_fd() <= LAST_STREAM {
-            return Err(io::Error::new(
-                io::ErrorKind::InvalidInput,
-                "its descriptor is that of a standard stream",
-            ));
-        }
-        Self::over(Logged::new(file, is_lenient))
+        Self::over(Logged::new(file, false)?)
     }
 }
 
@@ -175,10 +146,10 @@ impl<C: FileCalls + Drop> DiskOver<C> {
             return Err(self.fail());
         }
         let taken = self.file.write_some(position(n), bytes);
-        if !is_whole(&taken) {
-            return Err(self.fail());
+        match taken {
+            Ok(512) => Ok(()),
+            _ => Err(self.fail()),
         }
-        Ok(())
     }
 
     fn sync_sectors(&mut self) -> Result<(), Failed>
@@ -211,16 +182,6 @@ fn position(n: u32) -> u64
     ensures { result ≡ 512 * n }
 {
     512 * u64::from(n)
-}
-
-// Whether a call of the file transferred all 512 bytes.
-fn is_whole(answer: &io::Result<usize>) -> bool
-    ensures { result ≡ is_all (value_of answer.now) }
-{
-    match answer {
-        Ok(n) => *n == 512,
-        Err(_) => false,
-    }
 }
 
 impl<C: FileCalls + Drop> Disk for DiskOver<C> {

@@ -23,6 +23,9 @@
 //! call are a value that only clauses read, and of which nothing is known. Each fault of the file is a counted
 //! failure, and after a sync that failed every call fails.
 //!
+//! A file may be over another one, which it asks for what it returns (specs/Over). It keeps the disk model if the inner
+//! one does, but for failures of its own ([`a_file_over_another_keeps_its_rule`]).
+//!
 //! Callers state the images that they leave for every moment, and prove them from the trait alone.
 //! The lemmas for that are `proofs/Moments` on sequences of calls and `specs/Images` on possible
 //! contents.
@@ -31,7 +34,7 @@
 //! little-endian: the layout that root sectors and pages of the image share.
 #![tactic(auto)]
 
-mod call_log;
+pub mod call_log;
 mod calls;
 mod device;
 mod event;
@@ -50,7 +53,9 @@ pub use device::Disk;
 pub use fields::{put_u16, put_u32, put_u64, u16_at, u32_at, u64_at};
 pub use file::{DiskOver, FileDisk};
 pub use file_calls::FileCalls;
-pub use laws::{a_cut_between_two_files, what_is_left_may_be_opened};
+pub use laws::{
+    a_cut_between_two_files, a_file_over_another_keeps_its_rule, what_is_left_may_be_opened,
+};
 pub use logged::Logged;
 pub use memory::MemoryDisk;
 pub use pick::Pick;

@@ -4,7 +4,7 @@ ghost use Rattle.std.specs.Prelude.{ℕ, List, IfOk, IfErr};
 ghost use Rattle.mbdc_ending.specs.Outcome.{IsOfFile};
 
 use crate::pointed::{Opened, Pointed};
-use dc_sectors::{Disk, FileDisk};
+use dc_sectors::{Disk, DiskOver};
 use mbdc_ending::{Ending, STREAM};
 use mbdc_files::{Host, ImageFile, Noted, Shelf, open_disk};
 use mbdc_io::{ReadSource, Source};
@@ -48,7 +48,7 @@ impl<'h, R: Files<File = File> + Input + Eprint + AllocGlobal> System<'h> for Ho
 
     type Lines = ReadSource<Pointed<'h, R, R::Reader>>;
 
-    type Image = FileDisk<ImageFile<'h, 'h, R>>;
+    type Image = DiskOver<ImageFile<'h, 'h, R>>;
 
     // What the system's files hold is in no contract.
     ghost opened = { λ _ _ _. ⊤ };
@@ -71,7 +71,7 @@ impl<'h, R: Files<File = File> + Input + Eprint + AllocGlobal> System<'h> for Ho
         Ok(ReadSource::new(Pointed::new(input, self.rt, is_pointed)))
     }
 
-    fn image(&self, name: &'h str) -> Result<FileDisk<ImageFile<'h, 'h, R>>, Ending<'h>> {
+    fn image(&self, name: &'h str) -> Result<DiskOver<ImageFile<'h, 'h, R>>, Ending<'h>> {
         open_disk(self, name)
     }
 }

@@ -1,0 +1,4 @@
+-- lemmas
+
+-- the steps of an image's file
+pub mod Steps

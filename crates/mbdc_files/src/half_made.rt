@@ -3,16 +3,16 @@
 ghost use Rattle.std.specs.Prelude.{IfErr};
 ghost use Rattle.mbdc_files.specs.Formatted.{IsUnmade};
 
-use crate::copied::read_all;
+use crate::copied::{Copied, read_all};
 use crate::host::Host;
 use crate::image::{OTHER_LENGTH, TOO_LONG, file_limit, is_same_file, lock, refused};
-use crate::image_file::{ImageFile, Role};
+use crate::image_file::{ImageFile, disk_over};
 use crate::looking::{LookedAt, ROUNDS};
 use crate::shelf::Shelf;
 use crate::zeros::zeros_at;
 use dc_roots::{RootFault, choose};
 use dc_sectors::snapshot::Sample;
-use dc_sectors::{Disk, FileDisk};
+use dc_sectors::{Disk, DiskOver};
 use mbdc_ending::Ending;
 use mbdc_log::{FEWEST_SECTORS, OpenFault};
 use std::fs::{File, OpenFile, OpenOptions};
@@ -48,8 +48,8 @@ impl HalfMade {
             return Ok(());
         };
         if !is_same_file(
-            self.file.metadata(),
-            fs::symlink_metadata(rt, name.as_str()),
+            &self.file.metadata(),
+            &fs::symlink_metadata(rt, name.as_str()),
         ) {
             return Err(io::Error::from(ErrorKind::NotFound));
         }
@@ -68,16 +68,16 @@ impl<'h, R: Files<File = File> + AllocGlobal> Shelf for Host<'h, R> {
 
     type Draft = HalfMade;
 
-    type New = FileDisk<ImageFile<'h, 'h, R>>;
+    type New = DiskOver<ImageFile<'h, 'h, R>>;
 
-    type Old = FileDisk<ImageFile<'h, 'h, R>>;
+    type Old = DiskOver<Copied>;
 
     // What the system's files hold is in no contract.
     ghost copied = { λ _ _ _. ⊤ };
 
     ghost named = { λ _ _ _. ⊤ };
 
-    fn copy<'a>(&self, image: &'a str) -> Result<FileDisk<ImageFile<'h, 'h, R>>, Ending<'a>> {
+    fn copy<'a>(&self, image: &'a str) -> Result<DiskOver<Copied>, Ending<'a>> {
         let looked = LookedAt::open(self, image)?;
         let mut disk = looked.disk(image)?;
         // It is too small, or both root slots can be read and neither has a root.
@@ -88,18 +88,9 @@ impl<'h, R: Files<File = File> + AllocGlobal> Shelf for Host<'h, R> {
         }
         for _ in 0..ROUNDS {
             let mut sample = Sample::new(self.rt.alloc(), looked.disk(image)?);
-            let sectors = read_all(self.rt.alloc(), &mut sample)?;
+            let copied = read_all(self.rt.alloc(), &mut sample)?;
             if looked.stands(sample, image)? {
-                let copied = match looked.file.try_clone() {
-                    Ok(file) => FileDisk::lenient(ImageFile {
-                        file,
-                        rt: self.rt,
-                        why: self.why,
-                        role: Role::Copied(sectors),
-                    }),
-                    Err(error) => Err(error),
-                };
-                return match copied {
+                return match DiskOver::over(copied) {
                     Ok(disk) => Ok(disk),
                     Err(error) => Err(self.why.file(image, error)),
                 };
@@ -113,7 +104,7 @@ impl<'h, R: Files<File = File> + AllocGlobal> Shelf for Host<'h, R> {
         name: &'a str,
         sectors: u32,
         takes_zeros: bool,
-    ) -> Result<(HalfMade, FileDisk<ImageFile<'h, 'h, R>>), Ending<'a>> {
+    ) -> Result<(HalfMade, DiskOver<ImageFile<'h, 'h, R>>), Ending<'a>> {
         let length = 512 * u64::from(sectors);
         if file_limit() < length {
             return Err(self.why.file(name, refused(TOO_LONG)));
@@ -132,12 +123,7 @@ impl<'h, R: Files<File = File> + AllocGlobal> Shelf for Host<'h, R> {
             Err(error) => return Err(self.why.file(name, error)),
         };
         let disk = match draft.file.try_clone() {
-            Ok(file) => FileDisk::new(ImageFile {
-                file,
-                rt: self.rt,
-                why: self.why,
-                role: Role::Plain,
-            }),
+            Ok(file) => disk_over(file, false, self.rt, self.why, None),
             Err(error) => Err(error),
         };
         let error = match disk {
@@ -156,7 +142,7 @@ impl<'h, R: Files<File = File> + AllocGlobal> Shelf for Host<'h, R> {
     fn end<'a>(
         &self,
         draft: HalfMade,
-        _made: &FileDisk<ImageFile<'h, 'h, R>>,
+        _made: &DiskOver<ImageFile<'h, 'h, R>>,
         name: &'a str,
     ) -> Result<(), Ending<'a>> {
         let linked = draft.link(self.rt, name);
@@ -171,8 +157,8 @@ impl<'h, R: Files<File = File> + AllocGlobal> Shelf for Host<'h, R> {
     fn give_up(&self, draft: HalfMade) {
         if let Some(name) = &draft.name
             && is_same_file(
-                draft.file.metadata(),
-                fs::symlink_metadata(self.rt, name.as_str()),
+                &draft.file.metadata(),
+                &fs::symlink_metadata(self.rt, name.as_str()),
             )
         {
             let _ = fs::remove_file(self.rt, name.as_str());

@@ -116,7 +116,7 @@ pub fn lock(file: &File) -> io::Result<()> {
 
 /// Whether both are found and are the same file, by device and inode number. The contracts of std state neither number,
 /// so this function has no contract.
-pub fn is_same_file(one: io::Result<Metadata>, other: io::Result<Metadata>) -> bool {
+pub fn is_same_file(one: &io::Result<Metadata>, other: &io::Result<Metadata>) -> bool {
     match (one, other) {
         (Ok(one), Ok(other)) => one.dev() == other.dev() && one.ino() == other.ino(),
         _ => false,

@@ -159,7 +159,7 @@ fn open_journal<R: Files<File = File>>(
     let mut reader = &file;
     let _ = reader.read(&mut first)?;
     let about = file.metadata()?;
-    if is_same_file(fs::metadata(rt, image), Ok(about)) || first != *b"{" {
+    if is_same_file(&fs::metadata(rt, image), &Ok(about)) || first != *b"{" {
         return Err(refused(NO_JOURNAL));
     }
     Ok(Some(file))

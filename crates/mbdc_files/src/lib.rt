@@ -15,7 +15,8 @@
 //! A [`Host`] is the system as the commands see it, with the record of its failed calls ([`Why`]). An [`ImageFile`], a
 //! [`Noted`] input and [`Output`] put their failed calls there. [`holder_of`] names the process that has a file locked.
 //!
-//! No contract states what a file or a cell holds and what a lock does; the tests use real files. Contracts state what
+//! No contract states what a file or a cell holds and what a lock does; the tests use real files. Contracts state that
+//! an [`ImageFile`] returns what std's file did, but for failures, what
 //! [`format_image`] and [`back_up`] have made of a [`Shelf`] at status 0, how they end otherwise, the kind of this
 //! crate's own refusals, and what a [`Noted`] wraps.
 #![tactic(auto)]
@@ -35,7 +36,7 @@ mod streams;
 mod why;
 mod zeros;
 
-pub use copied::back_up;
+pub use copied::{Copied, back_up};
 pub use format::format_image;
 pub use half_made::HalfMade;
 pub use holder::{holder_in, holder_of};

@@ -7,10 +7,10 @@ ghost use Rattle.mbdc_files.specs.Copied.{IsOfCopy};
 
 use crate::host::Host;
 use crate::image::{PAUSE, drop_cached, open_regular};
-use crate::image_file::{ImageFile, Role};
+use crate::image_file::{ImageFile, disk_over};
 use crate::why::Why;
+use dc_sectors::DiskOver;
 use dc_sectors::snapshot::{Sample, SampleFault};
-use dc_sectors::{FileDisk, Logged};
 use libc::net::poll;
 use libc::types::timespec;
 use mbdc_ending::Ending;
@@ -28,12 +28,12 @@ pub const ROUNDS: u32 = 100;
 const PATIENCE: i64 = 2000;
 
 /// What a look reads of an image, as a disk.
-pub type LookDisk<'h, R> = Sample<Global, Logged<ImageFile<'h, 'h, R>>>;
+pub type LookDisk<'h, R> = Sample<Global, ImageFile<'h, 'h, R>>;
 
 /// The file of an image that is looked at.
 #[derive(Drop)]
 pub struct LookedAt<'h, R> {
-    pub(crate) file: File,
+    file: File,
     rt: &'h R,
     why: &'h Why,
     begun: i64,
@@ -65,7 +65,7 @@ impl<'h, R: Files<File = File>> LookedAt<'h, R> {
     ///
     /// # Errors
     /// The ending of the command: a call of the file failed.
-    pub fn disk<'a>(&self, name: &'a str) -> Result<FileDisk<ImageFile<'h, 'h, R>>, Ending<'a>>
+    pub fn disk<'a>(&self, name: &'a str) -> Result<DiskOver<ImageFile<'h, 'h, R>>, Ending<'a>>
         ensures opened { IfOk result (λ disk. IsOpened [] disk) }
         ensures failed { IfErr result (λ ending. IsOfFile ending name.now) }
     {
@@ -76,13 +76,7 @@ impl<'h, R: Files<File = File>> LookedAt<'h, R> {
             Ok(file) => file,
             Err(error) => return Err(self.why.file(name, error)),
         };
-        let file = ImageFile {
-            file,
-            rt: self.rt,
-            why: self.why,
-            role: Role::Plain,
-        };
-        match FileDisk::lenient(file) {
+        match disk_over(file, true, self.rt, self.why, None) {
             Ok(disk) => Ok(disk),
             Err(error) => Err(self.why.file(name, error)),
         }

@@ -3,9 +3,9 @@
 use crate::half_made::HalfMade;
 use crate::host::Host;
 use crate::image::{NO_FILE, OTHER_LENGTH, is_same_file, open_image, refused};
-use crate::image_file::{ImageFile, Role};
+use crate::image_file::disk_over;
 use dc_roots::{RootFault, choose};
-use dc_sectors::{Disk, FileDisk};
+use dc_sectors::Disk;
 use mbdc_log::FormatFault;
 use std::fs::{File, Metadata};
 use std::io;
@@ -30,7 +30,7 @@ pub(crate) fn zeros_at<R: Files<File = File>>(
     let file = open_image(host.rt, name)?;
     let about = file.metadata()?;
     let found = about.len();
-    if !is_same_file(Ok(about), Ok(seen)) {
+    if !is_same_file(&Ok(about), &Ok(seen)) {
         return Err(io::Error::new(ErrorKind::NotFound, "another file came under that name"));
     }
     if found != length {
@@ -47,12 +47,7 @@ pub(crate) fn zeros_at<R: Files<File = File>>(
     if sector == [0; 512] {
         return Ok(Ok(HalfMade { file, name: None }));
     }
-    let mut disk = FileDisk::new(ImageFile {
-        file,
-        rt: host.rt,
-        why: host.why,
-        role: Role::Plain,
-    })?;
+    let mut disk = disk_over(file, false, host.rt, host.why, None)?;
     if disk.count() <= 2 {
         return Err(refused(OTHER_CONTENT));
     }
