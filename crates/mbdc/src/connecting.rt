@@ -120,8 +120,13 @@ where
         let Some(peer) = peer else {
             continue;
         };
+        let why = match peer {
+            Peer::Tcp(socket) => socket.deserted.get(),
+            Peer::Serial(held) => held.deserted.get(),
+            Peer::Blocks(_) => None,
+        };
         // What is wrong on a bus where only such bytes come.
-        let words = match peer.given_up() {
+        let words = match why {
             None => continue,
             Some(GivenUp::Silent) => "nobody answers",
             Some(GivenUp::Noisy(0xFF)) =>

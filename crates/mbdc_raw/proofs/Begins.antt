@@ -8,8 +8,7 @@ use Rattle.std.specs.Io.KnownBytes.{Consumes}
 use Rattle.dc_linkframe.specs.Fault.{begins_ack, begins_short}
 use Rattle.dc_linkframe.specs.Need.{need_of}
 use Rattle.dc_linkframe.specs.Reading.{frame_of}
-use Rattle.dc_linkframe.specs.declared.needs.Need.{Need}
-use Rattle.dc_linkframe.specs.declared.needs.Need.TheVariants.{More, Whole, Bad}
+use Rattle.dc_linkframe.specs.declared.needs.Need.TheVariants.{Bad}
 use Rattle.mbdc_bus.specs.Limits.{most_answer}
 use Rattle.mbdc_raw.specs.declared.polling.Begun.{Begun}
 use Rattle.mbdc_raw.specs.declared.polling.Begun.TheVariants.{Frame, Noise}

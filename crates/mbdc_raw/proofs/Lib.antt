@@ -16,6 +16,8 @@ pub mod Begins
 pub mod Waits
 -- a life of a wire over a reader and a writer
 pub mod Life
+-- the moments that the clock of such a wire told
+pub mod Told
 -- of the module `links`
 
 -- of the module `reach`

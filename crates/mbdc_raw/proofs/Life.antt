@@ -1,9 +1,8 @@
 -- A life of a wire.
 use Rattle.std.proofs.Common.{◌≡◌, ℕ, ◌+◌, ◌-◌, ◌^◌, ◌≤◌, min, Bool, true, false, List, [], ◌∷◌, ◌++◌, Option, ap, refl, sym, ◌∙◌, arith, if◌then◌else◌}
-use Rattle.std.specs.declared.time.Instant.{Instant}
 use Rattle.std.proofs.lemmas.Bool.{false≢true}
 use Rattle.mbdc_raw.specs.Life.{Lives, heard, opened, rests, sent, wait_of}
-use Rattle.mbdc_raw.specs.PollWire.{Holds, IsDeserted, WireHears, WireReopens, at_gap, at_silence, begins, bytes_came, ends, goes_on, is_as_before, is_open, most_waited, none_came, not_yet, when_late}
+use Rattle.mbdc_raw.specs.PollWire.{Holds, IsDeserted, WireHears, WireReopens, at_gap, at_silence, begins, bytes_came, ends, goes_on, is_as_before, is_open, looked, most_waited, none_came, not_yet, when_late}
 use Rattle.mbdc_raw.specs.Wire.{Sound, bytes_in, bytes_of, silence}
 use Rattle.mbdc_raw.specs.declared.poll_wire.PollWire.{PollWire}
 
@@ -17,37 +16,37 @@ waits_by true waited limit = omega arith
 waits_by false waited limit = omega arith
 
 -- what is held back, and since when, changes nothing but that
-held_as : {R W C : Type 0} (old new : PollWire R W C) (is_new : Bool) → Holds is_new old new → new ≡ record old { ahead = new.ahead; held = new.held }
+pub held_as : {R W C : Type 0} (old new : PollWire R W C) (is_new : Bool) → Holds is_new old new → new ≡ record old { ahead = new.ahead; held = new.held }
 held_as old new is_new (begins fresh same) = same ∙ ap (λ (w : PollWire _ _ _). record old { ahead = w.ahead; held = w.held }) (sym same)
-held_as old new is_new (goes_on held same) = same ∙ ap (λ (w : PollWire _ _ _). record old { ahead = w.ahead; held = w.held }) (sym same)
+held_as old new is_new (goes_on held early same) = same ∙ ap (λ (w : PollWire _ _ _). record old { ahead = w.ahead; held = w.held }) (sym same)
 held_as old new is_new (ends held passed same) = same ∙ ap (λ (w : PollWire _ _ _). record old { ahead = w.ahead; held = w.held }) (sym same)
 
 module _ {R W C : Type 0} (contents : W → Option (List ℕ)) (remaining : R → Option (List ℕ)) where
   came_by : (old : PollWire R W C) (sound : Sound) (new : PollWire R W C) → WireHears remaining old sound new → Came old sound new
-  came_by old sound new (bytes_came between past is kept) = a_byte kept.came
-  came_by old sound new (none_came between held past is holds (not_yet same)) =
-      let so = held_as between held _ holds in
-      no_byte refl (ap (λ (w : PollWire R W C). w.came) same ∙ ap (λ (w : PollWire R W C). w.came) so ∙ ap (λ (w : PollWire R W C). w.came) is)
-      (omega (arith, ap (λ (w : PollWire R W C). w.waited) same, ap (λ (w : PollWire R W C). w.waited) so, ap (λ (w : PollWire R W C). w.waited) is))
-  came_by old sound new (none_came between held past is holds (at_gap same)) =
-      let so = held_as between held _ holds in
-      no_byte refl (ap (λ (w : PollWire R W C). w.came) same ∙ ap (λ (w : PollWire R W C). w.came) so ∙ ap (λ (w : PollWire R W C). w.came) is)
-      (omega (arith, ap (λ (w : PollWire R W C). w.waited) same, ap (λ (w : PollWire R W C). w.waited) so, ap (λ (w : PollWire R W C). w.waited) is))
-  came_by old sound new (none_came between held past is holds (when_late late same)) =
-      let so = held_as between held _ holds in
-      no_byte refl (ap (λ (w : PollWire R W C). w.came) same ∙ ap (λ (w : PollWire R W C). w.came) so ∙ ap (λ (w : PollWire R W C). w.came) is)
-      (omega (arith, ap (λ (w : PollWire R W C). w.waited) same, ap (λ (w : PollWire R W C). w.waited) so, ap (λ (w : PollWire R W C). w.waited) is))
-  came_by old sound new (none_came between held past is holds (at_silence over same)) =
-      let so = held_as between held _ holds in
-      no_byte refl (ap (λ (w : PollWire R W C). w.came) same ∙ ap (λ (w : PollWire R W C). w.came) so ∙ ap (λ (w : PollWire R W C). w.came) is)
-      (omega (arith, ap (λ (w : PollWire R W C). w.waited) same, waits_by held.asks held.waited held.limit, ap (λ (w : PollWire R W C). w.waited) so, ap (λ (w : PollWire R W C). wait_of w silence) so, ap (λ (w : PollWire R W C). w.waited) is, ap (λ (w : PollWire R W C). wait_of w silence) is))
+  came_by old sound new (bytes_came reader ahead at past kept) = a_byte kept.came
+  came_by old sound new (none_came reader ahead at held past holds (not_yet quiet still early same)) =
+      let so = held_as (looked old reader ahead at) held _ holds in
+      no_byte refl (ap (λ (w : PollWire R W C). w.came) same ∙ ap (λ (w : PollWire R W C). w.came) so)
+      (omega (arith, ap (λ (w : PollWire R W C). w.waited) same, ap (λ (w : PollWire R W C). w.waited) so))
+  came_by old sound new (none_came reader ahead at held past holds (at_gap quiet due same)) =
+      let so = held_as (looked old reader ahead at) held _ holds in
+      no_byte refl (ap (λ (w : PollWire R W C). w.came) same ∙ ap (λ (w : PollWire R W C). w.came) so)
+      (omega (arith, ap (λ (w : PollWire R W C). w.waited) same, ap (λ (w : PollWire R W C). w.waited) so))
+  came_by old sound new (none_came reader ahead at held past holds (when_late quiet still late same)) =
+      let so = held_as (looked old reader ahead at) held _ holds in
+      no_byte refl (ap (λ (w : PollWire R W C). w.came) same ∙ ap (λ (w : PollWire R W C). w.came) so)
+      (omega (arith, ap (λ (w : PollWire R W C). w.waited) same, ap (λ (w : PollWire R W C). w.waited) so))
+  came_by old sound new (none_came reader ahead at held past holds (at_silence over same)) =
+      let so = held_as (looked old reader ahead at) held _ holds in
+      no_byte refl (ap (λ (w : PollWire R W C). w.came) same ∙ ap (λ (w : PollWire R W C). w.came) so)
+      (omega (arith, waits_by held.asks held.waited held.limit, ap (λ (w : PollWire R W C). w.waited) same, ap (λ (w : PollWire R W C). w.waited) so, ap (λ (w : PollWire R W C). wait_of w silence) so))
 
   came_again : (old new : PollWire R W C) (again : Bool) → WireReopens old again new → new.came ≡ old.came
-  came_again old new again (is_open same) = ap (λ (w : PollWire R W C). w.came) same
+  came_again old new again (is_open restarts same) = ap (λ (w : PollWire R W C). w.came) same
   came_again old new again (is_as_before same) = ap (λ (w : PollWire R W C). w.came) same
 
   waited_again : (old new : PollWire R W C) (again : Bool) → WireReopens old again new → new.waited ≡ old.waited
-  waited_again old new again (is_open same) = ap (λ (w : PollWire R W C). w.waited) same
+  waited_again old new again (is_open restarts same) = ap (λ (w : PollWire R W C). w.waited) same
   waited_again old new again (is_as_before same) = ap (λ (w : PollWire R W C). w.waited) same
 
   -- a byte that came is known for ever
@@ -84,7 +83,7 @@ module _ {R W C : Type 0} (contents : W → Option (List ℕ)) (remaining : R �
   silent old new sounds waited (heard {between = b} {sound = sound} {sounds = more} {waited = later} hears rest) quiet =
       silent_by old sound more b new later (came_by old sound b hears) (λ is. stays b new more later rest is) quiet (silent b new more later rest quiet)
 
-  pub deserted : (old new : PollWire R W C) (sounds : List Sound) (waited : ℕ) (at : Instant) → old.came ≡ false → old.waited ≡ 0 → Lives contents remaining old sounds waited new → IsDeserted new at → (bytes_in sounds ≡ []) × (most_waited ≤ waited + wait_of new silence)
-  deserted old new sounds waited at fresh none life is =
-      let so = silent old new sounds waited life is.silent in
-      (so.none, omega (arith, so.most, none, is.long, waits_by new.asks new.waited new.limit))
+  pub deserted : (old new gone : PollWire R W C) (sounds : List Sound) (waited : ℕ) → old.came ≡ false → old.waited ≡ 0 → Lives contents remaining old sounds waited new → IsDeserted new gone → (bytes_in sounds ≡ []) × (most_waited ≤ waited + wait_of new silence)
+  deserted old new gone sounds waited fresh none life is =
+      let so = silent old new sounds waited life is.unanswered.silent in
+      (so.none, omega (arith, so.most, none, is.unanswered.long, waits_by new.asks new.waited new.limit))

@@ -1,7 +1,8 @@
 -- A life of a wire over a reader and a writer: what was heard on it, and how long requests waited in vain (this product).
 use Rattle.std.specs.Prelude.{◌≡◌, ℕ, ◌+◌, List, [], ◌∷◌, Bool, Option, if◌then◌else◌}
+use Rattle.std.specs.List.{All}
 use Rattle.mbdc_raw.specs.PollWire.{WireHears, WireReopens, WireSends}
-use Rattle.mbdc_raw.specs.Wire.{Sound, piece, nothing, gap, overdue, silence}
+use Rattle.mbdc_raw.specs.Wire.{AreHeard, IsAwaited, Sound, piece, nothing, gap, overdue, silence}
 use Rattle.mbdc_raw.specs.declared.poll_wire.PollWire.{PollWire}
 use Rattle.mbdc_raw.specs.declared.wire.Asking.{Asking}
 
@@ -28,3 +29,13 @@ pub data Lives {R W C : Type 0} (contents : W → Option (List ℕ)) (remaining 
   heard : {old between new : PollWire R W C} {sound : Sound} {sounds : List Sound} {waited : ℕ}
       → WireHears remaining old sound between → Lives contents remaining between sounds waited new
       → Lives contents remaining old (sound ∷ sounds) (wait_of old sound + waited) new
+
+-- A REQUEST MEETS SILENCE: it went out, no byte came at any number of looks, and then silence
+pub record MeetsSilence {R W C : Type 0} (contents : W → Option (List ℕ)) (remaining : R → Option (List ℕ))
+    (old : PollWire R W C) (bytes : List ℕ) (asking : Asking) (sent new : PollWire R W C) : Type 0 where
+  pub sends : WireSends contents old bytes asking sent
+  pub sounds : List Sound
+  pub quiet : PollWire R W C
+  pub awaited : All IsAwaited sounds
+  pub heard : AreHeard (WireHears remaining) sent sounds quiet
+  pub silent : WireHears remaining quiet silence new

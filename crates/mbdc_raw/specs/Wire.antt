@@ -20,6 +20,14 @@ bytes_of gap = []
 bytes_of overdue = []
 bytes_of silence = []
 
+-- no byte came, and the time-out isn't over
+abbrev pub IsAwaited : Sound → Type 0
+IsAwaited (piece bytes) = ⊥
+IsAwaited nothing = Unit {0}
+IsAwaited gap = Unit {0}
+IsAwaited overdue = Unit {0}
+IsAwaited silence = ⊥
+
 -- the bytes that came
 abbrev pub bytes_in : List Sound → List ℕ
 bytes_in [] = []

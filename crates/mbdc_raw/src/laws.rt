@@ -1,16 +1,18 @@
 //! Theorems about the definitions of a line.
 
-ghost use Rattle.std.specs.Prelude.{◌≡◌, ◌+◌, ◌≤◌, ℕ, List, [], None, false};
+ghost use Rattle.std.specs.Prelude.{◌≡◌, ◌+◌, ◌≤◌, ◌<◌, ℕ, List, [], ◌∷◌, ◌++◌, None, false};
 ghost use Rattle.std.specs.List.{All};
+ghost use Rattle.std.specs.declared.time.Instant.{Instant as Moment};
 ghost use Rattle.mbdc_raw.specs.Heard.{ComesFrom, Heard, IsByte, IsFrame, heard_of, past_echo};
 ghost use Rattle.mbdc_raw.specs.Line.{GivesOver};
-ghost use Rattle.mbdc_raw.specs.Life.{Lives, wait_of};
-ghost use Rattle.mbdc_raw.specs.PollWire.{IsDeserted, most_waited};
+ghost use Rattle.mbdc_raw.specs.Life.{Lives, MeetsSilence, wait_of};
+ghost use Rattle.mbdc_raw.specs.PollWire.{HasPassed, IsDeserted, IsTold, most_waited, told};
 ghost use Rattle.mbdc_raw.specs.Wire.{AreHeard, Sound, bytes_in, silence};
 ghost use Rattle.mbdc_raw.specs.declared.poll_wire.PollWire.{PollWire as PolledWire};
+ghost use Rattle.mbdc_raw.specs.declared.poll_wire.Until.TheVariants.{Still};
+ghost use Rattle.mbdc_raw.specs.declared.wire.Asking.{Asking as Asks};
 ghost use Rattle.mbdc_raw.specs.declared.line.Line.{Line};
 ghost use Rattle.mbdc_raw.specs.declared.state.Kind.TheVariants.{One};
-ghost use Rattle.std.specs.declared.time.Instant.{Instant as Moment};
 
 use crate::poll_wire::Link;
 use crate::wire::Wire;
@@ -35,15 +37,24 @@ pub fn what_a_line_gives_is_heard<W: Wire + Drop>()
         × Heard old.hearing.request sounds answer }
 {}
 
-/// On a line that is given up since nobody answers, no byte came since it was connected, and requests
-/// had waited for 120 s by the clock.
-pub fn nobody_answers_on_a_deserted_line<R, W, C>()
+/// A wire waits by its clock. It measures from moments that the clock told. Between a request and the silence that it
+/// meets, the clock told two moments that lie the time-out apart; the early repeat of a request has a time-out of its
+/// own. On a line that is given up since nobody answers, no byte came since it was connected, and requests had waited
+/// for 120 s.
+pub fn a_wire_waits_by_its_clock<R, W, C>()
 where
     R: Read + AsRawFd + Drop,
     W: Write + Link + Drop,
     C: Clock + Drop,
-    ensures { (old new : PolledWire R W C) (sounds : List Sound) (waited : ℕ) (at : Moment)
+    ensures told { (old new : PolledWire R W C) (sounds : List Sound) (waited : ℕ) → IsTold old
+        → Lives W.contents R.remaining old sounds waited new → IsTold new }
+    ensures apart { (old : PolledWire R W C) (bytes : List ℕ) (asking : Asks) (sent new : PolledWire R W C)
+        → (0 < asking.repeats → sent.until ≡ Still)
+        → MeetsSilence W.contents R.remaining old bytes asking sent new
+        → (between : List Moment) × (told new ≡ new.at ∷ (between ++ (sent.since ∷ told old)))
+        × HasPassed sent.limit sent.since new.at }
+    ensures deserted { (old new gone : PolledWire R W C) (sounds : List Sound) (waited : ℕ)
         → old.came ≡ false → old.waited ≡ 0 → Lives W.contents R.remaining old sounds waited new
-        → IsDeserted new at
+        → IsDeserted new gone
         → (bytes_in sounds ≡ []) × (most_waited ≤ waited + wait_of new silence) }
 {}

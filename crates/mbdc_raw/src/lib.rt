@@ -20,6 +20,7 @@ mod laws;
 mod line;
 pub mod links;
 mod listening;
+mod logged_clock;
 mod pace;
 mod poll_wire;
 mod polling;
@@ -29,8 +30,7 @@ mod wire;
 
 pub use hearing::Hearing;
 pub use laws::{
-    nobody_answers_on_a_deserted_line, what_a_line_gives_is_heard,
-    what_is_heard_depends_on_the_bytes_alone,
+    a_wire_waits_by_its_clock, what_a_line_gives_is_heard, what_is_heard_depends_on_the_bytes_alone,
 };
 pub use line::{Gone, Held, Line};
 pub use listening::{drain, gather, hear, without_echo};

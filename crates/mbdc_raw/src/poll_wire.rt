@@ -1,15 +1,18 @@
 //! A wire over a descriptor that can be polled: a TCP stream or a terminal.
 
-ghost use Rattle.std.specs.Prelude.{◌≡◌, ◌*◌, ◌≤◌, ◌<◌, [], length, true, false, IfOk, OnOk, OnErr};
+ghost use Rattle.std.specs.Prelude.{◌≡◌, ◌*◌, ◌≤◌, ◌<◌, [], length, true, false, IfOk, OnOk, OnErr, Ok};
 ghost use Rattle.mbdc_io.specs.Failures.{HasRisen};
 ghost use Rattle.mbdc_raw.specs.Looks.{waits_of};
-ghost use Rattle.mbdc_raw.specs.PollWire.{Ends, IsHeard, IsStill, WireHears, WireSends, takes_all};
-ghost use Rattle.mbdc_raw.specs.PollWire.{Holds, IsDeserted, waited_then};
+ghost use Rattle.mbdc_raw.specs.PollWire.{Ends, Holds, IsDeserted, IsHeard, IsStill, IsTold};
+ghost use Rattle.mbdc_raw.specs.PollWire.{HasPassed, IsUnanswered, WireHears, WireSends, gap_micros};
+ghost use Rattle.mbdc_raw.specs.PollWire.{takes_all, tells, waited_then};
+ghost use Rattle.mbdc_raw.specs.declared.wire.Came.TheVariants.{Gap};
 ghost use Rattle.mbdc_raw.specs.declared.poll_wire.Until.TheVariants.{Still};
 ghost use Rattle.mbdc_raw.specs.Wire.{FitsRoom, Wanes, sound_of};
 
+use crate::logged_clock::{ClockLog, LoggedClock};
 use crate::pace::Pace;
-use crate::polling::{between, now, read_past_noise, read_within};
+use crate::polling::{between, read_past_noise, read_within};
 use crate::state::is_reset;
 use crate::wire::{Asking, Came, Wire};
 use mbdc_bus::AnswerBuf;
@@ -94,9 +97,10 @@ pub enum Until {
 /// since it was connected.
 #[derive(Drop)]
 pub struct PollWire<R: Read + AsRawFd + Drop, W: Write + Link + Drop, C: Clock + Drop> {
-    reader: R,
+    // Its descriptor is for a caller that waits for the bytes of several wires at once.
+    pub(crate) reader: R,
     writer: W,
-    clock: C,
+    clock: LoggedClock<C>,
     // The time-out that was stated, that of the line and that of the request, in microseconds.
     stated: u64,
     patience: u64,
@@ -144,8 +148,15 @@ impl<R: Read + AsRawFd + Drop, W: Write + Link + Drop, C: Clock + Drop> PollWire
         ensures came { IfOk result (λ wire. wire.came ≡ false) }
         ensures waited { IfOk result (λ wire. wire.waited ≡ 0) }
         ensures deserted { IfOk result (λ wire. wire.deserted ≡ false) }
+        ensures begun { IfOk result (λ wire. wire.begun ≡ false) }
+        ensures asks { IfOk result (λ wire. wire.asks ≡ false) }
+        ensures told { IfOk result (λ wire. IsTold wire) }
     {
-        let since = Instant::now(&clock)?;
+        let mut clock = LoggedClock {
+            clock,
+            log: ClockLog::new(),
+        };
+        let since = clock.now()?;
         let micros = u64::from(patience) * 1_000;
         Ok(PollWire {
             reader,
@@ -173,14 +184,10 @@ impl<R: Read + AsRawFd + Drop, W: Write + Link + Drop, C: Clock + Drop> PollWire
         })
     }
 
-    /// The descriptor, for a caller that waits for the bytes of several wires at once.
-    pub fn fd(&self) -> i32 {
-        self.reader.as_raw_fd()
-    }
-
     /// The time until the next gap or silence, if no byte comes; zero if the clock fails.
     pub fn left(&self) -> Duration {
-        let Ok(at) = now(&self.clock) else {
+        // The moment isn't added to the history: no step depends on it.
+        let Ok(at) = Instant::now(&self.clock.clock) else {
             return Duration::ZERO;
         };
         let rest = self.rest(at);
@@ -202,7 +209,8 @@ impl<R: Read + AsRawFd + Drop, W: Write + Link + Drop, C: Clock + Drop> PollWire
 
     // The time from this moment to silence, if no byte comes.
     fn rest(&self, at: Instant) -> u64
-        ensures { result ≡ 0 → Ends self.now at }
+        ensures over { result ≡ 0 → Ends self.now at }
+        ensures due { Ends self.now at → result ≡ 0 }
     {
         let spent = between(self.since, at);
         let left = self.limit.saturating_sub(between(self.asked, at));
@@ -239,11 +247,12 @@ impl<R: Read + AsRawFd + Drop, W: Write + Link + Drop, C: Clock + Drop> PollWire
         ensures well { self.new.failures ≡ self.old.failures }
         ensures step { IfOk result (λ came.
             WireHears R.remaining self.old (sound_of came room.new) self.new) }
+        ensures read { OnOk result (self.new.clock ≡ tells self.new.at self.old.clock) }
         ensures deserted { self.old.deserted ≡ false → self.new.deserted ≡ true
-            → IsDeserted self.old self.new.at }
+            → IsDeserted self.old self.new }
     {
         let wait = if self.waits == 0 {
-            self.rest(now(&self.clock)?)
+            self.rest(self.at)
         } else {
             0
         };
@@ -258,7 +267,10 @@ impl<R: Read + AsRawFd + Drop, W: Write + Link + Drop, C: Clock + Drop> PollWire
             takes_all,
             room,
         )?;
-        self.at = now(&self.clock)?;
+        let Ok(at) = self.clock.now() else {
+            return Err(IoFault);
+        };
+        self.at = at;
         if count > 0 {
             let (given, _) = room.split_at(count);
             self.heard(given)?;
@@ -273,7 +285,7 @@ impl<R: Read + AsRawFd + Drop, W: Write + Link + Drop, C: Clock + Drop> PollWire
     fn heard(&mut self, bytes: &[u8]) -> Result<(), IoFault>
         ensures well { self.new.failures ≡ self.old.failures }
         ensures waits { self.new.waits ≡ self.old.waits }
-        ensures kept { OnOk result (IsHeard self.old self.new) }
+        ensures kept { OnOk result (IsHeard self.old bytes.now self.new) }
         ensures deserted { self.new.deserted ≡ self.old.deserted }
     {
         let spent = between(self.since, self.at);
@@ -326,12 +338,16 @@ impl<R: Read + AsRawFd + Drop, W: Write + Link + Drop, C: Clock + Drop> PollWire
             (waits_of self.old.waits) (waits_of self.new.waits)) }
         ensures well { self.new.failures ≡ self.old.failures }
         ensures step { IfOk result (λ came. IsStill self.old (sound_of came []) self.new) }
+        ensures gap { result ≡ Ok Gap → HasPassed gap_micros self.old.since self.old.at }
         ensures deserted { self.old.deserted ≡ false → self.new.deserted ≡ true
-            → IsDeserted self.old self.old.at }
+            → IsUnanswered self.old self.old.at }
         ensures at { self.new.at ≡ self.old.at }
+        ensures clock { self.new.clock ≡ self.old.clock }
     {
-        let is_free = self.waits == 0 || self.ahead.as_slice().is_empty();
-        if is_free && self.rest(self.at) == 0 {
+        let rest = self.rest(self.at);
+        let spent = between(self.since, self.at);
+        let is_free = self.ahead.as_slice().is_empty();
+        if rest == 0 && (is_free || self.waits == 0) {
             self.waited = self.waited_then();
             self.asks = false;
             if !self.came && self.waited >= MOST_WAITED {
@@ -352,14 +368,14 @@ impl<R: Read + AsRawFd + Drop, W: Write + Link + Drop, C: Clock + Drop> PollWire
             return Err(IoFault);
         }
         self.waits = self.waits.min(MOST_WAITS) - 1;
-        if self.begun && self.until == Until::Still && between(self.since, self.at) >= GAP_MICROS {
+        if self.begun && self.until == Until::Still && spent >= GAP_MICROS {
             self.begun = false;
             return Ok(Came::Gap);
         }
-        if let Some(wait) = self.soon
-            && self.ahead.as_slice().is_empty()
-            && between(self.since, self.at) >= wait
-        {
+        let Some(wait) = self.soon else {
+            return Ok(Came::Nothing);
+        };
+        if is_free && spent >= wait {
             self.soon = None;
             self.pace.acks = false;
             return Ok(Came::Overdue);
@@ -386,7 +402,10 @@ impl<R: Read + AsRawFd + Drop, W: Write + Link + Drop, C: Clock + Drop> PollWire
         if self.writer.write_all(bytes).is_err() {
             return Err(IoFault);
         }
-        self.since = now(&self.clock)?;
+        let Ok(since) = self.clock.now() else {
+            return Err(IoFault);
+        };
+        self.since = since;
         if asking.repeats == 0 {
             self.asked = self.since;
         }
@@ -444,7 +463,6 @@ impl<R: Read + AsRawFd + Drop, W: Write + Link + Drop, C: Clock + Drop> Wire for
             return false;
         }
         // Nothing came on the link yet.
-        self.since = now(&self.clock).unwrap_or(self.since);
         self.begun = false;
         self.soon = None;
         self.ahead = AnswerBuf::new();
@@ -452,6 +470,9 @@ impl<R: Read + AsRawFd + Drop, W: Write + Link + Drop, C: Clock + Drop> Wire for
         self.noise = 0;
         self.until = Until::Still;
         self.limit = self.patience;
+        if let Ok(at) = self.clock.now() {
+            self.since = at;
+        }
         true
     }
 
@@ -468,13 +489,14 @@ impl<R: Read + AsRawFd + Drop, W: Write + Link + Drop, C: Clock + Drop> Wire for
         ensures fits { IfOk result (λ came. FitsRoom came (length room.old)) }
         ensures step { IfOk result (λ came.
             WireHears R.remaining self.old (sound_of came room.new) self.new) }
+        ensures read { OnOk result (self.new.clock ≡ tells self.new.at self.old.clock) }
         ensures fewer { IfOk result (λ came. Wanes came
             (waits_of self.old.waits) (waits_of self.new.waits)) }
         ensures well { OnOk result (self.new.failures ≡ self.old.failures) }
         ensures failed { OnErr result (HasRisen self.old.failures self.new.failures) }
         // Nobody answers on a line that is given up.
         ensures deserted { self.old.deserted ≡ false → self.new.deserted ≡ true
-            → IsDeserted self.old self.new.at }
+            → IsDeserted self.old self.new }
     {
         let came = self.look(room);
         if came.is_err() {

@@ -1,4 +1,4 @@
-//! Reads that wait at most so long, and the clock.
+//! Reads that wait at most so long.
 
 ghost use Rattle.std.specs.Prelude.{◌≡◌, ◌+◌, ◌-◌, ◌*◌, ◌/◌, ◌^◌, ◌≤◌, ◌<◌, min, ℕ, List, ◌++◌, [], true};
 ghost use Rattle.std.specs.Prelude.{length, take, drop, false, IfOk, OnOk};
@@ -16,7 +16,6 @@ use mbdc_bus::{AnswerBuf, MOST_ANSWER};
 use mbdc_io::IoFault;
 use std::io::{ErrorKind, Read};
 use std::os::fd::AsRawFd;
-use std::rt::Clock;
 use std::time::Instant;
 
 // The first byte of a short frame, and an acknowledgement.
@@ -29,10 +28,6 @@ const BEGINNING: usize = 5;
 
 // Maximum number of polls repeated because a signal interrupted a poll or a read.
 const MOST_POLLS: usize = 1_000;
-
-pub(crate) fn now<C: Clock>(clock: &C) -> Result<Instant, IoFault> {
-    Instant::now(clock).map_err(|_| IoFault)
-}
 
 // The time between two moments, in microseconds.
 pub(crate) fn between(since: Instant, at: Instant) -> u64

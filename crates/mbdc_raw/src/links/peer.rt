@@ -6,7 +6,7 @@ use crate::links::bus::LinkBus;
 use crate::links::connection::Connection;
 use crate::links::socket::{Socket, Tcp, Terminal};
 use crate::links::terminal::Held;
-use crate::{GivenUp, Line, PollWire};
+use crate::{Line, PollWire};
 use mbdc_bus::blocks::{BlockLink, Gateway};
 use mbdc_io::{ReadSource, WriteSink};
 use std::io;
@@ -76,15 +76,6 @@ impl<C: Clock + Copy> Peer<C> {
         match self {
             Peer::Tcp(_) => PATIENCE_TCP,
             Peer::Serial(_) | Peer::Blocks(_) => PATIENCE,
-        }
-    }
-
-    /// Why its line was given up, if it was.
-    pub fn given_up(&self) -> Option<GivenUp> {
-        match self {
-            Peer::Tcp(socket) => socket.deserted.get(),
-            Peer::Serial(held) => held.deserted.get(),
-            Peer::Blocks(_) => None,
         }
     }
 }

@@ -7,6 +7,7 @@ use libc::types::pollfd;
 use mbdc_bus::trace::{Observed, Observer};
 use mbdc_bus::{HalfBus, Pause};
 use std::net::{Net, TcpStream};
+use std::os::fd::AsRawFd;
 use std::rt::Clock;
 use std::time::Duration;
 
@@ -60,9 +61,11 @@ pub trait Watched {
 impl<C: Net<Stream = TcpStream> + Clock + Copy> Watched for SystemBus<'_, C> {
     fn add_to(&self, watch: &mut Watch) {
         let (fd, left) = match self {
-            LinkBus::First(LinkBus::First(tcp)) if !tcp.lost => (tcp.wire.fd(), tcp.wire.left()),
+            LinkBus::First(LinkBus::First(tcp)) if !tcp.lost => {
+                (tcp.wire.reader.as_raw_fd(), tcp.wire.left())
+            }
             LinkBus::First(LinkBus::Second(serial)) if !serial.lost => {
-                (serial.wire.fd(), serial.wire.left())
+                (serial.wire.reader.as_raw_fd(), serial.wire.left())
             }
             _ => {
                 watch.is_ready = true;
