@@ -1,10 +1,11 @@
 -- Stopped at any moment and opened again (the clause `the_headline` of `Concentrator::open`).
 use Rattle.std.proofs.Common.{◌≡◌, ⊎_elim, ◌<◌, ◌≤◌, ◌+◌, ◌-◌, ℕ, zero, suc, true, max, Some, Ok, List, [], ◌∷◌, ◌++◌, length, take, drop, get_or, refl, ap, sym, subst, ◌∙◌, arith, append_assoc, get_or-set_same}
-use Rattle.std.specs.Prelude.{Contains}
+use Rattle.std.specs.Prelude.{◌==◌, false, codes, Contains, All}
+use Rattle.std.specs.List.{slice_split}
 use Rattle.std.proofs.Math.ListN.{set}
 use Rattle.std.proofs.Math.Seq.{take-append-add}
 use Rattle.std.proofs.lemmas.List.{append-nil, take-append-drop, length-set}
-use Rattle.std.proofs.lemmas.List.Elements.{Contains-append_cases, Contains-push_cases}
+use Rattle.std.proofs.lemmas.List.Elements.{All-contains, Contains-append_cases, Contains-push_cases}
 use Rattle.std.proofs.lemmas.Bool.Decides.{nat_tests}
 use Rattle.dc_sectors.specs.Disk.{Image, Choices, IsImage, settled}
 use Rattle.dc_sectors.specs.Images.{settled_image}
@@ -23,18 +24,20 @@ use Rattle.dc_core.specs.declared.line_heard.LineHeard.TheVariants.{Accepted}
 use Rattle.dc_core.specs.Core.{Core, opened}
 use Rattle.dc_core.specs.Event.{Event, Answer, Reply, asks, hears, commits, offices, asked, heard, committed, replied}
 use Rattle.dc_core.specs.Event.{unread, unstored, repeated, refused, shown, out_of_memory, obeyed, uncommitted}
-use Rattle.dc_core.specs.Step.{next}
+use Rattle.dc_core.specs.Step.{next, settled_core, MayReply}
 use Rattle.dc_core.specs.Transcript.{Turn, leads, IsChain, accepted_by, accepted_in}
 use Rattle.dc_core.specs.Promised.{Seen, nothing_seen, latest_on, and_seen, seen_from, promised_in}
 use Rattle.dc_core.specs.Images.{Machine, IsAt, StandsForPromised}
 use Rattle.dc_core.specs.Lives.{IsFront, MayFollow}
-use Rattle.dc_core.specs.Told.{Tells}
+use Rattle.dc_core.specs.Told.{Tells, AreTold}
 use Rattle.dc_core.specs.Run.{DidAll}
 use Rattle.dc_core.specs.Headline.{IsOpened, IsOpening, WasStopped, in_a_run, in_an_opening, accepted, IsPrefix, IsPromised, HasTold, IsKept, HoldsKept}
 use Rattle.dc_core.proofs.Fronts.{promised_is_committed, accepted_counted, latest_within, heard_on_line}
 use Rattle.dc_core.proofs.Going.{leads_push, chain_push, accepted_push, seen_push, promised_push, grown, fewer, from_first, now_first}
 use Rattle.dc_core.proofs.Following.{stands_reads, lives_follow}
 use Rattle.dc_core.proofs.Told.{chain_parts, accepted_parts, promised_more, tells_now, all_committed}
+use Rattle.dc_core.proofs.Flats.{AreFlats, held_flats}
+use Rattle.dc_core.proofs.ShownReadings.{IsOwn, shown_own}
 
 -- ---- a telegram after which another request was asked
 
@@ -164,10 +167,41 @@ told_by budget state before text (refused code) chain = tt
 told_by budget state before text out_of_memory chain = tt
 told_by budget state before text (uncommitted change fault) chain = tt
 
+-- the same of each turn of a chain
+texts_told : (budget : ℕ) (state : State) (done : List Turn) → IsChain budget (opened state) done → AreTold state done
+texts_told budget state done chain before behind text reply is =
+    let t : Turn = (offices text, replied reply) in
+    let e : before ++ t ∷ [] ++ behind ≡ before ++ t ∷ behind = append_assoc before (t ∷ []) behind in
+    told_by budget state before text reply (chain_parts budget (opened state) (before ++ t ∷ []) behind (subst (IsChain budget (opened state)) (is ∙ sym e) chain)).0
+
+-- what was shown of a state whose flats are valid
+shown_told : (s : State) (text bytes : List ℕ) → AreFlats s → Tells text (shown bytes) s → HasTold (offices text) (replied (shown bytes)) s
+shown_told s text bytes flats tells values words begins contains =
+    let line = tells.0 in
+    let own = shown_own s line values flats (sym tells.1.0.text_is ∙ begins) in
+    All-contains (IsOwn s) (slice_split (λ b. b == 10) bytes) (codes "READING " ++ words)
+    (subst (λ (l : List ℕ). All (IsOwn s) (slice_split (λ b. b == 10) l)) (sym tells.1.1) own) contains words refl
+
+-- while something is shown, the concentrator runs
+settled_runs : (core : Core) (changes : List Change) → core.stopped ≡ false → (settled_core core changes).stopped ≡ false
+settled_runs core [] running = running
+settled_runs core (change ∷ changes) running = running
+
+-- where the flats are valid while the concentrator runs
 told_turn : (budget : ℕ) (state : State) (before : List Turn) (event : Event) (answer : Answer) → IsChain budget (opened state) (before ++ (event, answer) ∷ [])
+    → ((leads (opened state) (before ++ (event, answer) ∷ [])).stopped ≡ false → AreFlats (leads (opened state) (before ++ (event, answer) ∷ [])).committed)
     → HasTold event answer (after state (accepted state (before ++ (event, answer) ∷ [])))
-told_turn budget state before (offices text) (replied reply) chain = told_by budget state before text reply chain
-told_turn budget state before event answer chain = tt
+told_turn budget state before (offices text) (replied (repeated number)) chain flats = told_by budget state before text (repeated number) chain
+told_turn budget state before (offices text) (replied (obeyed number change)) chain flats = told_by budget state before text (obeyed number change) chain
+told_turn budget state before (offices text) (replied (shown bytes)) chain flats =
+    let t : Turn = (offices text, replied (shown bytes)) in
+    let now = before ++ t ∷ [] in
+    let core = leads (opened state) before in
+    let may : MayReply budget core text (shown bytes) = (chain_parts budget (opened state) before (t ∷ []) chain).1.0 in
+    let runs = ap (λ (c : Core). c.stopped) (leads_push (opened state) before t) ∙ settled_runs core core.pending may.running in
+    let all = all_committed budget state now chain (promises_all budget state before (offices text) (replied (shown bytes)) (λ seen. refl) chain) in
+    shown_told (after state (accepted state now)) text bytes (subst AreFlats all (flats runs)) (told_by budget state before text (shown bytes) chain)
+told_turn budget state before event answer chain flats = tt
 
 -- ---- a prefix with all that is promised by number is kept
 
@@ -192,17 +226,19 @@ includes_by budget state done more before behind t count chain all is promise =
     ap (accepted state) (ap (λ (ts : List Turn). ts ++ more) (is ∙ sym e) ∙ append_assoc now behind more) ∙ accepted_parts (opened state) now (behind ++ more) in
     subst (λ (changes : List Change). IsPrefix (accepted state now) (take count changes)) (sym parts) (longer_prefix (accepted state now) rest count (omega (arith, least, same, all)))
 
-is_kept : (budget : ℕ) (state : State) (done more : List Turn) (held : State) → IsChain budget (opened state) done → IsFront state (promised_in done) (accepted state (done ++ more)) held → IsKept state done more held
-is_kept budget state done more held chain front =
+-- what each of these turns reported to the office
+abbrev EachTold : State → List Turn → Type 0
+EachTold state done = (before behind : List Turn) (turn : Turn) → done ≡ before ++ turn ∷ behind → HasTold turn.0 turn.1 (after state (accepted state (before ++ turn ∷ [])))
+
+is_kept : (budget : ℕ) (state : State) (done more : List Turn) (held : State) → IsChain budget (opened state) done → EachTold state done → IsFront state (promised_in done) (accepted state (done ++ more)) held → IsKept state done more held
+is_kept budget state done more held chain told front =
     let all = accepted state (done ++ more) in
     record {
       prefix = take front.count all;
       held_is = front.found_is;
       is_prefix = (drop front.count all, sym (take-append-drop front.count all));
       includes = λ before behind turn is promise. includes_by budget state done more before behind turn front.count chain front.all_promised is promise;
-      told = λ before behind t is.
-          let e : before ++ t ∷ [] ++ behind ≡ before ++ t ∷ behind = append_assoc before (t ∷ []) behind in
-          told_turn budget state before t.0 t.1 (chain_parts budget (opened state) (before ++ t ∷ []) behind (subst (IsChain budget (opened state)) (is ∙ sym e) chain)).0;
+      told = told;
     }
 
 -- ---- a run, machine to machine
@@ -216,6 +252,30 @@ module _ {D : Type 0} (g : Ghosts D) (only : (disk : D) (image : Image) → g.im
       → IsAt g origin new (leads core turns)
   does_at origin budget core [] old new at did = subst (λ (m : Machine D). IsAt g origin m core) (sym did) at
   does_at origin budget core (t ∷ turns) old new at did = does_at origin budget (next core t.0 t.1) turns did.0 new did.1.at did.2
+
+  -- the first of these turns, and what comes after them
+  does_first : (origin : D) (budget : ℕ) (core : Core) (front back : List Turn) (old new : Machine D) → DidAll g origin budget core (front ++ back) old new
+      → (mid : Machine D) × DidAll g origin budget core front old mid
+  does_first origin budget core [] back old new did = (old, refl)
+  does_first origin budget core (t ∷ front) back old new did =
+      let rest = does_first origin budget (next core t.0 t.1) front back did.0 new did.2 in
+      (rest.0, (did.0, did.1, rest.1))
+
+  -- what is committed then has valid flats
+  at_flats : (origin : D) (h : g.keeps origin) (machine : Machine D) (core : Core) → IsAt g origin machine core → core.stopped ≡ false → AreFlats core.committed
+  at_flats origin h machine core at running =
+      let reads = (at.keeps h running).ready.stands.reads in
+      held_flats (half_of g machine.store.disk) machine.store.root (g.reads machine.store.disk) (at.keeps h running).m machine.store.place core.committed reads.holds
+
+  does_told : (origin : D) (h : g.keeps origin) (budget : ℕ) (state : State) (done : List Turn) (first now : Machine D) → IsAt g origin first (opened state) → DidAll g origin budget (opened state) done first now
+      → EachTold state done
+  does_told origin h budget state done first now at did before behind t is =
+      let past = before ++ t ∷ [] in
+      let e : past ++ behind ≡ before ++ t ∷ behind = append_assoc before (t ∷ []) behind in
+      let here = does_first origin budget (opened state) past behind first now (subst (λ (ts : List Turn). DidAll g origin budget (opened state) ts first now) (is ∙ sym e) did) in
+      let chain = does_chain origin budget (opened state) past first here.0 here.1 in
+      let at_past = does_at origin budget (opened state) past first here.0 at here.1 in
+      told_turn budget state before t.0 t.1 chain (at_flats origin h here.0 (leads (opened state) past) at_past)
 
   -- what a stop at any moment of it leaves has all that was promised before
   does_leaves : (origin : D) (h : g.keeps origin) (budget : ℕ) (state : State) (done more : List Turn) (now last : Machine D) → IsChain budget (opened state) done → IsAt g origin now (leads (opened state) done)
@@ -262,6 +322,7 @@ module _ {D : Type 0} (g : Ghosts D) (only : (disk : D) (image : Image) → g.im
     pub is_settled : IsSettled g disk
     pub each : EachStands (half_of g disk) (settled (g.reads disk))
     pub kept : (held : State) → Reads (half_of g disk) held (g.reads disk) → IsKept state done more held
+    pub told : AreTold state done
 
   run_reads : (state : State) (done more : List Turn) (first now last : Machine D) (disk : D) → IsOpened g state first → g.keeps first.store.disk
       → DidAll g first.store.disk first.house.budget (opened state) done first now → DidAll g first.store.disk first.house.budget (leads (opened state) done) more now last → WasLeft g now.store.disk last.store.disk disk → OpensAsKept state done more disk
@@ -277,7 +338,8 @@ module _ {D : Type 0} (g : Ghosts D) (only : (disk : D) (image : Image) → g.im
       record {
         is_settled = left.is_settled;
         each = follows.premise;
-        kept = λ held reads. is_kept budget state done more held chain (follows.found held reads);
+        kept = λ held reads. is_kept budget state done more held chain (does_told origin h budget state done first now opens did) (follows.found held reads);
+        told = texts_told budget state done chain;
       }
 
   -- an opening leaves what was there
@@ -294,6 +356,7 @@ module _ {D : Type 0} (g : Ghosts D) (only : (disk : D) (image : Image) → g.im
         kept = λ held reads.
             let same : held ≡ one.state = reads_once register H (omega arith) (g.reads disk) held one.state (subst (λ (n : ℕ). Reads (half_len_of n) held (g.reads disk)) left.same_size reads) (stands_reads H one.state (g.reads disk) one.stands) in
             subst (IsKept state done more) (sym same) is;
+        told = opens.told;
       }
 
   pub stopped_reads : (state : State) (done more : List Turn) {disk : D} → WasStopped g state done more disk → OpensAsKept state done more disk
@@ -312,7 +375,8 @@ module _ {D : Type 0} (g : Ghosts D) (only : (disk : D) (image : Image) → g.im
       let follows = lives_follow (g.sectors now.store.disk) state (promised_in done) (accepted state (done ++ more)) image (leaves.each image left) in
       record {
         premise = follows.premise;
-        kept = λ held reads. is_kept budget state done more held chain (follows.found held reads);
+        kept = λ held reads. is_kept budget state done more held chain (does_told origin h budget state done first now opens did) (follows.found held reads);
+        told = texts_told budget state done chain;
       }
 
   pub opening_keeps : (state : State) (done more : List Turn) (from to : D) (image : Image) → HoldsKept (half_of g from) state done more (g.reads from) → IsSettled g from
@@ -328,4 +392,5 @@ module _ {D : Type 0} (g : Ghosts D) (only : (disk : D) (image : Image) → g.im
         kept = λ held reads.
             let same : held ≡ one.state = reads_once register H (omega arith) image held one.state reads (stands_reads H one.state image one.stands) in
             subst (IsKept state done more) (sym same) is;
+        told = holds.told;
       }

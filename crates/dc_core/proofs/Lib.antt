@@ -22,6 +22,10 @@ pub mod Answering
 pub mod Following
 -- what was answered to the office is kept (the theorem of specs/Told)
 pub mod Told
+-- the flats' names of a state that an image reads as are valid
+pub mod Flats
+-- each line `READING ..` that is shown is of one of the state's readings
+pub mod ShownReadings
 -- how long a request is
 pub mod Requests
 -- stopped at any moment and opened again (the clause `the_headline` of `Concentrator::open`)

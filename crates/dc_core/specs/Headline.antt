@@ -1,13 +1,16 @@
 -- THE HEADLINE, in two halves: how a concentrator crashed, and what it holds when it is opened
 -- again (this product). The theorem is the clause `the_headline` of `Concentrator::open`.
-use Rattle.std.specs.Prelude.{◌≡◌, ℕ, Some, Ok, List, [], ◌∷◌, ◌++◌, Contains}
+use Rattle.std.specs.Prelude.{◌≡◌, ◌==◌, ℕ, Some, Ok, List, [], ◌∷◌, ◌++◌, Contains, codes, length}
+use Rattle.std.specs.Prelude.{decimal}
+use Rattle.std.specs.List.{join_with_byte, slice_split}
+use Rattle.dc_address.specs.Text.{text_of}
 use Rattle.dc_sectors.specs.declared.device.Disk.{Ghosts}
 use Rattle.dc_sectors.specs.Disk.{Image, settled}
 use Rattle.dc_sectors.specs.declared.sector.Sector.{Sector}
 use Rattle.dc_sectors.specs.Record.{image_of}
 use Rattle.dc_sectors.specs.File.{FileState, HasKept, opened_on}
 use Rattle.dc_sectors.specs.Runs.{LeavesOnly, WasLeft}
-use Rattle.mbdc_change.specs.State.{State}
+use Rattle.mbdc_change.specs.State.{State, ReadingRow}
 use Rattle.mbdc_change.specs.declared.change.Change.{Change}
 use Rattle.mbdc_change.specs.History.{after}
 use Rattle.mbdc_log.specs.Halves.{half_of}
@@ -19,7 +22,7 @@ use Rattle.dc_core.specs.Event.{committed, replied, repeated, refused, shown, ou
 use Rattle.dc_core.specs.Transcript.{Turn, leads, accepted_in}
 use Rattle.dc_core.specs.Images.{Machine, IsAt}
 use Rattle.dc_core.specs.Run.{DidAll}
-use Rattle.dc_core.specs.Told.{Tells}
+use Rattle.dc_core.specs.Told.{AreTold}
 
 -- ---- how it crashed
 
@@ -83,11 +86,17 @@ IsPromised (offices text) (replied out_of_memory) behind = Unit {0}
 IsPromised commits (committed (Ok count)) behind = Unit {0}
 IsPromised event answer behind = ⊥
 
--- what a turn reported to the office holds of this state: the last command's number, readings,
--- meters
+-- What a turn reported to the office holds of this state: the number in `OK` is the last command's, and each line
+-- `READING serial meter flat parts` in the reply to a WINDOW is that of one of the state's readings.
 abbrev pub HasTold : Event → Answer → State → Type 0
-HasTold (offices text) (replied reply) state = Tells text reply state
-HasTold event answer state = Unit {0}
+HasTold (offices text) (replied (repeated number)) s = s.last_number ≡ number
+HasTold (offices text) (replied (obeyed number change)) s = s.last_number ≡ number
+HasTold (offices text) (replied (shown bytes)) s = (values words : List ℕ)
+    → text ≡ codes "WINDOW " ++ values
+    → Contains (slice_split (λ b. b == 10) bytes) (codes "READING " ++ words)
+    → (r : ReadingRow) × Contains s.readings r × (words ≡ join_with_byte 32
+    (decimal r.serial ∷ text_of r.meter ∷ r.flat ∷ decimal (length r.parts) ∷ []))
+HasTold event answer s = Unit {0}
 
 -- HELD is exactly the register and readings of a prefix of the accepted telegrams and commands, and
 -- that prefix includes all that the completed turns have promised. What these reported to the
@@ -101,7 +110,9 @@ pub record IsKept (state : State) (done more : List Turn) (held : State) : Type 
   pub told : (before behind : List Turn) (turn : Turn) → done ≡ before ++ turn ∷ behind
       → HasTold turn.0 turn.1 (after state (accepted state (before ++ turn ∷ [])))
 
--- This image may be opened, on whatever disk, and the state that it reads as is kept.
+-- This image may be opened, on whatever disk, and the state that it reads as is kept. Each reply of the completed turns
+-- is, text for text, of the state after all that was accepted until then.
 pub record HoldsKept (half_len : ℕ) (state : State) (done more : List Turn) (image : Image) : Type 0 where
   pub premise : EachStands half_len (settled image)
   pub kept : (held : State) → Reads half_len held image → IsKept state done more held
+  pub told : AreTold state done

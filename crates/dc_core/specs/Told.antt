@@ -2,6 +2,7 @@
 use Rattle.std.specs.Prelude.{◌≡◌, ℕ, List, [], ◌∷◌, ◌++◌}
 use Rattle.mbdc_change.specs.State.{State}
 use Rattle.mbdc_change.specs.declared.change.Change.{Change}
+use Rattle.mbdc_change.specs.History.{after}
 use Rattle.dc_upload.specs.declared.line.OfficeLine.{OfficeLine}
 use Rattle.dc_upload.specs.Reply.{shown_text}
 use Rattle.dc_core.specs.Core.{opened}
@@ -18,6 +19,12 @@ Tells text (repeated number) s = s.last_number ≡ number
 Tells text (obeyed number change) s = s.last_number ≡ number
 Tells text (shown bytes) s = (line : OfficeLine) × (Spells text line × (bytes ≡ shown_text line s))
 Tells text reply s = Unit {0}
+
+-- Each reply of these turns states what it does of the state after all that was accepted until then.
+abbrev pub AreTold : State → List Turn → Type 0
+AreTold state turns = (before behind : List Turn) (text : List ℕ) (reply : Reply)
+    → turns ≡ before ++ (offices text, replied reply) ∷ behind → Tells text reply
+    (after state (accepted_in (opened state) (before ++ (offices text, replied reply) ∷ [])))
 
 -- The reply states what was committed when it was given, and the state is that after a prefix of what was accepted
 -- since.
