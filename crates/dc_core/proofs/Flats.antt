@@ -20,19 +20,8 @@ use Rattle.mbdc_change.specs.declared.change.Change.TheVariants.{Telegram, Comma
 use Rattle.mbdc_change.specs.declared.command.Command.{Command}
 use Rattle.mbdc_change.specs.declared.command.Command.TheVariants.{Fit, Move, Out, Confirm, Swap}
 use Rattle.mbdc_log.specs.Stands.{Holds}
+use Rattle.dc_upload.proofs.ShownReadings.{HasFlat, IsOfFlat, AreFlats}
 use Rattle.dc_meters.specs.Language.{register}
-
--- a meter's flat, or a reading's, is a flat's name
-abbrev HasFlat : MeterRow → Type 0
-HasFlat row = IsFlat row.flat
-
-abbrev pub IsOfFlat : ReadingRow → Type 0
-IsOfFlat r = IsFlat r.flat
-
--- so is each in the state
-pub record AreFlats (s : State) : Type 0 where
-  pub meters : All HasFlat (values_of s.meters)
-  pub readings : All IsOfFlat s.readings
 
 -- ---- a change keeps that
 

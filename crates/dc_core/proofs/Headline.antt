@@ -22,9 +22,9 @@ use Rattle.dc_meters.specs.Language.{register}
 use Rattle.dc_core.specs.Lines.{is_line}
 use Rattle.dc_core.specs.declared.line_heard.LineHeard.TheVariants.{Accepted}
 use Rattle.dc_core.specs.Core.{Core, opened}
-use Rattle.dc_core.specs.Event.{Event, Answer, Reply, asks, hears, commits, offices, asked, heard, committed, replied}
+use Rattle.dc_core.specs.Event.{Event, Answer, Reply, starts, asks, hears, commits, offices, asked, heard, committed, replied}
 use Rattle.dc_core.specs.Event.{unread, unstored, repeated, refused, shown, out_of_memory, obeyed, uncommitted}
-use Rattle.dc_core.specs.Step.{next, settled_core, MayReply}
+use Rattle.dc_core.specs.Step.{May, next, settled_core}
 use Rattle.dc_core.specs.Transcript.{Turn, leads, IsChain, accepted_by, accepted_in}
 use Rattle.dc_core.specs.Promised.{Seen, nothing_seen, latest_on, and_seen, seen_from, promised_in}
 use Rattle.dc_core.specs.Images.{Machine, IsAt, StandsForPromised}
@@ -36,8 +36,8 @@ use Rattle.dc_core.proofs.Fronts.{promised_is_committed, accepted_counted, lates
 use Rattle.dc_core.proofs.Going.{leads_push, chain_push, accepted_push, seen_push, promised_push, grown, fewer, from_first, now_first}
 use Rattle.dc_core.proofs.Following.{stands_reads, lives_follow}
 use Rattle.dc_core.proofs.Told.{chain_parts, accepted_parts, promised_more, tells_now, all_committed}
-use Rattle.dc_core.proofs.Flats.{AreFlats, held_flats}
-use Rattle.dc_core.proofs.ShownReadings.{IsOwn, shown_own}
+use Rattle.dc_upload.proofs.ShownReadings.{AreFlats, IsOwn, shown_own}
+use Rattle.dc_core.proofs.Flats.{held_flats}
 
 -- ---- a telegram after which another request was asked
 
@@ -175,10 +175,9 @@ texts_told budget state done chain before behind text reply is =
     told_by budget state before text reply (chain_parts budget (opened state) (before ++ t ∷ []) behind (subst (IsChain budget (opened state)) (is ∙ sym e) chain)).0
 
 -- what was shown of a state whose flats are valid
-shown_told : (s : State) (text bytes : List ℕ) → AreFlats s → Tells text (shown bytes) s → HasTold (offices text) (replied (shown bytes)) s
-shown_told s text bytes flats tells values words begins contains =
-    let line = tells.0 in
-    let own = shown_own s line values flats (sym tells.1.0.text_is ∙ begins) in
+shown_told : (s : State) (text bytes : List ℕ) → AreFlats s → Tells text (shown bytes) s → HasTold (replied (shown bytes)) s
+shown_told s text bytes flats tells words contains =
+    let own = shown_own s tells.0 flats in
     All-contains (IsOwn s) (slice_split (λ b. b == 10) bytes) (codes "READING " ++ words)
     (subst (λ (l : List ℕ). All (IsOwn s) (slice_split (λ b. b == 10) l)) (sym tells.1.1) own) contains words refl
 
@@ -188,20 +187,24 @@ settled_runs core [] running = running
 settled_runs core (change ∷ changes) running = running
 
 -- where the flats are valid while the concentrator runs
-told_turn : (budget : ℕ) (state : State) (before : List Turn) (event : Event) (answer : Answer) → IsChain budget (opened state) (before ++ (event, answer) ∷ [])
+told_turn : (budget : ℕ) (state : State) (before : List Turn) (event : Event) (answer : Answer) → May budget (leads (opened state) before) event answer
+    → IsChain budget (opened state) (before ++ (event, answer) ∷ [])
     → ((leads (opened state) (before ++ (event, answer) ∷ [])).stopped ≡ false → AreFlats (leads (opened state) (before ++ (event, answer) ∷ [])).committed)
-    → HasTold event answer (after state (accepted state (before ++ (event, answer) ∷ [])))
-told_turn budget state before (offices text) (replied (repeated number)) chain flats = told_by budget state before text (repeated number) chain
-told_turn budget state before (offices text) (replied (obeyed number change)) chain flats = told_by budget state before text (obeyed number change) chain
-told_turn budget state before (offices text) (replied (shown bytes)) chain flats =
+    → HasTold answer (after state (accepted state (before ++ (event, answer) ∷ [])))
+told_turn budget state before (offices text) (replied (repeated number)) may chain flats = told_by budget state before text (repeated number) chain
+told_turn budget state before (offices text) (replied (obeyed number change)) may chain flats = told_by budget state before text (obeyed number change) chain
+told_turn budget state before (offices text) (replied (shown bytes)) may chain flats =
     let t : Turn = (offices text, replied (shown bytes)) in
     let now = before ++ t ∷ [] in
     let core = leads (opened state) before in
-    let may : MayReply budget core text (shown bytes) = (chain_parts budget (opened state) before (t ∷ []) chain).1.0 in
     let runs = ap (λ (c : Core). c.stopped) (leads_push (opened state) before t) ∙ settled_runs core core.pending may.running in
     let all = all_committed budget state now chain (promises_all budget state before (offices text) (replied (shown bytes)) (λ seen. refl) chain) in
     shown_told (after state (accepted state now)) text bytes (subst AreFlats all (flats runs)) (told_by budget state before text (shown bytes) chain)
-told_turn budget state before event answer chain flats = tt
+told_turn budget state before (starts line meter) (replied reply) may chain flats = absurd may
+told_turn budget state before (asks line) (replied reply) may chain flats = absurd may
+told_turn budget state before (hears line moment bytes) (replied reply) may chain flats = absurd may
+told_turn budget state before commits (replied reply) may chain flats = absurd may
+told_turn budget state before event answer may chain flats = tt
 
 -- ---- a prefix with all that is promised by number is kept
 
@@ -228,7 +231,7 @@ includes_by budget state done more before behind t count chain all is promise =
 
 -- what each of these turns reported to the office
 abbrev EachTold : State → List Turn → Type 0
-EachTold state done = (before behind : List Turn) (turn : Turn) → done ≡ before ++ turn ∷ behind → HasTold turn.0 turn.1 (after state (accepted state (before ++ turn ∷ [])))
+EachTold state done = (before behind : List Turn) (turn : Turn) → done ≡ before ++ turn ∷ behind → HasTold turn.1 (after state (accepted state (before ++ turn ∷ [])))
 
 is_kept : (budget : ℕ) (state : State) (done more : List Turn) (held : State) → IsChain budget (opened state) done → EachTold state done → IsFront state (promised_in done) (accepted state (done ++ more)) held → IsKept state done more held
 is_kept budget state done more held chain told front =
@@ -275,7 +278,8 @@ module _ {D : Type 0} (g : Ghosts D) (only : (disk : D) (image : Image) → g.im
       let here = does_first origin budget (opened state) past behind first now (subst (λ (ts : List Turn). DidAll g origin budget (opened state) ts first now) (is ∙ sym e) did) in
       let chain = does_chain origin budget (opened state) past first here.0 here.1 in
       let at_past = does_at origin budget (opened state) past first here.0 at here.1 in
-      told_turn budget state before t.0 t.1 chain (at_flats origin h here.0 (leads (opened state) past) at_past)
+      let may = (chain_parts budget (opened state) before (t ∷ []) chain).1.0 in
+      told_turn budget state before t.0 t.1 may chain (at_flats origin h here.0 (leads (opened state) past) at_past)
 
   -- what a stop at any moment of it leaves has all that was promised before
   does_leaves : (origin : D) (h : g.keeps origin) (budget : ℕ) (state : State) (done more : List Turn) (now last : Machine D) → IsChain budget (opened state) done → IsAt g origin now (leads (opened state) done)

@@ -24,8 +24,6 @@ pub mod Following
 pub mod Told
 -- the flats' names of a state that an image reads as are valid
 pub mod Flats
--- each line `READING ..` that is shown is of one of the state's readings
-pub mod ShownReadings
 -- how long a request is
 pub mod Requests
 -- stopped at any moment and opened again (the clause `the_headline` of `Concentrator::open`)

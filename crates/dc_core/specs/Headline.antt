@@ -86,17 +86,16 @@ IsPromised (offices text) (replied out_of_memory) behind = Unit {0}
 IsPromised commits (committed (Ok count)) behind = Unit {0}
 IsPromised event answer behind = ⊥
 
--- What a turn reported to the office holds of this state: the number in `OK` is the last command's, and each line
--- `READING serial meter flat parts` in the reply to a WINDOW is that of one of the state's readings.
-abbrev pub HasTold : Event → Answer → State → Type 0
-HasTold (offices text) (replied (repeated number)) s = s.last_number ≡ number
-HasTold (offices text) (replied (obeyed number change)) s = s.last_number ≡ number
-HasTold (offices text) (replied (shown bytes)) s = (values words : List ℕ)
-    → text ≡ codes "WINDOW " ++ values
+-- What an answer reported to the office holds of this state: the number in `OK` is the last command's, and each line
+-- `READING serial meter flat parts` that was shown is that of one of the state's readings.
+abbrev pub HasTold : Answer → State → Type 0
+HasTold (replied (repeated number)) s = s.last_number ≡ number
+HasTold (replied (obeyed number change)) s = s.last_number ≡ number
+HasTold (replied (shown bytes)) s = (words : List ℕ)
     → Contains (slice_split (λ b. b == 10) bytes) (codes "READING " ++ words)
     → (r : ReadingRow) × Contains s.readings r × (words ≡ join_with_byte 32
     (decimal r.serial ∷ text_of r.meter ∷ r.flat ∷ decimal (length r.parts) ∷ []))
-HasTold event answer s = Unit {0}
+HasTold answer s = Unit {0}
 
 -- HELD is exactly the register and readings of a prefix of the accepted telegrams and commands, and
 -- that prefix includes all that the completed turns have promised. What these reported to the
@@ -108,7 +107,7 @@ pub record IsKept (state : State) (done more : List Turn) (held : State) : Type 
   pub includes : (before behind : List Turn) (turn : Turn) → done ≡ before ++ turn ∷ behind
       → IsPromised turn.0 turn.1 behind → IsPrefix (accepted state (before ++ turn ∷ [])) prefix
   pub told : (before behind : List Turn) (turn : Turn) → done ≡ before ++ turn ∷ behind
-      → HasTold turn.0 turn.1 (after state (accepted state (before ++ turn ∷ [])))
+      → HasTold turn.1 (after state (accepted state (before ++ turn ∷ [])))
 
 -- This image may be opened, on whatever disk, and the state that it reads as is kept. Each reply of the completed turns
 -- is, text for text, of the state after all that was accepted until then.

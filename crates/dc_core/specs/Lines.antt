@@ -44,12 +44,12 @@ settled_on (Some s) = settled_at s.stage s
 abbrev pub settled_lines : List (Option Summary) → List (Option Summary)
 settled_lines lines = map settled_on lines
 
--- Ends the session of that meter.
+-- this session, unless it is of that meter
 abbrev pub unless_of : Identity → Option Summary → Option Summary
 unless_of meter None = None
 unless_of meter (Some s) = if is_meter meter s.meter then None else Some s
 
--- ends the session of that meter on whatever line
+-- the sessions on all lines, without that of the meter
 abbrev pub lines_without : Identity → List (Option Summary) → List (Option Summary)
 lines_without meter lines = map (unless_of meter) lines
 

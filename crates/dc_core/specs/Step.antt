@@ -61,7 +61,7 @@ start_answer core line meter =
     else if is_some (session_of core line) then Err Busy
     else Ok tt
 
--- the meter's session is on the line, by the address of the register
+-- the concentrator after a start: the meter's session is on the line, by the address of the register
 abbrev pub after_start : Core → ℕ → Identity → Result (Unit {0}) StartFault → Core
 after_start core line meter (Ok done) =
     with_session line (Some (begun meter (address_in (row_of meter (present core))))) core
@@ -118,7 +118,7 @@ hear_answer budget core line moment bytes =
     else if core.stopped then Err Stopped
     else answer_on budget core moment bytes (session_of core line)
 
--- a session that failed leaves its line
+-- the session on a line after a verdict; one that failed leaves the line
 abbrev pub session_after : Summary → Verdict → Option Summary
 session_after s again = Some (heard_by s again)
 session_after s ready = Some (heard_by s ready)
@@ -144,7 +144,7 @@ abbrev pub heard_on : Core → ℕ → ℕ → List ℕ → Option Summary → C
 heard_on core line moment bytes None = core
 heard_on core line moment bytes (Some s) = judged core line moment s (verdict_by s bytes)
 
--- after a fault the request stays open
+-- the concentrator after an answer on a line; after a fault the request stays open
 abbrev pub after_hear : Core → ℕ → ℕ → List ℕ → Result LineHeard HearFault → Core
 after_hear core line moment bytes (Ok answer) =
     heard_on core line moment bytes (session_of core line)
@@ -199,7 +199,7 @@ abbrev pub removed_by : Change → Option Identity
 removed_by (Telegram part moment body) = None
 removed_by (Numbered number command) = meter_removed command
 
--- the session of a removed meter ends
+-- the sessions after a change; that of a removed meter ends
 abbrev pub lines_after : Option Identity → List (Option Summary) → List (Option Summary)
 lines_after None lines = lines
 lines_after (Some meter) lines = lines_without meter lines
@@ -211,7 +211,7 @@ ordered change core = record core {
   lines = lines_after (removed_by change) core.lines;
 }
 
--- if nothing is pending
+-- the concentrator after a reply, where nothing was pending
 abbrev pub after_answer : Core → Reply → Core
 after_answer core (obeyed number change) = settled (ordered change core)
 after_answer core (uncommitted change fault) = after_commit (ordered change core) (Err fault)
@@ -284,7 +284,7 @@ May budget core commits (committed answer) = MayCommit core answer
 May budget core (offices text) (replied reply) = MayReply budget core text reply
 May budget core event answer = ⊥
 
--- the one state after it
+-- the concentrator after an event and its answer
 abbrev pub next : Core → Event → Answer → Core
 next core (starts line meter) (started answer) = after_start core line meter answer
 next core (hears line moment bytes) (heard answer) = after_hear core line moment bytes answer

@@ -13,7 +13,7 @@ Turn = Event × Answer
 
 -- ---- a chain of steps, the first turn first
 
--- the state to which it leads
+-- the concentrator after these turns
 abbrev pub leads : Core → List Turn → Core
 leads core [] = core
 leads core (turn ∷ turns) = leads (next core turn.0 turn.1) turns
@@ -37,7 +37,7 @@ taken_with (obeyed number change) = change ∷ []
 taken_with (uncommitted change fault) = change ∷ []
 taken_with reply = []
 
--- by one turn: the telegram of an answer that was taken, or a new command
+-- the changes that one turn accepts: the telegram of an answer that was taken, or a new command
 abbrev pub accepted_by : Core → Event → Answer → List Change
 accepted_by core (hears line moment bytes) (heard (Ok answer)) =
     taken_from moment bytes (session_of core line)

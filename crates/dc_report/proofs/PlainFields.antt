@@ -47,10 +47,10 @@ plain_line (first ∷ second ∷ rest) several plain = ap (λ (l : List ℕ). l 
 
 -- ---- bytes after the comma
 
-abbrev is_after : ℕ → Bool
+abbrev pub is_after : ℕ → Bool
 is_after b = nat_le 45 b
 
-abbrev IsAfter : List ℕ → Type 0
+abbrev pub IsAfter : List ℕ → Type 0
 IsAfter field = list_all is_after field ≡ true
 
 needs_none : (b : ℕ) → is_after b ≡ true → needs_byte default_writer b ≡ false
@@ -84,7 +84,7 @@ onto_after (suc count) base upper n field all =
     let more = one_more (digit_glyph upper (n % base)) field (glyph_after upper (n % base)) all in
     chosen (n / base == 0) _ _ more (onto_after count base upper (n / base) (digit_glyph upper (n % base) ∷ field) more)
 
-decimal_after : (n : ℕ) → IsAfter (decimal n)
+pub decimal_after : (n : ℕ) → IsAfter (decimal n)
 unfolding digits
 decimal_after n = onto_after 64 10 false n [] refl
 
@@ -122,14 +122,14 @@ time_after hour minute =
     joined (codes "T") (last_digits 10 2 hour ++ (codes ":" ++ last_digits 10 2 minute)) refl
     (joined (last_digits 10 2 hour) (codes ":" ++ last_digits 10 2 minute) (last_after 10 2 hour) (joined (codes ":") (last_digits 10 2 minute) refl (last_after 10 2 minute)))
 
-value_after : (v : Value) → IsAfter (value_text v)
+pub value_after : (v : Value) → IsAfter (value_text v)
 value_after (Number d) = joined (sign d.mantissa) _ (sign_after d.mantissa) (magnitude_after (unsigned_abs d.mantissa) d.exponent)
 value_after (Flags len bits) = last_after 16 (2 * len) bits
 value_after (OnDay d) = day_after d
 value_after (Minute d hour minute) = joined (day_text d) (codes "T" ++ (last_digits 10 2 hour ++ (codes ":" ++ last_digits 10 2 minute))) (day_after d) (time_after hour minute)
 value_after NoValue = refl
 
-unit_after : (q : Quantity) → IsAfter (unit_of q)
+pub unit_after : (q : Quantity) → IsAfter (unit_of q)
 unit_after EnergyWattHour = refl
 unit_after EnergyJoule = refl
 unit_after EnergyMegawattHour = refl
@@ -178,7 +178,7 @@ letters_after maker field all =
     (one_more (first_letter maker) (second_letter maker ∷ third_letter maker ∷ field) (letter_after (maker / 1024))
     (one_more (second_letter maker) (third_letter maker ∷ field) (letter_after (maker / 32 % 32)) (one_more (third_letter maker) field (letter_after (maker % 32)) all)))
 
-meter_after : (meter : Identity) → IsAfter (text_of meter)
+pub meter_after : (meter : Identity) → IsAfter (text_of meter)
 unfolding text_of
 meter_after meter =
     let kind : List ℕ = 46 ∷ hex_code (meter.kind / 16) ∷ hex_code (meter.kind % 16) ∷ [] in
@@ -191,14 +191,14 @@ medium_after kind =
     let other = one_more (hex_code (kind / 16)) (hex_code (kind % 16) ∷ []) (hex_after (kind / 16)) (one_more (hex_code (kind % 16)) [] (hex_after (kind % 16)) refl) in
     chosen (kind == 0x02) _ _ refl (chosen (kind == 0x03) _ _ refl (chosen (kind == 0x04) _ _ refl (chosen (kind == 0x06) _ _ refl (chosen (kind == 0x07) _ _ refl (chosen (kind == 0x08) _ _ refl (chosen (kind == 0x0C) _ _ refl (chosen (kind == 0x15) _ _ refl (chosen (kind == 0x16) _ _ refl other))))))))
 
-address_after : (address : Option ℕ) → IsAfter (address_word address)
+pub address_after : (address : Option ℕ) → IsAfter (address_word address)
 address_after None = refl
 address_after (Some address) = decimal_after address
 
 flat_byte_after : (b : ℕ) → is_flat_byte b ≡ true → is_after b ≡ true
 flat_byte_after b is = grind (arith, nat_tests)
 
-flat_bytes_after : (flat : List ℕ) → list_all is_flat_byte flat ≡ true → IsAfter flat
+pub flat_bytes_after : (flat : List ℕ) → list_all is_flat_byte flat ≡ true → IsAfter flat
 flat_bytes_after [] all = refl
 flat_bytes_after (b ∷ flat) all =
     let parts = and_parts (is_flat_byte b) (list_all is_flat_byte flat) all in
