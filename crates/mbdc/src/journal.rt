@@ -11,7 +11,7 @@ use mbdc_files::{Host, Journal, journal_lines, own_lines};
 use mbdc_io::{Bytes, NoMemory};
 use mbdc_json::journal;
 use mbdc_poll::events::{Notes, put_command_note, put_note, put_object};
-use mbdc_poll::{Doubt, Event};
+use mbdc_poll::{Doubt, Event, Known};
 use std::alloc::Global;
 use std::fs::File;
 use std::rt::{Clock, Files};
@@ -21,6 +21,15 @@ use std::str;
 const END: &str = "\"event\":\"end\"";
 
 const LOST: &str = "\"event\":\"lost\",\"line\":";
+
+/// What the journal says of the meters of a line, of the last poll.
+#[derive(Drop)]
+pub struct Before {
+    /// Those that nobody answered for.
+    pub silent: Vec<Doubt>,
+    /// How many telegrams those sent that were read.
+    pub known: Vec<Known>,
+}
 
 /// Puts what happened into the journal of an image. It is opened for its first line: a file that is no image gets none.
 #[derive(Drop)]
@@ -61,13 +70,13 @@ impl<'h, 'i, R: Files<File = File> + Clock + Eprint + AllocGlobal> Noting<'h, 'i
         noting
     }
 
-    /// The meters of each of this many lines that nobody answered for in the last poll, as the journal has it: none of
-    /// a line that was lost then, and none at all where there is no journal of this image, or where they get all their
-    /// tries.
+    /// What the journal says of the meters of each of this many lines: nobody is silent of a line that was lost then, or
+    /// where meters aren't spared, and no number of telegrams is known where readouts don't begin anew. Of an image
+    /// without a journal it says nothing.
     ///
     /// # Errors
     /// Out of memory.
-    pub fn doubts(&mut self, lines: u8, all_tries: bool) -> Result<Vec<Vec<Doubt>>, NoMemory> {
+    pub fn before(&mut self, lines: u8, spares: bool, recounts: bool) -> Result<Vec<Before>, NoMemory> {
         let (alloc, now) = (self.rt.alloc(), self.now());
         // It is open for the last command: an image without one has no meters.
         let journal = match &self.journal {
@@ -83,25 +92,42 @@ impl<'h, 'i, R: Files<File = File> + Clock + Eprint + AllocGlobal> Noting<'h, 'i
         let begun = own.rsplit_once(END).map_or("", |(begun, _)| begun);
         let poll = begun.rsplit_once(END).map_or(begun, |(_, poll)| poll);
         self.last = journal::read_journal(alloc, poll.as_bytes(), now)?;
-        let mut doubts = Vec::new(alloc);
+        let mut all = Vec::new(alloc);
         for line in 1..=lines {
-            let mut silent = Vec::new(alloc);
-            if let Some(house) = &self.house
-                && !all_tries
-                && !poll.contains(format!(in alloc; "{LOST}{line}")?.as_str())
-            {
-                for (meter, row) in house.meters() {
-                    if let Some(failing) = self.last.of(meter).failing
-                        && failing.number == Why::NoAnswer.number()
-                        && row.line() == line
-                    {
-                        silent.push(Doubt::of(meter, row.address()))?;
-                    }
-                }
-            }
-            doubts.push(silent)?;
+            let was_lost = poll.contains(format!(in alloc; "{LOST}{line}")?.as_str());
+            all.push(self.before_on(line, spares && !was_lost, recounts)?)?;
         }
-        Ok(doubts)
+        Ok(all)
+    }
+
+    // What it says of the meters of a line.
+    fn before_on(&self, line: u8, spares: bool, recounts: bool) -> Result<Before, NoMemory> {
+        let alloc = self.rt.alloc();
+        let mut before = Before {
+            silent: Vec::new(alloc),
+            known: Vec::new(alloc),
+        };
+        let Some(house) = &self.house else {
+            return Ok(before);
+        };
+        for (meter, row) in house.meters() {
+            let count = self.last.bodies_of(meter).len();
+            if row.line() == line && recounts && count != 0 {
+                before.known.push(Known {
+                    meter: meter.wire(),
+                    telegrams: u8::try_from(count).unwrap_or(u8::MAX),
+                    is_doubted: false,
+                })?;
+            }
+            if row.line() == line
+                && spares
+                && let Some(failing) = self.last.of(meter).failing
+                && failing.number == Why::NoAnswer.number()
+            {
+                before.silent.push(Doubt::of(meter, row.address()))?;
+            }
+        }
+        Ok(before)
     }
 
     // Says that a meter sent another number of telegrams than in the last poll: a meter sends as many each time.

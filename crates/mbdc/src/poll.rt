@@ -6,7 +6,7 @@ ghost use Rattle.mbdc.specs.Commands.{IsPolled, Polled, Refuses};
 use crate::clock::moment;
 use crate::connecting::{buses_of, reached, released};
 use crate::exchanged::{Attending, Missing, look_for_missing};
-use crate::journal::Noting;
+use crate::journal::{Before, Noting};
 use crate::names::meters_of;
 use crate::system::System;
 use crate::tracing::{Trace, shows_progress, trace_of, tracers_of};
@@ -17,12 +17,12 @@ use mbdc_bus::HalfBus;
 use mbdc_bus::trace::Observer;
 use mbdc_change::Moment;
 use mbdc_commands::words::PollTask;
-use mbdc_commands::{Printing, SparingWatch, poll_over};
+use mbdc_commands::{FilteredWatch, Printing, poll_over};
 use mbdc_ending::Ending;
 use mbdc_files::{Host, Output};
 use mbdc_io::NoMemory;
 use mbdc_poll::events::{Form, Notes};
-use mbdc_poll::{Doubt, Plan, Remembering, Retrying, Sparing};
+use mbdc_poll::{Plan, with_filters};
 use mbdc_raw::links::{Peer, Watched};
 use std::alloc::Global;
 use std::fs::File;
@@ -96,23 +96,23 @@ where
     };
     let missing = Missing::new(&house);
     let mut notes = Noting::new(host, task.image, house);
-    // A meter that is named gets all its tries.
+    // A meter that is named gets all its tries. A readout may begin anew where there is a second try.
     let lines = u8::try_from(peers.len()).unwrap_or_default();
-    let doubts = notes.doubts(lines, !only.is_empty());
-    let ending = match (tracers_of(host, trace, peers.len()), doubts) {
-        (Ok(observers), Ok(mut doubts)) => poll_peers(
+    let before = notes.before(lines, only.is_empty(), task.tries > 1);
+    let ending = match (tracers_of(host, trace, peers.len()), before) {
+        (Ok(observers), Ok(mut before)) => poll_peers(
             host,
             disk,
             peers,
             observers,
-            doubts.as_mut_slice(),
+            before.as_mut_slice(),
             only.as_slice(),
             printing,
             notes,
             &missing,
             task,
         ),
-        (Err(ending), _doubts) => ending,
+        (Err(ending), _before) => ending,
         (_observers, Err(NoMemory)) => Ending::Memory,
     };
     look_for_missing(host, peers, trace, &missing, task.patience);
@@ -126,7 +126,7 @@ fn poll_peers<'a, D, O, J, R>(
     disk: D,
     peers: &[Option<Peer<R>>],
     observers: Vec<O>,
-    doubts: &mut [Vec<Doubt>],
+    before: &mut [Before],
     only: &[Identity],
     printing: Printing,
     notes: J,
@@ -142,18 +142,17 @@ where
 {
     let notes = Attending { notes, missing };
     match buses_of(host, peers, observers, task.patience) {
-        Ok(buses) => poll_sparing(host, disk, buses, doubts, only, printing, notes, task),
+        Ok(buses) => poll_filtered(host, disk, buses, before, only, printing, notes, task),
         Err(ending) => ending,
     }
 }
 
-// Reads the meters over these buses, each of which asks who was silent on it one question, drops copies of telegrams,
-// and asks who is busy again. They are any, as the observers are. A copy that comes of a first question is no silence.
-fn poll_sparing<'a, D, B, J, R>(
+// Reads the meters over these buses with the filters of a poll. They are any, as the observers are.
+fn poll_filtered<'a, D, B, J, R>(
     host: &Host<'_, R>,
     disk: D,
     buses: Vec<B>,
-    doubts: &mut [Vec<Doubt>],
+    before: &mut [Before],
     only: &[Identity],
     printing: Printing,
     notes: J,
@@ -166,15 +165,15 @@ where
     R: Files<File = File> + Clock + Print + Eprint + AllocGlobal,
     ensures { Refuses result ⊎ IsPolled D.Disk only.now task.now.image.now disk result }
 {
-    let mut retrying = Vec::new(host.rt.alloc());
-    for (bus, silent) in buses.into_iter().zip(doubts.iter_mut()) {
-        let remembering = Remembering::new(Sparing::new(bus, silent.as_mut_slice()));
-        if retrying.push(Retrying::new(remembering)).is_err() {
+    let mut all = Vec::new(host.rt.alloc());
+    for (bus, before) in buses.into_iter().zip(before.iter_mut()) {
+        let silent = before.silent.as_mut_slice();
+        if all.push(with_filters(bus, silent, before.known.as_mut_slice())).is_err() {
             return Ending::Memory;
         }
     }
     let plan = Plan {
-        buses: retrying,
+        buses: all,
         only,
         tries: task.tries.max(1),
     };
@@ -185,7 +184,7 @@ where
         host.rt,
         disk,
         plan,
-        SparingWatch::new(),
+        FilteredWatch::new(),
         out,
         printing,
         notes,

@@ -27,4 +27,4 @@ pub use poll::{Printing, poll_over};
 pub use rescue::{put_rescued, rescue_over, rescue_to};
 pub use run::run_over;
 pub use timer::HostTimer;
-pub use waiting::{SparingWatch, Waits, add_awaited};
+pub use waiting::{FilteredWatch, Waits, add_awaited};

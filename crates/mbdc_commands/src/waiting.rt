@@ -4,7 +4,7 @@ ghost use Rattle.mbdc_commands.specs.Waiting.{AddsAwaited};
 ghost use Rattle.mbdc_poll.specs.Waiting.{is_awaited};
 
 use mbdc_bus::HalfBus;
-use mbdc_poll::{Remembering, Retrying, Sparing, Station, is_awaited};
+use mbdc_poll::{PollBus, Station, is_awaited};
 use mbdc_raw::links::{Watch, Watched};
 use std::mem;
 
@@ -25,24 +25,24 @@ pub trait Waits<B> {
         ensures { waited self.old self.new };
 }
 
-/// The wait for buses each of which may spare its request: then nothing is waited for.
+/// The wait for buses with filters. Where one of them has withheld its request, nothing is waited for.
 #[derive(Drop)]
-pub struct SparingWatch {
+pub struct FilteredWatch {
     watch: Watch,
-    spares: bool,
+    withholds: bool,
 }
 
-impl SparingWatch {
+impl FilteredWatch {
     /// Returns an empty set of buses.
     pub fn new() -> Self {
-        SparingWatch {
+        FilteredWatch {
             watch: Watch::new(),
-            spares: false,
+            withholds: false,
         }
     }
 }
 
-impl<B: HalfBus + Watched + Drop> Waits<Retrying<Remembering<Sparing<'_, B>>>> for SparingWatch {
+impl<B: HalfBus + Watched + Drop> Waits<PollBus<'_, B>> for FilteredWatch {
     ghost use Rattle.std.specs.Prelude.{⊤};
 
     // What a wait does is in no contract.
@@ -50,19 +50,19 @@ impl<B: HalfBus + Watched + Drop> Waits<Retrying<Remembering<Sparing<'_, B>>>> f
 
     ghost waited = { λ _ _. ⊤ };
 
-    fn add_bus(&mut self, bus: &Retrying<Remembering<Sparing<'_, B>>>)
+    fn add_bus(&mut self, bus: &PollBus<'_, B>)
         ensures { ⊤ }
     {
-        let sparing = &bus.bus.bus;
-        self.spares = self.spares || sparing.spares;
+        let sparing = &bus.bus.bus.bus;
+        self.withholds = self.withholds || bus.withholds || sparing.withholds;
         sparing.bus.add_to(&mut self.watch);
     }
 
     fn wait_for_all(&mut self)
         ensures { ⊤ }
     {
-        let watch = mem::replace(self, SparingWatch::new());
-        if !watch.spares {
+        let watch = mem::replace(self, FilteredWatch::new());
+        if !watch.withholds {
             watch.watch.wait();
         }
     }

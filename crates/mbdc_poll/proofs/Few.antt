@@ -1,5 +1,5 @@
 -- How many tries of a readout fail at most.
-use Rattle.std.proofs.Common.{◌≡◌, ℕ, ◌+◌, ◌≤◌, List, [], ◌∷◌, ◌++◌, Some, None, Ok, Bool, true, false, if◌then◌else◌, length, length-append, refl, ap, sym, subst, ◌∙◌, arith}
+use Rattle.std.proofs.Common.{◌≡◌, ℕ, ◌+◌, ◌≤◌, List, [], ◌∷◌, ◌++◌, Some, Ok, Bool, true, false, if◌then◌else◌, length, length-append, refl, ap, subst, ◌∙◌, arith}
 use Rattle.dc_address.specs.declared.identity.Identity.{Identity}
 use Rattle.dc_core.specs.Event.{Event, Answer, starts, asks, hears, commits, offices, started, asked, heard, committed, replied}
 use Rattle.mbdc_poll.specs.Bus.{Bus}

@@ -1,5 +1,5 @@
 -- Each answer of a poll finds room among the pending changes (for the law of specs/PendingRoom).
-use Rattle.std.proofs.Common.{◌≡◌, ◌≢◌, inl, inr, ℕ, ◌+◌, ◌<◌, ◌≤◌, Bool, true, false, not, Option, Some, None, Result, Ok, Err, List, [], ◌∷◌, ◌++◌, length, arith, refl, sym, ◌∙◌, ap, subst, length-append}
+use Rattle.std.proofs.Common.{◌≡◌, inl, inr, ℕ, ◌+◌, ◌<◌, ◌≤◌, Bool, true, false, not, Option, Some, None, Result, Ok, Err, List, [], ◌∷◌, ◌++◌, length, arith, refl, sym, ◌∙◌, ap, subst, length-append}
 use Rattle.std.specs.Prelude.{is_some, nat_le, if◌then◌else◌}
 use Rattle.std.specs.List.{All}
 use Rattle.std.proofs.lemmas.Bool.{lt-leb}
@@ -14,15 +14,14 @@ use Rattle.dc_core.specs.Taking.{change_of}
 use Rattle.dc_core.specs.Waiting.{most_waiting}
 use Rattle.dc_core.specs.Core.{Core, present, session_of}
 use Rattle.dc_core.specs.Event.{Event, Answer, starts, asks, hears, commits, offices, started, asked, heard, committed, replied}
-use Rattle.dc_core.specs.Step.{May, MayHear, next, unless_refused, verdict_answer, answer_on, hear_answer, and_pending, heard_on, settled_core}
+use Rattle.dc_core.specs.Step.{May, MayHear, next, unless_refused, verdict_answer, answer_on, hear_answer, and_pending, heard_on}
 use Rattle.dc_core.specs.Transcript.{Turn, leads, IsChain}
-use Rattle.dc_core.specs.declared.fault.CommitFault.TheVariants.{Device, Worn, Stopped as CommitStopped}
 use Rattle.dc_core.specs.declared.fault.HearFault.{HearFault}
 use Rattle.dc_core.specs.declared.fault.HearFault.TheVariants.{NoLine, Idle, PendingFull, Stopped}
 use Rattle.dc_core.specs.declared.line_heard.LineHeard.{LineHeard}
 use Rattle.dc_core.specs.declared.line_heard.LineHeard.TheVariants.{Again, Ready, Accepted, Failed}
 use Rattle.dc_core.proofs.Told.{chain_parts}
-use Rattle.mbdc_poll.specs.Keeping.{AllFindRoom, FindsRoom, InRounds, IsAsking, IsAskingBy, IsCommit, IsHearing, IsHearingBy, IsRound, all_kept, and_round, at_first, most_pending, some_wait, store_behind, waiting_after}
+use Rattle.mbdc_poll.specs.Keeping.{AllFindRoom, FindsRoom, InRounds, IsAsking, IsAskingBy, IsCommit, IsHearing, IsHearingBy, IsRound, and_round, at_first, most_pending, waiting_after}
 use Rattle.mbdc_poll.specs.PendingRoom.{AnswersFindRoom}
 use Rattle.mbdc_poll.proofs.Meanings.{none_pends, same_waits, settled_none}
 

@@ -18,6 +18,10 @@ pub mod Rounds
 pub mod Storing
 -- where first questions are answered, none is spared
 pub mod Spared
+-- where a filter lets all through, a talk is one on the bus itself
+pub mod Through
+-- where each meter sends as many telegrams as before, nothing is dropped
+pub mod Recounted
 -- where nobody is busy, nothing is dropped
 pub mod Retried
 -- where no telegram comes twice, none is dropped

@@ -1,13 +1,16 @@
 -- Where nobody is busy, nothing is dropped.
-use Rattle.std.proofs.Common.{◌≡◌, ℕ, Bool, true, false, ◌&&◌, List, [], ◌∷◌, refl, sym, subst, ◌∙◌, ap, if◌then◌else◌, Some, Ok}
+use Rattle.std.proofs.Common.{◌≡◌, ℕ, Bool, true, false, ◌&&◌, List, [], ◌∷◌, refl, sym, subst, ◌∙◌, if◌then◌else◌}
 use Rattle.std.specs.Prelude.{nat_lt}
+use Rattle.std.specs.Bool.{⊤}
 use Rattle.dc_core.specs.declared.line_heard.LineHeard.{LineHeard}
 use Rattle.dc_core.specs.declared.line_heard.LineHeard.TheVariants.{Again}
 use Rattle.dc_linkframe.specs.Reading.{frame_of}
 use Rattle.mbdc_poll.specs.Bus.{Bus}
-use Rattle.mbdc_poll.specs.Happening.{Happening}
-use Rattle.mbdc_poll.specs.Retrying.{DropsNothing, Gives, IsAskedAgain, NobodyIsBusy, answer_by, busy_frame, dropped_by, giving, is_busy, most_dropped, on_bus, retrying_over, scripted_bus, tried}
-use Rattle.mbdc_poll.specs.Talking.{Talk, Talks, rests, begins, has_none, sends_it, waits_it, takes_it, hears_it, stands_by, tells_it, loses_it}
+use Rattle.mbdc_poll.specs.Filtered.{Gives, Sends, filtered_over, goes_out, of_bus}
+use Rattle.mbdc_poll.specs.Retrying.{DropsNothing, Hears, IsAskedAgain, answer_by, busy_frame, dropped_by, giving, is_busy, most_dropped, retrying, scripted_bus, tried}
+use Rattle.mbdc_poll.proofs.Through.{Passes, lets_through}
+use Rattle.mbdc_poll.specs.Talking.{Talks, rests, sends_it, takes_it, hears_it}
+use Rattle.mbdc_poll.specs.declared.filtered.Filtered.{Filtered}
 use Rattle.mbdc_poll.specs.declared.phase.Request.TheVariants.{Quiet}
 use Rattle.mbdc_poll.specs.declared.retrying.Retrying.{Retrying}
 
@@ -19,59 +22,62 @@ kept : (dropped : ℕ) (given : List ℕ) → is_busy (frame_of given) ≡ false
 kept dropped given free =
     subst (λ (b : Bool). (if b then [] else given) ≡ given) (sym (not_both (nat_lt dropped most_dropped) (is_busy (frame_of given)) free)) refl
 
-module _ {B : Type 0} (g : Bus B) where
-  on_it : {line : ℕ} {first last : Talk (Retrying B)} {happened : List Happening} → (talk : Talks (retrying_over g) line first happened last) → NobodyIsBusy talk → Talks g line (on_bus first) happened (on_bus last)
-  on_it rests free = rests
-  on_it (begins more) free = begins (on_it more free)
-  on_it (has_none more) free = has_none (on_it more free)
-  on_it (sends_it sent more) free = sends_it sent.0 (on_it more free)
-  on_it (waits_it waited more) free = waits_it waited.0 (on_it more free)
-  on_it (takes_it {bus = bus} {next = next} {bytes = bytes} gave more) free =
-      let same : bytes ≡ gave.given = gave.is_answer ∙ kept bus.dropped gave.given free.0 in
-      takes_it (subst (λ (heard : List ℕ). g.gives bus.bus heard next.bus) (sym same) gave.gives) (on_it more free.1)
-  on_it (hears_it more) free = hears_it (on_it more free)
-  on_it (stands_by more) free = stands_by (on_it more free)
-  on_it (tells_it other more) free = tells_it other (on_it more free)
-  on_it (loses_it is_lost more) free = loses_it is_lost (on_it more free)
+passes : Passes retrying (λ r. ⊤) (λ r given. is_busy (frame_of given) ≡ false)
+passes = record {
+  asks = λ old request goes new clear asks. (asks.0, tt);
+  hears = λ old given answer new clear free heard. (heard.is_answer ∙ kept old.dropped given free, tt);
+}
 
-  pub drops_nothing : DropsNothing g
-  drops_nothing line first last happened talk free = on_it talk free
+pub drops_nothing : {B : Type 0} (g : Bus B) → DropsNothing g
+drops_nothing g = lets_through g retrying (λ r. ⊤) (λ r given. is_busy (frame_of given) ≡ false) passes
 
 -- ---- a meter is asked again
 
 module _ (request third : List ℕ) (answer : LineHeard) where
-  abbrev at_bus : List (List ℕ) → ℕ → Retrying (List (List ℕ))
-  at_bus answers dropped = record { bus = answers; dropped = dropped }
+  abbrev at_bus : List (List ℕ) → ℕ → Filtered (List (List ℕ)) Retrying
+  at_bus answers dropped = record { bus = answers; filter = record { dropped = dropped }; withholds = false }
 
-  abbrev first : Retrying (List (List ℕ))
+  abbrev first : Filtered (List (List ℕ)) Retrying
   first = at_bus (busy_frame ∷ busy_frame ∷ third ∷ []) 0
 
-  abbrev second : Retrying (List (List ℕ))
+  abbrev second : Filtered (List (List ℕ)) Retrying
   second = at_bus (busy_frame ∷ third ∷ []) 1
 
-  abbrev before_third : Retrying (List (List ℕ))
+  abbrev before_third : Filtered (List (List ℕ)) Retrying
   before_third = at_bus (third ∷ []) 2
 
-  abbrev last : Retrying (List (List ℕ))
+  abbrev last : Filtered (List (List ℕ)) Retrying
   last = at_bus [] (dropped_by 2 third)
 
   is_busy_frame : is_busy (frame_of busy_frame) ≡ true
   unfolding frame_of
   is_busy_frame = refl
 
-  gives_first : Gives scripted_bus first [] second
+  sends : (bus : Filtered (List (List ℕ)) Retrying) → bus.withholds ≡ false → Sends scripted_bus retrying bus request bus
+  sends bus goes = goes_out refl (refl, refl) refl goes
+
+  hears_first : Hears first.filter busy_frame [] second.filter
   unfolding frame_of
-  gives_first = record { given = busy_frame; gives = refl; is_answer = refl; counts = refl }
+  hears_first = record { is_answer = refl; counts = refl }
 
-  gives_second : Gives scripted_bus second [] before_third
+  hears_second : Hears second.filter busy_frame [] before_third.filter
   unfolding frame_of
-  gives_second = record { given = busy_frame; gives = refl; is_answer = refl; counts = refl }
+  hears_second = record { is_answer = refl; counts = refl }
 
-  gives_third : Gives scripted_bus before_third third last
-  gives_third = record { given = third; gives = refl; is_answer = refl; counts = refl }
+  hears_third : Hears before_third.filter third third last.filter
+  hears_third = record { is_answer = refl; counts = refl }
 
-  talk : Talks (retrying_over scripted_bus) 1 (giving first.bus) (tried request [] Again (tried request [] Again (tried request third answer []))) (record { bus = last; request = Quiet; said = false })
-  talk = sends_it {next = first} (refl, refl) (takes_it {next = second} gives_first (hears_it (sends_it {next = second} (refl, refl) (takes_it {next = before_third} gives_second (hears_it (sends_it {next = before_third} (refl, refl) (takes_it {next = last} gives_third (hears_it rests))))))))
+  gives_first : Gives scripted_bus retrying first [] second
+  gives_first = of_bus busy_frame refl refl refl hears_first refl
+
+  gives_second : Gives scripted_bus retrying second [] before_third
+  gives_second = of_bus busy_frame refl refl refl hears_second refl
+
+  gives_third : Gives scripted_bus retrying before_third third last
+  gives_third = of_bus third refl refl refl hears_third refl
+
+  talk : Talks (filtered_over scripted_bus retrying) 1 (giving first.bus) (tried request [] Again (tried request [] Again (tried request third answer []))) (record { bus = last; request = Quiet; said = false })
+  talk = sends_it {next = first} (sends first refl) (takes_it {next = second} gives_first (hears_it (sends_it {next = second} (sends second refl) (takes_it {next = before_third} gives_second (hears_it (sends_it {next = before_third} (sends before_third refl) (takes_it {next = last} gives_third (hears_it rests))))))))
 
   pub is_asked_again : IsAskedAgain request third answer
   is_asked_again = record { last = record { bus = last; request = Quiet; said = false }; busy = is_busy_frame; talk = talk }

@@ -10,11 +10,15 @@ pub mod Telling
 pub mod Queue
 -- what goes over the bus of a line
 pub mod Talking
--- a bus that asks a meter that was silent in the last poll one question
+-- a filter that asks a meter that was silent in the last poll one question
 pub mod Sparing
--- a bus on which a busy meter is asked again
+-- a bus with a filter
+pub mod Filtered
+-- a readout that has another number of telegrams begins anew
+pub mod Recounting
+-- a filter by which a busy meter is asked again
 pub mod Retrying
--- a bus on which a copy of an earlier telegram is dropped
+-- a filter that drops a copy of an earlier telegram
 pub mod Remembering
 -- what a round commits
 pub mod Keeping

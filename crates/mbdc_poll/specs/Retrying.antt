@@ -1,5 +1,5 @@
--- A bus on which a busy meter is asked again (this product; the error is that of EN 13757-3).
-use Rattle.std.specs.Prelude.{◌≡◌, ℕ, ◌+◌, Bool, true, false, ◌&&◌, ◌==◌, List, [], ◌∷◌, length}
+-- A filter by which a busy meter is asked again (this product; the error is that of EN 13757-3).
+use Rattle.std.specs.Prelude.{⊤, ◌≡◌, ℕ, ◌+◌, Bool, true, false, ◌&&◌, ◌==◌, List, [], ◌∷◌, length}
 use Rattle.std.specs.Prelude.{Option, None, Some, Ok, if◌then◌else◌, nat_lt}
 use Rattle.dc_core.specs.Event.{asks, hears, asked, heard}
 use Rattle.dc_core.specs.declared.line_heard.LineHeard.{LineHeard}
@@ -8,9 +8,10 @@ use Rattle.dc_linkframe.specs.Control.{application_error, is_rsp_ud}
 use Rattle.dc_linkframe.specs.Frame.{FrameSeen, ack, short, long}
 use Rattle.dc_linkframe.specs.Reading.{frame_of}
 use Rattle.mbdc_poll.specs.Bus.{Bus}
+use Rattle.mbdc_poll.specs.Filtered.{Filter, LetsThrough, filtered_over}
 use Rattle.mbdc_poll.specs.Happening.{Happening, does}
-use Rattle.mbdc_poll.specs.Talking.{Talk, Talks, rests, begins, has_none, sends_it}
-use Rattle.mbdc_poll.specs.Talking.{waits_it, takes_it, hears_it, stands_by, tells_it, loses_it}
+use Rattle.mbdc_poll.specs.Talking.{Talk, Talks}
+use Rattle.mbdc_poll.specs.declared.filtered.Filtered.{Filtered}
 use Rattle.mbdc_poll.specs.declared.phase.Request.TheVariants.{Quiet}
 use Rattle.mbdc_poll.specs.declared.retrying.Retrying.{Retrying}
 
@@ -48,61 +49,23 @@ abbrev pub dropped_by : ℕ → List ℕ → ℕ
 dropped_by before given =
     if is_dropped before given then before + 1 else if length given == 0 then before else 0
 
--- ---- the bus
+-- ---- the filter
 
-abbrev pub Sends : {B : Type 0} → Bus B → Retrying B → List ℕ → Retrying B → Type 0
-Sends g old request new = g.sends old.bus request new.bus × (new ≡ record old { bus = new.bus })
+-- each request goes out
+abbrev pub Asks : Retrying → List ℕ → Bool → Retrying → Type 0
+Asks old request goes new = (goes ≡ true) × (new ≡ old)
 
-abbrev pub Opens : {B : Type 0} → Bus B → Retrying B → List ℕ → Retrying B → Type 0
-Opens g old request new = g.opens old.bus request new.bus × (new ≡ record old { bus = new.bus })
-
-abbrev pub Waits : {B : Type 0} → Bus B → Retrying B → Retrying B → Type 0
-Waits g old new = g.waits old.bus new.bus × (new ≡ record old { bus = new.bus })
-
--- AN ANSWER: that of the bus; or silence, where a meter is busy and that was dropped less than twice in a row.
-pub record Gives {B : Type 0} (g : Bus B) (old : Retrying B) (answer : List ℕ) (new : Retrying B)
-    : Type 0 where
-  pub given : List ℕ
-  pub gives : g.gives old.bus given new.bus
+-- AN ANSWER PASSES; of one that a meter is busy silence is heard, where fewer than two were dropped in a row.
+pub record Hears (old : Retrying) (given answer : List ℕ) (new : Retrying) : Type 0 where
   pub is_answer : answer ≡ answer_by old.dropped given
   pub counts : new.dropped ≡ dropped_by old.dropped given
 
-abbrev pub retrying_over : {B : Type 0} → Bus B → Bus (Retrying B)
-retrying_over g = record {
-  lost = λ r. g.lost r.bus;
-  waits_left = λ r. g.waits_left r.bus;
-  sends = Sends g;
-  opens = Opens g;
-  waits = Waits g;
-  gives = Gives g;
-  late = λ r. g.late r.bus;
-}
+abbrev pub retrying : Filter Retrying
+retrying = record { asks = Asks; hears = Hears }
 
--- ---- where nobody is busy
-
--- NO ANSWER OF THIS TALK is that a meter is busy.
-abbrev pub NobodyIsBusy : {B : Type 0} {g : Bus B} {line : ℕ} {first last : Talk (Retrying B)}
-    {happened : List Happening} → Talks (retrying_over g) line first happened last → Type 0
-NobodyIsBusy rests = Unit {0}
-NobodyIsBusy (begins more) = NobodyIsBusy more
-NobodyIsBusy (has_none more) = NobodyIsBusy more
-NobodyIsBusy (sends_it sends more) = NobodyIsBusy more
-NobodyIsBusy (waits_it waits more) = NobodyIsBusy more
-NobodyIsBusy (takes_it gives more) =
-    (is_busy (frame_of gives.given) ≡ false) × NobodyIsBusy more
-NobodyIsBusy (hears_it more) = NobodyIsBusy more
-NobodyIsBusy (stands_by more) = NobodyIsBusy more
-NobodyIsBusy (tells_it other more) = NobodyIsBusy more
-NobodyIsBusy (loses_it is_lost more) = NobodyIsBusy more
-
-abbrev pub on_bus : {B : Type 0} → Talk (Retrying B) → Talk B
-on_bus talk = record { bus = talk.bus.bus; request = talk.request; said = talk.said }
-
--- THEN NOTHING IS DROPPED: the talk is one on the bus itself.
+-- WHERE NOBODY IS BUSY, nothing is dropped: the talk is one on the bus itself.
 abbrev pub DropsNothing : {B : Type 0} → Bus B → Type 0
-DropsNothing {B} g = (line : ℕ) (first last : Talk (Retrying B)) (happened : List Happening)
-    (talk : Talks (retrying_over g) line first happened last)
-    → NobodyIsBusy talk → Talks g line (on_bus first) happened (on_bus last)
+DropsNothing g = LetsThrough g retrying (λ r. ⊤) (λ r given. is_busy (frame_of given) ≡ false)
 
 -- ---- a meter is asked again
 
@@ -118,9 +81,9 @@ scripted_bus = record {
   late = λ bus. 0;
 }
 
-abbrev pub giving : List (List ℕ) → Talk (Retrying (List (List ℕ)))
+abbrev pub giving : List (List ℕ) → Talk (Filtered (List (List ℕ)) Retrying)
 giving answers = record {
-  bus = record { bus = answers; dropped = 0 };
+  bus = record { bus = answers; filter = record { dropped = 0 }; withholds = false };
   request = Quiet;
   said = false;
 }
@@ -138,7 +101,7 @@ tried request bytes answer more =
 -- BUSY TWICE, it is asked the same again, twice: of both answers the readout hears silence, and then the third answer,
 -- whatever that is.
 pub record IsAskedAgain (request third : List ℕ) (answer : LineHeard) : Type 0 where
-  pub last : Talk (Retrying (List (List ℕ)))
+  pub last : Talk (Filtered (List (List ℕ)) Retrying)
   pub busy : is_busy (frame_of busy_frame) ≡ true
-  pub talk : Talks (retrying_over scripted_bus) 1 (giving (busy_frame ∷ busy_frame ∷ third ∷ []))
+  pub talk : Talks (filtered_over scripted_bus retrying) 1 (giving (busy_frame ∷ busy_frame ∷ third ∷ []))
       (tried request [] Again (tried request [] Again (tried request third answer []))) last

@@ -1,6 +1,6 @@
 //! What holds of the definitions alone.
 
-ghost use Rattle.std.specs.Prelude.{◌≡◌, ◌<◌, ◌≤◌, ◌*◌, ◌++◌, ◌∷◌, ℕ, Bool, List, []};
+ghost use Rattle.std.specs.Prelude.{◌≡◌, ◌<◌, ◌≤◌, ◌*◌, ◌++◌, ◌∷◌, ℕ, Bool, false, List, [], Some};
 ghost use Rattle.std.specs.Prelude.{length};
 ghost use Rattle.std.specs.List.{AllByRecursion};
 ghost use Rattle.std.specs.List.Sorted.{IsStrictlySortedBy};
@@ -9,6 +9,7 @@ ghost use Rattle.dc_address.specs.Identity.{identity_cmp};
 ghost use Rattle.dc_address.specs.declared.identity.Identity.{Identity};
 ghost use Rattle.mbdc_change.specs.State.{State};
 ghost use Rattle.dc_core.specs.Core.{Core};
+ghost use Rattle.dc_linkframe.specs.Reading.{frame_of};
 ghost use Rattle.dc_core.specs.declared.line_heard.LineHeard.{LineHeard};
 ghost use Rattle.dc_core.specs.Transcript.{Turn, IsChain, leads};
 ghost use Rattle.mbdc_poll.specs.Committed.{IsCommittedWhereNoneIsAsked};
@@ -20,6 +21,7 @@ ghost use Rattle.mbdc_poll.specs.Planned.{queue_on};
 ghost use Rattle.mbdc_poll.specs.Queue.{Part, part, AreApart, Goes, GoesWell, IsToldAs, IsTried};
 ghost use Rattle.mbdc_poll.specs.Queue.{Lacks, meter_of, most_asks, read_in, requests_in};
 ghost use Rattle.mbdc_poll.specs.Queue.{starts_in};
+ghost use Rattle.mbdc_poll.specs.Recounting.{IsBegunAnew, DropsNothing as DropsNoReadout, sent_in};
 ghost use Rattle.mbdc_poll.specs.Remembering.{IsDropped, DropsNothing as DropsNoTelegram};
 ghost use Rattle.mbdc_poll.specs.Retrying.{DropsNothing, IsAskedAgain};
 ghost use Rattle.mbdc_poll.specs.Sparing.{IsAskedOnce, SparesNothing};
@@ -98,11 +100,20 @@ pub fn a_busy_meter_is_asked_again<B: HalfBus + Drop>()
     ensures again { (request third : List ℕ) (answer : LineHeard) → IsAskedAgain request third answer }
 {}
 
-/// Where no telegram comes twice, [`Remembering`](crate::Remembering) drops nothing: the talk is one on the bus itself.
-/// Where a copy of the first telegram comes third, the readout hears silence and asks the same again. It hears what
-/// comes then: a third telegram, or the first one, which its meter sends.
+/// Where no telegram is one of the last 64 before it, [`Remembering`](crate::Remembering) drops nothing: the talk is one
+/// on the bus itself. Where a copy of the first telegram comes third, the readout hears silence and asks the same again.
+/// It hears what comes then: a third telegram, or the first one, which its meter sends.
 pub fn a_copied_telegram_is_dropped<B: HalfBus + Drop>()
     ensures drops { DropsNoTelegram B.HalfBus }
     ensures third { (answer : LineHeard) → IsDropped 3 answer }
     ensures again { (answer : LineHeard) → IsDropped 1 answer }
+{}
+
+/// Where each meter sends as many telegrams as in its last reading, [`Recounting`](crate::Recounting) drops nothing: the
+/// talk is one on the bus itself. Where one telegram comes in place of two, the readout hears silence, and its next
+/// requests aren't sent. After the next reset it hears that telegram.
+pub fn a_readout_that_differs_begins_anew<B: HalfBus + Drop>()
+    ensures drops { DropsNoReadout B.HalfBus }
+    ensures anew { (meter : Identity) (telegram : List ℕ) (answer : LineHeard)
+        → sent_in (frame_of telegram) ≡ Some (meter, false) → IsBegunAnew meter telegram answer }
 {}

@@ -13,6 +13,7 @@ mod clock;
 mod end;
 mod event;
 pub mod events;
+mod filtered;
 mod image;
 mod last_part;
 mod laws;
@@ -21,6 +22,7 @@ mod newest;
 mod outcome;
 mod phase;
 mod readout;
+mod recounting;
 mod remembering;
 mod retrying;
 mod sparing;
@@ -34,15 +36,18 @@ mod waiting;
 pub use brought::Brought;
 pub use end::{End, Refusal};
 pub use event::Event;
+pub use filtered::{Filter, Filtered, PollBus, with_filters};
 pub use image::{Plan, poll_image};
 pub use last_part::LastPart;
 pub use laws::{
     a_busy_meter_is_asked_again, a_copied_telegram_is_dropped, a_queue_goes_in_passes,
-    a_silent_meter_is_asked_once, what_a_failed_readout_brought_is_told, what_is_read_is_committed,
+    a_readout_that_differs_begins_anew, a_silent_meter_is_asked_once,
+    what_a_failed_readout_brought_is_told, what_is_read_is_committed,
 };
 pub use outcome::{Counts, Outcome};
 pub use phase::{Phase, Request};
 pub use readout::read_all;
+pub use recounting::{Count, Known, Recounting};
 pub use remembering::Remembering;
 pub use retrying::Retrying;
 pub use sparing::{Doubt, Fate, Sparing};

@@ -1,25 +1,24 @@
-//! A bus on which a copy of an earlier telegram is dropped.
+//! A filter that drops a copy of an earlier telegram.
 
 ghost use Rattle.std.specs.Prelude.{◌≡◌, ◌≤◌, ◌∷◌, [], false, length, take};
 ghost use Rattle.dc_linkframe.specs.Reading.{frame_of};
 ghost use Rattle.mbdc_bus.specs.Limits.{most_answer};
 ghost use Rattle.mbdc_poll.specs.Remembering.{has, is_copy, is_repeat, is_telegram, most_before};
 
+use crate::filtered::Filter;
 use arrayvec::ArrayVec;
 use dc_linkframe::control::{VARIABLE_DATA, is_rsp_ud};
 use dc_linkframe::{Frame, FrameBuf, parse};
-use mbdc_bus::{AnswerBuf, HalfBus};
+use mbdc_bus::AnswerBuf;
 
 // Number of telegrams that are remembered.
 const MOST_TELEGRAMS: usize = 64;
 
-/// A bus that remembers the last 64 telegrams that came. For a copy of one of them silence is given, so the readout
+/// The filter that remembers the last 64 telegrams that came. Of a copy of one of them silence is heard, so the readout
 /// makes its request again. A telegram that the same request brings twice in a row is no copy: its meter sends it. All
-/// else goes to the bus and comes from it.
+/// else passes.
 #[derive(Drop)]
-pub struct Remembering<B: HalfBus + Drop> {
-    /// The bus.
-    pub bus: B,
+pub struct Remembering {
     /// The last request.
     pub request: FrameBuf,
     /// Whether it brought the latest telegram.
@@ -28,62 +27,24 @@ pub struct Remembering<B: HalfBus + Drop> {
     pub telegrams: ArrayVec<AnswerBuf, MOST_TELEGRAMS>,
 }
 
-impl<B: HalfBus + Drop> Remembering<B> {
-    /// This bus, of which nothing is remembered.
-    pub fn new(bus: B) -> Self
-        ensures { result ≡ record {
-          bus = bus;
-          request = [];
-          is_answered = false;
-          telegrams = record { items = [] };
-        } }
-    {
-        Remembering {
-            bus,
-            request: FrameBuf::new(),
-            is_answered: false,
-            telegrams: ArrayVec::new(),
-        }
-    }
-}
+impl Filter for Remembering {
+    ghost use Rattle.mbdc_poll.specs.Remembering.{Asks, Hears};
 
-impl<B: HalfBus + Drop> HalfBus for Remembering<B> {
-    ghost use Rattle.mbdc_poll.specs.Remembering.{Gives, Opens, Sends, Waits};
+    ghost asks = { Asks };
 
-    ghost lost = { λ remembering. B.lost remembering.bus };
+    ghost hears = { Hears };
 
-    ghost waits_left = { λ remembering. B.waits_left remembering.bus };
-
-    ghost sends = { Sends B.HalfBus };
-
-    ghost opens = { Opens B.HalfBus };
-
-    ghost waits = { Waits B.HalfBus };
-
-    ghost gives = { Gives B.HalfBus };
-
-    ghost late = { λ remembering. B.late remembering.bus };
-
-    fn is_lost(&self) -> bool {
-        self.bus.is_lost()
-    }
-
-    fn send(&mut self, request: &FrameBuf) {
-        if !self.bus.is_lost() && self.request.as_slice() != request.as_slice() {
+    fn ask(&mut self, request: &FrameBuf) -> bool {
+        if self.request.as_slice() != request.as_slice() {
             self.request = *request;
             self.is_answered = false;
         }
-        self.bus.send(request);
+        true
     }
 
-    fn send_open(&mut self, request: &FrameBuf) {
-        self.bus.send_open(request);
-    }
-
-    fn hear(&mut self) -> Option<AnswerBuf> {
-        let answer = self.bus.hear()?;
+    fn hear(&mut self, answer: AnswerBuf) -> AnswerBuf {
         if !is_telegram(answer.as_slice()) {
-            return Some(answer);
+            return answer;
         }
         let is_dropped = is_copy(
             self.is_answered,
@@ -92,11 +53,7 @@ impl<B: HalfBus + Drop> HalfBus for Remembering<B> {
         );
         note(&mut self.telegrams, answer.as_slice());
         self.is_answered = true;
-        Some(if is_dropped { AnswerBuf::new() } else { answer })
-    }
-
-    fn late(&self) -> u64 {
-        self.bus.late()
+        if is_dropped { AnswerBuf::new() } else { answer }
     }
 }
 

@@ -1,12 +1,13 @@
-//! A bus on which a busy meter is asked again.
+//! A filter by which a busy meter is asked again.
 
 ghost use Rattle.std.specs.Prelude.{◌≡◌, [], false};
 ghost use Rattle.dc_linkframe.specs.Reading.{frame_of};
 ghost use Rattle.mbdc_poll.specs.Retrying.{is_busy};
 
+use crate::filtered::Filter;
 use dc_linkframe::control::{APPLICATION_ERROR, is_rsp_ud};
 use dc_linkframe::{Frame, FrameBuf, parse};
-use mbdc_bus::{AnswerBuf, HalfBus};
+use mbdc_bus::AnswerBuf;
 
 // Application too busy for handling readout request (EN 13757-3).
 const TOO_BUSY: u8 = 8;
@@ -14,69 +15,35 @@ const TOO_BUSY: u8 = 8;
 // Maximum number of such answers in a row that are dropped.
 const MOST_DROPPED: u8 = 2;
 
-/// A bus on which a meter is asked again that answers with the application error 8: it is too busy (EN 13757-3). Of the
-/// first two such answers in a row silence is given, so the readout makes its request again, and the meter sends the
-/// same telegram. All else goes to the bus and comes from it.
+/// The filter by which a meter is asked again that answers with the application error 8: it is too busy (EN 13757-3). Of
+/// the first two such answers in a row silence is heard, so the readout makes its request again, and the meter sends the
+/// same telegram. All else passes.
 #[derive(Drop)]
-pub struct Retrying<B: HalfBus + Drop> {
-    /// The bus.
-    pub bus: B,
+pub struct Retrying {
     /// Number of such answers that were dropped in a row.
     pub dropped: u8,
 }
 
-impl<B: HalfBus + Drop> Retrying<B> {
-    /// This bus, of which no answer was dropped.
-    pub fn new(bus: B) -> Self
-        ensures { result ≡ record { bus = bus; dropped = 0 } }
-    {
-        Retrying { bus, dropped: 0 }
-    }
-}
+impl Filter for Retrying {
+    ghost use Rattle.mbdc_poll.specs.Retrying.{Asks, Hears};
 
-impl<B: HalfBus + Drop> HalfBus for Retrying<B> {
-    ghost use Rattle.mbdc_poll.specs.Retrying.{Gives, Opens, Sends, Waits};
+    ghost asks = { Asks };
 
-    ghost lost = { λ retrying. B.lost retrying.bus };
+    ghost hears = { Hears };
 
-    ghost waits_left = { λ retrying. B.waits_left retrying.bus };
-
-    ghost sends = { Sends B.HalfBus };
-
-    ghost opens = { Opens B.HalfBus };
-
-    ghost waits = { Waits B.HalfBus };
-
-    ghost gives = { Gives B.HalfBus };
-
-    ghost late = { λ retrying. B.late retrying.bus };
-
-    fn is_lost(&self) -> bool {
-        self.bus.is_lost()
+    fn ask(&mut self, _request: &FrameBuf) -> bool {
+        true
     }
 
-    fn send(&mut self, request: &FrameBuf) {
-        self.bus.send(request);
-    }
-
-    fn send_open(&mut self, request: &FrameBuf) {
-        self.bus.send_open(request);
-    }
-
-    fn hear(&mut self) -> Option<AnswerBuf> {
-        let answer = self.bus.hear()?;
+    fn hear(&mut self, answer: AnswerBuf) -> AnswerBuf {
         if self.dropped < MOST_DROPPED && is_busy(answer.as_slice()) {
             self.dropped += 1;
-            return Some(AnswerBuf::new());
+            return AnswerBuf::new();
         }
         if !answer.as_slice().is_empty() {
             self.dropped = 0;
         }
-        Some(answer)
-    }
-
-    fn late(&self) -> u64 {
-        self.bus.late()
+        answer
     }
 }
 

@@ -1,13 +1,14 @@
-//! A bus that asks a meter that was silent in the last poll one question in this one.
+//! A filter that asks a meter that was silent in the last poll one question in this one.
 
 ghost use Rattle.std.specs.Prelude.{◌≡◌, bytes_eq, map};
 ghost use Rattle.mbdc_poll.specs.Sparing.{first_question, is_spared, noted_by};
 ghost use Rattle.mbdc_poll.specs.declared.sparing.Fate.TheVariants.{Unasked};
 
+use crate::filtered::Filter;
 use dc_address::{Identity, Mask, Primary};
 use dc_linkframe::FrameBuf;
 use dc_linkframe::control::{write_reset, write_selection};
-use mbdc_bus::{AnswerBuf, HalfBus};
+use mbdc_bus::AnswerBuf;
 
 /// What came of the first question to a meter in this poll.
 #[derive(Clone, Copy)]
@@ -48,33 +49,19 @@ impl Doubt {
     }
 }
 
-/// A bus on which the first question to each of some meters goes out as any request. Where nothing answers it, that
-/// question isn't sent again: silence is given for it at once. All else goes to the bus.
+/// The filter by which the first question to each of some meters goes out as any request, but where nothing answers it,
+/// isn't sent again. All else passes.
 #[derive(Drop)]
-pub struct Sparing<'a, B: HalfBus + Drop> {
-    /// The bus.
-    pub bus: B,
+pub struct Sparing<'a> {
     /// The meters that were silent in the last poll.
     pub doubts: &'a mut [Doubt],
-    /// The request of the last call.
+    /// The last request.
     pub out: FrameBuf,
-    /// Whether it wasn't sent.
-    pub spares: bool,
 }
 
-impl<'a, B: HalfBus + Drop> Sparing<'a, B> {
-    /// This bus, with doubts about these meters.
-    pub fn new(bus: B, doubts: &'a mut [Doubt]) -> Self {
-        Sparing {
-            bus,
-            doubts,
-            out: FrameBuf::new(),
-            spares: false,
-        }
-    }
-
+impl Sparing<'_> {
     // Whether this is a first question that met silence.
-    fn has_met_silence(&self, request: &[u8]) -> bool
+    fn spares(&self, request: &[u8]) -> bool
         ensures { result ≡ is_spared self.now.doubts.now request.now }
     {
         self.doubts.iter().any(|doubt| {
@@ -83,66 +70,22 @@ impl<'a, B: HalfBus + Drop> Sparing<'a, B> {
     }
 }
 
-impl<B: HalfBus + Drop> HalfBus for Sparing<'_, B> {
-    ghost use Rattle.mbdc_poll.specs.Sparing.{Gives, Opens, Sends, Waits};
+impl Filter for Sparing<'_> {
+    ghost use Rattle.mbdc_poll.specs.Sparing.{Asks, Hears};
 
-    ghost lost = { λ sparing. B.lost sparing.bus };
+    ghost asks = { Asks };
 
-    ghost waits_left = { λ sparing. B.waits_left sparing.bus };
+    ghost hears = { Hears };
 
-    ghost sends = { Sends B.HalfBus };
-
-    ghost opens = { Opens B.HalfBus };
-
-    ghost waits = { Waits B.HalfBus };
-
-    ghost gives = { Gives B.HalfBus };
-
-    ghost late = { λ sparing. B.late sparing.bus };
-
-    fn is_lost(&self) -> bool {
-        self.bus.is_lost()
-    }
-
-    fn send(&mut self, request: &FrameBuf) {
-        if self.bus.is_lost() {
-            self.bus.send(request);
-            return;
-        }
-        let spares = self.has_met_silence(request.as_slice());
-        self.spares = spares;
+    fn ask(&mut self, request: &FrameBuf) -> bool {
         self.out = *request;
-        if !self.spares {
-            self.bus.send(request);
-        }
+        !self.spares(request.as_slice())
     }
 
-    fn send_open(&mut self, request: &FrameBuf) {
-        if !self.bus.is_lost() {
-            self.spares = false;
-            self.out = *request;
-        }
-        self.bus.send_open(request);
-    }
-
-    fn hear(&mut self) -> Option<AnswerBuf> {
-        if self.spares {
-            return Some(AnswerBuf::new());
-        }
-        let was_lost = self.bus.is_lost();
-        let answer = self.bus.hear()?;
-        if !was_lost {
-            note(
-                self.doubts,
-                self.out.as_slice(),
-                answer.as_slice().is_empty(),
-            );
-        }
-        Some(answer)
-    }
-
-    fn late(&self) -> u64 {
-        self.bus.late()
+    fn hear(&mut self, answer: AnswerBuf) -> AnswerBuf {
+        let is_silent = answer.as_slice().is_empty();
+        note(self.doubts, self.out.as_slice(), is_silent);
+        answer
     }
 }
 

@@ -1,0 +1,145 @@
+//! A bus over which a filter decides what goes out and what is heard.
+
+ghost use Rattle.std.specs.Prelude.{◌≡◌, Bool, List, [], ℕ, false};
+
+use crate::recounting::{Count, Known, Recounting};
+use crate::remembering::Remembering;
+use crate::retrying::Retrying;
+use crate::sparing::{Doubt, Sparing};
+use arrayvec::ArrayVec;
+use dc_linkframe::FrameBuf;
+use mbdc_bus::{AnswerBuf, HalfBus};
+
+/// What decides, between a readout and its bus, which requests go out and which answers are heard. A lost bus isn't
+/// asked about.
+pub trait Filter {
+    // What it keeps after a request, and whether that goes out.
+    ghost asks: { Self → List ℕ → Bool → Self → Type 0 };
+
+    // What it keeps after an answer of the bus, and what is heard of it.
+    ghost hears: { Self → List ℕ → List ℕ → Self → Type 0 };
+
+    /// Takes a request. Returns whether it goes out.
+    fn ask(&mut self, request: &FrameBuf) -> bool
+        ensures { asks self.old request.now result self.new };
+
+    /// Takes an answer of the bus. Returns what is heard: silence stays silence.
+    fn hear(&mut self, answer: AnswerBuf) -> AnswerBuf
+        ensures step { hears self.old answer result self.new }
+        ensures silence { answer ≡ [] → result ≡ [] };
+}
+
+/// A bus with a filter. For a request that is withheld silence is given at once.
+#[derive(Drop)]
+pub struct Filtered<B: HalfBus + Drop, F: Filter + Drop> {
+    /// The bus.
+    pub bus: B,
+    /// The filter.
+    pub filter: F,
+    /// Whether the last request was withheld.
+    pub withholds: bool,
+}
+
+impl<B: HalfBus + Drop, F: Filter + Drop> Filtered<B, F> {
+    /// This bus with this filter.
+    pub fn new(bus: B, filter: F) -> Self
+        ensures { result ≡ record { bus = bus; filter = filter; withholds = false } }
+    {
+        Filtered {
+            bus,
+            filter,
+            withholds: false,
+        }
+    }
+}
+
+impl<B: HalfBus + Drop, F: Filter + Drop> HalfBus for Filtered<B, F> {
+    ghost use Rattle.mbdc_poll.specs.Filtered.{Gives, Opens, Sends, Waits};
+
+    ghost lost = { λ filtered. B.lost filtered.bus };
+
+    ghost waits_left = { λ filtered. B.waits_left filtered.bus };
+
+    ghost sends = { Sends B.HalfBus F.Filter };
+
+    ghost opens = { Opens B.HalfBus };
+
+    ghost waits = { Waits B.HalfBus };
+
+    ghost gives = { Gives B.HalfBus F.Filter };
+
+    ghost late = { λ filtered. B.late filtered.bus };
+
+    fn is_lost(&self) -> bool {
+        self.bus.is_lost()
+    }
+
+    fn send(&mut self, request: &FrameBuf) {
+        if self.bus.is_lost() {
+            self.bus.send(request);
+            return;
+        }
+        self.withholds = !self.filter.ask(request);
+        if !self.withholds {
+            self.bus.send(request);
+        }
+    }
+
+    fn send_open(&mut self, request: &FrameBuf) {
+        if !self.bus.is_lost() {
+            self.withholds = false;
+        }
+        self.bus.send_open(request);
+    }
+
+    fn hear(&mut self) -> Option<AnswerBuf> {
+        if self.withholds {
+            return Some(AnswerBuf::new());
+        }
+        let was_lost = self.bus.is_lost();
+        let answer = self.bus.hear()?;
+        Some(if was_lost {
+            answer
+        } else {
+            self.filter.hear(answer)
+        })
+    }
+
+    fn late(&self) -> u64 {
+        self.bus.late()
+    }
+}
+
+/// A bus with the filters of a poll.
+pub type PollBus<'a, B> = Filtered<
+    Filtered<Filtered<Filtered<B, Sparing<'a>>, Remembering>, Retrying>,
+    Recounting<'a>,
+>;
+
+/// This bus with the filters of a poll: it asks who was silent in the last one one question, drops copies of telegrams,
+/// asks who is busy again, and begins a readout anew that differs from what is known. A copy that comes of a first
+/// question is no silence.
+pub fn with_filters<'a, B: HalfBus + Drop>(
+    bus: B,
+    doubts: &'a mut [Doubt],
+    known: &'a mut [Known],
+) -> PollBus<'a, B>
+    ensures bus { result.bus.bus.bus.bus ≡ bus }
+    ensures begins { result.withholds ≡ false }
+{
+    let sparing = Sparing {
+        doubts,
+        out: FrameBuf::new(),
+    };
+    let remembering = Remembering {
+        request: FrameBuf::new(),
+        is_answered: false,
+        telegrams: ArrayVec::new(),
+    };
+    let recounting = Recounting {
+        known,
+        count: Count::new(),
+    };
+    let bus = Filtered::new(Filtered::new(bus, sparing), remembering);
+    Filtered::new(Filtered::new(bus, Retrying { dropped: 0 }), recounting)
+}
