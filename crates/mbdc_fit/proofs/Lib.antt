@@ -12,3 +12,5 @@ pub mod Steps
 pub mod Addresses
 -- the changes of an order
 mod Orders
+-- how a list is read, record by record
+mod Listings

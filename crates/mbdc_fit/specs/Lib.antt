@@ -6,6 +6,8 @@ pub mod Fit
 
 -- the rows of a list of meters
 pub mod Rows
+-- how a list is read
+pub mod Listed
 -- what a list of meters asks of a register
 pub mod Plan
 -- what a command that is given at the box asks of one
