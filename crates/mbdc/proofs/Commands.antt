@@ -1,5 +1,5 @@
 -- What the commands that write an image have done, whatever was printed of it, and the endings of what stops them before.
-use Rattle.std.proofs.Common.{◌≡◌, ◌∙◌, inl, inr, ⊎_elim, arith, ℕ, Bool, true, false, List, [], Option, None, Result, Ok, Err, IfOk, IfErr, IfSome, codes, sym, subst}
+use Rattle.std.proofs.Common.{◌≡◌, ◌<◌, ◌∙◌, inl, inr, ⊎_elim, arith, ℕ, Bool, true, false, List, [], Option, None, Result, Ok, Err, IfOk, IfErr, IfSome, codes, sym, subst}
 use Rattle.std.proofs.lemmas.Option.{IfSome_then}
 use Rattle.dc_address.specs.declared.identity.Identity.{Identity}
 use Rattle.dc_poller.specs.ImageRun.{ImageCut, ImageRan}
@@ -24,7 +24,7 @@ use Rattle.mbdc_log.specs.declared.fault.OpenFault.TheVariants.{NotImage, Damage
 use Rattle.mbdc_log.specs.declared.fault.OpenFault.TheVariants.{NoMemory as NoMemoryToOpen}
 use Rattle.mbdc_poll.specs.Bus.{Bus}
 use Rattle.mbdc_poll.specs.declared.events.printer.Form.{Form}
-use Rattle.mbdc.proofs.Asked.{asks_only}
+use Rattle.mbdc.proofs.Asked.{asks_each, asks_only}
 use Rattle.mbdc.specs.Commands.{AnyGateway, IsDone, IsPolled, Refuses}
 
 -- a text that was printed to a writer is one that was printed to a writer of which contracts know no byte
@@ -209,8 +209,8 @@ ran_lines g link script over uses contents out disk left name ending (inr shut) 
 -- a poll is done, whatever its events were
 pub polled : {D B W O : Type 0} (R : Type 0) (g : Ghosts D) (bus : Bus B) (contents : O → Option (List ℕ)) (buses : List B) (only : List Identity) (tries : ℕ) (waits : W) (out : O)
     (form : Form) (name : List ℕ) (disk left : D) (ending : Ending)
-    → Guards g disk left ending (λ ready. PollsOver R g bus contents buses only tries waits out form name ready left ending) → IsPolled g only name disk ending
-polled R g bus contents buses only tries waits out form name disk left ending (inl (ready, is_ready, p)) = (
+    → 0 < tries → Guards g disk left ending (λ ready. PollsOver R g bus contents buses only tries waits out form name ready left ending) → IsPolled g only name disk ending
+polled R g bus contents buses only tries waits out form name disk left ending some (inl (ready, is_ready, p)) = (
   left,
   inl (
     ready,
@@ -225,7 +225,14 @@ polled R g bus contents buses only tries waits out form name disk left ending (i
           first = t.first;
           last = t.last;
           opening = t.opening;
-          happens = record { happened = t.happens.happened; are_such = asks_only bus _ _ _ _ buses only tries _ _ _ _ _ _ t.happens.happened t.happens.are_such.polled; went = t.happens.went };
+          happens = record {
+            happened = t.happens.happened;
+            are_such = (
+              asks_only bus _ _ _ _ buses only tries _ _ _ _ _ _ t.happens.happened t.happens.are_such.polled,
+              asks_each bus _ _ _ _ buses only tries _ _ _ _ done _ t.happens.happened some t.happens.are_such.polled,
+            );
+            went = t.happens.went;
+          };
           disk_is = t.disk_is;
         });
         starved = p.leaves.starved;
@@ -235,4 +242,4 @@ polled R g bus contents buses only tries waits out form name disk left ending (i
     ),
   ),
 )
-polled R g bus contents buses only tries waits out form name disk left ending (inr shut) = (left, inr shut)
+polled R g bus contents buses only tries waits out form name disk left ending some (inr shut) = (left, inr shut)

@@ -1,6 +1,7 @@
 -- What the commands that write an image have done at their end: `fit`, `swap`, `move`, `out`, `run` and `poll` (this
 -- product).
-use Rattle.std.specs.Prelude.{◌≡◌, ◌≤◌, ℕ, Bool, List, [], Option, None, Some, IfSome, IfNone, Result, All, Contains}
+use Rattle.std.specs.Prelude.{◌≡◌, ◌≤◌, ◌-◌, ◌^◌, ℕ, Bool, true, List, [], Option, None, Some, IfSome, IfNone, Result}
+use Rattle.std.specs.Prelude.{All, Contains, length, min}
 use Rattle.dc_address.specs.declared.identity.Identity.{Identity}
 use Rattle.dc_core.specs.Core.{present}
 use Rattle.dc_meters.specs.Means.{AreMeant, Means}
@@ -29,7 +30,7 @@ use Rattle.mbdc_fit.specs.declared.list.wish.Wish.TheVariants.{List as Listed, O
 use Rattle.mbdc_log.specs.declared.greatest.Greatest.{Greatest}
 use Rattle.mbdc_looks.specs.Register.{IsRegisterOf}
 use Rattle.mbdc_poll.specs.Happening.{Happening, happened_on}
-use Rattle.mbdc_poll.specs.Planned.{wanted_on}
+use Rattle.mbdc_poll.specs.Planned.{asked_for, refused_count, wanted_on}
 use Rattle.mbdc_poll.specs.Queue.{starts_in}
 use Rattle.mbdc_poll.specs.declared.outcome.Outcome.{Outcome}
 
@@ -139,12 +140,23 @@ pub record AreNamed {D : Type 0} (g : Ghosts D) (names : List Named) (disk looke
 abbrev pub AsksOnly : State → List Identity → List Happening → Type 0
 AsksOnly state only happened = (line : ℕ) → All (Contains (wanted_on state only line)) (starts_in (happened_on line happened))
 
--- A POLL IS DONE on the image on this disk, whatever became of it before: turns of the concentrator that was opened leave
--- it, which ask no other meter than these, and the ending is the poll's.
+-- EACH METER IS ASKED, where no commit failed: on each line that at first has a bus which isn't lost, each registered
+-- meter that hangs there and is among these is begun, also where the bus is lost later. Who has no such line, or isn't
+-- registered, counts as not read, up to 2^32 - 1 of them: so status 0 says that nobody is left out.
+pub record AsksEach (state : State) (only : List Identity) (outcome : Outcome) (happened : List Happening)
+    : Type 0 where
+  pub has_bus : ℕ → Bool
+  pub begun : outcome.fault ≡ None → length state.meters ≤ 65535 → (line : ℕ) → 1 ≤ line → has_bus line ≡ true
+      → All (Contains (starts_in (happened_on line happened))) (wanted_on state only line)
+  pub counted : min (2 ^ 32 - 1) (refused_count has_bus state (asked_for only state)) ≤ outcome.failed
+
+-- A POLL IS DONE on the image on this disk, whatever became of it before: turns of the concentrator that was opened
+-- leave it, which ask each of these meters and no other, and the ending is the poll's.
 abbrev pub IsPolled : {D : Type 0} → Ghosts D → (only : List Identity) → (name : List ℕ) → D → Ending → Type 0
 IsPolled {D} g only name disk ending = (left : D) × Guards g disk left ending (λ ready.
     (outcome : Result Outcome ProgramFault) × (is_printed : Bool) × PollEnds outcome is_printed name ending
-    × PollLeaves g (λ done core happened. AsksOnly (present core) only happened) ready left outcome)
+    × PollLeaves g (λ done core happened. AsksOnly (present core) only happened
+    × AsksEach (present core) only done happened) ready left outcome)
 
 -- A POLL IS DONE over an image, of the meters that the words name.
 abbrev pub Polled : {D : Type 0} → Ghosts D → (D → Type 0) → List Named → (name : List ℕ) → Ending → Type 0
