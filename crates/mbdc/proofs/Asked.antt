@@ -104,7 +104,7 @@ all_begun zero line meters happened pass stop some goes = absurd (omega (arith, 
 all_begun (suc tries) line meters happened pass stop some goes =
     let tried = all_tried (suc tries) line meters happened pass stop goes in
     λ k d within. subst (λ (begun : List Identity). Contains begun (get_or meters k d)) (sym tried.3)
-        (Contains-append_left meters tried.1 (get_or meters k d) (Contains-get_or meters k d within))
+    (Contains-append_left meters tried.1 (get_or meters k d) (Contains-get_or meters k d within))
 
 few_pass : {X : Type 0} (p : X → Bool) (xs : List X) → length (filter p xs) ≤ length xs
 few_pass p [] = omega arith
@@ -173,7 +173,7 @@ module _ {B : Type 0} (g : Bus B) (state : State) (only : List Identity) (buses 
       let on : List Happening = happened_on (k + 1) happened in
       let first : Goes tries (k + 1) (part old.left.now [] 1 Free) on (part_of new) = subst (λ (q : Part). Goes tries (k + 1) q on (part_of new)) (part_first old plan.fresh) (rounds.goes k d within).queue in
       let whole : Goes tries (k + 1) (part old.left.now [] 1 Free) on (part [] [] new.pass Free) =
-          subst (λ (q : Part). Goes tries (k + 1) (part old.left.now [] 1 Free) on q) (part_last new (over_at news k d over (refl, refl))) first in
+      subst (λ (q : Part). Goes tries (k + 1) (part old.left.now [] 1 Free) on q) (part_last new (over_at news k d over (refl, refl))) first in
       let queue : old.left.now ≡ wanted_on state only (k + 1) = plan.queue ∙ ap (queue_on state only (k + 1)) (found.1 d) in
       subst (All (Contains (starts_in on))) queue (all_begun tries (k + 1) old.left.now on new.pass Free some whole)
 
@@ -193,7 +193,7 @@ asks_each {B} g told passes warned takes buses only tries first last old new now
       begun = λ well few line from live.
           let kept : store_of p.polls.between.fault ≡ all_kept = ap store_of (sym p.polls.fault ∙ well) in
           let over : All IsOver p.news = all_over p.olds p.news (store_of p.polls.between.fault) kept polled.ended (λ k d low. (p.planned.each k d low).fresh)
-              (λ k d low. subst (λ (q : List Identity). length q ≤ 65535) (sym (p.planned.each k d low).queue) (few_wanted state only (k + 1) (g.lost (get_or p.olds k d).bus) few)) in
+          (λ k d low. subst (λ (q : List Identity). length q ≤ 65535) (sym (p.planned.each k d low).queue) (few_wanted state only (k + 1) (g.lost (get_or p.olds k d).bus) few)) in
           begun_on g state only buses tries p.olds p.news happened p.planned polled.polls.rounds some over line from live;
       counted =
           let failed = p.polls.failed in

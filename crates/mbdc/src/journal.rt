@@ -22,15 +22,6 @@ const END: &str = "\"event\":\"end\"";
 
 const LOST: &str = "\"event\":\"lost\",\"line\":";
 
-/// What the journal says of the meters of a line, of the last poll.
-#[derive(Drop)]
-pub struct Before {
-    /// Those that nobody answered for.
-    pub silent: Vec<Doubt>,
-    /// How many telegrams those sent that were read.
-    pub known: Vec<Known>,
-}
-
 /// Puts what happened into the journal of an image. It is opened for its first line: a file that is no image gets none.
 #[derive(Drop)]
 pub struct Noting<'h, 'i, R> {
@@ -70,13 +61,18 @@ impl<'h, 'i, R: Files<File = File> + Clock + Eprint + AllocGlobal> Noting<'h, 'i
         noting
     }
 
-    /// What the journal says of the meters of each of this many lines: nobody is silent of a line that was lost then, or
-    /// where meters aren't spared, and no number of telegrams is known where readouts don't begin anew. Of an image
-    /// without a journal it says nothing.
+    /// What the journal says of the meters of each of this many lines, of the last poll: those that nobody answered for,
+    /// none of a line that was lost then, or where meters aren't spared; and how many telegrams those sent that were
+    /// read, of none where readouts don't begin anew. Of an image without a journal it says nothing.
     ///
     /// # Errors
     /// Out of memory.
-    pub fn before(&mut self, lines: u8, spares: bool, recounts: bool) -> Result<Vec<Before>, NoMemory> {
+    pub fn before(
+        &mut self,
+        lines: u8,
+        spares: bool,
+        recounts: bool,
+    ) -> Result<(Vec<Vec<Doubt>>, Vec<Vec<Known>>), NoMemory> {
         let (alloc, now) = (self.rt.alloc(), self.now());
         // It is open for the last command: an image without one has no meters.
         let journal = match &self.journal {
@@ -92,28 +88,32 @@ impl<'h, 'i, R: Files<File = File> + Clock + Eprint + AllocGlobal> Noting<'h, 'i
         let begun = own.rsplit_once(END).map_or("", |(begun, _)| begun);
         let poll = begun.rsplit_once(END).map_or(begun, |(_, poll)| poll);
         self.last = journal::read_journal(alloc, poll.as_bytes(), now)?;
-        let mut all = Vec::new(alloc);
+        let (mut silent, mut known) = (Vec::new(alloc), Vec::new(alloc));
         for line in 1..=lines {
             let was_lost = poll.contains(format!(in alloc; "{LOST}{line}")?.as_str());
-            all.push(self.before_on(line, spares && !was_lost, recounts)?)?;
+            let (of_line, sent) = self.before_on(line, spares && !was_lost, recounts)?;
+            silent.push(of_line)?;
+            known.push(sent)?;
         }
-        Ok(all)
+        Ok((silent, known))
     }
 
     // What it says of the meters of a line.
-    fn before_on(&self, line: u8, spares: bool, recounts: bool) -> Result<Before, NoMemory> {
+    fn before_on(
+        &self,
+        line: u8,
+        spares: bool,
+        recounts: bool,
+    ) -> Result<(Vec<Doubt>, Vec<Known>), NoMemory> {
         let alloc = self.rt.alloc();
-        let mut before = Before {
-            silent: Vec::new(alloc),
-            known: Vec::new(alloc),
-        };
+        let (mut silent, mut known) = (Vec::new(alloc), Vec::new(alloc));
         let Some(house) = &self.house else {
-            return Ok(before);
+            return Ok((silent, known));
         };
         for (meter, row) in house.meters() {
             let count = self.last.bodies_of(meter).len();
             if row.line() == line && recounts && count != 0 {
-                before.known.push(Known {
+                known.push(Known {
                     meter: meter.wire(),
                     telegrams: u8::try_from(count).unwrap_or(u8::MAX),
                     is_doubted: false,
@@ -124,10 +124,10 @@ impl<'h, 'i, R: Files<File = File> + Clock + Eprint + AllocGlobal> Noting<'h, 'i
                 && let Some(failing) = self.last.of(meter).failing
                 && failing.number == Why::NoAnswer.number()
             {
-                before.silent.push(Doubt::of(meter, row.address()))?;
+                silent.push(Doubt::of(meter, row.address()))?;
             }
         }
-        Ok(before)
+        Ok((silent, known))
     }
 
     // Says that a meter sent another number of telegrams than in the last poll: a meter sends as many each time.

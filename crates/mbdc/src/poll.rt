@@ -6,7 +6,7 @@ ghost use Rattle.mbdc.specs.Commands.{IsPolled, Polled, Refuses};
 use crate::clock::moment;
 use crate::connecting::{buses_of, reached, released};
 use crate::exchanged::{Attending, Missing, look_for_missing};
-use crate::journal::{Before, Noting};
+use crate::journal::Noting;
 use crate::names::meters_of;
 use crate::system::System;
 use crate::tracing::{Trace, shows_progress, trace_of, tracers_of};
@@ -22,7 +22,7 @@ use mbdc_ending::Ending;
 use mbdc_files::{Host, Output};
 use mbdc_io::NoMemory;
 use mbdc_poll::events::{Form, Notes};
-use mbdc_poll::{Plan, with_filters};
+use mbdc_poll::{Doubt, Known, Plan, with_filters};
 use mbdc_raw::links::{Peer, Watched};
 use std::alloc::Global;
 use std::fs::File;
@@ -100,12 +100,13 @@ where
     let lines = u8::try_from(peers.len()).unwrap_or_default();
     let before = notes.before(lines, only.is_empty(), task.tries > 1);
     let ending = match (tracers_of(host, trace, peers.len()), before) {
-        (Ok(observers), Ok(mut before)) => poll_peers(
+        (Ok(observers), Ok((mut silent, mut sent))) => poll_peers(
             host,
             disk,
             peers,
             observers,
-            before.as_mut_slice(),
+            silent.as_mut_slice(),
+            sent.as_mut_slice(),
             only.as_slice(),
             printing,
             notes,
@@ -126,7 +127,8 @@ fn poll_peers<'a, D, O, J, R>(
     disk: D,
     peers: &[Option<Peer<R>>],
     observers: Vec<O>,
-    before: &mut [Before],
+    silent: &mut [Vec<Doubt>],
+    sent: &mut [Vec<Known>],
     only: &[Identity],
     printing: Printing,
     notes: J,
@@ -142,7 +144,7 @@ where
 {
     let notes = Attending { notes, missing };
     match buses_of(host, peers, observers, task.patience) {
-        Ok(buses) => poll_filtered(host, disk, buses, before, only, printing, notes, task),
+        Ok(buses) => poll_filtered(host, disk, buses, silent, sent, only, printing, notes, task),
         Err(ending) => ending,
     }
 }
@@ -152,7 +154,8 @@ fn poll_filtered<'a, D, B, J, R>(
     host: &Host<'_, R>,
     disk: D,
     buses: Vec<B>,
-    before: &mut [Before],
+    silent: &mut [Vec<Doubt>],
+    sent: &mut [Vec<Known>],
     only: &[Identity],
     printing: Printing,
     notes: J,
@@ -166,9 +169,10 @@ where
     ensures { Refuses result ⊎ IsPolled D.Disk only.now task.now.image.now disk result }
 {
     let mut all = Vec::new(host.rt.alloc());
-    for (bus, before) in buses.into_iter().zip(before.iter_mut()) {
-        let silent = before.silent.as_mut_slice();
-        if all.push(with_filters(bus, silent, before.known.as_mut_slice())).is_err() {
+    let before = silent.iter_mut().zip(sent.iter_mut());
+    for (bus, (silent, sent)) in buses.into_iter().zip(before) {
+        let bus = with_filters(bus, silent.as_mut_slice(), sent.as_mut_slice());
+        if all.push(bus).is_err() {
             return Ending::Memory;
         }
     }

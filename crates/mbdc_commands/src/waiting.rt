@@ -42,7 +42,7 @@ impl FilteredWatch {
     }
 }
 
-impl<B: HalfBus + Watched + Drop> Waits<PollBus<'_, B>> for FilteredWatch {
+impl<B: HalfBus + Watched + Drop> Waits<PollBus<'_, '_, B>> for FilteredWatch {
     ghost use Rattle.std.specs.Prelude.{⊤};
 
     // What a wait does is in no contract.
@@ -50,7 +50,7 @@ impl<B: HalfBus + Watched + Drop> Waits<PollBus<'_, B>> for FilteredWatch {
 
     ghost waited = { λ _ _. ⊤ };
 
-    fn add_bus(&mut self, bus: &PollBus<'_, B>)
+    fn add_bus(&mut self, bus: &PollBus<'_, '_, B>)
         ensures { ⊤ }
     {
         let sparing = &bus.bus.bus.bus;

@@ -40,19 +40,6 @@ pub struct Filtered<B: HalfBus + Drop, F: Filter + Drop> {
     pub withholds: bool,
 }
 
-impl<B: HalfBus + Drop, F: Filter + Drop> Filtered<B, F> {
-    /// This bus with this filter.
-    pub fn new(bus: B, filter: F) -> Self
-        ensures { result ≡ record { bus = bus; filter = filter; withholds = false } }
-    {
-        Filtered {
-            bus,
-            filter,
-            withholds: false,
-        }
-    }
-}
-
 impl<B: HalfBus + Drop, F: Filter + Drop> HalfBus for Filtered<B, F> {
     ghost use Rattle.mbdc_poll.specs.Filtered.{Gives, Opens, Sends, Waits};
 
@@ -111,35 +98,53 @@ impl<B: HalfBus + Drop, F: Filter + Drop> HalfBus for Filtered<B, F> {
 }
 
 /// A bus with the filters of a poll.
-pub type PollBus<'a, B> = Filtered<
+pub type PollBus<'a, 'b, B> = Filtered<
     Filtered<Filtered<Filtered<B, Sparing<'a>>, Remembering>, Retrying>,
-    Recounting<'a>,
+    Recounting<'b>,
 >;
 
 /// This bus with the filters of a poll: it asks who was silent in the last one one question, drops copies of telegrams,
 /// asks who is busy again, and begins a readout anew that differs from what is known. A copy that comes of a first
 /// question is no silence.
-pub fn with_filters<'a, B: HalfBus + Drop>(
+pub fn with_filters<'a, 'b, B: HalfBus + Drop>(
     bus: B,
     doubts: &'a mut [Doubt],
-    known: &'a mut [Known],
-) -> PollBus<'a, B>
+    known: &'b mut [Known],
+) -> PollBus<'a, 'b, B>
     ensures bus { result.bus.bus.bus.bus ≡ bus }
     ensures begins { result.withholds ≡ false }
 {
-    let sparing = Sparing {
-        doubts,
-        out: FrameBuf::new(),
+    let sparing = Filtered {
+        bus,
+        filter: Sparing {
+            doubts,
+            out: FrameBuf::new(),
+        },
+        withholds: false,
     };
-    let remembering = Remembering {
+    let remembering = Filtered {
+        bus: sparing,
+        filter: Remembering {
+            request: FrameBuf::new(),
+            is_answered: false,
+            telegrams: ArrayVec::new(),
+        },
+        withholds: false,
+    };
+    let retrying = Filtered {
+        bus: remembering,
+        filter: Retrying { dropped: 0 },
+        withholds: false,
+    };
+    let count = Count {
         request: FrameBuf::new(),
         is_answered: false,
-        telegrams: ArrayVec::new(),
+        telegrams: 0,
+        is_given_up: false,
     };
-    let recounting = Recounting {
-        known,
-        count: Count::new(),
-    };
-    let bus = Filtered::new(Filtered::new(bus, sparing), remembering);
-    Filtered::new(Filtered::new(bus, Retrying { dropped: 0 }), recounting)
+    Filtered {
+        bus: retrying,
+        filter: Recounting { known, count },
+        withholds: false,
+    }
 }

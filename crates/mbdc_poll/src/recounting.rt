@@ -4,7 +4,7 @@ ghost use Rattle.std.specs.Prelude.{◌≡◌, Bool, None, map, []};
 ghost use Rattle.std.specs.List.{list_any};
 ghost use Rattle.dc_address.specs.Identity.{wire_of};
 ghost use Rattle.dc_linkframe.specs.Reading.{frame_of};
-ghost use Rattle.mbdc_poll.specs.Recounting.{begins_readout, counted, differs, doubted_by, none_counted, sent_in};
+ghost use Rattle.mbdc_poll.specs.Recounting.{begins_readout, counted, differs, doubted_by, sent_in};
 
 use crate::filtered::Filter;
 use dc_address::Identity;
@@ -37,20 +37,6 @@ pub struct Count {
     pub is_given_up: bool,
 }
 
-impl Count {
-    /// A readout that has no telegram yet.
-    pub fn new() -> Self
-        ensures { result ≡ none_counted [] }
-    {
-        Count {
-            request: FrameBuf::new(),
-            is_answered: false,
-            telegrams: 0,
-            is_given_up: false,
-        }
-    }
-}
-
 /// The filter that gives a readout up whose number of telegrams is another one than that of the meter's last reading: a
 /// meter sends as many each time. Of its last telegram silence is heard, and its requests are withheld until a readout
 /// begins, so this one fails, and a later pass begins it anew. What comes then is believed.
@@ -73,7 +59,9 @@ impl Filter for Recounting<'_> {
         if begins_readout(request.as_slice()) {
             self.count = Count {
                 request: *request,
-                ..Count::new()
+                is_answered: false,
+                telegrams: 0,
+                is_given_up: false,
             };
             return true;
         }

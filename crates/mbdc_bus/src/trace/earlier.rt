@@ -45,19 +45,8 @@ fn is_trace(bytes: &[u8]) -> bool {
         return false;
     };
     let mut words = text.split(' ');
-    is_moment(words.next()) && is_line(words.next()) && matches!(words.next(), Some(">" | "<"))
-}
-
-fn is_moment(word: Option<&str>) -> bool {
-    match word {
-        Some(word) => word.parse::<u64>().is_ok(),
-        None => false,
-    }
-}
-
-fn is_line(word: Option<&str>) -> bool {
-    match word.and_then(|word| word.parse::<u8>().ok()) {
-        Some(line) => 0 < line && line <= GREATEST_LINE,
-        None => false,
-    }
+    let moment = words.next().and_then(|word| word.parse::<u64>().ok());
+    let line = words.next().and_then(|word| word.parse::<u8>().ok());
+    let is_line = matches!(line, Some(1..=GREATEST_LINE));
+    moment.is_some() && is_line && matches!(words.next(), Some(">" | "<"))
 }

@@ -1,4 +1,4 @@
-use Rattle.mbdc.proofs.poll.poll_sparing.Given as goal
+use Rattle.mbdc.proofs.poll.poll_filtered.Given as goal
 
 -- what the buses are is in no clause
 abbrev pub invariant-loop-bus : goal.invariant-loop-bus
