@@ -1,5 +1,5 @@
 -- A poll asks each meter that hangs on a line and is wanted, and no other.
-use Rattle.std.proofs.Common.{◌≡◌, ◌⊎◌, inl, inr, ⊎_elim, ℕ, zero, suc, ◌+◌, ◌-◌, ◌<◌, ◌≤◌, ◌^◌, min, Bool, true, false, not, List, [], ◌∷◌, ◌++◌, filter, length, map, cond, take, drop, get_or, Option, Some, None, refl, ap, sym, ◌∙◌, subst, arith}
+use Rattle.std.proofs.Common.{◌≡◌, ◌⊎◌, inl, inr, ⊎_elim, ℕ, zero, suc, ◌+◌, ◌-◌, ◌<◌, ◌≤◌, Bool, true, false, not, List, [], ◌∷◌, ◌++◌, filter, length, map, cond, take, drop, get_or, refl, ap, sym, ◌∙◌, subst, arith}
 use Rattle.std.specs.Prelude.{All, Contains, slice_get}
 use Rattle.std.proofs.lemmas.Bool.{cases_lt}
 use Rattle.std.proofs.lemmas.List.{drop_all, get_or_past, length-map, take_all}
@@ -12,8 +12,8 @@ use Rattle.mbdc_poll.specs.Bus.{Bus}
 use Rattle.mbdc_poll.specs.Happening.{Happening, does, tells, happened_on}
 use Rattle.mbdc_poll.specs.ImagePoll.{PlanPolled}
 use Rattle.mbdc_poll.specs.Keeping.{Store, all_kept, unkept}
-use Rattle.mbdc_poll.specs.Planned.{ArePlanned, asked_for, has_bus, is_live, is_queued, queue_on, refused_count, wanted_on}
-use Rattle.mbdc_poll.specs.Polls.{fault_of, store_of}
+use Rattle.mbdc_poll.specs.Planned.{ArePlanned, has_bus, is_live, is_queued, queue_on, wanted_on}
+use Rattle.mbdc_poll.specs.Polls.{store_of}
 use Rattle.mbdc_poll.specs.Queue.{Part, part, Goes, started_by, starts_in, stays, passes_on, starts_it, is_refused, asks_it, has_no_request, is_given_up, goes_on, is_accepted, is_put_off, fails_at_last, is_faulty, is_stored, is_unstored, stands_by, is_told, loses_it}
 use Rattle.mbdc_poll.specs.Round.{HasFew, IsCommitTurn, IsFresh, IsOver, IsSilent, Rounds, most_lines}
 use Rattle.mbdc_poll.specs.Station.{part_of}

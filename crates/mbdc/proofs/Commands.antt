@@ -1,7 +1,9 @@
 -- What the commands that write an image have done, whatever was printed of it, and the endings of what stops them before.
-use Rattle.std.proofs.Common.{◌≡◌, ◌<◌, ◌∙◌, inl, inr, ⊎_elim, arith, ℕ, Bool, true, false, List, [], Option, None, Result, Ok, Err, IfOk, IfErr, IfSome, codes, sym, subst}
+use Rattle.std.proofs.Common.{◌≡◌, ◌<◌, ◌∙◌, inl, inr, ⊎_elim, arith, ℕ, Bool, true, false, List, [], Option, None, Some, Result, Ok, Err, IfOk, IfErr, IfSome, Bor, Global, codes, sym, subst}
+use Rattle.std.specs.Prelude.{option_copied, option_map}
 use Rattle.std.proofs.lemmas.Option.{IfSome_then}
 use Rattle.dc_address.specs.declared.identity.Identity.{Identity}
+use Rattle.dc_meters.specs.declared.house.House.{House}
 use Rattle.dc_poller.specs.ImageRun.{ImageCut, ImageRan}
 use Rattle.dc_poller.specs.Link.{Link}
 use Rattle.dc_poller.specs.Starved.{ImageStarved}
@@ -18,6 +20,9 @@ use Rattle.mbdc_ending.specs.declared.ending.Ending.TheVariants.{Clean, Faulty, 
 use Rattle.mbdc_ending.specs.declared.ending.Ending.TheVariants.{Behind, Disk, File, Gateway, Clock, Memory}
 use Rattle.mbdc_ending.specs.declared.fault.ProgramFault.{ProgramFault}
 use Rattle.mbdc_ending.specs.declared.fault.ProgramFault.TheVariants.{Read, TooLong, Write, NoMemory, Open as NotOpened}
+use Rattle.mbdc_change.specs.State.{Held}
+use Rattle.mbdc_fit.specs.Listed.{IsListOf}
+use Rattle.mbdc_fit.specs.declared.list.listed.Listing.{Listing}
 use Rattle.mbdc_fit.specs.declared.list.wish.Wish.{Wish}
 use Rattle.mbdc_log.specs.declared.fault.OpenFault.{OpenFault}
 use Rattle.mbdc_log.specs.declared.fault.OpenFault.TheVariants.{NotImage, Damaged, Version, Worn, Device}
@@ -53,6 +58,19 @@ done g wish contents out disk left ending (inl (ready, is_ready, fits)) = (
   ),
 )
 done g wish contents out disk left ending (inr shut) = (left, inr shut)
+
+-- ---- a list
+
+-- what was read of a list is what its whole text reads as, with the register
+pub listed : (text whole : List ℕ) (shown : Option (Bor (House Global))) (house : Option Held) (list : Listing) → text ≡ whole → option_copied shown ≡ house
+    → IsListOf text (option_map (λ (h : Bor (House Global)). h.now.state) shown) list → IsListOf whole (option_map (λ (it : Held). it.state) house) list
+listed text whole shown house list same is known =
+    subst (λ (t : List ℕ). IsListOf t (option_map (λ (it : Held). it.state) house) list) same
+    (subst (λ (h : Option Held). IsListOf text (option_map (λ (it : Held). it.state) h) list) is (by_shown shown known))
+  where
+    by_shown : (h : Option (Bor (House Global))) → IsListOf text (option_map (λ (b : Bor (House Global)). b.now.state) h) list → IsListOf text (option_map (λ (it : Held). it.state) (option_copied h)) list
+    by_shown None is = is
+    by_shown (Some b) is = is
 
 -- a fault of a file is no answer
 pub of_file : (ending : Ending) (name : List ℕ) → IsOfFile ending name → Refuses ending

@@ -1,7 +1,7 @@
 -- What the commands that write an image have done at their end: `fit`, `swap`, `move`, `out`, `run` and `poll` (this
 -- product).
 use Rattle.std.specs.Prelude.{◌≡◌, ◌≤◌, ◌-◌, ◌^◌, ℕ, Bool, true, List, [], Option, None, Some, IfSome, IfNone, Result}
-use Rattle.std.specs.Prelude.{All, Contains, length, min}
+use Rattle.std.specs.Prelude.{All, Contains, length, min, option_map}
 use Rattle.dc_address.specs.declared.identity.Identity.{Identity}
 use Rattle.dc_core.specs.Core.{present}
 use Rattle.dc_meters.specs.Means.{AreMeant, Means}
@@ -23,6 +23,7 @@ use Rattle.mbdc_ending.specs.Outcome.{EndsAs}
 use Rattle.mbdc_ending.specs.declared.ending.Ending.{Ending}
 use Rattle.mbdc_ending.specs.declared.fault.ProgramFault.{ProgramFault}
 use Rattle.mbdc_fit.specs.Order.{subject_of}
+use Rattle.mbdc_fit.specs.Listed.{IsListOf}
 use Rattle.mbdc_fit.specs.declared.list.order.Order.{Order}
 use Rattle.mbdc_fit.specs.declared.list.order.Order.TheVariants.{Swap as Swapped, Move as Moved, Out as Gone}
 use Rattle.mbdc_fit.specs.declared.list.wish.Wish.{Wish}
@@ -66,11 +67,6 @@ abbrev pub IsDone : {D : Type 0} → Ghosts D → Wish → D → Ending → Type
 IsDone {D} g wish disk ending = (left : D) × Guards g disk left ending (λ ready.
     FitsOver g wish (λ (writer : D). None) ready ready left ending)
 
--- it is a list, and no command
-abbrev pub IsList : Wish → Type 0
-IsList (Listed list) = Unit {0}
-IsList (One order) = ⊥
-
 -- AN IMAGE IS WRITTEN that was opened, and at first only looked at: this is done of the disk that was opened, and of what
 -- the look left of it.
 pub record OnImage {D : Type 0} (g : Ghosts D) (held : D → Type 0) (Done : (disk looked : D) → Type 0) : Type 0 where
@@ -80,9 +76,32 @@ pub record OnImage {D : Type 0} (g : Ghosts D) (held : D → Type 0) (Done : (di
   pub looks : OnlyLooked g disk looked
   pub done : Done disk looked
 
--- A LIST IS PUT INTO THE REGISTER of an image.
-abbrev pub Fitted : {D : Type 0} → Ghosts D → (D → Type 0) → Ending → Type 0
-Fitted {D} g held ending = OnImage g held (λ disk looked. (wish : Wish) × IsList wish × IsDone g wish looked ending)
+-- the register that the image on this disk reads as, if it opens
+abbrev pub IsRegister : {D : Type 0} → Ghosts D → (disk looked : D) → Option Held → Type 0
+IsRegister {D} g disk looked house = IfSome house (λ it. (greatest : Greatest) × (ahead : Option ℕ) × (g.keeps looked
+    → IsRegisterOf (g.sectors disk) greatest (g.reads disk) it ahead))
+
+-- what is asked is the list that a text reads as, with this register, and no command
+abbrev pub IsListed : List ℕ → Option Held → Wish → Type 0
+IsListed text house (Listed list) = IsListOf text (option_map (λ it. it.state) house) list.now
+IsListed text house (One order) = ⊥
+
+-- the list of an input's text is put into the register of an image
+pub record IsFitted {D : Type 0} (g : Ghosts D) (input : Option (List ℕ)) (ending : Ending) (disk looked : D)
+    : Type 0 where
+  pub house : Option Held
+  pub read : IsRegister g disk looked house
+  pub text : List ℕ
+  pub text_is : IfSome input (λ whole. text ≡ whole)
+  pub wish : Wish
+  pub listed : IsListed text house wish
+  pub done : IsDone g wish looked ending
+
+-- A LIST IS PUT INTO THE REGISTER of an image: both were opened.
+abbrev pub Fitted : {D Input : Type 0} → Ghosts D → (D → Type 0) → (Input → Type 0) → (Input → Option (List ℕ)) → Ending
+    → Type 0
+Fitted {D} {Input} g held opened left ending = (input : Input) × opened input
+    × OnImage g held (IsFitted g (left input) ending)
 
 -- the command that the words ask for, by what the image reads as, is done on its register
 pub record IsObeyed {D : Type 0} (g : Ghosts D) (task : OrderTask) (ending : Ending) (disk looked : D) : Type 0 where
@@ -130,8 +149,7 @@ pub record Scripted {D Input : Type 0} (g : Ghosts D) (held : D → Type 0) (ope
 -- the meters that these names mean in this register, which the image reads as; where it doesn't, none is named
 pub record AreNamed {D : Type 0} (g : Ghosts D) (names : List Named) (disk looked : D) (house : Option Held)
     (only : List Identity) : Type 0 where
-  pub read : IfSome house (λ it. (greatest : Greatest) × (ahead : Option ℕ) × (g.keeps looked
-      → IsRegisterOf (g.sectors disk) greatest (g.reads disk) it ahead))
+  pub read : IsRegister g disk looked house
   pub meant : IfSome house (λ it. AreMeant it.state names only)
   pub none : IfNone house ((names ≡ []) × (only ≡ []))
 

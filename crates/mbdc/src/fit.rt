@@ -29,7 +29,8 @@ pub fn fit_on_image<'a, R, S>(
 where
     R: Files<File = File> + Clock + Print + Eprint + AllocGlobal,
     S: System<'a>,
-    ensures { Refuses result ⊎ Fitted S.Image.Disk (S.held system.now image.now) result }
+    ensures { Refuses result ⊎ Fitted S.Image.Disk (S.held system.now image.now) (S.opened system.now list.now)
+        S.Lines.left result }
 {
     let mut rows = match system.lines(list, false) {
         Ok(rows) => rows,
@@ -44,9 +45,10 @@ where
         Err(fault) => return host.why.ended(Err(fault), list),
     };
     // The register of an image that doesn't open is missing, and the image is refused next.
-    let house = register_of(host.rt.alloc(), &mut disk, &Greatest::NONE)
-        .ok()
-        .map(|read| read.0);
+    let house = match register_of(host.rt.alloc(), &mut disk, &Greatest::NONE) {
+        Ok((house, _)) => Some(house),
+        Err(_) => None,
+    };
     let list = match read_list(host.rt.alloc(), rows.as_slice(), house.as_ref()) {
         Ok(list) => list,
         Err(NoMemory) => return Ending::Memory,
