@@ -18,6 +18,10 @@ pub mod Waits
 pub mod Life
 -- the moments that the clock of such a wire told
 pub mod Told
+-- what is learned of a line fits it
+pub mod Learned
+-- the window of several meters, in a life of such a wire
+pub mod Listened
 -- of the module `links`
 
 -- of the module `reach`

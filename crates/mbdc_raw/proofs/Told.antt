@@ -166,7 +166,7 @@ module _ {R W C : Type 0} (contents : W → Option (List ℕ)) (remaining : R �
   passed_by Paused wire at over (inr same) = subst (λ (t : Instant). HasPassed wire.limit t at) same over.0
 
   -- silence comes at the moment that the clock told last, when the time-out is over
-  silent_by : (old new : PollWire R W C) → WireHears remaining old silence new → (told new ≡ new.at ∷ told old) × Ends old new.at
+  pub silent_by : (old new : PollWire R W C) → WireHears remaining old silence new → (told new ≡ new.at ∷ told old) × Ends old new.at
   silent_by old new (none_came reader ahead at held past holds (at_silence over same)) =
       let so = held_as (looked old reader ahead at) held _ holds in
       let now : at ≡ new.at = sym (ap (λ (w : PollWire R W C). w.at) same ∙ ap (λ (w : PollWire R W C). w.at) so) in

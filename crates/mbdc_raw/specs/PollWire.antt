@@ -66,7 +66,7 @@ until_by false false = Still
 abbrev pub limit_by : Bool → Bool → Bool → Pace → ℕ → ℕ
 limit_by true many acks pace patience =
     reset_wait pace.delay pace.last pace.byte pace.least_byte patience
-limit_by false true true pace patience = window_of pace.delay pace.byte patience
+limit_by false true true pace patience = window_of pace patience
 limit_by false true false pace patience = patience
 limit_by false false acks pace patience = patience
 
@@ -97,7 +97,7 @@ pub record WireSends {R W C : Type 0} (contents : W → Option (List ℕ)) (old 
   pub soon : new.soon ≡ soon_by asking new.pace new.patience
   pub begun : new.begun ≡ false
   pub ahead : new.ahead ≡ old.ahead
-  pub pace : new.pace ≡ pace_begun bytes old.pace
+  pub pace : new.pace ≡ pace_begun bytes asking.late old.pace
   pub awaits : new.pace.acks ≡ awaits_ack (frame_of bytes)
   pub came : new.came ≡ old.came
   pub asks : new.asks ≡ true
@@ -135,7 +135,7 @@ pub record IsHeard {R W C : Type 0} (old : PollWire R W C) (bytes : List ℕ) (n
   pub waited : new.waited ≡ old.waited
   pub until : new.until ≡ old.until
   pub limit : new.limit ≡ limit_then old.until old.limit old.patience
-      (window_of new.pace.delay new.pace.byte old.patience)
+      (window_of new.pace old.patience)
 
 -- how long requests have waited that met silence, where the last one does now; it saturates
 abbrev pub waited_then : {R W C : Type 0} → PollWire R W C → ℕ

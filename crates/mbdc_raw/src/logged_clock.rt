@@ -1,4 +1,4 @@
-//! A clock of std with the history of the moments that it told.
+//! A clock of std with the history of the moments that it has shown.
 
 ghost use Rattle.std.specs.Prelude.{◌≡◌, List, [], ◌∷◌};
 ghost use Rattle.std.specs.Borrow.{ftrue};
@@ -35,7 +35,7 @@ impl ClockLog {
     {}
 }
 
-/// A clock of std with the history of the moments that it told.
+/// A clock of std with the history of the moments that it has shown.
 ///
 /// [`now`](LoggedClock::now) reads the clock once, adds the moment to the history, and does nothing else. No contract
 /// of std says what a clock returns, so that method is to be read. Nothing is assumed of the moments: a clock may go

@@ -1,7 +1,8 @@
 //! How long a bus line takes to answer, as its own answers have shown.
 
-ghost use Rattle.std.specs.Prelude.{◌≡◌, None, false};
-ghost use Rattle.mbdc_raw.specs.Pace.{answering, awaits_ack, pace_begun, pace_with, pause_of, window_of};
+ghost use Rattle.std.specs.Prelude.{◌≡◌, ◌+◌, ◌*◌, ◌^◌, ◌<◌, ℕ, None, false};
+ghost use Rattle.mbdc_raw.specs.Pace.{Fits, acknowledging, answering, awaits_ack};
+ghost use Rattle.mbdc_raw.specs.Pace.{pace_begun, pace_with, pause_of, window_of};
 ghost use Rattle.mbdc_raw.specs.PollWire.{limit_by, soon_by};
 ghost use Rattle.mbdc_raw.specs.Turn.{is_reset, wants_ack};
 ghost use Rattle.dc_linkframe.specs.Reading.{frame_of};
@@ -28,6 +29,12 @@ const ACKNOWLEDGED: u8 = 0xE5;
 // Number of bytes that a selection has more than a short frame.
 const LONGER: u64 = 12;
 
+// Number of bytes of a selection, and those that the time from it to its acknowledgement has at least: its own, one
+// that a meter waits for, and the acknowledgement.
+const SELECTION: usize = 17;
+
+const ACKNOWLEDGING: u64 = 19;
+
 // The number of early repeats of a request after which it waits for the patience.
 const MOST_REPEATS: u8 = 2;
 
@@ -48,6 +55,8 @@ const PAUSE_BYTES: u64 = 4;
 pub struct Pace {
     /// The longest time from a request to its acknowledgement; `None` before the first.
     pub delay: Option<u64>,
+    /// The shortest time from a selection to its acknowledgement; `None` before the first.
+    pub soonest: Option<u64>,
     /// The time to the last acknowledgement.
     pub last: u64,
     /// How long a byte takes at most; `None` before the first telegram.
@@ -55,13 +64,19 @@ pub struct Pace {
     /// How long a byte takes at least, where a telegram begins no later than the slowest
     /// acknowledgement; `None` before the first telegram after one.
     pub least_byte: Option<u64>,
+    /// The longest pause within a telegram; `None` before the first.
+    pub longest_pause: Option<u64>,
     /// Whether an acknowledgement is due: it is awaited, and its delay is taken.
     pub acks: bool,
+    // Whether bytes came late on the line, and whether the request under way is a selection.
+    late: bool,
+    selects: bool,
     // Of the answer under way: whether it is measured, the number of its bytes, the time to the last
-    // of them, and how long a byte takes at most by its pieces so far.
+    // of them, the longest pause between them, and how long a byte takes at most by its pieces so far.
     measured: bool,
     came: u64,
     spent: u64,
+    paused: u64,
     least: u64,
 }
 
@@ -71,29 +86,36 @@ impl Pace {
         ensures delay { result.delay ≡ None }
         ensures byte { result.byte ≡ None }
         ensures least_byte { result.least_byte ≡ None }
+        ensures fits { (byte delay : ℕ) → delay + byte * acknowledging < 2 ^ 64 → Fits byte delay result }
     {
         Pace {
             delay: None,
+            soonest: None,
             last: 0,
             byte: None,
             least_byte: None,
+            longest_pause: None,
             acks: false,
+            late: false,
+            selects: false,
             measured: false,
             came: 0,
             spent: 0,
+            paused: 0,
             least: u64::MAX,
         }
     }
 
-    /// Begins with this request, so that the answer to the one before it is over. It learns a byte's
-    /// time from that one.
-    pub fn begin(&mut self, request: &[u8])
-        ensures begun { self.new ≡ pace_begun request.now self.old }
+    /// Begins with this request, on a line on which bytes came late so often. The answer to the one before it is over:
+    /// that one shows a byte's time, and the pauses within a telegram.
+    pub fn begin(&mut self, request: &[u8], late: u64)
+        ensures begun { self.new ≡ pace_begun request.now late self.old }
         ensures acks { self.new.acks ≡ awaits_ack (frame_of request.now) }
     {
         if self.came >= SHOWING {
             let byte = self.byte.unwrap_or(u64::MAX).min(self.least);
             self.byte = Some(byte);
+            self.longest_pause = Some(self.longest_pause.unwrap_or(0).max(self.paused));
             if let Some(delay) = self.delay {
                 let each = self.spent.saturating_sub(delay) / (self.came - LONGER);
                 let most = self.least_byte.unwrap_or(u64::MAX);
@@ -101,9 +123,12 @@ impl Pace {
             }
         }
         self.acks = wants_ack(request) && !is_reset(request);
+        self.late = late > 0;
+        self.selects = request.len() >= SELECTION;
         self.measured = request.len() == SHORT_FRAME;
         self.came = 0;
         self.spent = 0;
+        self.paused = 0;
         self.least = u64::MAX;
     }
 
@@ -115,11 +140,16 @@ impl Pace {
     {
         if self.acks && bytes.first() == Some(&ACKNOWLEDGED) {
             self.delay = Some(self.delay.unwrap_or(0).max(spent));
+            if self.selects {
+                self.soonest = Some(self.soonest.unwrap_or(u64::MAX).min(spent));
+            }
             self.last = spent;
         }
         self.acks = false;
         if self.came == 0 {
             self.measured = self.measured && bytes.first() != Some(&SHORT_START);
+        } else {
+            self.paused = self.paused.max(spent.saturating_sub(self.spent));
         }
         if self.measured {
             self.came = self.came.saturating_add(bytes.len() as u64);
@@ -173,18 +203,31 @@ impl Pace {
         }
     }
 
-    /// How long one of several meters may take to begin its answer; the patience, until an
-    /// acknowledgement and a telegram came.
+    /// How long one of several meters may take to begin its answer; at most the patience, and so long before the first
+    /// acknowledgement. It is as long as a meter waits, and the slowest acknowledgement took. Where nothing was late a
+    /// selection that was acknowledged shows how long a byte takes, and once a telegram came, the soonest
+    /// acknowledgement and the longest pause within a telegram count in place of the slowest; but where that was slower
+    /// than they and a meter's wait explain, so much longer than the slowest.
     pub fn window(&self, patience: u64) -> u64
-        ensures { result ≡ window_of self.now.delay self.now.byte patience }
+        ensures { result ≡ window_of self.now patience }
     {
-        let Some(delay) = self.delay else {
+        let Some(slowest) = self.delay else {
             return patience;
         };
-        match self.byte {
-            Some(byte) => patience.min(answering(byte).saturating_add(delay)),
-            None => patience,
-        }
+        let shown = if self.late { None } else { self.soonest };
+        let most = shown.unwrap_or(u64::MAX) / ACKNOWLEDGING;
+        let byte = self.byte.unwrap_or(u64::MAX).min(most);
+        let soonest = self.soonest.unwrap_or(0);
+        let known = soonest.saturating_add(self.longest_pause.unwrap_or(0));
+        let reach = if shown.is_none() || self.longest_pause.is_none() {
+            known.max(slowest)
+        } else if slowest <= known.saturating_add(answering(byte)) {
+            known
+        } else {
+            slowest.saturating_add(slowest.saturating_sub(soonest))
+        };
+        let window = answering(byte).saturating_add(reach);
+        patience.min(window.max(slowest.saturating_add(ANSWERING_REST)))
     }
 
     /// How long nothing comes after the last of several answers.

@@ -1,8 +1,9 @@
 //! A wire over a descriptor that can be polled: a TCP stream or a terminal.
 
-ghost use Rattle.std.specs.Prelude.{◌≡◌, ◌*◌, ◌≤◌, ◌<◌, [], length, true, false, IfOk, OnOk, OnErr, Ok};
+ghost use Rattle.std.specs.Prelude.{◌≡◌, ◌+◌, ◌*◌, ◌^◌, ◌≤◌, ◌<◌, ℕ, [], length, true, false, IfOk, OnOk, OnErr, Ok};
 ghost use Rattle.mbdc_io.specs.Failures.{HasRisen};
 ghost use Rattle.mbdc_raw.specs.Looks.{waits_of};
+ghost use Rattle.mbdc_raw.specs.Pace.{Fits, acknowledging};
 ghost use Rattle.mbdc_raw.specs.PollWire.{Ends, Holds, IsDeserted, IsHeard, IsStill, IsTold};
 ghost use Rattle.mbdc_raw.specs.PollWire.{HasPassed, IsUnanswered, WireHears, WireSends, gap_micros};
 ghost use Rattle.mbdc_raw.specs.PollWire.{takes_all, tells, waited_then};
@@ -89,12 +90,12 @@ pub enum Until {
 /// After a request the time-out is the patience. After the reset of all selected meters it is as long as an
 /// acknowledgement takes, by the [`Pace`] of the line, once there was one; after a request that several meters may
 /// answer, as long as one of them may take to begin. Where one meter may acknowledge a request, the answer is overdue
-/// sooner than that, so that it is repeated, up to twice. Bytes that begin no frame are dropped where no answer has begun
-/// and only one meter may answer, and time goes on as if they hadn't come. A frame begins with 68 L L 68 and a fifth
-/// byte, as a whole short frame, or with an acknowledgement that is awaited: first bytes are held back for a gap, to
-/// see whether that follows. A line on which bytes keep coming for ten patiences, or 15 s where that is longer, without
-/// a request or silence between them, fails. So does one on which requests met silence for 120 s, and no byte came
-/// since it was connected.
+/// sooner than that, so that it is repeated, up to twice. Bytes that begin no frame are dropped where no answer has
+/// begun and only one meter may answer, and time goes on as if they hadn't come. A frame begins with 68 L L 68 and a
+/// fifth byte, as a whole short frame, or with an acknowledgement that is awaited: first bytes are held back for a gap,
+/// to see whether that follows. A line on which bytes keep coming for ten patiences, or 15 s where that is longer,
+/// without a request or silence between them, fails. So does one on which requests met silence for 120 s, and no byte
+/// came since it was connected.
 #[derive(Drop)]
 pub struct PollWire<R: Read + AsRawFd + Drop, W: Write + Link + Drop, C: Clock + Drop> {
     // Its descriptor is for a caller that waits for the bytes of several wires at once.
@@ -151,6 +152,8 @@ impl<R: Read + AsRawFd + Drop, W: Write + Link + Drop, C: Clock + Drop> PollWire
         ensures begun { IfOk result (λ wire. wire.begun ≡ false) }
         ensures asks { IfOk result (λ wire. wire.asks ≡ false) }
         ensures told { IfOk result (λ wire. IsTold wire) }
+        ensures fits { IfOk result (λ wire. (byte delay : ℕ) → delay + byte * acknowledging < 2 ^ 64
+            → Fits byte delay wire.pace) }
     {
         let mut clock = LoggedClock {
             clock,
@@ -413,7 +416,7 @@ impl<R: Read + AsRawFd + Drop, W: Write + Link + Drop, C: Clock + Drop> PollWire
         self.asks = true;
         self.noise = 0;
         self.waits = MOST_WAITS;
-        self.pace.begin(bytes);
+        self.pace.begin(bytes, asking.late);
         let doubled = self
             .stated
             .saturating_mul(1 << asking.late.min(MOST_DOUBLINGS));
