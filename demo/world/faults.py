@@ -76,6 +76,14 @@ def busy(every: int) -> Fault:
     return fault
 
 
+def wrong_bits(share: float) -> Fault:
+    """This share of the bits of answers is wrong."""
+    def fault(rng: random.Random, request: bytes, answer: bytes) -> list[Piece]:
+        bits = sum(1 << place for place in range(8 * len(answer)) if rng.random() < share)
+        return [(0, (int.from_bytes(answer, "big") ^ bits).to_bytes(len(answer), "big"))]
+    return fault
+
+
 def silent(rng: random.Random, request: bytes, answer: bytes) -> list[Piece]:
     """Nobody answers."""
     return []

@@ -61,9 +61,9 @@ impl<'h, 'i, R: Files<File = File> + Clock + Eprint + AllocGlobal> Noting<'h, 'i
         noting
     }
 
-    /// What the journal says of the meters of each of this many lines, of the last poll: those that nobody answered for,
-    /// none of a line that was lost then, or where meters aren't spared; and how many telegrams those sent that were
-    /// read, of none where readouts don't begin anew. Of an image without a journal it says nothing.
+    /// What the journal says of the meters of each of this many lines, of the last poll: those that nobody answered
+    /// for, none of a line that was lost then, or where meters aren't spared; and how many telegrams those sent that
+    /// were read, of none where readouts don't begin anew. Of an image without a journal it says nothing.
     ///
     /// # Errors
     /// Out of memory.
@@ -130,18 +130,6 @@ impl<'h, 'i, R: Files<File = File> + Clock + Eprint + AllocGlobal> Noting<'h, 'i
         Ok((silent, known))
     }
 
-    // Says that a meter sent another number of telegrams than in the last poll: a meter sends as many each time.
-    fn compare(&self, meter: &Identity, count: usize) {
-        let before = self.last.bodies_of(meter).len();
-        if before != 0 && before != count {
-            let text = meter.text();
-            let name = str::from_utf8(&text).unwrap_or_default();
-            let _ = eprint!(self.rt;
-                "mbdc: parts: {name}: telegrams {count}, in the last poll {before}\n"
-            );
-        }
-    }
-
     // Appends a line, or only one that isn't there.
     fn append(&mut self, line: &Bytes<Global>, is_new: bool) {
         if !self.is_open {
@@ -168,7 +156,15 @@ impl<R: Files<File = File> + Clock + Eprint + AllocGlobal> Notes for Noting<'_, 
     fn note(&mut self, event: &Event<'_>) {
         let alloc = self.rt.alloc();
         if let Event::Read { meter, bodies, .. } = event {
-            self.compare(meter, bodies.len());
+            // A meter sends as many each time.
+            let (count, before) = (bodies.len(), self.last.bodies_of(meter).len());
+            if before != 0 && before != count {
+                let text = meter.text();
+                let name = str::from_utf8(&text).unwrap_or_default();
+                let _ = eprint!(self.rt;
+                    "mbdc: parts: {name}: telegrams {count}, in the last poll {before}\n"
+                );
+            }
         }
         let meter = match event {
             Event::Read { meter, .. }

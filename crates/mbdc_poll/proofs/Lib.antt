@@ -22,6 +22,8 @@ pub mod Spared
 pub mod Through
 -- where each meter sends as many telegrams as before, nothing is dropped
 pub mod Recounted
+-- where no answer has a wrong checksum, nothing is dropped
+pub mod Confirmed
 -- where nobody is busy, nothing is dropped
 pub mod Retried
 -- where no telegram comes twice, none is dropped

@@ -20,6 +20,8 @@ pub mod Recounting
 pub mod Retrying
 -- a filter that drops a copy of an earlier telegram
 pub mod Remembering
+-- a filter by which a telegram has to come twice
+pub mod Confirming
 -- what a round commits
 pub mod Keeping
 -- what the tries of a readout brought

@@ -1,19 +1,19 @@
 -- A filter by which a readout begins anew that has another number of telegrams than its meter's last reading (this
 -- product; requests and telegrams are those of EN 13757-2 and EN 13757-3).
 use Rattle.std.specs.Prelude.{◌≡◌, ℕ, ◌+◌, Bool, true, false, not, ◌&&◌, ◌||◌, ◌==◌, min, List, [], ◌∷◌, map}
-use Rattle.std.specs.Prelude.{Option, None, Some, Result, Ok, Err, bytes_eq, if◌then◌else◌}
+use Rattle.std.specs.Prelude.{Option, None, Some, option_map, bytes_eq, if◌then◌else◌}
 use Rattle.std.specs.List.{list_any}
 use Rattle.dc_address.specs.Identity.{wire_of}
 use Rattle.dc_address.specs.declared.identity.Identity.{Identity}
 use Rattle.dc_core.specs.declared.line_heard.LineHeard.{LineHeard}
 use Rattle.dc_core.specs.declared.line_heard.LineHeard.TheVariants.{Again}
-use Rattle.dc_linkframe.specs.Control.{is_rsp_ud, selection, snd_nke, variable_data}
+use Rattle.dc_linkframe.specs.Control.{selection, snd_nke}
 use Rattle.dc_linkframe.specs.Frame.{FrameSeen, ack, short, long}
 use Rattle.dc_linkframe.specs.Reading.{frame_of}
 use Rattle.dc_records.specs.Body.{continues}
-use Rattle.dc_records.specs.Telegram.{Parsed, telegram_at}
-use Rattle.dc_records.specs.declared.fault.BodyFault.{BodyFault}
+use Rattle.dc_records.specs.Telegram.{Parsed}
 use Rattle.mbdc_poll.specs.Bus.{Bus}
+use Rattle.mbdc_poll.specs.Confirming.{telegram_in}
 use Rattle.mbdc_poll.specs.Filtered.{Filter, LetsThrough, filtered_over}
 use Rattle.mbdc_poll.specs.Remembering.{request_by}
 use Rattle.mbdc_poll.specs.Retrying.{scripted_bus, tried}
@@ -34,16 +34,11 @@ begins_readout (Some (short control address)) = control == snd_nke
 begins_readout (Some (long control address ci body)) = ci == selection
 
 -- of a telegram its meter, and whether it says that more follow
-abbrev pub sent_by : Result Parsed BodyFault → Option (Identity × Bool)
-sent_by (Ok telegram) = Some (telegram.header.identity, continues telegram.ending)
-sent_by (Err fault) = None
+abbrev pub sent_by : Parsed → Identity × Bool
+sent_by telegram = (telegram.header.identity, continues telegram.ending)
 
 abbrev pub sent_in : Option FrameSeen → Option (Identity × Bool)
-sent_in None = None
-sent_in (Some ack) = None
-sent_in (Some (short control address)) = None
-sent_in (Some (long control address ci body)) =
-    if is_rsp_ud control && ci == variable_data then sent_by (telegram_at body) else None
+sent_in frame = option_map sent_by (telegram_in frame)
 
 -- after this request no telegram came
 abbrev pub none_counted : List ℕ → Count

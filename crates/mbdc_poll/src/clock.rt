@@ -2,7 +2,7 @@
 
 ghost use Rattle.std.specs.Prelude.{◌≡◌};
 ghost use Rattle.std.specs.List.{list_any};
-ghost use Rattle.mbdc_poll.specs.Clock.{ComparesClock, has_later, is_behind};
+ghost use Rattle.mbdc_poll.specs.Clock.{ComparesClock, has_later};
 
 use crate::timer::Timer;
 use dc_meters::{House, Part};
@@ -18,16 +18,9 @@ pub fn compare_clock<A: Allocator + Copy, B: HalfBus + Drop, T: Timer<B>>(
     ensures { ComparesClock T.tells T.warns house.now.state timer.old timer.new }
 {
     let moment = timer.now();
-    if is_behind(house, moment) {
+    if has_later_reading(house, moment) || has_later_readout(house, moment) {
         timer.warn();
     }
-}
-
-// Whether a moment lies before the newest time stamp of the register.
-fn is_behind<A: Allocator + Copy>(house: &House<A>, moment: Moment) -> bool
-    ensures { result ≡ is_behind moment.seconds house.now.state }
-{
-    has_later_reading(house, moment) || has_later_readout(house, moment)
 }
 
 // Whether a telegram of a reading has a later time stamp.

@@ -2,6 +2,7 @@
 
 ghost use Rattle.std.specs.Prelude.{◌≡◌, Bool, List, [], ℕ, false};
 
+use crate::confirming::{Confirming, MOST_CLEAR};
 use crate::recounting::{Count, Known, Recounting};
 use crate::remembering::Remembering;
 use crate::retrying::Retrying;
@@ -99,19 +100,22 @@ impl<B: HalfBus + Drop, F: Filter + Drop> HalfBus for Filtered<B, F> {
 
 /// A bus with the filters of a poll.
 pub type PollBus<'a, 'b, B> = Filtered<
-    Filtered<Filtered<Filtered<B, Sparing<'a>>, Remembering>, Retrying>,
+    Filtered<Filtered<Filtered<Filtered<B, Sparing<'a>>, Remembering>, Retrying>, Confirming>,
     Recounting<'b>,
 >;
 
 /// This bus with the filters of a poll: it asks who was silent in the last one one question, drops copies of telegrams,
-/// asks who is busy again, and begins a readout anew that differs from what is known. A copy that comes of a first
-/// question is no silence.
+/// asks who is busy again, takes a telegram only once it has come twice where one lately had wrong bits, and begins a
+/// readout anew that differs from what is known. A copy that comes of a first question is no silence.
 pub fn with_filters<'a, 'b, B: HalfBus + Drop>(
     bus: B,
     doubts: &'a mut [Doubt],
     known: &'b mut [Known],
 ) -> PollBus<'a, 'b, B>
-    ensures bus { result.bus.bus.bus.bus ≡ bus }
+    ensures bus { result.bus.bus.bus.bus.bus ≡ bus }
+    ensures doubts { result.bus.bus.bus.bus.filter.doubts.now ≡ doubts.old }
+    ensures known { result.filter.known.now ≡ known.old }
+    ensures clear { result.bus.filter.clear ≡ 200 }
     ensures begins { result.withholds ≡ false }
 {
     let sparing = Filtered {
@@ -136,6 +140,14 @@ pub fn with_filters<'a, 'b, B: HalfBus + Drop>(
         filter: Retrying { dropped: 0 },
         withholds: false,
     };
+    let confirming = Filtered {
+        bus: retrying,
+        filter: Confirming {
+            clear: MOST_CLEAR,
+            telegrams: ArrayVec::new(),
+        },
+        withholds: false,
+    };
     let count = Count {
         request: FrameBuf::new(),
         is_answered: false,
@@ -143,7 +155,7 @@ pub fn with_filters<'a, 'b, B: HalfBus + Drop>(
         is_given_up: false,
     };
     Filtered {
-        bus: retrying,
+        bus: confirming,
         filter: Recounting { known, count },
         withholds: false,
     }

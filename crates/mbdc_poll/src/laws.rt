@@ -1,7 +1,7 @@
 //! What holds of the definitions alone.
 
-ghost use Rattle.std.specs.Prelude.{◌≡◌, ◌<◌, ◌≤◌, ◌*◌, ◌++◌, ◌∷◌, ℕ, Bool, false, List, [], Some};
-ghost use Rattle.std.specs.Prelude.{length};
+ghost use Rattle.std.specs.Prelude.{◌≡◌, ◌<◌, ◌≤◌, ◌*◌, ◌++◌, ◌∷◌, ℕ, Bool, true, false, List, [], Some};
+ghost use Rattle.std.specs.Prelude.{is_some, length};
 ghost use Rattle.std.specs.List.{AllByRecursion};
 ghost use Rattle.std.specs.List.Sorted.{IsStrictlySortedBy};
 ghost use Rattle.std.specs.Map.{keys_of};
@@ -13,6 +13,7 @@ ghost use Rattle.dc_linkframe.specs.Reading.{frame_of};
 ghost use Rattle.dc_core.specs.declared.line_heard.LineHeard.{LineHeard};
 ghost use Rattle.dc_core.specs.Transcript.{Turn, IsChain, leads};
 ghost use Rattle.mbdc_poll.specs.Committed.{IsCommittedWhereNoneIsAsked};
+ghost use Rattle.mbdc_poll.specs.Confirming.{DropsNothing as DropsNoRightTelegram, IsTakenTwice, telegram_in};
 ghost use Rattle.mbdc_poll.specs.Failures.{BroughtIsTold};
 ghost use Rattle.mbdc_poll.specs.Happening.{Happening, happened_turns, tells};
 ghost use Rattle.mbdc_poll.specs.Keeping.{AreTrue, IsSettled, Store, all_kept, store_behind};
@@ -23,7 +24,7 @@ ghost use Rattle.mbdc_poll.specs.Queue.{Lacks, meter_of, most_asks, read_in, req
 ghost use Rattle.mbdc_poll.specs.Queue.{starts_in};
 ghost use Rattle.mbdc_poll.specs.Recounting.{IsBegunAnew, DropsNothing as DropsNoReadout, sent_in};
 ghost use Rattle.mbdc_poll.specs.Remembering.{IsDropped, DropsNothing as DropsNoTelegram};
-ghost use Rattle.mbdc_poll.specs.Retrying.{DropsNothing, IsAskedAgain};
+ghost use Rattle.mbdc_poll.specs.Retrying.{DropsNothing as DropsNoAnswer, IsAskedAgain};
 ghost use Rattle.mbdc_poll.specs.Sparing.{IsAskedOnce, SparesNothing};
 ghost use Rattle.mbdc_poll.specs.declared.end.End.{End};
 ghost use Rattle.mbdc_poll.specs.declared.event.Event.{Event as Told};
@@ -85,35 +86,32 @@ pub fn what_is_read_is_committed<B: HalfBus + Drop, T: Timer<B>>()
     ensures room { AnswersFindRoom T.tells T.passes }
 {}
 
-/// Where each meter that was silent in the last poll answers its first question in this one,
-/// [`Sparing`](crate::Sparing) spares nothing: the talk is one on the bus itself. Where silence comes of a first
-/// question, it goes out once, though the readout makes its request again.
-pub fn a_silent_meter_is_asked_once<B: HalfBus + Drop>()
+/// What the filters of a poll let through: where each holds, the talk is one on the bus itself, with no more requests.
+///
+/// * [`Sparing`](crate::Sparing), where each meter that was silent in the last poll answers its first question in this
+///   one. Where silence comes of that, it goes out once, though the readout makes its request again.
+/// * [`Retrying`](crate::Retrying), where no meter answers that it is busy. Where one does twice, the readout hears
+///   silence twice, and the third answer to the same request.
+/// * [`Remembering`](crate::Remembering), where no telegram is one of the last 64 before it. Where a copy of the first
+///   telegram comes third, the readout hears silence and asks the same again. It hears what comes then: a third
+///   telegram, or the first one, which its meter sends.
+/// * [`Confirming`](crate::Confirming), where no answer is a frame with a wrong checksum. After one the readout hears
+///   silence in place of a telegram, and that telegram once it comes again.
+/// * [`Recounting`](crate::Recounting), where each meter sends as many telegrams as in its last reading. Where one
+///   telegram comes in place of two, the readout hears silence, and its next requests aren't sent. After the next reset
+///   it hears that telegram.
+pub fn what_the_filters_let_through<B: HalfBus + Drop>()
     ensures spares { SparesNothing B.HalfBus }
     ensures once { (question : List ℕ) → IsAskedOnce question }
-{}
-
-/// Where no meter answers that it is busy, [`Retrying`](crate::Retrying) drops nothing: the talk is one on the bus
-/// itself. Where one does twice, the readout hears silence twice, and the third answer to the same request.
-pub fn a_busy_meter_is_asked_again<B: HalfBus + Drop>()
-    ensures drops { DropsNothing B.HalfBus }
-    ensures again { (request third : List ℕ) (answer : LineHeard) → IsAskedAgain request third answer }
-{}
-
-/// Where no telegram is one of the last 64 before it, [`Remembering`](crate::Remembering) drops nothing: the talk is one
-/// on the bus itself. Where a copy of the first telegram comes third, the readout hears silence and asks the same again.
-/// It hears what comes then: a third telegram, or the first one, which its meter sends.
-pub fn a_copied_telegram_is_dropped<B: HalfBus + Drop>()
-    ensures drops { DropsNoTelegram B.HalfBus }
+    ensures retries { DropsNoAnswer B.HalfBus }
+    ensures asked_again { (request third : List ℕ) (answer : LineHeard) → IsAskedAgain request third answer }
+    ensures remembers { DropsNoTelegram B.HalfBus }
     ensures third { (answer : LineHeard) → IsDropped 3 answer }
-    ensures again { (answer : LineHeard) → IsDropped 1 answer }
-{}
-
-/// Where each meter sends as many telegrams as in its last reading, [`Recounting`](crate::Recounting) drops nothing: the
-/// talk is one on the bus itself. Where one telegram comes in place of two, the readout hears silence, and its next
-/// requests aren't sent. After the next reset it hears that telegram.
-pub fn a_readout_that_differs_begins_anew<B: HalfBus + Drop>()
-    ensures drops { DropsNoReadout B.HalfBus }
+    ensures sent_again { (answer : LineHeard) → IsDropped 1 answer }
+    ensures confirms { DropsNoRightTelegram B.HalfBus }
+    ensures twice { (telegram : List ℕ) (answer : LineHeard)
+        → is_some (telegram_in (frame_of telegram)) ≡ true → IsTakenTwice telegram answer }
+    ensures recounts { DropsNoReadout B.HalfBus }
     ensures anew { (meter : Identity) (telegram : List ℕ) (answer : LineHeard)
         → sent_in (frame_of telegram) ≡ Some (meter, false) → IsBegunAnew meter telegram answer }
 {}

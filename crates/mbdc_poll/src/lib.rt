@@ -10,6 +10,7 @@
 
 mod brought;
 mod clock;
+mod confirming;
 mod end;
 mod event;
 pub mod events;
@@ -34,15 +35,15 @@ mod timer;
 mod waiting;
 
 pub use brought::Brought;
+pub use confirming::Confirming;
 pub use end::{End, Refusal};
 pub use event::Event;
 pub use filtered::{Filter, Filtered, PollBus, with_filters};
 pub use image::{Plan, poll_image};
 pub use last_part::LastPart;
 pub use laws::{
-    a_busy_meter_is_asked_again, a_copied_telegram_is_dropped, a_queue_goes_in_passes,
-    a_readout_that_differs_begins_anew, a_silent_meter_is_asked_once,
-    what_a_failed_readout_brought_is_told, what_is_read_is_committed,
+    a_queue_goes_in_passes, what_a_failed_readout_brought_is_told, what_is_read_is_committed,
+    what_the_filters_let_through,
 };
 pub use outcome::{Counts, Outcome};
 pub use phase::{Phase, Request};

@@ -1,16 +1,14 @@
 //! A filter by which a readout begins anew that has another number of telegrams than its meter's last reading.
 
-ghost use Rattle.std.specs.Prelude.{◌≡◌, Bool, None, map, []};
+ghost use Rattle.std.specs.Prelude.{◌≡◌, map};
 ghost use Rattle.std.specs.List.{list_any};
-ghost use Rattle.dc_address.specs.Identity.{wire_of};
 ghost use Rattle.dc_linkframe.specs.Reading.{frame_of};
-ghost use Rattle.mbdc_poll.specs.Recounting.{begins_readout, counted, differs, doubted_by, sent_in};
+ghost use Rattle.mbdc_poll.specs.Recounting.{begins_readout, differs, doubted_by};
 
+use crate::confirming::telegram_in;
 use crate::filtered::Filter;
-use dc_address::Identity;
-use dc_linkframe::control::{SELECTION, SND_NKE, VARIABLE_DATA, is_rsp_ud};
+use dc_linkframe::control::{SELECTION, SND_NKE};
 use dc_linkframe::{Frame, FrameBuf, parse};
-use dc_records::Telegram;
 use mbdc_bus::AnswerBuf;
 
 /// What is known of a meter's last reading.
@@ -73,14 +71,14 @@ impl Filter for Recounting<'_> {
     }
 
     fn hear(&mut self, answer: AnswerBuf) -> AnswerBuf {
-        let Some((meter, more_follows)) = sent_in(answer.as_slice()) else {
+        let Some(telegram) = telegram_in(answer.as_slice()) else {
             return answer;
         };
+        let (meter, more_follows) = (telegram.header().identity.wire(), telegram.more_follows());
         if !self.count.is_answered {
             self.count.is_answered = true;
             self.count.telegrams = self.count.telegrams.saturating_add(1);
         }
-        let meter = meter.wire();
         if more_follows || !doubt(self.known, &meter, self.count.telegrams) {
             return answer;
         }
@@ -97,28 +95,6 @@ fn begins_readout(request: &[u8]) -> bool
         Ok(Frame::Short { control, .. }) => control == SND_NKE,
         Ok(Frame::Long { ci, .. }) => ci == SELECTION,
         _ => false,
-    }
-}
-
-// The meter that sent a telegram, and whether it says that more follow.
-#[tactic(auto, using(dc_readout::proofs::Moves::no_frame_of_nothing))]
-fn sent_in(answer: &[u8]) -> Option<(Identity, bool)>
-    ensures sent { result ≡ sent_in (frame_of answer.now) }
-    ensures silence { answer.now ≡ [] → result ≡ None }
-{
-    match parse(answer) {
-        Ok(
-            Frame::Long {
-                control,
-                ci,
-                body,
-                ..
-            },
-        ) if is_rsp_ud(control) && ci == VARIABLE_DATA => {
-            let telegram = Telegram::parse(body).ok()?;
-            Some((telegram.header().identity, telegram.more_follows()))
-        }
-        _ => None,
     }
 }
 

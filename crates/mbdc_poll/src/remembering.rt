@@ -3,7 +3,7 @@
 ghost use Rattle.std.specs.Prelude.{◌≡◌, ◌≤◌, ◌∷◌, [], false, length, take};
 ghost use Rattle.dc_linkframe.specs.Reading.{frame_of};
 ghost use Rattle.mbdc_bus.specs.Limits.{most_answer};
-ghost use Rattle.mbdc_poll.specs.Remembering.{has, is_copy, is_repeat, is_telegram, most_before};
+ghost use Rattle.mbdc_poll.specs.Remembering.{has, is_copy, is_telegram, most_before};
 
 use crate::filtered::Filter;
 use arrayvec::ArrayVec;
@@ -12,7 +12,7 @@ use dc_linkframe::{Frame, FrameBuf, parse};
 use mbdc_bus::AnswerBuf;
 
 // Number of telegrams that are remembered.
-const MOST_TELEGRAMS: usize = 64;
+pub(crate) const MOST_TELEGRAMS: usize = 64;
 
 /// The filter that remembers the last 64 telegrams that came. Of a copy of one of them silence is heard, so the readout
 /// makes its request again. A telegram that the same request brings twice in a row is no copy: its meter sends it. All
@@ -59,7 +59,7 @@ impl Filter for Remembering {
 
 // Whether these bytes are a telegram with a meter's data.
 #[tactic(auto, using(dc_readout::proofs::Moves::no_frame_of_nothing))]
-fn is_telegram(answer: &[u8]) -> bool
+pub(crate) fn is_telegram(answer: &[u8]) -> bool
     ensures telegram { result ≡ is_telegram (frame_of answer.now) }
     ensures silence { answer.now ≡ [] → result ≡ false }
 {
@@ -73,16 +73,10 @@ fn is_telegram(answer: &[u8]) -> bool
 fn is_copy(is_answered: bool, telegrams: &[AnswerBuf], telegram: &[u8]) -> bool
     ensures { result ≡ is_copy is_answered telegrams.now telegram.now }
 {
-    !is_repeat(is_answered, telegrams, telegram) && has(telegrams, telegram)
-}
-
-// Whether the request that is out brought this telegram last.
-fn is_repeat(is_answered: bool, telegrams: &[AnswerBuf], telegram: &[u8]) -> bool
-    ensures { result ≡ is_repeat is_answered telegrams.now telegram.now }
-{
     match telegrams {
-        [] => false,
-        [latest, ..] => is_answered && latest.as_slice() == telegram,
+        // The request that is out brought it last.
+        [latest, ..] if is_answered && latest.as_slice() == telegram => false,
+        _ => has(telegrams, telegram),
     }
 }
 
@@ -95,7 +89,7 @@ fn has(telegrams: &[AnswerBuf], telegram: &[u8]) -> bool
 }
 
 // Notes the latest telegram.
-fn note(telegrams: &mut ArrayVec<AnswerBuf, MOST_TELEGRAMS>, telegram: &[u8])
+pub(crate) fn note(telegrams: &mut ArrayVec<AnswerBuf, MOST_TELEGRAMS>, telegram: &[u8])
     requires { length telegram.now ≤ most_answer }
     ensures { telegrams.new.items ≡ telegram.now ∷ take most_before telegrams.old.items }
 {

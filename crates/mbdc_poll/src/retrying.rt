@@ -15,9 +15,9 @@ const TOO_BUSY: u8 = 8;
 // Maximum number of such answers in a row that are dropped.
 const MOST_DROPPED: u8 = 2;
 
-/// The filter by which a meter is asked again that answers with the application error 8: it is too busy (EN 13757-3). Of
-/// the first two such answers in a row silence is heard, so the readout makes its request again, and the meter sends the
-/// same telegram. All else passes.
+/// The filter by which a meter is asked again that answers with the application error 8: it is too busy (EN 13757-3).
+/// Of the first two such answers in a row silence is heard, so the readout makes its request again, and the meter sends
+/// the same telegram. All else passes.
 #[derive(Drop)]
 pub struct Retrying {
     /// Number of such answers that were dropped in a row.

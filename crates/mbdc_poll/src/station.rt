@@ -137,8 +137,10 @@ impl<'a, B: HalfBus + Drop> Station<'a, B> {
         }
     }
 
-    // Where a request is out, what was heard of it is taken, once it is complete.
-    pub(crate) fn listen(&mut self)
+    // Where a request is out, what was heard of it is taken, once it is complete. Returns whether something was heard
+    // that isn't judged.
+    pub(crate) fn listen(&mut self) -> bool
+        ensures answered { result ≡ is_answered self.new.request }
         ensures out { self.old.request ≡ Sent
             → Listens B.HalfBus self.old self.new }
         ensures kept { (self.old.request ≡ Sent) ⊎ (self.new ≡ self.old) }
@@ -148,12 +150,6 @@ impl<'a, B: HalfBus + Drop> Station<'a, B> {
                 self.request = Request::Answered(answer);
             }
         }
-    }
-
-    // Whether something was heard that isn't judged.
-    pub(crate) fn has_answer(&self) -> bool
-        ensures { result ≡ is_answered self.now.request }
-    {
         matches!(self.request, Request::Answered(_))
     }
 

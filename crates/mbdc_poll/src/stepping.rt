@@ -171,8 +171,7 @@ pub fn hear<D: Disk + Drop, A: Allocator + Copy, B: HalfBus + Drop>(
         ≤ rounds_of B.HalfBus 0 0 0 tries station.old }
     ensures budget { concentrator.new.house.budget ≡ concentrator.old.house.budget }
 {
-    station.listen();
-    if !station.has_answer() {
+    if !station.listen() {
         return false;
     }
     judge(concentrator, station, line, tries, moment)

@@ -11,22 +11,22 @@ returns-clause-went g c =
     (λ core happened b. hears_both c.args.tries c.args.line c.args.moment.seconds c.judge.result c.args.station.now c.listen.new.self c.judge.new.station happened
     (line_heard g.B.HalfBus c.args.tries c.args.line c.args.station.now c.listen.new.self c.listen.ensures.out c.listen.ensures.kept) b)
 
-pub returns-then-not-has_answer-clause-went : goal.returns-then-not-has_answer-clause-went
-returns-then-not-has_answer-clause-went g c =
+pub returns-then-not-listen-clause-went : goal.returns-then-not-listen-clause-went
+returns-then-not-listen-clause-went g c =
     runs_none g.D.Disk _ c.args.concentrator.now (λ image left. g.met.D.Disk.only_now c.args.concentrator.now.store.disk image left)
     (λ core. hears_none c.args.tries c.args.line c.args.moment.seconds c.args.station.now c.listen.new.self (line_heard g.B.HalfBus c.args.tries c.args.line c.args.station.now c.listen.new.self c.listen.ensures.out c.listen.ensures.kept) false refl)
 
-pub returns-then-not-has_answer-clause-sound : goal.returns-then-not-has_answer-clause-sound
-returns-then-not-has_answer-clause-sound g c = sound_heard g.B.HalfBus c.args.tries c.args.station.now c.listen.new.self c.listen.ensures.out c.listen.ensures.kept c.requires
+pub returns-then-not-listen-clause-sound : goal.returns-then-not-listen-clause-sound
+returns-then-not-listen-clause-sound g c = sound_heard g.B.HalfBus c.args.tries c.args.station.now c.listen.new.self c.listen.ensures.out c.listen.ensures.kept c.requires
 
-pub returns-then-not-has_answer-clause-fewer : goal.returns-then-not-has_answer-clause-fewer
-returns-then-not-has_answer-clause-fewer g c =
-    fewer_with g.B.HalfBus c.args.tries c.args.station.now c.listen.new.self false c.args.station.now.request refl (sym c.has_answer.ensures ∙ c.if-not-has_answer.true) c.listen.ensures.out c.listen.ensures.kept c.requires
+pub returns-then-not-listen-clause-fewer : goal.returns-then-not-listen-clause-fewer
+returns-then-not-listen-clause-fewer g c =
+    fewer_with g.B.HalfBus c.args.tries c.args.station.now c.listen.new.self false c.args.station.now.request refl (sym c.listen.ensures.answered ∙ c.if-not-listen.true) c.listen.ensures.out c.listen.ensures.kept c.requires
 
 pub judge-requires-clause-sound : goal.judge-requires-clause-sound
 judge-requires-clause-sound g c = sound_heard g.B.HalfBus c.args.tries c.args.station.now c.listen.new.self c.listen.ensures.out c.listen.ensures.kept c.requires
 
 pub returns-clause-fewer : goal.returns-clause-fewer
 returns-clause-fewer g c =
-    let first = fewer_with g.B.HalfBus c.args.tries c.args.station.now c.listen.new.self true c.args.station.now.request refl (sym c.has_answer.ensures ∙ c.if-not-has_answer.false) c.listen.ensures.out c.listen.ensures.kept c.requires in
+    let first = fewer_with g.B.HalfBus c.args.tries c.args.station.now c.listen.new.self true c.args.station.now.request refl (sym c.listen.ensures.answered ∙ c.if-not-listen.false) c.listen.ensures.out c.listen.ensures.kept c.requires in
     le_trans c.judge.ensures.fewer first
