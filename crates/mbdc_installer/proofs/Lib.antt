@@ -20,3 +20,5 @@ mod Others
 
 -- a text, and what is printed after it
 mod Texts
+-- how a search ends that was given up
+mod GivenUp

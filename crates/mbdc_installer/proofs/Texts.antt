@@ -1,11 +1,13 @@
 -- What a command does, and what is printed after its text.
-use Rattle.std.proofs.Common.{ℕ, Bool, List, ◌++◌}
-use Rattle.mbdc_installer.specs.Command.{IsDone, IsRead, addresses, asks_each, by_address, by_identity, by_number, reads, scans, shared, unfound, unidentified}
+use Rattle.std.proofs.Common.{ℕ, Bool, List, ◌++◌, Result, Ok, Err}
+use Rattle.mbdc_installer.specs.Command.{DoesOrStops, DoesUnseen, IsDone, IsRead, addresses, asks_each, by_address, by_identity, by_number, reads, scans, shared, unfound, unidentified}
 use Rattle.mbdc_installer.specs.declared.bench.command.Done.{Done}
 use Rattle.mbdc_installer.specs.declared.bench.command.Work.{Work}
 use Rattle.mbdc_bus.specs.declared.bus.Bus.{Ghosts as BusGhosts}
 use Rattle.mbdc_installer.specs.Read.{IsReadOn}
 use Rattle.mbdc_installer.specs.Scan.{Scanned}
+use Rattle.mbdc_installer.specs.declared.other.Other.{Other}
+use Rattle.mbdc_installer.specs.declared.wildcards.ScanFault.{ScanFault}
 use Rattle.mbdc_installer.specs.declared.reading.Readout.{Readout}
 use Rattle.mbdc_io.proofs.Pieces.{puts-both}
 use Rattle.mbdc_io.specs.Written.{PutsInto}
@@ -56,3 +58,9 @@ module _ {B : Type 0} (bus : BusGhosts B) (P Q : List ℕ → Type 0) (then : (t
   is_done_so _ old new _ (asks_each text asked wrote) = asks_each text asked (then text wrote)
   is_done_so _ old new _ (reads meter r) = reads meter (is_read_so meter old new _ r)
   is_done_so _ old new _ (addresses target to is wrote) = addresses target to is (then _ wrote)
+
+-- what was done, whatever was printed
+pub does_unseen : {B S : Type 0} (bus : BusGhosts B) (others : B → List Other) (g : Ghosts S) (work : Work) (old new : B) (before behind : S) (outcome : Result Done ScanFault)
+    → DoesOrStops bus others g work old new before behind outcome → DoesUnseen bus work old new outcome
+does_unseen bus others g work old new before behind (Ok done) does = is_done_so bus _ (λ text. Unit {0}) (λ text wrote. tt) work old new done does
+does_unseen bus others g work old new before behind (Err fault) does = tt

@@ -1,17 +1,23 @@
 -- The commands `scan`, `read` and `address`: what goes over the bus, what is printed, and how they end (this product).
-use Rattle.std.specs.Prelude.{◌==◌, ◌++◌, ℕ, Bool, true, false, not, List, codes, None, Some}
+use Rattle.std.specs.Prelude.{◌≡◌, ◌==◌, ◌||◌, ◌&&◌, ◌++◌, ℕ, Bool, true, false, not, List, [], codes, None, Some}
 use Rattle.std.specs.Prelude.{Result, Ok, Err, Option, SomeIff}
+use Rattle.std.specs.Bool.{then_some}
 use Rattle.std.specs.List.{range_with_len}
 use Rattle.dc_address.specs.Primary.{IsPrimary}
 use Rattle.dc_address.specs.declared.identity.Identity.{Identity}
 use Rattle.mbdc_installer.specs.Ending.{EndsOver, IsStopped, late_text}
+use Rattle.mbdc_installer.specs.declared.bench.listening.Listening.{Listening}
 use Rattle.mbdc_installer.specs.declared.bench.command.Done.{Done}
 use Rattle.mbdc_installer.specs.declared.bench.command.Done.TheVariants.{Searched, ReadOut, Addressed}
+use Rattle.mbdc_installer.specs.declared.bench.command.Listing.{Listing}
+use Rattle.mbdc_installer.specs.declared.bench.command.Listing.TheVariants.{Text, Csv, Json}
 use Rattle.mbdc_installer.specs.declared.bench.command.Work.{Work}
 use Rattle.mbdc_installer.specs.declared.bench.command.Work.TheVariants.{Search, Read, Address}
 use Rattle.mbdc_bus.specs.declared.bus.Bus.{Ghosts as BusGhosts}
 use Rattle.mbdc_ending.specs.declared.ending.Ending.{Ending}
 use Rattle.mbdc_installer.specs.Address.{IsAddressed, addressing_text}
+use Rattle.mbdc_installer.specs.Hearing.{new_wildcard}
+use Rattle.mbdc_installer.specs.Listening.{Confirmed, Hears, Passed, is_given_up}
 use Rattle.mbdc_installer.specs.Number.{IsFound, unfound_text}
 use Rattle.mbdc_installer.specs.Other.{others_text}
 use Rattle.mbdc_installer.specs.Read.{IsReadOn, Tells}
@@ -31,7 +37,8 @@ use Rattle.mbdc_io.specs.declared.stream.Sink.{Ghosts}
 use Rattle.dc_readout.specs.declared.misses.misses.Misses.{Misses}
 use Rattle.dc_readout.specs.Summary.{begun}
 use Rattle.mbdc_installer.specs.declared.bench.command.MeterName.{MeterName}
-use Rattle.mbdc_installer.specs.declared.bench.command.MeterName.TheVariants.{Identity as ByIdentity, Address as ByAddress, Number as ByNumber}
+use Rattle.mbdc_installer.specs.declared.bench.command.MeterName.TheVariants.{Identity as ByIdentity, Address as ByAddress}
+use Rattle.mbdc_installer.specs.declared.bench.command.MeterName.TheVariants.{Number as ByNumber}
 use Rattle.mbdc_installer.specs.declared.bench.command.Scan.TheVariants.{Wildcards, Primary}
 
 -- ---- what goes over the bus
@@ -121,3 +128,68 @@ pub record Works {B S : Type 0} (bus : BusGhosts B) (others : B → List Other) 
   pub outcome : Result Done ScanFault
   pub does : DoesOrStops bus others g work old new before behind outcome
   pub ends : EndsOver (bus.lost new) (fault_of (bus.late new) outcome) ending
+
+-- ---- the same, whatever was printed
+
+-- what a search finds may be printed in another form
+abbrev pub is_text : Work → Listing → Bool
+is_text (Search scan) Text = true
+is_text (Search scan) (Csv line) = false
+is_text (Search scan) Json = false
+is_text (Read meter) listing = true
+is_text (Address target to) listing = true
+
+-- what was done to the bus, if nothing stopped it
+abbrev pub DoesUnseen : {B : Type 0} → BusGhosts B → Work → B → B → Result Done ScanFault → Type 0
+DoesUnseen bus work old new (Ok done) = IsDone bus (λ text. Unit {0}) work old new done
+DoesUnseen bus work old new (Err fault) = Unit {0}
+
+-- THE COMMAND, from the bus to its ending, whatever was printed.
+pub record WorksUnseen {B : Type 0} (bus : BusGhosts B) (work : Work) (old new : B) (ending : Ending) : Type 0 where
+  pub outcome : Result Done ScanFault
+  pub does : DoesUnseen bus work old new outcome
+  pub ends : EndsOver (bus.lost new) (fault_of (bus.late new) outcome) ending
+
+-- ---- over a bus that listens
+
+-- a bus on which a search believes who is confirmed, and is given up where it hears noise alone
+abbrev pub listening : {B : Type 0} → BusGhosts B → BusGhosts (Listening B)
+listening bus = record {
+  meters = λ _. None;
+  selected = λ _. [];
+  lost = λ it. is_given_up it.left || bus.lost it.bus;
+  asks = Hears bus.lost (Passed bus.asks);
+  asks_all = Hears (λ _. false) (Confirmed bus.lost bus.asks_all);
+  late = λ it. bus.late it.bus;
+  silent = λ old new request answer asked. asked.silence;
+}
+
+abbrev pub is_search : Work → Bool
+is_search (Search scan) = true
+is_search (Read meter) = false
+is_search (Address target to) = false
+
+-- a search is given up after 16 answers, none of which is a frame
+abbrev pub noise_of : Work → Option ℕ
+noise_of work = then_some (is_search work) 16
+
+-- nothing was asked yet
+pub record Begins {B : Type 0} (work : Work) (bus : B) (first : Listening B) : Type 0 where
+  pub same : first.bus ≡ bus
+  pub left : first.left ≡ noise_of work
+  pub wildcard : first.wildcard ≡ new_wildcard (is_search work)
+
+-- one that was given up is at fault
+abbrev pub or_fault : Bool → Result Bool ScanFault → Result Bool ScanFault
+or_fault given_up (Ok is_faulty) = Ok (given_up || is_faulty)
+or_fault given_up (Err fault) = Err fault
+
+-- THE COMMAND OVER A BUS, whatever was printed: it ends by a fault where the search was given up, and else as its work.
+pub record RunsOver {B : Type 0} (bus : BusGhosts B) (work : Work) (old : B) (ending : Ending) : Type 0 where
+  pub first : Listening B
+  pub last : Listening B
+  pub begins : Begins work old first
+  pub outcome : Result Done ScanFault
+  pub does : DoesUnseen (listening bus) work first last outcome
+  pub ends : EndsOver (not (is_given_up last.left) && bus.lost last.bus)
+      (or_fault (is_given_up last.left) (fault_of (bus.late last.bus) outcome)) ending

@@ -23,6 +23,10 @@ selection_in (Some (short control address)) = None
 selection_in (Some (long control address ci body)) =
     if ci == 0x52 && nat_le 8 (length body) then Some (take 8 body) else None
 
+-- what is known before anything is asked
+abbrev pub new_wildcard : Bool → Wildcard
+new_wildcard confirms = record { confirms = confirms; wire = None; held = None; last = None; others = record { items = [] } }
+
 -- ---- a selection
 
 -- ONE METER MAY ANSWER ALONE: where one acknowledged, or where bytes came and no digit is open. Only in a search, and while

@@ -1,5 +1,5 @@
 -- The one meter with an identification number (EN 13757-3, selection with wildcards; EN 13757-2, REQ_UD2).
-use Rattle.std.specs.Prelude.{◌≡◌, ℕ, ◌+◌, ◌-◌, ◌%◌, ◌<◌, Bool, true, false, ◌&&◌, List, [], ◌++◌}
+use Rattle.std.specs.Prelude.{◌≡◌, ℕ, ◌-◌, ◌%◌, ◌<◌, Bool, true, false, ◌&&◌, List, [], ◌++◌}
 use Rattle.std.specs.Prelude.{codes, map, nat_eq, Option, None, Some, if◌then◌else◌}
 use Rattle.std.specs.List.{starts_with}
 use Rattle.dc_address.specs.Mask.{mask_wire}

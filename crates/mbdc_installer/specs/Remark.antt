@@ -13,7 +13,8 @@ use Rattle.dc_readout.specs.Reason.{reason_text}
 use Rattle.dc_readout.specs.declared.misses.reason.Owner.{Owner}
 use Rattle.dc_readout.specs.declared.misses.reason.Owner.TheVariants.{Meter as OfMeter, Address as OfAddress, Number as OfNumber}
 use Rattle.mbdc_installer.specs.declared.bench.command.MeterName.{MeterName}
-use Rattle.mbdc_installer.specs.declared.bench.command.MeterName.TheVariants.{Identity as ByIdentity, Address as ByAddress, Number as ByNumber}
+use Rattle.mbdc_installer.specs.declared.bench.command.MeterName.TheVariants.{Identity as ByIdentity, Address as ByAddress}
+use Rattle.mbdc_installer.specs.declared.bench.command.MeterName.TheVariants.{Number as ByNumber}
 
 -- of what was counted: numbers of several meters come first, then frames of another CI
 abbrev pub other_hint : List ℕ

@@ -1,12 +1,13 @@
 //! What a search believes of what comes where several meters may answer.
 //!
-//! Who answers a wildcard is [confirmed](is_confirmed). Where one may answer alone its data is requested right after the
-//! selection: a frame of another CI than 72 [closes the wildcard](look), and then nobody answered the selection.
+//! Who answers a wildcard is [confirmed](is_confirmed). Where one may answer alone its data is requested right after
+//! the selection: a frame of another CI than 72 [closes the wildcard](look), and then nobody answered the selection.
 
 ghost use Rattle.std.specs.Prelude.{◌≡◌, ◌≤◌, None, [], length, true};
 ghost use Rattle.dc_linkframe.specs.Reading.{frame_of};
 ghost use Rattle.mbdc_bus.specs.Limits.{most_request};
-ghost use Rattle.mbdc_installer.specs.Hearing.{Hears, Selects, Takes, acknowledged, is_looked, looked_at, selection_in};
+ghost use Rattle.mbdc_installer.specs.Hearing.{Hears, Selects, Takes, acknowledged, is_looked, looked_at};
+ghost use Rattle.mbdc_installer.specs.Hearing.{new_wildcard, selection_in};
 
 use crate::confirming::{Confirmed, bytes_of_noise, could_be_in_step, is_confirmed, is_open};
 use crate::other::{Looked, MOST_OTHERS, Other, is_closed, look};
@@ -34,7 +35,9 @@ pub(crate) struct Wildcard {
 
 impl Wildcard {
     /// That of a search that hasn't begun, or of what is no search.
-    pub fn new(confirms: bool) -> Wildcard {
+    pub fn new(confirms: bool) -> Wildcard
+        ensures { result ≡ new_wildcard confirms }
+    {
         Wildcard {
             confirms,
             wire: None,

@@ -23,8 +23,8 @@ pub fn a_confirmed_meter_is_known<B: Bus>()
         → IsKnown meters wire meter is_due }
 {}
 
-/// A wildcard that a frame of another CI closed is matched by no meter of CI 72, while one of its digits is open: such a
-/// meter would have answered in step with that frame, and its CI has a bit that 72 lacks.
+/// A wildcard that a frame of another CI closed is matched by no meter of CI 72, while one of its digits is open: such
+/// a meter would have answered in step with that frame, and its CI has a bit that 72 lacks.
 pub fn a_closed_wildcard_hides_no_meter<B: Bus>()
     ensures { (meters : List Meter) → AnswersInStep B.asks_all meters → HidesNone B.asks_all meters }
 {}

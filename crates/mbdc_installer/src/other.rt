@@ -1,9 +1,9 @@
 //! Meters that answer with a frame of another CI than 72.
 //!
 //! Such a frame that comes twice, with nothing beside it, closes the wildcard that was selected: the search goes no
-//! deeper there, and notes the frame. It hides no meter of CI 72: its CI has a bit that 72 lacks, and answers in step come
-//! as their AND (EN 13757-2). A CI without such a bit, as an application error (70), may be the AND of several, and is a
-//! collision. If no digit is open, any CI closes.
+//! deeper there, and notes the frame. It hides no meter of CI 72: its CI has a bit that 72 lacks, and answers in step
+//! come as their AND (EN 13757-2). A CI without such a bit, as an application error (70), may be the AND of several,
+//! and is a collision. If no digit is open, any CI closes.
 
 ghost use Rattle.std.specs.Prelude.{◌≡◌, ◌≢◌, ◌≤◌, true, false, Some, List, length};
 ghost use Rattle.mbdc_installer.specs.Other.{Looks, closing, digits_of, format_of, is_closed, number_in};

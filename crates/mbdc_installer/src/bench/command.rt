@@ -1,8 +1,8 @@
 //! The commands over one bus: a search, a readout, a new address.
 
-ghost use Rattle.std.specs.Prelude.{◌≡◌, IfOk, IfErr, OnOk};
+ghost use Rattle.std.specs.Prelude.{◌≡◌, ◌⊎◌, true, IfOk, IfErr, OnOk};
 ghost use Rattle.mbdc_io.specs.Written.{PutsInto};
-ghost use Rattle.mbdc_installer.specs.Command.{DoesOrStops, IsDone, Works};
+ghost use Rattle.mbdc_installer.specs.Command.{DoesOrStops, IsDone, RunsOver, Works, WorksUnseen, is_text};
 ghost use Rattle.mbdc_installer.specs.Ending.{IsStopped};
 
 use crate::bench::ending::{conclude, finish};
@@ -96,6 +96,7 @@ where
     R: Clock + Eprint,
     B: Bus + Drop,
     O: Write + Drop,
+    ensures { (result ≡ Ending.Memory) ⊎ RunsOver B.Bus work bus result }
 {
     let out = Cleared {
         writer: out,
@@ -104,36 +105,34 @@ where
     let Ok(out) = LineWriter::new(alloc, out) else {
         return Ending::Memory;
     };
+    let is_search = matches!(work, Work::Search(_));
     let mut bus = Listening {
         bus,
-        left: if matches!(work, Work::Search(_)) {
-            Some(MOST_NOISE)
-        } else {
-            None
-        },
-        wildcard: Wildcard::new(matches!(work, Work::Search(_))),
+        left: is_search.then_some(MOST_NOISE),
+        wildcard: Wildcard::new(is_search),
         is_hushed: &progress.is_hushed,
     };
     let mut out = WriteSink::new(out);
-    let ending = match (work, listing) {
-        (Work::Search(scan), Listing::Csv(_) | Listing::Json) => {
-            list_over(alloc, scan, listing, &mut bus, &mut out, progress)
-        }
-        _ => work_over(alloc, work, &mut bus, &mut out, progress),
-    };
+    let ending = work_over(alloc, work, listing, &mut bus, &mut out, progress);
     if !bus.is_given_up() {
         return ending;
     }
-    progress.say(NOISE.as_bytes());
-    Ending::Faulty
+    match ending {
+        Ending::Gateway => {
+            progress.say(NOISE.as_bytes());
+            Ending::Faulty
+        }
+        _ => ending,
+    }
 }
 
-/// Does the work on a bus, and prints it. Returns how the command ends: a search is at fault where bytes came that
-/// nothing on the bus could have sent, for it may have missed a meter; a readout where it failed; and an address where
-/// the meter doesn't answer at the new one.
+/// Does the work on a bus, and prints it; what a search finds may be listed in another form. Returns how the command
+/// ends: a search is at fault where bytes came that nothing on the bus could have sent, for it may have missed a meter;
+/// a readout where it failed; and an address where the meter doesn't answer at the new one.
 pub fn work_over<'a, R, B, W>(
     alloc: Global,
     work: Work,
+    listing: Listing,
     bus: &mut B,
     out: &mut W,
     progress: &Progress<'_, R>,
@@ -142,9 +141,16 @@ where
     R: Clock + Eprint,
     B: Noting,
     W: Printer,
-    ensures { Works B.Bus B.others W.Sink work bus.old bus.new out.old out.new result }
+    ensures printed { is_text work listing ≡ true
+        → Works B.Bus B.others W.Sink work bus.old bus.new out.old out.new result }
+    ensures done { WorksUnseen B.Bus work bus.old bus.new result }
 {
-    let outcome = do_and_finish(alloc, work, bus, out);
+    let outcome = match (work, listing) {
+        (Work::Search(scan), Listing::Csv(_) | Listing::Json) => {
+            list_over(alloc, scan, listing, bus, out, progress)
+        }
+        _ => do_and_finish(alloc, work, bus, out),
+    };
     conclude(&work, &outcome, bus, progress)
 }
 

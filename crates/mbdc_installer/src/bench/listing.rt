@@ -1,7 +1,12 @@
 //! What a search finds as a list for `fit`, and as JSON Lines. Its text is in no contract.
 
-use crate::bench::command::{Done, Listing, Scan, Work};
-use crate::bench::ending::conclude;
+ghost use Rattle.std.specs.Prelude.{◌≤◌, ◌+◌, List as Listed, ℕ, IfOk, OnOk};
+ghost use Rattle.std.specs.List.{range_with_len};
+ghost use Rattle.mbdc_installer.specs.Command.{DoesUnseen};
+ghost use Rattle.mbdc_installer.specs.Scan.{AsksEach, Counts};
+ghost use Rattle.mbdc_installer.specs.declared.bench.command.Work.{Work};
+
+use crate::bench::command::{Done, Listing, Scan};
 use crate::bench::printer::Printer;
 use crate::bench::progress::Progress;
 use crate::other::{Noting, Other, digits_of, put_other};
@@ -31,65 +36,60 @@ struct List<'l, 'h, W, R> {
     progress: &'l Progress<'h, R>,
 }
 
-/// Searches for meters, and lists them. Returns how the command ends, as [`work_over`](crate::bench::work_over) does.
-pub(crate) fn list_over<'a, R, B, W>(
+/// Searches for meters, and lists them.
+///
+/// # Errors
+/// A write failed, or out of memory.
+pub(crate) fn list_over<R, B, W>(
     alloc: Global,
     scan: Scan,
     listing: Listing,
     bus: &mut B,
     out: &mut W,
     progress: &Progress<'_, R>,
-) -> Ending<'a>
+) -> Result<Done, ScanFault>
 where
     R: Clock + Eprint,
     B: Noting,
     W: Printer,
+    ensures { DoesUnseen B.Bus (Work.Search scan) bus.old bus.new result }
 {
     let mut list = List {
         out,
         listing,
         progress,
     };
-    let outcome = list.all(alloc, scan, bus);
-    conclude(&Work::Search(scan), &outcome, bus, progress)
+    if let Listing::Csv(_) = list.listing {
+        list.out.put(HEADER)?;
+    }
+    let count = match scan {
+        Scan::Wildcards(budget) => {
+            let Ok(search) = search_windows(alloc, budget, bus) else {
+                return Err(ScanFault::NoMemory);
+            };
+            Some(list.put_search(&search)?)
+        }
+        Scan::Primary => {
+            list.ask_each(1, GREATEST, bus)?;
+            None
+        }
+    };
+    for other in bus.others() {
+        list.put_closed(other)?;
+    }
+    if bus.late() != 0 {
+        let late = Piece::Number(bus.late());
+        list.put_event(b"LATE ", b"late\",\"answers\":", late, b"}\n")?;
+    }
+    list.out.flush()?;
+    Ok(Done::Searched(count))
 }
 
 impl<W: Printer, R: Clock + Eprint> List<'_, '_, W, R> {
-    // Searches for meters, and writes what is found.
-    fn all<B: Noting>(
-        &mut self,
-        alloc: Global,
-        scan: Scan,
-        bus: &mut B,
-    ) -> Result<Done, ScanFault> {
-        if let Listing::Csv(_) = self.listing {
-            self.out.put(HEADER)?;
-        }
-        let count = match scan {
-            Scan::Wildcards(budget) => {
-                let Ok(search) = search_windows(alloc, budget, bus) else {
-                    return Err(ScanFault::NoMemory);
-                };
-                Some(self.put_search(&search)?)
-            }
-            Scan::Primary => {
-                self.ask_each(bus)?;
-                None
-            }
-        };
-        for other in bus.others() {
-            self.put_closed(other)?;
-        }
-        if bus.late() != 0 {
-            let late = Piece::Number(bus.late());
-            self.put_event(b"LATE ", b"late\",\"answers\":", late, b"}\n")?;
-        }
-        self.out.flush()?;
-        Ok(Done::Searched(count))
-    }
-
     // Writes what a search by wildcards found.
-    fn put_search(&mut self, search: &Search<Global>) -> Result<Count, IoFault> {
+    fn put_search(&mut self, search: &Search<Global>) -> Result<Count, IoFault>
+        ensures { IfOk result (λ count. Counts count search.now) }
+    {
         for meter in search.found() {
             self.put_meter(meter, None)?;
         }
@@ -114,22 +114,27 @@ impl<W: Printer, R: Clock + Eprint> List<'_, '_, W, R> {
         })
     }
 
-    // Asks each primary address.
-    fn ask_each<B: Bus>(&mut self, bus: &mut B) -> Result<(), IoFault> {
-        for address in 1..=GREATEST {
-            let asked = ask_address(bus, address);
-            if is_there(&asked) {
-                match sender_at(address, &asked.telegram) {
-                    Some(meter) => self.put_meter(&meter, Some(address))?,
-                    // Somebody answers, but no meter alone.
-                    None => {
-                        let address = Piece::Number(u64::from(address));
-                        self.put_event(b"ADDRESS ", b"unread\",\"address\":", address, b"}\n")?;
-                    }
+    // Asks `count` primary addresses from the first one on.
+    fn ask_each<B: Bus>(&mut self, first: u8, count: u8, bus: &mut B) -> Result<(), IoFault>
+        requires { first + count ≤ 251 }
+        ensures { OnOk result ((text : Listed ℕ)
+            × AsksEach B.asks_all (range_with_len first count) bus.old text bus.new) }
+    {
+        if count == 0 {
+            return Ok(());
+        }
+        let asked = ask_address(bus, first);
+        if is_there(&asked) {
+            match sender_at(first, &asked.telegram) {
+                Some(meter) => self.put_meter(&meter, Some(first))?,
+                // Somebody answers, but no meter alone.
+                None => {
+                    let address = Piece::Number(u64::from(first));
+                    self.put_event(b"ADDRESS ", b"unread\",\"address\":", address, b"}\n")?;
                 }
             }
         }
-        Ok(())
+        self.ask_each(first + 1, count - 1, bus)
     }
 
     // Writes a wildcard that was closed: an object; beside a list a line on standard error.

@@ -1,5 +1,5 @@
 use Rattle.std.proofs.Common.{◌≡◌, ◌≢◌, ℕ, Bool, true, false, List, [], sym, subst, rules}
-use Rattle.mbdc_installer.specs.Address.{IsChanged, IsFree, IsReached, call_to, is_nobody, is_one, is_taken, is_unclear, place_of}
+use Rattle.mbdc_installer.specs.Address.{IsChanged, IsFree, IsReached, is_nobody, is_one, is_taken, is_unclear, place_of}
 use Rattle.mbdc_installer.specs.Scan.{IsCalled}
 use Rattle.mbdc_installer.proofs.address.set_address.Given.{Over}
 use Rattle.mbdc_installer.proofs.address.set_address.Goals.{After-call-asked}
