@@ -22,6 +22,8 @@ mod InOrder
 mod Rows
 -- the last of a list
 mod Lasts
+-- what decides a moment, of the values so far
+mod Decided
 -- the use that a name means
 mod Named
 -- what a line says is of its word's class

@@ -7,7 +7,8 @@ use Rattle.std.proofs.Common.{◌&&◌, eqb, ap, subst, refl, sym, ◌∙◌}
 use Rattle.mbdc_audit.specs.Amount.{is_by}
 use Rattle.std.proofs.Common.{◌+◌, List, slice_get}
 use Rattle.std.proofs.lemmas.Option.{same_Some}
-use Rattle.mbdc_audit.specs.House.{Run, Value}
+use Rattle.mbdc_audit.specs.House.{Run, Source, Value, anew as began, current, ended, first, last, put, stored}
+use Rattle.mbdc_audit.specs.Kept.{is_anew}
 use Rattle.mbdc_audit.specs.Sound.{AreApart, AreTwo, Fitted, IfAnew, IsAnew, IsOfEnd, IsOnce, IsOver, IsTimed, IsUntil}
 
 pub not_over : (t : ℕ) (over : Option ℕ) → is_by t over ≡ false → IsOver over t → ⊥
@@ -44,6 +45,24 @@ same_some {X} runs i j a b e f same = same_Some a b (sym e ∙ (ap (λ (n : ℕ)
 
 abbrev pub IsOneCounter : Run → Run → Type 0
 IsOneCounter old new = (old.identity ≡ new.identity) × (old.vib ≡ new.vib) × (old.over ≡ Some new.begin)
+
+pub if_anew : (s : Source) (r : Bool) (P : Type 0) → is_anew s ≡ true → IsTrue r ↔ P → IsTrue r ↔ IfAnew s P
+if_anew began r P e f = f
+if_anew (current bodies) r P e f = absurd cc
+if_anew (stored day bodies) r P e f = absurd cc
+if_anew (ended day bodies) r P e f = absurd cc
+if_anew (put guess t) r P e f = absurd cc
+if_anew (first guess t) r P e f = absurd cc
+if_anew (last guess t) r P e f = absurd cc
+
+pub unless_anew : (s : Source) (P : Type 0) → is_anew s ≡ false → IsTrue true ↔ IfAnew s P
+unless_anew began P e = absurd cc
+unless_anew (current bodies) P e = (λ t. tt, λ p. refl)
+unless_anew (stored day bodies) P e = (λ t. tt, λ p. refl)
+unless_anew (ended day bodies) P e = (λ t. tt, λ p. refl)
+unless_anew (put guess t) P e = (λ t. tt, λ p. refl)
+unless_anew (first guess t) P e = (λ t. tt, λ p. refl)
+unless_anew (last guess t) P e = (λ t. tt, λ p. refl)
 
 pub anew : (runs : List Run) (v : Value) (before : ℕ) (old new : Run) → v.run ≡ before + 1 → slice_get runs before ≡ Some old
     → slice_get runs v.run ≡ Some new → IsOneCounter old new ↔ IsAnew runs v

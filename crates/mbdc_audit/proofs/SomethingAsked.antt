@@ -2,6 +2,9 @@
 use Rattle.std.proofs.Common.{arith, ◌≡◌, ◌↔◌, ◌<◌, ◌≤◌, ◌++◌, ◌⊎◌, inl, inr, ℕ, zero, suc, List, [], ◌∷◌, length, map, flat_map, get_or, refl, sym, ◌∙◌, ap, subst, Any}
 use Rattle.std.proofs.lemmas.List.{length-append, length-map, append-nil}
 use Rattle.std.proofs.lemmas.List.Concat.{flat_map-append}
+use Rattle.std.proofs.lemmas.List.Folds.{Any-from_list_any, list_any-from_Any}
+use Rattle.std.specs.List.{list_any}
+use Rattle.std.specs.Prelude.{◌==◌, not, true}
 use Rattle.std.proofs.Common.{false, eqb}
 use Rattle.std.proofs.lemmas.Bool.{cases_lt}
 use Rattle.std.proofs.lemmas.Bool.Decides.{nat_tests}
@@ -12,6 +15,13 @@ use Rattle.mbdc_audit.specs.House.{House, Number, Place}
 use Rattle.mbdc_audit.specs.Published.{Open}
 use Rattle.mbdc_audit.specs.View.{place_of, window_of, number_of}
 use Rattle.mbdc_audit.proofs.Checks.{any_map, through}
+
+-- whether one of a list isn't empty, by its test
+pub any_some : {X Y : Type 0} (f : X → List Y) (xs : List X) → list_any (λ x. not (length (f x) == 0)) xs ≡ true ↔ Any (λ x. 0 < length (f x)) xs
+any_some f xs = (
+  λ t. let a = Any-from_list_any (λ x. not (length (f x) == 0)) xs t in (a.0, a.1, a.2, a.3, grind (arith, nat_tests, a.4)),
+  λ a. list_any-from_Any (λ x. not (length (f x) == 0)) xs (a.0, a.1, a.2, a.3, grind (arith, nat_tests, a.4)),
+)
 
 any_here : {X : Type 0} (P : X → Type 0) (x : X) (xs : List X) → P x → Any P (x ∷ xs)
 any_here P x xs p = (0, x, omega arith, refl, p)

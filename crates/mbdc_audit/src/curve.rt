@@ -273,42 +273,27 @@ impl<'w, 'a, A: Allocator + Copy> Curve<'w, 'a, A> {
         })
     }
 
-    // The last value at a moment or before it.
-    fn last_by(&self, moment: u64) -> Option<Value<'a>>
-        ensures { list_of result ≡ last_of (filter (λ v. nat_le v.moment moment) self.now.values.items) }
-    {
-        let mut last = None;
-        'values: for value in &self.values {
-            if value.moment <= moment {
-                last = Some(*value);
-            }
-        }
-        last
-    }
-
-    // The first value after a moment.
-    fn first_after(&self, moment: u64) -> Option<Value<'a>>
-        ensures { list_of result ≡ take 1 (filter (λ v. nat_lt moment v.moment) self.now.values.items) }
-    {
-        'values: for value in &self.values {
-            if moment < value.moment {
-                return Some(*value);
-            }
-        }
-        None
-    }
-
     // The values that decide a moment: the last one at it or before it and, where none lies at it, the next.
     fn deciding(&self, moment: u64) -> (Option<Value<'a>>, Option<Value<'a>>)
         ensures last { list_of result.0 ≡ last_of (filter (λ v. nat_le v.moment moment) self.now.values.items) }
         ensures next { list_of result.1 ≡ (if list_any (λ v. v.moment == moment) self.now.values.items then []
             else take 1 (filter (λ v. nat_lt moment v.moment) self.now.values.items)) }
     {
-        let last = self.last_by(moment);
+        let (mut last, mut next) = (None, None);
+        'values: for value in &self.values {
+            if value.moment <= moment {
+                last = Some(*value);
+                continue;
+            }
+            if next.is_some() {
+                continue;
+            }
+            next = Some(*value);
+        }
         if self.values.iter().any(|value| value.moment == moment) {
             return (last, None);
         }
-        (last, self.first_after(moment))
+        (last, next)
     }
 
     /// Whether the values that decide a moment are the same in two windows: of one run, moment, amount and word.

@@ -48,7 +48,8 @@ pub fn amounts_are_of_telegrams()
 {}
 
 /// In a sound house two runs of one use with the same identity don't overlap in time. The parts of a window sum to the
-/// amount of the place in its span, if each of them has a number.
+/// amount of the place in its span, if each of them has a number. In a right file the fields beside each number are
+/// those that the definition gives.
 pub fn a_sound_house_adds_up()
     ensures once { (h : House) → IsHouse h → (i j : ℕ) (d : Fitted) → i < j → j < length (fitted h) →
         (slice_index_or (fitted h) i d).used ≡ (slice_index_or (fitted h) j d).used →
@@ -64,10 +65,6 @@ pub fn a_sound_house_adds_up()
         is_whole (shares_of house (record { place = p; window = w })) ≡ true →
         amount p.runs (known w.values) (from p s) (to p s)
         ≡ Some (plain (shares_of house (record { place = p; window = w }))) }
-{}
-
-/// In a right file the fields beside each number are those that the definition gives.
-pub fn a_right_file_says_each_mark()
     ensures of_places { (lines : List (List ℕ)) (right : IsRight false lines) →
         All (λ o. All (λ n. n.beside ≡ says_of n.key.word o n.key) o.window.numbers) (all_opened right.house) }
     ensures of_house { (lines : List (List ℕ)) (right : IsRight false lines) →

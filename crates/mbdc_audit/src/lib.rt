@@ -31,6 +31,4 @@ mod values;
 
 pub use engine::{audit, fill};
 pub use fault::AuditFault;
-pub use laws::{
-    a_right_file_says_each_mark, a_sound_house_adds_up, amounts_are_of_telegrams, worked_examples,
-};
+pub use laws::{a_sound_house_adds_up, amounts_are_of_telegrams, worked_examples};

@@ -7,7 +7,7 @@ ghost use Rattle.mbdc_audit.specs.Reader.{use_place};
 ghost use Rattle.mbdc_audit.specs.Field.{fields_of, left_fields};
 ghost use Rattle.mbdc_audit.specs.declared.line.Line.{Line};
 ghost use Rattle.mbdc_audit.specs.declared.smallest.Spelled.{Spelled};
-ghost use Rattle.mbdc_audit.specs.Line.{AreBlank, AreRead, Fields, IsBounded, IsLine, field_of, has_mark, is_asked};
+ghost use Rattle.mbdc_audit.specs.Line.{AreBlank, AreRead, Fields, IsBounded, IsLine, field_of, is_asked};
 ghost use Rattle.mbdc_audit.specs.Line.{is_header, may_follow, maybe_at, number_at, rest_of, rule_of, rules};
 
 use crate::fault::AuditFault;
@@ -383,19 +383,12 @@ pub fn is_header(text: &[u8]) -> bool
     rest.is_none()
 }
 
-// Whether a text has a question mark.
-fn has_mark(text: &[u8]) -> bool
-    ensures { result ≡ has_mark text.now }
-{
-    text.iter().any(|byte| *byte == b'?')
-}
-
 /// Whether a line is that of a number, and one of its fields has a question mark.
 pub fn is_asked(line: &Line<'_>) -> bool
     ensures { result ≡ is_asked line.now }
 {
     let is_number = line.stage == SHOWN || line.stage == SUMMED;
-    is_number && line.fields.iter().any(|field| has_mark(field))
+    is_number && line.fields.iter().any(|field| field.contains(&b'?'))
 }
 
 /// Where the use stands in a line of a number of the house.

@@ -528,30 +528,6 @@ impl<'s, W: Sink> Teller<'s, W> {
         self.judge(alloc, number, holds, filler)
     }
 
-    // Checks a number of a window.
-    fn judge_number<'a, A: Allocator + Copy, F: Sink>(
-        &mut self,
-        alloc: A,
-        house: &House<'a, A>,
-        place: &Place<'a, A>,
-        window: &Window<'a, A>,
-        number: &Number<'a>,
-        filler: &mut Filler<'_, '_, F>,
-    ) -> Result<(), Stop>
-        ensures right { let o = open_of (place_of place.now) (window_of window.now) in
-            (s : Span) → slice_get (house_of house.now).spans window.now.span ≡ Some s
-            → IsWindow (house_of house.now) o.place o.window s
-            → known_in window.now.values.items ≡ known o.window.values
-            → AsksNothing (number_of number.now) → MayAskOf (house_of house.now) o.place o.window (key_of number.now)
-            → Checks result self.old.counts self.new.counts (IsNumberOf (house_of house.now) o (number_of number.now)) }
-        ensures kept { OnOk result (IsTrue (is_clean self.new.counts) → IsTrue (is_clean self.old.counts)) }
-    {
-        match number.word {
-            Word::Value => self.judge_value(alloc, window, number, filler),
-            _ => self.judge_shown(alloc, house, place, window, number, filler),
-        }
-    }
-
     // Checks the numbers of a window.
     fn judge_window<'a, A: Allocator + Copy, F: Sink>(
         &mut self,
@@ -570,7 +546,11 @@ impl<'s, W: Sink> Teller<'s, W> {
             (All (λ n. AsksNothing n → IsNumberOf (house_of house.now) o n) o.window.numbers) }
     {
         'numbers: for number in &window.numbers {
-            self.judge_number(alloc, house, place, window, number, filler)?;
+            let Word::Value = number.word else {
+                self.judge_shown(alloc, house, place, window, number, filler)?;
+                continue;
+            };
+            self.judge_value(alloc, window, number, filler)?;
         }
         Ok(())
     }

@@ -8,7 +8,7 @@ ghost use Rattle.std.specs.Ordering.{nat_cmp};
 ghost use Rattle.mbdc_audit.specs.declared.uses.Counted.TheVariants.{Allocation};
 ghost use Rattle.mbdc_audit.specs.Amount.{deciding};
 ghost use Rattle.mbdc_audit.specs.File.{all_numbers};
-ghost use Rattle.mbdc_audit.specs.House.{Span as SaidSpan, Value as SaidValue, at};
+ghost use Rattle.mbdc_audit.specs.House.{Span as SaidSpan, at};
 ghost use Rattle.mbdc_audit.specs.Sound.{AreAlike, AreNear, AreOneCurve, AreParts, AreRuns, AreSpans, AreTimed};
 ghost use Rattle.mbdc_audit.specs.Sound.{IfAnew, IsAnew, IsBuilt, IsHouse, IsLabel, IsOfEnd, IsOnce};
 ghost use Rattle.mbdc_audit.specs.Sound.{IsOneCurve, IsOneTenancy, IsOver, IsPlace, IsReadPlace};
@@ -101,24 +101,13 @@ fn is_one_flat(users: &[User<'_>], user: &User<'_>) -> bool
         .all(|other| other.flat != user.flat || other.area == user.area)
 }
 
-// Whether a number is asked of windows.
-fn asks<A: Allocator + Copy>(windows: &[Window<'_, A>]) -> bool
-    ensures { IsTrue result ↔ Any (λ w. 0 < length w.numbers.items) windows.now }
-{
-    'windows: for window in windows {
-        if !window.numbers.as_slice().is_empty() {
-            return true;
-        }
-    }
-    false
-}
-
 // Whether a number is asked of places.
 fn asks_of<A: Allocator + Copy>(places: &[Place<'_, A>]) -> bool
     ensures { IsTrue result ↔ Any (λ p. Any (λ w. 0 < length w.numbers.items) p.windows.items) places.now }
 {
     'places: for place in places {
-        if asks(place.windows.as_slice()) {
+        let mut windows = place.windows.iter();
+        if windows.any(|window| !window.numbers.as_slice().is_empty()) {
             return true;
         }
     }
@@ -215,31 +204,23 @@ fn is_one_counter(old: &Run<'_>, new: &Run<'_>) -> bool
     is_one_meter(old, new) && old.vib == new.vib && old.end == Some(new.begin)
 }
 
-// Whether a run is so after the one before it.
-fn is_anew(runs: &[Run<'_>], run: u64) -> bool
-    ensures { (v : SaidValue) → v.run ≡ run → IsTrue result ↔ IsAnew (map run_of runs.now) v }
+// Whether a counter began anew where a value says so: its run is of the meter of the run before.
+fn is_restart(runs: &[Run<'_>], value: &Value<'_>) -> bool
+    ensures { IsTrue result ↔ IfAnew (source_of value.now) (IsAnew (map run_of runs.now) (seen_value value.now)) }
 {
-    let Some(before) = run.checked_sub(1) else {
+    if !value.is_anew() {
+        return true;
+    }
+    let Some(before) = value.run.checked_sub(1) else {
         return false;
     };
     let Some(old) = runs.get(before as usize) else {
         return false;
     };
-    let Some(new) = runs.get(run as usize) else {
+    let Some(new) = runs.get(value.run as usize) else {
         return false;
     };
     is_one_counter(old, new)
-}
-
-// Whether a counter began anew where a value says so.
-fn is_restart(runs: &[Run<'_>], value: &Value<'_>) -> bool
-    ensures { IsTrue result ↔ IfAnew (source_of value.now) (IsAnew (map run_of runs.now) (seen_value value.now)) }
-{
-    match value.word {
-        Word::Read | Word::Stored | Word::Ended => true,
-        Word::Hand | Word::Estimated | Word::First | Word::Last => true,
-        _ => is_anew(runs, value.run),
-    }
 }
 
 // Whether a value is no earlier than the one before it, and of no earlier run at its moment.

@@ -4,8 +4,9 @@ ghost use Rattle.std.specs.Prelude.{◌≡◌, ◌≤◌};
 ghost use Rattle.mbdc_audit.specs.Consumption.Order.{IsInOrder};
 ghost use Rattle.mbdc_audit.specs.Consumption.Period.{checked, consumption};
 
-use crate::consumption::checked::{checked, difference};
-use crate::consumption::walk::{amount_at, start, walk};
+use crate::consumption::checked::difference;
+use crate::consumption::reached::Reached;
+use crate::consumption::walk::{amount_at, walk};
 use crate::consumption::{AmountFault, Entry};
 
 /// What the place consumed from a moment to another, or `None` where one of them is before its
@@ -18,9 +19,9 @@ pub fn consumption(entries: &[Entry], from: u64, to: u64) -> Result<Option<u64>,
     requires period { from ≤ to }
     ensures { result ≡ checked (consumption entries.now from to) }
 {
-    let first = walk(entries, start(), from);
+    let first = walk(entries, Reached { count: 0, sum: 0 }, from);
     let last = walk(entries, first, to);
     let before = amount_at(entries, first, from);
     let after = amount_at(entries, last, to);
-    checked(difference(before, after))
+    difference(before, after)
 }

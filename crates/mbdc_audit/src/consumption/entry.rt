@@ -24,8 +24,7 @@ const SECONDS_OF_HOUR: u64 = 3_600;
 const SPARE_HOURS: u64 = 2;
 
 impl Entry {
-    ghost use Rattle.mbdc_audit.specs.Consumption.Step.{step, room, is_turn, is_backwards, is_exchange};
-    ghost use Rattle.mbdc_audit.specs.Consumption.Step.{is_too_much, is_doubtful};
+    ghost use Rattle.mbdc_audit.specs.Consumption.Step.{is_doubtful, is_turn, room, step};
     ghost use Rattle.mbdc_audit.specs.Consumption.Curve.{share};
     ghost use Rattle.mbdc_audit.specs.Consumption.Mark.{touches};
 
@@ -63,37 +62,18 @@ impl Entry {
         }
     }
 
-    /// Whether the meter ran backwards from this entry to the next: it shows less, and didn't turn
-    /// over.
-    pub fn runs_backwards_to(&self, next: &Entry) -> bool
-        ensures { result ≡ is_backwards self.now next.now }
-    {
-        self.meter == next.meter && next.value < self.value && !self.turns_over_to(next)
-    }
-
-    /// Whether the step to the next entry is doubtful: the meter ran backwards, or rose by more than
-    /// it can have counted.
+    /// Whether the step to the next entry is doubtful: the meter ran backwards, so that it shows less and didn't turn
+    /// over; or it rose by more than it can have counted, where that is declared.
     pub fn is_doubtful_to(&self, next: &Entry) -> bool
         ensures { result ≡ is_doubtful self.now next.now }
     {
-        self.runs_backwards_to(next) || self.rises_beyond(next)
-    }
-
-    // Whether the meter rose by more than it can have counted, where that is declared.
-    fn rises_beyond(&self, next: &Entry) -> bool
-        ensures { result ≡ is_too_much self.now next.now }
-    {
-        if self.meter != next.meter || self.most == 0 {
+        if self.meter != next.meter {
             return false;
         }
-        self.room_to(next) < u128::from(next.value.saturating_sub(self.value))
-    }
-
-    /// Whether the next entry is of another meter.
-    pub fn is_exchanged_for(&self, next: &Entry) -> bool
-        ensures { result ≡ is_exchange self.now next.now }
-    {
-        self.meter != next.meter
+        if next.value < self.value {
+            return !self.turns_over_to(next);
+        }
+        self.most != 0 && self.room_to(next) < u128::from(next.value - self.value)
     }
 
     /// Whether the step to the next entry touches a period: it ends after the period begins, and

@@ -1,19 +1,9 @@
 //! The steps of a period that are marked.
 
-ghost use Rattle.std.specs.Prelude.{◌≡◌, ◌≤◌, length};
-ghost use Rattle.mbdc_audit.specs.Consumption.Mark.{exchanges_in, is_doubtful_next, marked_in};
+ghost use Rattle.std.specs.Prelude.{◌≡◌, length};
+ghost use Rattle.mbdc_audit.specs.Consumption.Mark.{exchanges_in, marked_in};
 
 use crate::consumption::Entry;
-
-// Whether the step from an entry to the first of the later ones is doubtful.
-fn is_doubtful_next(entry: &Entry, later: &[Entry]) -> bool
-    ensures { result ≡ is_doubtful_next entry.now later.now }
-{
-    match later.first() {
-        Some(next) => entry.is_doubtful_to(next),
-        None => false,
-    }
-}
 
 /// Number of steps that touch a period and are marked: doubtful, before a doubtful one, or after
 /// one.
@@ -28,7 +18,8 @@ pub fn backwards(entries: &[Entry], from: u64, to: u64) -> usize
     let mut is_after_doubtful = false;
     'steps: while let Some((after, rest)) = later.split_first() {
         let is_doubtful = before.is_doubtful_to(after);
-        let is_marked = is_after_doubtful || is_doubtful || is_doubtful_next(after, rest);
+        let is_before = rest.first().is_some_and(|next| after.is_doubtful_to(next));
+        let is_marked = is_after_doubtful || is_doubtful || is_before;
         if is_marked && before.touches(after, from, to) {
             count += 1;
         }
@@ -49,7 +40,7 @@ pub fn exchanges(entries: &[Entry], from: u64, to: u64) -> usize
     };
     let mut before = *first;
     for after in later {
-        if before.is_exchanged_for(after) && before.touches(after, from, to) {
+        if before.meter != after.meter && before.touches(after, from, to) {
             count += 1;
         }
         before = *after;

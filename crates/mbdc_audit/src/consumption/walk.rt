@@ -1,20 +1,12 @@
 //! A walk over the entries of a place.
 
-ghost use Rattle.std.specs.Prelude.{◌≡◌, ℕ, List};
-ghost use Rattle.mbdc_audit.specs.declared.consumption.entry.Entry.{Entry};
+ghost use Rattle.std.specs.Prelude.{◌≡◌};
 ghost use Rattle.mbdc_audit.specs.Consumption.Order.{IsInOrder};
 ghost use Rattle.mbdc_audit.specs.Consumption.Curve.{curve};
 ghost use Rattle.mbdc_audit.specs.Consumption.Reached.{IsBefore, HasReached};
 
 use crate::consumption::Entry;
 use crate::consumption::reached::Reached;
-
-/// A walk that has passed no entry.
-pub(crate) fn start() -> Reached
-    ensures { (moment : ℕ) (entries : List Entry) → IsBefore moment entries result }
-{
-    Reached { count: 0, sum: 0 }
-}
 
 /// Walks on past the entries at the moment or before it.
 pub(crate) fn walk(entries: &[Entry], from: Reached, moment: u64) -> Reached
