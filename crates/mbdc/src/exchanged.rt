@@ -1,4 +1,5 @@
-//! Bus lines whose cables may be exchanged: a meter of a line on which nobody was heard is looked for on the others.
+//! Bus lines that a poll leaves with missing meters: whose cables may be exchanged, and where a meter answers for
+//! others.
 
 use crate::connecting::buses_of;
 use crate::tracing::{Trace, tracers_of};
@@ -24,6 +25,10 @@ use std::str;
 // Number of bus lines.
 const LINES: usize = 8;
 
+// From how many meters of a line on that were answered for by something unreadable, or by another meter, it is asked
+// who answers there for others.
+const DISTURBED: u64 = 2;
+
 // The patience in milliseconds where none is given, that of a search: nothing is stored.
 const PATIENCE: u16 = 2_000;
 
@@ -35,6 +40,8 @@ struct Found {
     missing: u64,
     // The first of the missing ones.
     first: Option<Identity>,
+    // Number of those for whom something unreadable, or another meter, answered.
+    disturbed: u64,
 }
 
 /// The meters that are missing in a poll: silent, or another one answers at their address.
@@ -50,6 +57,7 @@ impl Missing {
             meters: 0,
             missing: 0,
             first: None,
+            disturbed: 0,
         };
         let mut lines = [none; LINES];
         if let Some(house) = house {
@@ -81,7 +89,7 @@ impl<J: Notes + Drop> Notes for Attending<'_, J> {
             line,
             meter,
             why,
-            ..
+            brought,
         } = event
             && matches!(why, Why::NoAnswer | Why::Stranger)
         {
@@ -89,6 +97,9 @@ impl<J: Notes + Drop> Notes for Attending<'_, J> {
             if let Some(found) = lines.get_mut(usize::from(*line).wrapping_sub(1)) {
                 found.missing = found.missing.saturating_add(1);
                 found.first = Some(found.first.unwrap_or(*meter));
+                if brought.misses.noise > 0 || matches!(why, Why::Stranger) {
+                    found.disturbed = found.disturbed.saturating_add(1);
+                }
             }
             self.missing.lines.set(lines);
         }
@@ -98,7 +109,9 @@ impl<J: Notes + Drop> Notes for Attending<'_, J> {
 
 /// Where all meters of a line were missing in the poll, and some of another one, the first of them is selected on each
 /// other line with missing meters, one after the other, and standard error says where it answers with its telegram: the
-/// lines are exchanged there. Its selection is taken back. Nothing is stored, and without memory nothing is asked.
+/// lines are exchanged there. Where something unreadable or another meter answered for meters of a line, a number that
+/// nobody has is selected there, and standard error says which meter answers it: that one answers for others. Each
+/// selection is taken back. Nothing is stored, and without memory nothing is asked.
 pub fn look_for_missing<R>(
     host: &Host<'_, R>,
     peers: &[Option<Peer<R>>],
@@ -114,8 +127,8 @@ where
     let is_deserted = lines
         .iter()
         .any(|found| found.missing > 0 && found.missing == found.meters);
-    if short > 1
-        && is_deserted
+    let is_disturbed = lines.iter().any(|found| found.disturbed >= DISTURBED);
+    if (is_disturbed || short > 1 && is_deserted)
         && let Ok(observers) = tracers_of(host, trace, peers.len())
     {
         look_over(host, peers, observers, &lines, patience);
@@ -149,7 +162,8 @@ where
     }
 }
 
-// Looks on the bus of this line for a meter of each other one on which all are missing.
+// Looks on the bus of this line for a meter of each other one on which all are missing, and, where it was disturbed,
+// for one that answers to a number that nobody has.
 fn look_on_line<B: Bus, R: Eprint>(
     host: &Host<'_, R>,
     bus: &mut B,
@@ -159,32 +173,38 @@ fn look_on_line<B: Bus, R: Eprint>(
     let mut own = 0u8;
     for found in lines {
         own = own.saturating_add(1);
-        if own != line
-            && found.missing == found.meters
-            && let Some(meter) = found.first
-            && answers(bus, &meter)
+        let is_own = own == line;
+        let asked = match found.first {
+            Some(_) if is_own && found.disturbed >= DISTURBED => Identity::greatest(),
+            Some(first) if !is_own && found.missing == found.meters => first,
+            _ => continue,
+        };
+        if let Some(sender) = sender_of(bus, &asked, is_own)
+            && is_own == (sender != asked)
         {
-            let text = meter.text();
+            let text = sender.text();
             let name = str::from_utf8(&text).unwrap_or_default();
-            let _ = eprint!(host.rt; "mbdc: line {own}: {name} answers on line {line}\n");
+            let _ = if is_own {
+                eprint!(host.rt; "mbdc: line {line}: {name} answers for other meters\n")
+            } else {
+                eprint!(host.rt; "mbdc: line {own}: {name} answers on line {line}\n")
+            };
         }
     }
 }
 
-// Whether a meter that is selected answers with its telegram. Its selection is taken back.
-fn answers<B: Bus>(bus: &mut B, meter: &Identity) -> bool {
+// The sender of the telegram that comes where this meter is selected. Without an acknowledgement it is asked for only
+// where `is_pressed` says so. The selection is taken back.
+fn sender_of<B: Bus>(bus: &mut B, meter: &Identity, is_pressed: bool) -> Option<Identity> {
     let mut request = FrameBuf::new();
     write_selection(&Mask::of(meter).wire(), &mut request);
     let answer = bus.ask(&request);
-    if !matches!(parse(answer.as_slice()), Ok(Frame::Ack)) {
-        return false;
+    if !is_pressed && !matches!(parse(answer.as_slice()), Ok(Frame::Ack)) {
+        return None;
     }
     write_request(true, SELECTED, &mut request);
     let telegram = bus.ask(&request);
     write_reset(SELECTED, &mut request);
     bus.ask(&request);
-    let Some(sender) = meter_of(telegram.as_slice()) else {
-        return false;
-    };
-    sender == *meter
+    meter_of(telegram.as_slice())
 }
