@@ -12,13 +12,14 @@ CLAUSE = re.compile(r"^\s*(ensures|requires)\s*(\w*)\s*\{")
 
 class Function:
     """A function of a crate: its name with its type's or trait's, its lines (the first, that of its body, the one after
-    it), and the names of its clauses."""
+    it), the names of the clauses that it ensures, and how many clauses it has."""
 
     def __init__(self, crate: str, file: pathlib.Path, owners: list[str], name: str, is_public: bool,
                  first: int) -> None:
         self.crate, self.file, self.owners, self.name = crate, file, owners, name
         self.is_public, self.first, self.body, self.last, self.text = is_public, first, first, first, ""
         self.clauses: list[str] = []
+        self.count, self.has_body = 0, False
 
     def names(self) -> list[str]:
         return [f"{owner}::{self.name}" for owner in self.owners] or [self.name]
@@ -116,6 +117,7 @@ def read_function(function: Function, lines: list[str], place: int) -> int:
         clause = CLAUSE.match(lines[place])
         if clause:
             text, place = clause_at(lines, place)
+            function.count += 1
             if clause[1] == "ensures":
                 function.clauses.append(clause[2])
             if text.rstrip().endswith(";"):
@@ -128,7 +130,7 @@ def read_function(function: Function, lines: list[str], place: int) -> int:
             place += 1
             break
         if bare and not bare.startswith("//") and "{" in bare:
-            function.body = place
+            function.body, function.has_body = place, True
             _, place = clause_at(lines, place)
             break
         if ITEM.match(lines[place]) and place > function.first:
