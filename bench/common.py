@@ -97,7 +97,6 @@ class Bench:
         self.launch = self.compiled("launch")
 
     def compiled(self, name: str, *libraries: str) -> str:
-        """A program of bench/, compiled."""
         subprocess.run(["gcc", "-O3", "-march=x86-64-v2", "-o", self.path(name), HERE / f"{name}.c", *libraries], check=True)
         return self.path(name)
 
@@ -121,7 +120,6 @@ class Bench:
         return f"{self.folder}/{name}"
 
     def write(self, name: str, text: str) -> str:
-        """Writes a file. Returns its path."""
         pathlib.Path(self.path(name)).write_text(text)
         return self.path(name)
 
@@ -130,7 +128,6 @@ class Bench:
         subprocess.run([MBDC, "format", self.path(name), str(sectors)], check=True)
 
     def remove(self, name: str) -> None:
-        """Removes an image or a database."""
         for end in ("", "-wal", "-shm"):
             pathlib.Path(self.path(name) + end).unlink(missing_ok=True)
 

@@ -1,23 +1,24 @@
 """Cases of demo/losses: images that are replaced or that an older version wrote, and output that nobody takes."""
 
 import fcntl
+import functools
 import os
 import pathlib
 import re
 import resource
 import shutil
 import subprocess
-from collections.abc import Sequence
 from typing import Any
 
 from world.audit_page import EXAMPLE
 from world.box import readings_of
-from world.cases import Failed, wants
+from world.cases import Case, Failed, wants
 from world.frames import Identity
 from world.gateways import TransparentGateway, serve
 
 ROOT = pathlib.Path(__file__).resolve().parent.parent
 METER, SECTORS, LARGEST = str(Identity(12345678)), "131", "131075"
+FIT = f"OFFICE 1 FIT {METER} 1 1 A1\n"
 LENGTH = 512 * int(SECTORS)
 ROOM = 48 << 20  # bytes; the file of the largest image has 64 MiB
 GIVEN_UP, MARGIN = 5, 10  # seconds
@@ -28,6 +29,13 @@ class Program:
 
     def __init__(self, path: pathlib.Path, folder: pathlib.Path) -> None:
         self.path, self.folder = path, folder
+
+    @functools.cached_property
+    def shim(self) -> str:
+        """A library that stands for a drive and fails a sync (demo/failing_sync.c)."""
+        source, library = ROOT / "demo/failing_sync.c", f"{self.folder}/failing_sync.so"
+        subprocess.run(["gcc", "-shared", "-fPIC", "-O1", "-w", "-o", library, source], check=True)
+        return library
 
     def start(self, *words: str, stderr: Any = subprocess.PIPE, **how: Any) -> "subprocess.Popen[bytes]":
         return subprocess.Popen([self.path, *words], cwd=self.folder, stderr=stderr, **how)
@@ -46,8 +54,24 @@ class Program:
         status, line = self.run(*words, **how)
         wants((status, line) == wanted, f"{' '.join(words)[:60]}: status {status}, {line.strip()[:60] or 'no line'}")
 
-    def formats(self, name: str) -> None:
+    def shown(self, *words: str, **env: object) -> tuple[str, str, int]:
+        """What a run prints, its line on standard error and its status."""
+        how: dict[str, Any] = {"cwd": self.folder, "capture_output": True, "text": True, "timeout": 60}
+        how["env"] = {**os.environ, **{name: str(value) for name, value in env.items()}}
+        ended = subprocess.run([self.path, *words], **how)
+        return ended.stdout, ended.stderr, ended.returncode
+
+    def failing(self, *words: str, **env: object) -> tuple[str, str, int]:
+        """The same beside a drive, or a clock, that fails as `env` says."""
+        return self.shown(*words, LD_PRELOAD=self.shim, **env)
+
+    def formats(self, name: str = "house.image") -> None:
         self.answers((0, ""), "format", name, SECTORS)
+
+    def fits(self, name: str = "day.txt") -> None:
+        """An image with the meter in its register."""
+        self.formats()
+        self.answers((0, ""), "run", "house.image", script(self.folder, FIT, name))
 
     def holds_a_meter(self, name: str) -> bool:
         """Whether it is an image with the meter in its register."""
@@ -56,24 +80,8 @@ class Program:
 
 
 def script(folder: pathlib.Path, text: str, name: str = "day.txt") -> str:
-    """Writes a script. Returns its name."""
     (folder / name).write_text(text)
     return name
-
-
-def shim(folder: pathlib.Path) -> str:
-    """A library that stands for a drive and fails a sync (demo/failing_sync.c)."""
-    source, library = ROOT / "demo/failing_sync.c", folder / "failing_sync.so"
-    subprocess.run(["gcc", "-shared", "-fPIC", "-O1", "-w", "-o", library, source], check=True)
-    return str(library)
-
-
-def printed_of(program: Program, folder: pathlib.Path, env: dict[str, str], *words: str) -> tuple[str, str, int]:
-    """What a run prints, its line on standard error and its status, beside a drive that fails as `env` says."""
-    how: dict[str, Any] = {"cwd": folder, "capture_output": True, "text": True, "timeout": 60}
-    how["env"] = {**os.environ, **env}
-    ended = subprocess.run([program.path, *words], **how)
-    return ended.stdout, ended.stderr, ended.returncode
 
 
 # Polls
@@ -82,7 +90,7 @@ def printed_of(program: Program, folder: pathlib.Path, env: dict[str, str], *wor
 def bus_of(program: Program, folder: pathlib.Path, count: int) -> str:
     """The link of a bus with that many meters, which the image has."""
     gateway = serve(count)
-    program.formats("house.image")
+    program.formats()
     rows = "".join(f"{it.name},1,{it.address},{it.flat}\n" for it in gateway.bus.meters)
     (folder / "meters.csv").write_text("meter,line,address,flat\n" + rows)
     wants(program.run("fit", "house.image", "meters.csv") == (0, ""), "the list isn't done")
@@ -90,7 +98,7 @@ def bus_of(program: Program, folder: pathlib.Path, count: int) -> str:
 
 
 def readings_in(program: Program, image: str = "house.image") -> int:
-    text = printed_of(program, program.folder, {}, "inspect", image)[0]
+    text = program.shown("inspect", image)[0]
     return next((int(line.split()[1]) for line in text.splitlines() if line.startswith("READINGS")), -1)
 
 
@@ -215,11 +223,10 @@ def ends_as(wanted: int, folder: pathlib.Path, *words: str, given: str = "") -> 
 def looks_at_older_images_print_the_same(program: Program, folder: pathlib.Path) -> None:
     """Each look at an image of 0.2.0 prints what 0.2.0 printed, but no value of a meter whose readings are all confirmed."""
     box_of_0_2_0(program, folder)
-    clock = {"LD_PRELOAD": shim(folder), "CLOCK": PRINTED_AT}
     for name in ("house", "full", "cut"):
         for look, wanted in re.findall(r"(?m)^\$ (.*)\n((?:[^$].*\n)*)", (folder / f"{name}.txt").read_text()):
             verb, *words = look.split()
-            text, line, _ = printed_of(program, folder, clock, verb, f"{name}.image", *words)
+            text, line, _ = program.failing(verb, f"{name}.image", *words, CLOCK=PRINTED_AT)
             wants((text, line) == (CONFIRMED.sub(r"\1NONE\n", wanted), ""), f"{look} of {name}: {text!r}, {line!r}")
 
 
@@ -273,7 +280,7 @@ def older_images_go_on_where_they_stopped(program: Program, folder: pathlib.Path
     wants(text.startswith(f"OK 8\n{held}METER 08470054.PAD.3A.07 1 S C9 0\n"), f"after the cut: {text}")
 
 
-CASES: Sequence[Any] = [
-    a_poll_into_a_replaced_image_stops, a_poll_outlives_its_output, a_full_log_is_named, a_look_takes_the_memory_of_the_state,
-    looks_at_older_images_print_the_same, older_settings_are_taken_or_named, an_older_house_goes_on,
-    older_images_go_on_where_they_stopped]
+def cases_in(names: dict[str, Any]) -> list[Case]:
+    """Of these the functions that take a program and its folder, and return nothing."""
+    of_a_case = {"program": Program, "folder": pathlib.Path, "return": None}
+    return [it for it in names.values() if getattr(it, "__annotations__", None) == of_a_case]

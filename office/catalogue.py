@@ -47,7 +47,6 @@ class Catalogue(NamedTuple):
         return self.word(f"{kind}.{key}" if f"{kind}.{key}" in texts() else key, **values)
 
     def page(self, key: str, **values: object) -> str:
-        """A word of the manager's page."""
         return self.of("page", key, **values)
 
     def field(self, name: str) -> str:
@@ -57,7 +56,6 @@ class Catalogue(NamedTuple):
         return self.of("do", name)
 
     def explained(self, key: str) -> str:
-        """What explains an item."""
         return texts()[key][len(LANGUAGES) + LANGUAGES.index(self.language)]
 
     def use(self, name: str) -> str:

@@ -31,7 +31,6 @@ class Database:
 
     @contextlib.contextmanager
     def transaction(self) -> Iterator[Cursor]:
-        """A transaction's cursor."""
         if self.connection is None or self.connection.closed:
             self.connection = psycopg2.connect(self.name, options=self.options,
                                                cursor_factory=psycopg2.extras.NamedTupleCursor)
@@ -44,7 +43,6 @@ class Database:
 
 
 def rows_of(cursor: Cursor, query: str, *values: Any, **named: Any) -> List[Row]:
-    """The rows of a query."""
     cursor.execute(query, named or values or None)
     return list(cursor.fetchall())
 
@@ -61,7 +59,6 @@ def value_of(cursor: Cursor, query: str, *values: Any, **named: Any) -> Any:
 
 
 def column_of(cursor: Cursor, query: str, *values: Any, **named: Any) -> List[Any]:
-    """The first column of a query."""
     return [row[0] for row in rows_of(cursor, query, *values, **named)]
 
 

@@ -294,7 +294,6 @@ def kind_of(name: str) -> Kind:
 
 
 def offers_of(item: Row, readings: List[Row]) -> List[Offer]:
-    """What can be done about an item."""
     kind = kind_of(item.kind)
     actions = [it for it in kind.offers.get(kind.detail_of(item.facts), kind.offers.get("", ()))
                if "houses" not in item.facts or it == "send"]  # what many houses have
@@ -455,7 +454,6 @@ def morning_page(morning: Morning, words: Catalogue, viewer: Optional[Viewer], s
 
 
 def mail_text(morning: Morning, words: Catalogue) -> str:
-    """The items in lines."""
     return page("desk_mail.txt", words, None, morning=morning).rstrip("\n")
 
 

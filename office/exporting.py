@@ -102,7 +102,6 @@ def asked(decimals: int) -> str:
 # ---- what is asked
 
 def of_sheet(sheet: Sheet, spans: Spans) -> Iterator[Asked]:
-    """The numbers of a sheet."""
     user, now = sheet.user, spans[sheet.month]
     for use in sheet.uses:
         name, shown = f"{user.id},{use.use},{AUDIT_UNITS[use.unit]}", asked(DECIMALS[use.unit])
@@ -538,7 +537,6 @@ class Writer:
         self.lines += [f"part,{span},{part.begins},{part.ends},{part.user or '-'}" for part in window.parts]
 
     def value(self, value: Evidence, run: int, zone: str) -> str:
-        """The line of a value."""
         if value.source in AT_ENDS:
             how = "estimated" if value.is_estimated else "hand"
             return f"{AT_ENDS[value.source]},{run},{value.value},{value.unit},{how}"

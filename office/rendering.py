@@ -82,7 +82,6 @@ def fixed(kind: str, text: object) -> Markup:
 
 
 def wrote(text: object) -> Markup:
-    """What people wrote."""
     return Markup('<bdi><address data-fixed="contact">{}</address></bdi>').format(plain(text))
 
 
@@ -101,7 +100,6 @@ class Said(NamedTuple):
         return Markup(self.words.word(word)).format(**values)
 
     def number(self, key: Key) -> Optional[Markup]:
-        """A number as it is printed."""
         printed = printed_in(self.numbers, self.words)(key)
         return None if printed is None or printed.text == NONE else element(printed.text, printed.of)
 

@@ -139,7 +139,6 @@ def stamped(cursor: Cursor, box: str, readings: List[Reading], window: Window) -
 
 
 def status_of(body: bytes) -> Optional[int]:
-    """The status byte of a telegram."""
     return body[STATUS_BYTE] if len(body) > STATUS_BYTE else None
 
 

@@ -171,7 +171,6 @@ class Files:
         return f"{text[:-9]}.{text[-9:]}".rstrip("0").rstrip(".") + f",{unit}"
 
     def value(self, run: int, moment: int, count: int, day: Optional[Day], made: List[Tuple[int, str]]) -> str:
-        """The line of a value."""
         rng, chance = self.rng, self.rng.random()
         if chance < 0.04:
             return f"hand,{run},{moment},{self.put(count)}"

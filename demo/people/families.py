@@ -24,8 +24,6 @@ USES = {0x02: "electricity", 0x04: "heat", 0x07: "cold water"}
 
 
 class FamilyHouse:
-    """The house, its box, and the office."""
-
     def __init__(self, office: pathlib.Path, server: Any, mbdc: pathlib.Path, folder: pathlib.Path) -> None:
         self.office, self.server, self.mbdc, self.folder = office, server, mbdc, folder
         self.meters: Dict[str, FamilyMeter] = family_meters(random.Random(1))
@@ -128,7 +126,6 @@ class FamilyHouse:
             self.problems.append(what)
 
     def play(self, out: pathlib.Path, pdf: str) -> int:
-        """All of it; the number of families."""
         self.read()
         self.collect()
         self.publish(out, pdf)

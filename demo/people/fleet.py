@@ -75,7 +75,6 @@ class House:
         self.write_settings()
 
     def fits(self) -> list[str]:
-        """The office's commands that register the meters."""
         return [meter.fit() for meter in self.meters]
 
     def run(self, lines: Sequence[str], is_to_be_killed: bool = False,
@@ -130,7 +129,6 @@ class House:
         return [meter for meter, sent in zip(meters, begun) if not sent.is_promised]
 
     def register(self) -> set[tuple[str, int, str, Optional[str]]]:
-        """What the register has to be."""
         return {(meter.name, LINE, meter.address, self.flats[meter.name])
                 for meter in self.meters if self.flats[meter.name]}
 
@@ -179,7 +177,6 @@ class Truth:
         return float(sum(sizes) / self.count_of("%"))
 
     def problems_found(self) -> list[str]:
-        """Everything that isn't as it has to be."""
         houses = [*self.fleet.houses, *self.retired]
         readings = self.rows("SELECT box, serial, identity, flat, heard, bodies FROM readings")
         stored = collections.defaultdict(list)

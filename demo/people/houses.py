@@ -12,7 +12,7 @@ import random
 import zoneinfo
 from typing import Any, Dict, Iterator, List, NamedTuple, Optional, Tuple
 
-from world.frames import bcd, type_g
+from world.frames import Identity, bcd, header, type_g
 
 ZONE = "Europe/Berlin"
 BERLIN = zoneinfo.ZoneInfo(ZONE)
@@ -46,8 +46,6 @@ LEAP = 53_000_000  # millilitres
 KEPT = 4096  # places of which a moment's values are kept
 BESIDE = 12  # entries: three moments, of each at most a stored one, a false one, and two of an exchange
 WRONG = datetime.datetime(2000, 1, 1, 0, 7, tzinfo=UTC)  # of a clock that began anew
-COMPANY = bytes([0x24, 0x40])
-STATUS = bytes([0, 0, 0])  # status, configuration
 
 
 def begin_of(day: datetime.date) -> Moment:
@@ -80,16 +78,16 @@ class Device:
 
     @property
     def identity(self) -> str:
-        return f"{self.number:08}.PAD.01.{self.kind.medium:02X}"
+        return str(Identity(self.number, 1, self.kind.medium))
 
     def body(self, told: Telegram) -> bytes:
         """A telegram without its frame: header, value, and the date and value that are stored."""
-        header = bcd(self.number) + COMPANY + bytes([1, self.kind.medium, told.at.toordinal() % 256]) + STATUS
-        value = bytes([0x0C, self.kind.vif]) + bcd(told.digits)
+        head = header(Identity(self.number, 1, self.kind.medium), told.at.toordinal())
+        now = head + bytes([0x0C, self.kind.vif]) + bcd(told.digits)
         if told.stored is None:
-            return header + value
-        return header + value + bytes([0x42, 0x6C]) + type_g(told.stored[0]) + bytes([0x4C, self.kind.vif]) + bcd(
-            told.stored[1])
+            return now
+        day, value = told.stored
+        return now + bytes([0x42, 0x6C]) + type_g(day) + bytes([0x4C, self.kind.vif]) + bcd(value)
 
     def shown(self, digits: int) -> str:
         """A value as the decoder prints it."""
@@ -287,7 +285,6 @@ class House:
 
 
 class Plan(NamedTuple):
-    """What goes on at a place."""
     is_storing: bool  # the meter stores the value at each month's end
     lost: List[datetime.date]  # days without a telegram
     exchanged_at: Optional[Moment]

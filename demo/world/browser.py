@@ -66,11 +66,9 @@ class Browser:
         return self.driver.execute_cdp_cmd(command, words)
 
     def run(self, script: str, *words: object) -> Any:
-        """Runs a script in the page, and returns what it returns."""
         return self.driver.execute_script(script, *words)
 
     def open(self, fragment: str = "", language: str = "en", scheme: str = "light", width: int = 1280) -> None:
-        """Opens the page anew."""
         self.tell("Emulation.setLocaleOverride", locale=language)
         self.tell("Emulation.setUserAgentOverride", userAgent="test", acceptLanguage=language)
         self.tell("Emulation.setEmulatedMedia", features=[{"name": "prefers-color-scheme", "value": scheme}])
@@ -81,7 +79,6 @@ class Browser:
             self.until_ready()
 
     def until_ready(self) -> None:
-        """Waits for the page's module."""
         end = time.monotonic() + MOST_SECONDS
         while not self.run("return document.documentElement.dataset.ready || !document.getElementById('refused').hidden;"):
             wants(time.monotonic() < end, "the page isn't ready")
@@ -94,11 +91,9 @@ class Browser:
         return self.said()
 
     def said(self) -> str:
-        """What the page says last."""
         return str(self.run("return document.getElementById('said').textContent;"))
 
     def shown(self) -> str:
-        """The text of the frames."""
         return str(self.run("return document.getElementById('frames').innerText;"))
 
     def focus(self) -> str:

@@ -55,7 +55,6 @@ class Meter:
         self.litres += self.rng.randrange(20, 400)
 
     def begin_readout(self, moment: int) -> Readout:
-        """Prepares the telegrams of the next readout."""
         self.litres += self.rng.randrange(1, 5)
         now = VOLUME + bcd(self.litres)
         due = STORED_DATE + type_g(self.due) + STORED_VOLUME + bcd(self.due_litres)
@@ -81,7 +80,6 @@ class Meter:
         return answer(self.primary or 0, self.readouts[-1].bodies[self.place], self.ci)
 
     def matches(self, mask: bytes) -> bool:
-        """Whether a wildcard address selects the meter."""
         own = self.identity.wire()
         return (all(asked in (ANY_DIGIT, digit) for asked, digit in zip(mask[:4].hex(), own[:4].hex()))
                 and mask[4:6] in (bytes([ANY_BYTE] * 2), own[4:6])

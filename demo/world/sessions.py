@@ -11,8 +11,7 @@ PIECE = re.compile(r"^= (\S+)\n(.*?)^=$\n?", re.M | re.S)
 def put(line: str, pieces: dict[str, str]) -> Iterator[str]:
     """A line, or those that it asks for."""
     if not line.startswith("@ "):
-        asked, _, answer = line.partition(" => ") if line[:1] in ("$", ">") else (line, "", "")
-        yield from [asked, answer] if answer else [asked]
+        yield from line.split(" => ") if line[:1] in ("$", ">") else [line]
         return
     name, _, words = line[2:].partition(" ")
     span = re.fullmatch(r"(\d+)\.\.(\d+)", words)

@@ -21,7 +21,6 @@ class Truth:
         self.spans: dict[int, int] = {}  # by the moment of a poll: when it ended
 
     def check(self, holds: bool, text: str) -> None:
-        """Notes a problem where something doesn't hold."""
         if not holds:
             self.problems.append(text)
 

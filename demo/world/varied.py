@@ -18,7 +18,6 @@ NUMBERS = (0x00000000, 0x80000000, 0x7F800000, 0xFF800000, 0x7FC00000, 0x0000000
 
 
 def random_digits(rng: random.Random, count: int) -> list[int]:
-    """So many bytes of two BCD digits."""
     return [rng.randrange(10) << 4 | rng.randrange(10) for _ in range(count)]
 
 

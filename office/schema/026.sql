@@ -1,16 +1,12 @@
--- What came after 0.2.0.
--- talks: a box said more than a box can, or has more readings than a collection takes; until it is collected whole.
+-- What came after 0.2.0; tables.sql says what it is.
 ALTER TABLE boxes ADD COLUMN talks text;
--- A job has the words of its kind.
 ALTER TABLE jobs DROP CONSTRAINT jobs_what_check, ADD CONSTRAINT words_of_its_kind CHECK (CASE what
     WHEN 'collect' THEN words ~ '^[A-Za-z0-9][A-Za-z0-9._-]{0,63}$'
     WHEN 'release' THEN words ~ '^\d{4}-(0[1-9]|1[0-2])( [A-Za-z0-9][A-Za-z0-9._-]{0,63})?$'
     WHEN 'send' THEN words ~ '^\d{4}-(0[1-9]|1[0-2])$'
     WHEN 'erase' THEN words ~ '^[0-9a-f]{32}$' ELSE false END);
--- A telegram counts whose own dates are those of its moment.
 ALTER TABLE gaps DROP CONSTRAINT gaps_why_check,
     ADD CHECK (why IN ('error', 'too large', 'two energies', 'no record', 'other date'));
--- An audit is its file: the hash is the file's.
 ALTER TABLE audits ADD CONSTRAINT is_its_file CHECK (sha256 = encode(sha256(file), 'hex'));
 -- A mail address is one address: of a user who had another it goes.
 DO $$

@@ -110,14 +110,12 @@ class Box:
         subprocess.run([MBDC, "format", self.image, "1000"], check=True)
 
     def run(self, *lines: str) -> List[str]:
-        """Does a script at the image."""
         script = self.folder / "script"
         script.write_text("".join(f"{it}\n" for it in lines), encoding="ascii")
         done = subprocess.run([MBDC, "run", self.image, script], capture_output=True, text=True, check=True)
         return done.stdout.splitlines()
 
     def last(self) -> int:
-        """The number of the last command that was done."""
         return int(self.run("OFFICE 999999999999999999 CONFIRM 0")[0].split()[2])
 
     def confirmed(self) -> int:
@@ -210,7 +208,6 @@ FITS = ["FIT 11111111.PAD.01.07 1 1 A1", "FIT 22222222.PAD.01.07 1 2 A2"]
 
 @pytest.fixture
 def box(office: Office) -> Box:
-    """A box with two meters."""
     made = office.box("house-1")
     office.order("house-1", *FITS).ok()
     return made

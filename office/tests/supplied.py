@@ -6,6 +6,7 @@ from fractions import Fraction
 from typing import Any, Dict, List, Optional, Tuple
 
 from conftest import Office
+from world.frames import type_g
 
 import months
 from database import Database
@@ -34,8 +35,7 @@ def record(unit: str, value: Any, storage: int = 0) -> bytes:
 
 def dated(day: str) -> bytes:
     """The date of storage 1, as data type G."""
-    it = datetime.date.fromisoformat(day)
-    return b"\x42\x6c" + bytes([it.day | (it.year % 100 & 7) << 5, it.month | (it.year % 100 >> 3) << 4])
+    return b"\x42\x6c" + type_g(datetime.date.fromisoformat(day))
 
 
 def at(text: str) -> datetime.datetime:

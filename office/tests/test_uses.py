@@ -9,6 +9,7 @@ from supplied import ALLOCATOR, COLD, HEAT, WATER, WH, Supplied, at, dated, head
 from test_boxes import housed
 from test_schema import refused
 from test_sheets import faults, published, sheet_of
+from world.frames import type_g
 
 import storing
 from database import Database
@@ -148,8 +149,7 @@ def test_a_telegram_of_another_day_does_not_count(office: Office, elm: Supplied)
     database, readings = Database(office.name, 60), []
     for number, days in enumerate([0] * 7 + [30, 0, -9] + [0] * 27):
         read, own = (moment + datetime.timedelta(number + it) for it in (0, days))
-        date = [own.day | (own.year % 100 & 7) << 5, own.month | (own.year % 100 >> 3) << 4]
-        clock = bytes([0x04, 0x6D, own.minute, own.hour, *date])
+        clock = bytes([0x04, 0x6D, own.minute, own.hour]) + type_g(own)
         due = dated("2025-02-20") + record("m3", 5, 1) if number == 20 else b""
         readings.append(Reading(number + 1, "00000001.PAD.01.07", "A1", (read,), (
             header("00000001.PAD.01.07", 0, number) + record("m3", 100 + number) + clock + due,)))
