@@ -8,7 +8,7 @@ use Rattle.std.specs.declared.time.Instant.{Instant}
 use Rattle.mbdc_raw.proofs.Life.{held_as}
 use Rattle.mbdc_raw.proofs.Waits.{over_of}
 use Rattle.mbdc_raw.specs.Life.{Lives, MeetsSilence, heard, opened, rests, sent}
-use Rattle.mbdc_raw.specs.PollWire.{Ends, HasPassed, Holds, IsOver, IsStill, IsTold, WireHears, WireReopens, WireSends, as_before, at_gap, at_silence, begins, bytes_came, ends, from_now, goes_on, is_as_before, is_open, looked, none_came, not_yet, tells, told, when_late}
+use Rattle.mbdc_raw.specs.PollWire.{Ends, HasPassed, Holds, IsOver, IsStill, IsTold, WireHears, WireReopens, WireSends, as_before, at_gap, at_silence, begins, bytes_came, ends, from_now, goes_on, is_as_before, is_open, looked, none_came, not_yet, tells, tells_after, told, when_late}
 use Rattle.mbdc_raw.specs.Wire.{AreHeard, Sound, IsAwaited, silence}
 use Rattle.mbdc_raw.specs.declared.logged_clock.LoggedClock.{LoggedClock}
 use Rattle.mbdc_raw.specs.declared.poll_wire.PollWire.{PollWire}
@@ -174,8 +174,8 @@ module _ {R W C : Type 0} (contents : W → Option (List ℕ)) (remaining : R �
       (ap (λ (w : PollWire R W C). told w) same ∙ ap (λ (w : PollWire R W C). told w) so ∙ ap (λ (t : Instant). t ∷ told old) now, subst (λ (t : Instant). Ends old t) now past)
 
   pub apart : (old : PollWire R W C) (bytes : List ℕ) (asking : Asking) (request new : PollWire R W C) → (0 < asking.repeats → request.until ≡ Still) → MeetsSilence contents remaining old bytes asking request new
-      → (more : List Instant) × (told new ≡ new.at ∷ (more ++ (request.since ∷ told old))) × HasPassed request.limit request.since new.at
-  apart old bytes asking request new again meets = (waits.more, silent.0 ∙ ap (λ (xs : List Instant). new.at ∷ xs) (waits.history ∙ ap (λ (k : LoggedClock C). waits.more ++ k.log.told) meets.sends.clock), passed)
+      → (more : List Instant) × (told new ≡ new.at ∷ (more ++ (request.since ∷ told old))) × (request.clock ≡ tells_after bytes request.since old.clock) × HasPassed request.limit request.since new.at
+  apart old bytes asking request new again meets = (waits.more, silent.0 ∙ ap (λ (xs : List Instant). new.at ∷ xs) (waits.history ∙ ap (λ (k : LoggedClock C). waits.more ++ k.log.told) meets.sends.clock), meets.sends.clock, passed)
     where
       waits : WaitsOn request meets.quiet
       waits = all_wait request meets.quiet meets.sounds meets.awaited meets.heard

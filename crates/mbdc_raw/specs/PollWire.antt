@@ -24,9 +24,15 @@ use Rattle.mbdc_raw.specs.declared.wire.Asking.{Asking}
 abbrev pub told : {R W C : Type 0} → PollWire R W C → List Instant
 told wire = wire.clock.log.told
 
--- THE CLOCK IS READ once, and tells this moment
+-- THE CLOCK IS READ once after these bytes were written, and tells this moment
+abbrev pub tells_after : {C : Type 0} → List ℕ → Instant → LoggedClock C → LoggedClock C
+tells_after bytes at clock = record clock {
+  log = record clock.log { told = at ∷ clock.log.told; written = bytes ∷ clock.log.written };
+}
+
+-- it is read, and nothing was written
 abbrev pub tells : {C : Type 0} → Instant → LoggedClock C → LoggedClock C
-tells at clock = record clock { log = record clock.log { told = at ∷ clock.log.told } }
+tells at clock = tells_after [] at clock
 
 -- THE CLOCK TOLD each moment from which a wire measures
 pub record IsTold {R W C : Type 0} (wire : PollWire R W C) : Type 0 where
@@ -80,8 +86,8 @@ soon_by asking pace patience =
     if not asking.many && (asking.late == 0 && (nat_lt asking.repeats most_repeats && pace.acks))
     then repeat_wait pace.delay patience else None
 
--- The bytes were written, and nothing was read. The clock is read once, and the wire waits from the moment that it
--- tells. The patience is that of so many late bytes. An early repeat has its time from the first request on: an
+-- The bytes were written, and nothing was read. The clock is read once after that, and the wire waits from the moment
+-- that it tells. The patience is that of so many late bytes. An early repeat has its time from the first request on: an
 -- acknowledgement may be that of any of them.
 pub record WireSends {R W C : Type 0} (contents : W → Option (List ℕ)) (old : PollWire R W C)
     (bytes : List ℕ) (asking : Asking) (new : PollWire R W C) : Type 0 where
@@ -89,7 +95,7 @@ pub record WireSends {R W C : Type 0} (contents : W → Option (List ℕ)) (old 
   pub reader : new.reader ≡ old.reader
   pub stated : new.stated ≡ old.stated
   pub patience : new.patience ≡ patience_after asking.late old.stated
-  pub clock : new.clock ≡ tells new.since old.clock
+  pub clock : new.clock ≡ tells_after bytes new.since old.clock
   pub at : new.at ≡ old.at
   pub held : new.held ≡ old.held
   pub since : asking.repeats ≡ 0 → new.since ≡ new.asked

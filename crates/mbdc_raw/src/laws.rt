@@ -7,7 +7,7 @@ ghost use Rattle.mbdc_raw.specs.Heard.{ComesFrom, Heard, IsByte, IsFrame, heard_
 ghost use Rattle.mbdc_raw.specs.Line.{GivesOver};
 ghost use Rattle.mbdc_raw.specs.Life.{IsPaced, Lives, MeetsSilence, wait_of};
 ghost use Rattle.mbdc_raw.specs.Pace.{Fits, answered_after, answering, or_none};
-ghost use Rattle.mbdc_raw.specs.PollWire.{HasPassed, IsDeserted, IsTold, WireHears, most_waited, told};
+ghost use Rattle.mbdc_raw.specs.PollWire.{HasPassed, IsDeserted, IsTold, WireHears, most_waited, tells_after, told};
 ghost use Rattle.mbdc_raw.specs.Wire.{AreHeard, Sound, bytes_in, silence};
 ghost use Rattle.mbdc_raw.specs.declared.poll_wire.PollWire.{PollWire as PolledWire};
 ghost use Rattle.mbdc_raw.specs.declared.poll_wire.Until.TheVariants.{Paused, Still};
@@ -39,10 +39,11 @@ pub fn what_a_line_gives_is_heard<W: Wire + Drop>()
 {}
 
 /// A wire waits by its clock. It measures from moments that the clock told. Between a request and the silence that it
-/// meets, the clock told two moments that lie the time-out apart; the early repeat of a request has a time-out of its
-/// own. Where several meters may answer, silence comes no sooner than an answer may begin, or after the patience: on a
-/// line on which a byte and the converter take as long as what came shows, and only selections are acknowledged. On a
-/// line that is given up since nobody answers, no byte came since it was connected, and requests had waited for 120 s.
+/// meets, the clock told two moments that lie the time-out apart, the first one right after the request was written; the
+/// early repeat of a request has a time-out of its own. Where several meters may answer, silence comes no sooner than an
+/// answer may begin, or after the patience: on a line on which a byte and the converter take as long as what came shows,
+/// and only selections are acknowledged. On a line that is given up since nobody answers, no byte came since it was
+/// connected, and requests had waited for 120 s.
 pub fn a_wire_waits_by_its_clock<R, W, C>()
 where
     R: Read + AsRawFd + Drop,
@@ -54,7 +55,7 @@ where
         → (0 < asking.repeats → sent.until ≡ Still)
         → MeetsSilence W.contents R.remaining old bytes asking sent new
         → (between : List Moment) × (told new ≡ new.at ∷ (between ++ (sent.since ∷ told old)))
-        × HasPassed sent.limit sent.since new.at }
+        × (sent.clock ≡ tells_after bytes sent.since old.clock) × HasPassed sent.limit sent.since new.at }
     ensures window { (old wire new : PolledWire R W C) (sounds : List Sound) (waited byte delay more wait : ℕ)
         → (life : Lives W.contents R.remaining old sounds waited wire) → IsPaced byte delay life
         → Fits byte delay old.pace → old.until ≡ Still → wire.until ≡ Paused

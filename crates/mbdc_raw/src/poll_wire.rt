@@ -402,10 +402,7 @@ impl<R: Read + AsRawFd + Drop, W: Write + Link + Drop, C: Clock + Drop> PollWire
         ensures step { OnOk result (WireSends W.contents self.old bytes.now asking self.new) }
         ensures deserted { self.new.deserted ≡ self.old.deserted }
     {
-        if self.writer.write_all(bytes).is_err() {
-            return Err(IoFault);
-        }
-        let Ok(since) = self.clock.now() else {
+        let Ok(since) = self.clock.write_then_now(&mut self.writer, bytes) else {
             return Err(IoFault);
         };
         self.since = since;
