@@ -22,4 +22,4 @@ pub use answer_buf::{AnswerBuf, MOST_ANSWER};
 pub use both::{Both, Pause};
 pub use bus::{Bus, search_over};
 pub use half::HalfBus;
-pub use windows::{TRIES, insist, read_twice, search_windows};
+pub use windows::{TRIES, bytes_of_noise, insist, read_twice, search_windows};

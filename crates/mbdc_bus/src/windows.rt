@@ -120,7 +120,8 @@ fn are_several(answer: &AnswerBuf) -> bool
     !bytes.is_empty() && !matches!(parse(bytes), Ok(Frame::Ack))
 }
 
-fn bytes_of_noise() -> AnswerBuf
+/// Bytes that are no frame, as several meters that answer at once.
+pub fn bytes_of_noise() -> AnswerBuf
     ensures { result ≡ noise }
 {
     let mut answer = AnswerBuf::new();

@@ -7,7 +7,6 @@
 //! bits, and more: it can hide only meters with such a digit.
 
 ghost use Rattle.std.specs.Prelude.{◌≡◌, ◌≤◌, ◌<◌, length, true};
-ghost use Rattle.mbdc_bus.specs.Windows.{noise};
 ghost use Rattle.mbdc_installer.specs.Confirming.{AsksDigits, AsksHidden, AsksPlaces, Confirms};
 ghost use Rattle.mbdc_installer.specs.Confirming.{can_hide, could_be_in_step, differing, is_open};
 
@@ -150,13 +149,4 @@ fn differing(bytes: &[u8], other: &[u8]) -> usize
         .zip(other)
         .filter(|(own, its)| **own & **its != **own)
         .count()
-}
-
-/// Bytes that are no frame.
-pub(crate) fn bytes_of_noise() -> AnswerBuf
-    ensures { result ≡ noise }
-{
-    let mut answer = AnswerBuf::new();
-    answer.append(&[0]);
-    answer
 }

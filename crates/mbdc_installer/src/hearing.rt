@@ -9,14 +9,14 @@ ghost use Rattle.mbdc_bus.specs.Limits.{most_request};
 ghost use Rattle.mbdc_installer.specs.Hearing.{Hears, Selects, Takes, acknowledged, is_looked, looked_at};
 ghost use Rattle.mbdc_installer.specs.Hearing.{new_wildcard, selection_in};
 
-use crate::confirming::{Confirmed, bytes_of_noise, could_be_in_step, is_confirmed, is_open};
+use crate::confirming::{Confirmed, could_be_in_step, is_confirmed, is_open};
 use crate::other::{Looked, MOST_OTHERS, Other, is_closed, look};
 use crate::primary::is_ack;
 use arrayvec::ArrayVec;
 use dc_linkframe::control::SELECTION;
 use dc_linkframe::{Frame, FrameBuf, parse};
 use dc_search::meter_of;
-use mbdc_bus::{AnswerBuf, Bus};
+use mbdc_bus::{AnswerBuf, Bus, bytes_of_noise};
 
 /// What a search knows of the wildcard that it selected by last, and of those before it.
 #[derive(Drop)]

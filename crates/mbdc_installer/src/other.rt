@@ -11,11 +11,11 @@ ghost use Rattle.mbdc_installer.specs.Other.{other_line, others_text};
 ghost use Rattle.mbdc_io.specs.Written.{Wrote};
 ghost use Rattle.mbdc_installer.specs.declared.other.Other.{Other as Noted};
 
-use crate::confirming::{bytes_of_noise, is_open};
+use crate::confirming::is_open;
 use crate::primary::ask_data;
 use dc_linkframe::control::{SELECTED, VARIABLE_DATA, is_rsp_ud};
 use dc_linkframe::{Frame, parse};
-use mbdc_bus::{AnswerBuf, Bus};
+use mbdc_bus::{AnswerBuf, Bus, bytes_of_noise};
 use mbdc_decode::tokens::{Piece, put_pieces};
 use mbdc_io::{IoFault, Sink, pair_of};
 
