@@ -6,7 +6,7 @@ use Rattle.mbdc_ending.specs.declared.ending.Ending.{Ending}
 use Rattle.mbdc_ending.specs.declared.ending.Ending.TheVariants.{Faulty, Gateway}
 use Rattle.mbdc_installer.specs.Command.{Begins, RunsOver, WorksUnseen, fault_of, is_search, listening, or_fault}
 use Rattle.mbdc_installer.specs.Ending.{EndsOver}
-use Rattle.mbdc_installer.specs.Listening.{is_given_up}
+use Rattle.mbdc_installer.specs.Listening.{is_given_up, late_of}
 use Rattle.mbdc_installer.specs.declared.bench.command.Done.{Done}
 use Rattle.mbdc_installer.specs.declared.bench.command.Scan.{Scan}
 use Rattle.mbdc_installer.specs.declared.bench.command.Work.{Work}
@@ -54,7 +54,7 @@ module _ {B : Type 0} (bus : BusGhosts B) (work : Work) (old : B) (first last : 
     begins = begins;
     outcome = works.outcome;
     does = works.does;
-    ends = is_fault (is_given_up last.left) (bus.lost last.bus) (bus.late last.bus) works.outcome worked up is works.ends;
+    ends = is_fault (is_given_up last.left) (bus.lost last.bus) (late_of bus.lost bus.late last) works.outcome worked up is works.ends;
   }
 
   pub stopped : worked ≢ Gateway → RunsOver bus work old worked
@@ -64,7 +64,7 @@ module _ {B : Type 0} (bus : BusGhosts B) (work : Work) (old : B) (first last : 
     begins = begins;
     outcome = works.outcome;
     does = works.does;
-    ends = is_stopped (is_given_up last.left) (bus.lost last.bus) (bus.late last.bus) works.outcome worked other works.ends;
+    ends = is_stopped (is_given_up last.left) (bus.lost last.bus) (late_of bus.lost bus.late last) works.outcome worked other works.ends;
   }
 
   pub went_on : is_given_up last.left ≡ false → RunsOver bus work old worked
@@ -74,5 +74,5 @@ module _ {B : Type 0} (bus : BusGhosts B) (work : Work) (old : B) (first last : 
     begins = begins;
     outcome = works.outcome;
     does = works.does;
-    ends = goes_on (is_given_up last.left) (bus.lost last.bus) (bus.late last.bus) works.outcome worked up works.ends;
+    ends = goes_on (is_given_up last.left) (bus.lost last.bus) (late_of bus.lost bus.late last) works.outcome worked up works.ends;
   }

@@ -17,7 +17,7 @@ use Rattle.mbdc_bus.specs.declared.bus.Bus.{Ghosts as BusGhosts}
 use Rattle.mbdc_ending.specs.declared.ending.Ending.{Ending}
 use Rattle.mbdc_installer.specs.Address.{IsAddressed, addressing_text}
 use Rattle.mbdc_installer.specs.Hearing.{new_wildcard}
-use Rattle.mbdc_installer.specs.Listening.{Confirmed, Hears, Passed, is_given_up}
+use Rattle.mbdc_installer.specs.Listening.{Confirmed, Hears, Passed, is_given_up, late_of}
 use Rattle.mbdc_installer.specs.Number.{IsFound, unfound_text}
 use Rattle.mbdc_installer.specs.Other.{others_text}
 use Rattle.mbdc_installer.specs.Read.{IsReadOn, Tells}
@@ -160,7 +160,7 @@ listening bus = record {
   lost = λ it. is_given_up it.left || bus.lost it.bus;
   asks = Hears bus.lost (Passed bus.asks);
   asks_all = Hears (λ _. false) (Confirmed bus.lost bus.asks_all);
-  late = λ it. bus.late it.bus;
+  late = late_of bus.lost bus.late;
   silent = λ old new request answer asked. asked.silence;
 }
 
@@ -192,4 +192,4 @@ pub record RunsOver {B : Type 0} (bus : BusGhosts B) (work : Work) (old : B) (en
   pub outcome : Result Done ScanFault
   pub does : DoesUnseen (listening bus) work first last outcome
   pub ends : EndsOver (not (is_given_up last.left) && bus.lost last.bus)
-      (or_fault (is_given_up last.left) (fault_of (bus.late last.bus) outcome)) ending
+      (or_fault (is_given_up last.left) (fault_of (late_of bus.lost bus.late last) outcome)) ending

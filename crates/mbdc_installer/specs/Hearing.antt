@@ -1,5 +1,5 @@
 -- What a search believes of what comes where several meters may answer (EN 13757-3, selection with wildcards; this product).
-use Rattle.std.specs.Prelude.{◌≡◌, ◌⊎◌, ℕ, Bool, true, false, not, ◌&&◌, ◌||◌, ◌==◌, List, [], ◌∷◌, ◌++◌, length, take}
+use Rattle.std.specs.Prelude.{◌≡◌, ◌⊎◌, ◌+◌, ◌-◌, ◌^◌, min, ℕ, Bool, true, false, not, ◌&&◌, ◌||◌, ◌==◌, List, [], ◌∷◌, ◌++◌, length, take}
 use Rattle.std.specs.Prelude.{Option, None, Some, if◌then◌else◌, nat_le, nat_lt}
 use Rattle.std.specs.Bool.{then_some}
 use Rattle.dc_address.specs.declared.identity.Identity.{Identity}
@@ -25,7 +25,7 @@ selection_in (Some (long control address ci body)) =
 
 -- what is known before anything is asked
 abbrev pub new_wildcard : Bool → Wildcard
-new_wildcard confirms = record { confirms = confirms; wire = None; held = None; last = None; others = record { items = [] } }
+new_wildcard confirms = record { confirms = confirms; wire = None; held = None; last = None; others = record { items = [] }; strays = 0 }
 
 -- ---- a selection
 
@@ -39,10 +39,14 @@ is_looked w wire answer = w.confirms && (nat_lt (length w.others.items) most_oth
 abbrev pub selected_by : List ℕ → Wildcard → Wildcard
 selected_by wire before = record before { wire = then_some before.confirms wire; held = None }
 
+-- A STRAY ACKNOWLEDGEMENT: nothing came to three requests for the data of who gave it. Their number saturates.
+abbrev pub strays_with : List ℕ → ℕ → ℕ
+strays_with answer strays = if is_silent answer then min (strays + 1) (2 ^ 64 - 1) else strays
+
 -- what came is held for the search's own request; or the wildcard is closed, and noted
 abbrev pub looked_at : List ℕ → Wildcard → Looked → Wildcard
 looked_at wire before (Kept answer) =
-    record before { wire = then_some before.confirms wire; held = Some answer }
+    record before { wire = then_some before.confirms wire; held = Some answer; strays = strays_with answer before.strays }
 looked_at wire before (Closed format) = record before {
   wire = None;
   held = None;

@@ -1,5 +1,5 @@
 -- A bus on which a search is given up that hears noise alone (this product).
-use Rattle.std.specs.Prelude.{◌≡◌, ◌-◌, ◌==◌, ◌||◌, ℕ, Bool, true, false, List, [], ◌∷◌, Option, None, Some}
+use Rattle.std.specs.Prelude.{◌≡◌, ◌+◌, ◌-◌, ◌^◌, min, ◌==◌, ◌||◌, ℕ, Bool, true, false, List, [], ◌∷◌, Option, None, Some}
 use Rattle.std.specs.Prelude.{if◌then◌else◌, is_some}
 use Rattle.mbdc_installer.specs.Hearing
 use Rattle.mbdc_installer.specs.declared.bench.listening.Listening.{Listening}
@@ -28,6 +28,12 @@ heard_as left answer = if is_given_up left then [] else answer
 -- once the search is given up, or the bus is lost, the answer is silence
 abbrev pub IsSilent : Bool → List ℕ → Type 0
 IsSilent is_lost answer = is_lost ≡ true → answer ≡ []
+
+-- LATE ANSWERS: bytes that nothing on the bus could have sent, and stray acknowledgements, unless the bus was lost, and
+-- is silent; their number saturates
+abbrev pub late_of : {B : Type 0} → (B → Bool) → (B → ℕ) → Listening B → ℕ
+late_of lost late it =
+    if lost it.bus then late it.bus else min (late it.bus + it.wildcard.strays) (2 ^ 64 - 1)
 
 -- a request goes to the bus
 pub record Passed {B : Type 0} (asks : B → List ℕ → List ℕ → B → Type 0) (old : Listening B)

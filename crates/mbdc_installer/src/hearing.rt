@@ -31,6 +31,8 @@ pub(crate) struct Wildcard {
     pub last: Option<Confirmed>,
     /// The wildcards that were closed.
     pub others: ArrayVec<Other, MOST_OTHERS>,
+    /// Number of stray acknowledgements: nothing came to three requests for the data of who gave one.
+    pub strays: u64,
 }
 
 impl Wildcard {
@@ -44,6 +46,7 @@ impl Wildcard {
             held: None,
             last: None,
             others: ArrayVec::new(),
+            strays: 0,
         }
     }
 }
@@ -104,6 +107,9 @@ fn select<B: Bus>(
     }
     match look(bus, wire) {
         Looked::Kept(telegram) => {
+            if telegram.as_slice().is_empty() {
+                wildcard.strays = wildcard.strays.saturating_add(1);
+            }
             wildcard.held = Some(telegram);
             answer
         }

@@ -67,7 +67,7 @@ fn left_with(others: &[Other], answer: &AnswerBuf, left: Option<u8>) -> Option<u
 
 impl<B: Bus + Drop> Bus for Listening<'_, B> {
     ghost use Rattle.std.specs.Prelude.{None, [], false, ◌||◌};
-    ghost use Rattle.mbdc_installer.specs.Listening.{Confirmed, Hears, Passed, is_given_up};
+    ghost use Rattle.mbdc_installer.specs.Listening.{Confirmed, Hears, Passed, is_given_up, late_of};
 
     // The meters on it aren't known to contracts.
     ghost meters = { λ _. None };
@@ -80,7 +80,7 @@ impl<B: Bus + Drop> Bus for Listening<'_, B> {
 
     ghost asks_all = { Hears (λ _. false) (Confirmed B.lost B.asks_all) };
 
-    ghost late = { λ listening. B.late listening.bus };
+    ghost late = { late_of B.lost B.late };
 
     ghost silent = { λ old new request answer asked. asked.silence };
 
@@ -105,7 +105,10 @@ impl<B: Bus + Drop> Bus for Listening<'_, B> {
     }
 
     fn late(&self) -> u64 {
-        self.bus.late()
+        if self.bus.is_lost() {
+            return self.bus.late();
+        }
+        self.bus.late().saturating_add(self.wildcard.strays)
     }
 }
 
