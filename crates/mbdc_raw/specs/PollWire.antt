@@ -1,5 +1,5 @@
 -- What a wire over a reader and a writer does to both, and how long it waits (this product).
-use Rattle.std.specs.Prelude.{◌≡◌, ℕ, ◌+◌, ◌-◌, ◌*◌, ◌/◌, ◌^◌, ◌≤◌, ◌<◌, min, Bool, true, false, not, List, [], ◌∷◌}
+use Rattle.std.specs.Prelude.{◌≡◌, ℕ, ◌+◌, ◌-◌, ◌*◌, ◌/◌, ◌^◌, ◌≤◌, ◌<◌, min, max, Bool, true, false, not, List, [], ◌∷◌}
 use Rattle.std.specs.Prelude.{Option, ◌&&◌, ◌==◌, nat_lt, Some, None, is_some, length, if◌then◌else◌}
 use Rattle.std.specs.List.{Contains}
 use Rattle.std.specs.Io.KnownBytes.{Appends}
@@ -142,6 +142,18 @@ pub record IsHeard {R W C : Type 0} (old : PollWire R W C) (bytes : List ℕ) (n
   pub until : new.until ≡ old.until
   pub limit : new.limit ≡ limit_then old.until old.limit old.patience
       (window_of new.pace old.patience)
+
+-- how long bytes have come since the last request or silence, where some do now: a pause counts as the patience at most;
+-- it saturates
+abbrev pub noise_then : {R W C : Type 0} → PollWire R W C → ℕ
+noise_then wire = min (wire.noise + min (micros wire.since wire.at) wire.patience) (2 ^ 64 - 1)
+
+-- BYTES KEEP COMING: for more than 15 s, and than ten patiences
+abbrev pub most_noise : ℕ → ℕ
+most_noise patience = max (min (patience * 10) (2 ^ 64 - 1)) 15_000_000
+
+abbrev pub IsLoud : {R W C : Type 0} → PollWire R W C → Type 0
+IsLoud wire = most_noise wire.patience < noise_then wire
 
 -- how long requests have waited that met silence, where the last one does now; it saturates
 abbrev pub waited_then : {R W C : Type 0} → PollWire R W C → ℕ

@@ -1,12 +1,12 @@
 //! A wire over a descriptor that can be polled: a TCP stream or a terminal.
 
-ghost use Rattle.std.specs.Prelude.{◌≡◌, ◌+◌, ◌*◌, ◌^◌, ◌≤◌, ◌<◌, ℕ, [], length, true, false, IfOk, OnOk, OnErr, Ok};
+ghost use Rattle.std.specs.Prelude.{◌≡◌, ◌⊎◌, ◌+◌, ◌*◌, ◌^◌, ◌≤◌, ◌<◌, ℕ, [], length, true, false, IfOk, OnOk, OnErr, Ok};
 ghost use Rattle.mbdc_io.specs.Failures.{HasRisen};
 ghost use Rattle.mbdc_raw.specs.Looks.{waits_of};
 ghost use Rattle.mbdc_raw.specs.Pace.{Fits, acknowledging};
-ghost use Rattle.mbdc_raw.specs.PollWire.{Ends, Holds, IsDeserted, IsHeard, IsStill, IsTold};
+ghost use Rattle.mbdc_raw.specs.PollWire.{Ends, Holds, IsDeserted, IsHeard, IsLoud, IsStill, IsTold};
 ghost use Rattle.mbdc_raw.specs.PollWire.{HasPassed, IsUnanswered, WireHears, WireSends, gap_micros};
-ghost use Rattle.mbdc_raw.specs.PollWire.{takes_all, tells, waited_then};
+ghost use Rattle.mbdc_raw.specs.PollWire.{noise_then, takes_all, tells, waited_then};
 ghost use Rattle.mbdc_raw.specs.declared.wire.Came.TheVariants.{Gap};
 ghost use Rattle.mbdc_raw.specs.declared.poll_wire.Until.TheVariants.{Still};
 ghost use Rattle.mbdc_raw.specs.Wire.{FitsRoom, Wanes, sound_of};
@@ -289,6 +289,8 @@ impl<R: Read + AsRawFd + Drop, W: Write + Link + Drop, C: Clock + Drop> PollWire
         ensures well { self.new.failures ≡ self.old.failures }
         ensures waits { self.new.waits ≡ self.old.waits }
         ensures kept { OnOk result (IsHeard self.old bytes.now self.new) }
+        ensures noise { OnOk result (self.new.noise ≡ noise_then self.old) }
+        ensures loud { OnErr result (IsLoud self.old) }
         ensures deserted { self.new.deserted ≡ self.old.deserted }
     {
         let spent = between(self.since, self.at);
@@ -341,6 +343,8 @@ impl<R: Read + AsRawFd + Drop, W: Write + Link + Drop, C: Clock + Drop> PollWire
             (waits_of self.old.waits) (waits_of self.new.waits)) }
         ensures well { self.new.failures ≡ self.old.failures }
         ensures step { IfOk result (λ came. IsStill self.old (sound_of came []) self.new) }
+        // It fails where nobody answers, or where it was looked at too often.
+        ensures failed { OnErr result ((self.new.deserted ≡ true) ⊎ (self.old.waits ≡ 0)) }
         ensures gap { result ≡ Ok Gap → HasPassed gap_micros self.old.since self.old.at }
         ensures deserted { self.old.deserted ≡ false → self.new.deserted ≡ true
             → IsUnanswered self.old self.old.at }
