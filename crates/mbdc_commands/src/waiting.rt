@@ -53,7 +53,7 @@ impl<B: HalfBus + Watched + Drop> Waits<PollBus<'_, '_, B>> for FilteredWatch {
     fn add_bus(&mut self, bus: &PollBus<'_, '_, B>)
         ensures { ⊤ }
     {
-        let sparing = &bus.bus.bus.bus.bus;
+        let sparing = &bus.bus.bus.bus;
         self.withholds = self.withholds || bus.withholds || sparing.withholds;
         sparing.bus.add_to(&mut self.watch);
     }

@@ -22,11 +22,11 @@ pub mod Spared
 pub mod Through
 -- where each meter sends as many telegrams as before, nothing is dropped
 pub mod Recounted
--- where no answer has a wrong checksum, nothing is dropped
+-- a telegram agrees with itself
 pub mod Confirmed
 -- where nobody is busy, nothing is dropped
 pub mod Retried
--- where no telegram comes twice, none is dropped
+-- where no telegram comes twice and no checksum is wrong, none is dropped
 pub mod Remembered
 -- a queue that is at its end went through all its meters, in passes
 pub mod Tried

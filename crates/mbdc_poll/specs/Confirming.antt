@@ -1,14 +1,11 @@
--- A filter by which, on a line with wrong bits, a telegram has to come twice (this product; frames and telegrams are those
--- of EN 13757-2 and EN 13757-3).
-use Rattle.std.specs.Prelude.{◌≡◌, ◌≢◌, ℕ, ◌+◌, ◌-◌, ◌%◌, Bool, true, false, not, ◌&&◌, ◌||◌, ◌==◌, min, List, [], ◌∷◌, length, take}
-use Rattle.std.specs.Prelude.{Option, None, Some, bytes_eq, if◌then◌else◌, is_some, nat_lt, slice_get}
+-- On a line with wrong bits a telegram has to come twice: what shows them, and when two agree (this product; frames and
+-- telegrams are those of EN 13757-2 and EN 13757-3).
+use Rattle.std.specs.Prelude.{ℕ, ◌+◌, ◌-◌, ◌%◌, Bool, true, false, not, ◌&&◌, ◌||◌, ◌==◌, min, List, [], ◌∷◌, length}
+use Rattle.std.specs.Prelude.{Option, None, Some, bytes_eq, if◌then◌else◌, is_some, slice_get}
 use Rattle.std.specs.List.{list_any}
 use Rattle.std.specs.Result.{result_ok}
 use Rattle.dc_address.specs.Identity.{wire_of}
-use Rattle.dc_core.specs.declared.line_heard.LineHeard.{LineHeard}
-use Rattle.dc_core.specs.declared.line_heard.LineHeard.TheVariants.{Again}
 use Rattle.dc_linkframe.specs.Control.{is_rsp_ud, variable_data}
-use Rattle.dc_linkframe.specs.Fault.{fault_of}
 use Rattle.dc_linkframe.specs.Frame.{FrameSeen, ack, short, long}
 use Rattle.dc_linkframe.specs.Reading.{frame_of}
 use Rattle.dc_linkframe.specs.declared.fault.FrameFault.{FrameFault}
@@ -16,14 +13,6 @@ use Rattle.dc_linkframe.specs.declared.fault.FrameFault.TheVariants.{Empty, Star
 use Rattle.dc_records.specs.Body.{Ending, plain, last, more}
 use Rattle.dc_records.specs.Record.{Entry}
 use Rattle.dc_records.specs.Telegram.{Parsed, telegram_at}
-use Rattle.mbdc_poll.specs.Bus.{Bus}
-use Rattle.mbdc_poll.specs.Filtered.{Filter, LetsThrough, filtered_over}
-use Rattle.mbdc_poll.specs.Remembering.{is_telegram, most_before, request_by}
-use Rattle.mbdc_poll.specs.Retrying.{scripted_bus, tried}
-use Rattle.mbdc_poll.specs.Talking.{Talk, Talks}
-use Rattle.mbdc_poll.specs.declared.filtered.Filtered.{Filtered}
-use Rattle.mbdc_poll.specs.declared.phase.Request.TheVariants.{Quiet}
-use Rattle.mbdc_poll.specs.declared.confirming.Confirming.{Confirming}
 
 -- ---- what shows wrong bits
 
@@ -106,53 +95,7 @@ both_agree first other (Some one) (Some two) =
 unfoldable pub agree : List ℕ → List ℕ → Bool
 agree first other = both_agree first other (telegram_in (frame_of first)) (telegram_in (frame_of other))
 
--- ---- the filter
-
--- one of these telegrams agrees with this answer
-abbrev pub is_confirmed : List (List ℕ) → List ℕ → Bool
-is_confirmed telegrams given = list_any (λ earlier. agree earlier given) telegrams
-
--- it is a telegram with which none agrees
+-- it is a telegram with which none of these agrees
 abbrev pub is_unconfirmed : List (List ℕ) → List ℕ → Bool
-is_unconfirmed telegrams given = is_some (telegram_in (frame_of given)) && not (is_confirmed telegrams given)
-
-abbrev pub is_dropped : Confirming → List ℕ → Bool
-is_dropped old given = nat_lt old.clear most_clear && is_unconfirmed old.telegrams.items given
-
--- each request goes out
-abbrev pub Asks : Confirming → List ℕ → Bool → Confirming → Type 0
-Asks old request goes new = (goes ≡ true) × (new ≡ old)
-
--- AN ANSWER PASSES; where one lately had a wrong checksum, of a telegram that none before it confirms silence is heard.
-pub record Hears (old : Confirming) (given answer : List ℕ) (new : Confirming) : Type 0 where
-  pub is_answer : answer ≡ (if is_dropped old given then [] else given)
-  pub clear : new.clear ≡ clear_by old.clear (fault_of given)
-  pub telegrams : new.telegrams.items ≡ (if is_telegram (frame_of given) then given ∷ take most_before old.telegrams.items
-      else old.telegrams.items)
-
-abbrev pub confirming : Filter Confirming
-confirming = record { asks = Asks; hears = Hears }
-
--- WHERE NO ANSWER HAS A WRONG CHECKSUM, nothing is dropped: the talk is one on the bus itself.
-abbrev pub DropsNothing : {B : Type 0} → Bus B → Type 0
-DropsNothing g = LetsThrough g confirming (λ c. c.clear ≡ most_clear) (λ c given. fault_of given ≢ Some Checksum)
-
--- ---- a telegram comes twice
-
--- these answers, after so many without a wrong checksum and these telegrams
-abbrev pub giving : List (List ℕ) → ℕ → List (List ℕ) → Filtered (List (List ℕ)) Confirming
-giving answers clear telegrams = record {
-  bus = answers;
-  filter = record { clear = clear; telegrams = record { items = telegrams } };
-  withholds = false;
-}
-
-abbrev pub at_rest : Filtered (List (List ℕ)) Confirming → Talk (Filtered (List (List ℕ)) Confirming)
-at_rest bus = record { bus = bus; request = Quiet; said = false }
-
--- AFTER A WRONG CHECKSUM of a telegram silence is heard, and it is asked for again. It comes again, and is heard.
-pub record IsTakenTwice (telegram : List ℕ) (answer : LineHeard) : Type 0 where
-  pub after : Filtered (List (List ℕ)) Confirming
-  pub talk : Talks (filtered_over scripted_bus confirming) 1 (at_rest (giving (telegram ∷ telegram ∷ []) 0 []))
-      (tried (request_by true) [] Again (tried (request_by true) telegram answer [])) (at_rest after)
-  pub all_given : after.bus ≡ []
+is_unconfirmed telegrams given =
+    is_some (telegram_in (frame_of given)) && not (list_any (λ earlier. agree earlier given) telegrams)

@@ -18,9 +18,9 @@ pub mod Filtered
 pub mod Recounting
 -- a filter by which a busy meter is asked again
 pub mod Retrying
--- a filter that drops a copy of an earlier telegram
+-- a filter that remembers telegrams, and drops copies and what none confirms
 pub mod Remembering
--- a filter by which a telegram has to come twice
+-- when two telegrams agree, and what shows wrong bits
 pub mod Confirming
 -- what a round commits
 pub mod Keeping

@@ -1,79 +1,36 @@
-//! A filter by which, on a line with wrong bits, a telegram has to come twice.
+//! On a line with wrong bits a telegram has to come twice: when two agree.
 
 ghost use Rattle.std.specs.Prelude.{◌≡◌, None, [], option_map};
 ghost use Rattle.dc_linkframe.specs.Fault.{fault_of};
 ghost use Rattle.dc_linkframe.specs.Reading.{frame_of};
 ghost use Rattle.dc_records.specs.Record.{view};
 ghost use Rattle.dc_records.specs.Telegram.{parsed};
-ghost use Rattle.mbdc_poll.specs.Confirming.{agree, all_agree, clear_by, is_confirmed, is_unconfirmed, records_agree};
+ghost use Rattle.mbdc_poll.specs.Confirming.{agree, all_agree, clear_by, is_unconfirmed, records_agree};
 ghost use Rattle.mbdc_poll.specs.Confirming.{sum_of, telegram_in};
 
-use crate::filtered::Filter;
-use crate::remembering::{MOST_TELEGRAMS, is_telegram, note};
-use arrayvec::ArrayVec;
 use dc_linkframe::control::{VARIABLE_DATA, is_rsp_ud};
-use dc_linkframe::{Frame, FrameBuf, FrameFault, parse};
+use dc_linkframe::{Frame, FrameFault, parse};
 use dc_records::{End, Record, Records, Telegram};
 use mbdc_bus::AnswerBuf;
 
 // Number of answers in a row without a wrong checksum after which a telegram is taken at once.
 pub(crate) const MOST_CLEAR: u8 = 200;
 
-/// The filter for a line with wrong bits, of which some don't show: they leave the sum of a frame's bytes as it is, and
-/// nobody may check parity. If one of the last 200 answers was a frame with a wrong checksum, of a telegram silence is
-/// heard, so the readout makes its request again, until one of the last 64 before it agrees with it but for the access
-/// number. Where values with storage number 0 change in between, all others have to agree. All else passes.
-#[derive(Drop)]
-pub struct Confirming {
-    /// Number of answers since one with a wrong checksum, at most 200.
-    pub clear: u8,
-    /// The telegrams that came, the latest first.
-    pub telegrams: ArrayVec<AnswerBuf, MOST_TELEGRAMS>,
-}
-
-impl Filter for Confirming {
-    ghost use Rattle.mbdc_poll.specs.Confirming.{Asks, Hears};
-
-    ghost asks = { Asks };
-
-    ghost hears = { Hears };
-
-    fn ask(&mut self, _request: &FrameBuf) -> bool {
-        true
-    }
-
-    fn hear(&mut self, answer: AnswerBuf) -> AnswerBuf {
-        let is_dropped = self.clear < MOST_CLEAR
-            && is_unconfirmed(self.telegrams.as_slice(), answer.as_slice());
-        self.clear = clear_after(self.clear, answer.as_slice());
-        if is_telegram(answer.as_slice()) {
-            note(&mut self.telegrams, answer.as_slice());
-        }
-        if is_dropped { AnswerBuf::new() } else { answer }
-    }
-}
-
 // Whether an answer is a telegram with which none of these agrees.
-fn is_unconfirmed(telegrams: &[AnswerBuf], answer: &[u8]) -> bool
+pub(crate) fn is_unconfirmed(telegrams: &[AnswerBuf], answer: &[u8]) -> bool
     ensures { result ≡ is_unconfirmed telegrams.now answer.now }
 {
     match telegram_in(answer) {
         None => false,
-        Some(_) => !is_confirmed(telegrams, answer),
+        Some(_) => !telegrams
+            .iter()
+            .any(|earlier| agree(earlier.as_slice(), answer)),
     }
-}
-
-fn is_confirmed(telegrams: &[AnswerBuf], answer: &[u8]) -> bool
-    ensures { result ≡ is_confirmed telegrams.now answer.now }
-{
-    telegrams
-        .iter()
-        .any(|earlier| agree(earlier.as_slice(), answer))
 }
 
 // Number of answers since one with a wrong checksum, after this one. Silence isn't one.
 #[tactic(auto, using(crate::proofs::Confirmed::faultless))]
-fn clear_after(clear: u8, answer: &[u8]) -> u8
+pub(crate) fn clear_after(clear: u8, answer: &[u8]) -> u8
     ensures { result ≡ clear_by clear (fault_of answer.now) }
 {
     match parse(answer) {

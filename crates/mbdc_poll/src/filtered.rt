@@ -2,7 +2,7 @@
 
 ghost use Rattle.std.specs.Prelude.{◌≡◌, Bool, List, [], ℕ, false};
 
-use crate::confirming::{Confirming, MOST_CLEAR};
+use crate::confirming::MOST_CLEAR;
 use crate::recounting::{Count, Known, Recounting};
 use crate::remembering::Remembering;
 use crate::retrying::Retrying;
@@ -100,23 +100,25 @@ impl<B: HalfBus + Drop, F: Filter + Drop> HalfBus for Filtered<B, F> {
 
 /// A bus with the filters of a poll.
 pub type PollBus<'a, 'b, B> = Filtered<
-    Filtered<Filtered<Filtered<Filtered<B, Sparing<'a>>, Remembering>, Retrying>, Confirming>,
+    Filtered<Filtered<Filtered<B, Sparing<'a>>, Retrying>, Remembering>,
     Recounting<'b>,
 >;
 
-/// This bus with the filters of a poll: it asks who was silent in the last one one question, drops copies of telegrams,
-/// asks who is busy again, takes a telegram only once it has come twice where one lately had wrong bits, and begins a
-/// readout anew that differs from what is known. A copy that comes of a first question is no silence.
+/// This bus with the filters of a poll: it asks who was silent in the last one one question, asks who is busy again,
+/// drops copies of telegrams, takes a telegram only once it has come twice where one lately had wrong bits, and begins
+/// a readout anew that differs from what is known. A copy that comes of a first question is no silence.
 pub fn with_filters<'a, 'b, B: HalfBus + Drop>(
     bus: B,
     doubts: &'a mut [Doubt],
     known: &'b mut [Known],
 ) -> PollBus<'a, 'b, B>
-    ensures bus { result.bus.bus.bus.bus.bus ≡ bus }
-    ensures doubts { result.bus.bus.bus.bus.filter.doubts.now ≡ doubts.old }
+    ensures bus { result.bus.bus.bus.bus ≡ bus }
+    ensures doubts { result.bus.bus.bus.filter.doubts.now ≡ doubts.old }
     ensures known { result.filter.known.now ≡ known.old }
     ensures clear { result.bus.filter.clear ≡ 200 }
-    ensures begins { result.withholds ≡ false }
+    ensures goes_on { result.filter.count.is_given_up ≡ false }
+    ensures begins { (result.withholds ≡ false) × (result.bus.withholds ≡ false)
+        × (result.bus.bus.withholds ≡ false) × (result.bus.bus.bus.withholds ≡ false) }
 {
     let sparing = Filtered {
         bus,
@@ -126,23 +128,16 @@ pub fn with_filters<'a, 'b, B: HalfBus + Drop>(
         },
         withholds: false,
     };
-    let remembering = Filtered {
-        bus: sparing,
-        filter: Remembering {
-            request: FrameBuf::new(),
-            is_answered: false,
-            telegrams: ArrayVec::new(),
-        },
-        withholds: false,
-    };
     let retrying = Filtered {
-        bus: remembering,
+        bus: sparing,
         filter: Retrying { dropped: 0 },
         withholds: false,
     };
-    let confirming = Filtered {
+    let remembering = Filtered {
         bus: retrying,
-        filter: Confirming {
+        filter: Remembering {
+            request: FrameBuf::new(),
+            is_answered: false,
             clear: MOST_CLEAR,
             telegrams: ArrayVec::new(),
         },
@@ -155,7 +150,7 @@ pub fn with_filters<'a, 'b, B: HalfBus + Drop>(
         is_given_up: false,
     };
     Filtered {
-        bus: confirming,
+        bus: remembering,
         filter: Recounting { known, count },
         withholds: false,
     }

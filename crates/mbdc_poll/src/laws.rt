@@ -13,7 +13,7 @@ ghost use Rattle.dc_linkframe.specs.Reading.{frame_of};
 ghost use Rattle.dc_core.specs.declared.line_heard.LineHeard.{LineHeard};
 ghost use Rattle.dc_core.specs.Transcript.{Turn, IsChain, leads};
 ghost use Rattle.mbdc_poll.specs.Committed.{IsCommittedWhereNoneIsAsked};
-ghost use Rattle.mbdc_poll.specs.Confirming.{DropsNothing as DropsNoRightTelegram, IsTakenTwice, telegram_in};
+ghost use Rattle.mbdc_poll.specs.Confirming.{telegram_in};
 ghost use Rattle.mbdc_poll.specs.Failures.{BroughtIsTold};
 ghost use Rattle.mbdc_poll.specs.Happening.{Happening, happened_turns, tells};
 ghost use Rattle.mbdc_poll.specs.Keeping.{AreTrue, IsSettled, Store, all_kept, store_behind};
@@ -23,7 +23,7 @@ ghost use Rattle.mbdc_poll.specs.Queue.{Part, part, AreApart, Goes, GoesWell, Is
 ghost use Rattle.mbdc_poll.specs.Queue.{Lacks, meter_of, most_asks, read_in, requests_in};
 ghost use Rattle.mbdc_poll.specs.Queue.{starts_in};
 ghost use Rattle.mbdc_poll.specs.Recounting.{IsBegunAnew, DropsNothing as DropsNoReadout, sent_in};
-ghost use Rattle.mbdc_poll.specs.Remembering.{IsDropped, DropsNothing as DropsNoTelegram};
+ghost use Rattle.mbdc_poll.specs.Remembering.{IsDropped, IsTakenTwice, DropsNothing as DropsNoTelegram};
 ghost use Rattle.mbdc_poll.specs.Retrying.{DropsNothing as DropsNoAnswer, IsAskedAgain};
 ghost use Rattle.mbdc_poll.specs.Sparing.{IsAskedOnce, SparesNothing};
 ghost use Rattle.mbdc_poll.specs.declared.end.End.{End};
@@ -86,31 +86,37 @@ pub fn what_is_read_is_committed<B: HalfBus + Drop, T: Timer<B>>()
     ensures room { AnswersFindRoom T.tells T.passes }
 {}
 
-/// What the filters of a poll let through: where each holds, the talk is one on the bus itself, with no more requests.
-///
-/// * [`Sparing`](crate::Sparing), where each meter that was silent in the last poll answers its first question in this
-///   one. Where silence comes of that, it goes out once, though the readout makes its request again.
-/// * [`Retrying`](crate::Retrying), where no meter answers that it is busy. Where one does twice, the readout hears
-///   silence twice, and the third answer to the same request.
-/// * [`Remembering`](crate::Remembering), where no telegram is one of the last 64 before it. Where a copy of the first
-///   telegram comes third, the readout hears silence and asks the same again. It hears what comes then: a third
-///   telegram, or the first one, which its meter sends.
-/// * [`Confirming`](crate::Confirming), where no answer is a frame with a wrong checksum. After one the readout hears
-///   silence in place of a telegram, and that telegram once it comes again.
-/// * [`Recounting`](crate::Recounting), where each meter sends as many telegrams as in its last reading. Where one
-///   telegram comes in place of two, the readout hears silence, and its next requests aren't sent. After the next reset
-///   it hears that telegram.
-pub fn what_the_filters_let_through<B: HalfBus + Drop>()
+/// [`Sparing`](crate::Sparing) lets all through where each meter that was silent in the last poll answers its first
+/// question in this one: the talk is one on the bus itself, with no more requests. Where silence comes of that question,
+/// it goes out once, though the readout makes its request again.
+pub fn a_silent_meter_gets_one_question<B: HalfBus + Drop>()
     ensures spares { SparesNothing B.HalfBus }
     ensures once { (question : List ℕ) → IsAskedOnce question }
+{}
+
+/// [`Retrying`](crate::Retrying) lets all through where no meter answers that it is busy. Where one does twice, the
+/// readout hears silence twice, and the third answer to the same request.
+pub fn a_busy_meter_is_asked_again<B: HalfBus + Drop>()
     ensures retries { DropsNoAnswer B.HalfBus }
     ensures asked_again { (request third : List ℕ) (answer : LineHeard) → IsAskedAgain request third answer }
+{}
+
+/// [`Remembering`](crate::Remembering) lets all through where no telegram is one of the last 64 before it, and no answer
+/// is a frame with a wrong checksum. Where a copy of the first telegram comes third, the readout hears silence and asks
+/// the same again. It hears what comes then: a third telegram, or the first one, which its meter sends. After a wrong
+/// checksum it hears silence in place of a telegram, and that telegram once it comes again.
+pub fn a_dropped_telegram_is_asked_for_again<B: HalfBus + Drop>()
     ensures remembers { DropsNoTelegram B.HalfBus }
     ensures third { (answer : LineHeard) → IsDropped 3 answer }
     ensures sent_again { (answer : LineHeard) → IsDropped 1 answer }
-    ensures confirms { DropsNoRightTelegram B.HalfBus }
     ensures twice { (telegram : List ℕ) (answer : LineHeard)
         → is_some (telegram_in (frame_of telegram)) ≡ true → IsTakenTwice telegram answer }
+{}
+
+/// [`Recounting`](crate::Recounting) lets all through where each meter sends as many telegrams as in its last reading.
+/// Where one telegram comes in place of two, the readout hears silence, and its next requests aren't sent. After the next
+/// reset it hears that telegram.
+pub fn a_readout_that_differs_begins_anew<B: HalfBus + Drop>()
     ensures recounts { DropsNoReadout B.HalfBus }
     ensures anew { (meter : Identity) (telegram : List ℕ) (answer : LineHeard)
         → sent_in (frame_of telegram) ≡ Some (meter, false) → IsBegunAnew meter telegram answer }

@@ -1,10 +1,12 @@
-//! A filter that drops a copy of an earlier telegram.
+//! A filter that remembers telegrams: a copy of an earlier one is dropped, and on a line with wrong bits one that none
+//! before it confirms.
 
 ghost use Rattle.std.specs.Prelude.{◌≡◌, ◌≤◌, ◌∷◌, [], false, length, take};
 ghost use Rattle.dc_linkframe.specs.Reading.{frame_of};
 ghost use Rattle.mbdc_bus.specs.Limits.{most_answer};
-ghost use Rattle.mbdc_poll.specs.Remembering.{has, is_copy, is_telegram, most_before};
+ghost use Rattle.mbdc_poll.specs.Remembering.{is_copy, is_telegram, most_before};
 
+use crate::confirming::{MOST_CLEAR, clear_after, is_unconfirmed};
 use crate::filtered::Filter;
 use arrayvec::ArrayVec;
 use dc_linkframe::control::{VARIABLE_DATA, is_rsp_ud};
@@ -12,17 +14,23 @@ use dc_linkframe::{Frame, FrameBuf, parse};
 use mbdc_bus::AnswerBuf;
 
 // Number of telegrams that are remembered.
-pub(crate) const MOST_TELEGRAMS: usize = 64;
+const MOST_TELEGRAMS: usize = 64;
 
-/// The filter that remembers the last 64 telegrams that came. Of a copy of one of them silence is heard, so the readout
-/// makes its request again. A telegram that the same request brings twice in a row is no copy: its meter sends it. All
-/// else passes.
+/// The filter that remembers the last 64 telegrams that came. It drops two kinds of telegrams: silence is heard, so the
+/// readout makes its request again. All else passes.
+///
+/// * A copy of one of them. A telegram that the same request brings twice in a row is no copy: its meter sends it.
+/// * Where one of the last 200 answers was a frame with a wrong checksum, a telegram with which none of them agrees but
+///   for the access number. Some wrong bits leave the sum of a frame's bytes as it is, and nobody may check parity.
+///   Where values with storage number 0 change in between, all others have to agree.
 #[derive(Drop)]
 pub struct Remembering {
     /// The last request.
     pub request: FrameBuf,
     /// Whether it brought the latest telegram.
     pub is_answered: bool,
+    /// Number of answers since one with a wrong checksum, at most 200.
+    pub clear: u8,
     /// The telegrams that came, the latest first.
     pub telegrams: ArrayVec<AnswerBuf, MOST_TELEGRAMS>,
 }
@@ -43,14 +51,14 @@ impl Filter for Remembering {
     }
 
     fn hear(&mut self, answer: AnswerBuf) -> AnswerBuf {
+        let has_wrong_bits = self.clear < MOST_CLEAR;
+        self.clear = clear_after(self.clear, answer.as_slice());
         if !is_telegram(answer.as_slice()) {
             return answer;
         }
-        let is_dropped = is_copy(
-            self.is_answered,
-            self.telegrams.as_slice(),
-            answer.as_slice(),
-        );
+        let telegrams = self.telegrams.as_slice();
+        let is_dropped = is_copy(self.is_answered, telegrams, answer.as_slice())
+            || has_wrong_bits && is_unconfirmed(telegrams, answer.as_slice());
         note(&mut self.telegrams, answer.as_slice());
         self.is_answered = true;
         if is_dropped { AnswerBuf::new() } else { answer }
@@ -59,7 +67,7 @@ impl Filter for Remembering {
 
 // Whether these bytes are a telegram with a meter's data.
 #[tactic(auto, using(dc_readout::proofs::Moves::no_frame_of_nothing))]
-pub(crate) fn is_telegram(answer: &[u8]) -> bool
+fn is_telegram(answer: &[u8]) -> bool
     ensures telegram { result ≡ is_telegram (frame_of answer.now) }
     ensures silence { answer.now ≡ [] → result ≡ false }
 {
@@ -76,20 +84,14 @@ fn is_copy(is_answered: bool, telegrams: &[AnswerBuf], telegram: &[u8]) -> bool
     match telegrams {
         // The request that is out brought it last.
         [latest, ..] if is_answered && latest.as_slice() == telegram => false,
-        _ => has(telegrams, telegram),
+        _ => telegrams
+            .iter()
+            .any(|earlier| earlier.as_slice() == telegram),
     }
 }
 
-fn has(telegrams: &[AnswerBuf], telegram: &[u8]) -> bool
-    ensures { result ≡ has telegrams.now telegram.now }
-{
-    telegrams
-        .iter()
-        .any(|earlier| earlier.as_slice() == telegram)
-}
-
 // Notes the latest telegram.
-pub(crate) fn note(telegrams: &mut ArrayVec<AnswerBuf, MOST_TELEGRAMS>, telegram: &[u8])
+fn note(telegrams: &mut ArrayVec<AnswerBuf, MOST_TELEGRAMS>, telegram: &[u8])
     requires { length telegram.now ≤ most_answer }
     ensures { telegrams.new.items ≡ telegram.now ∷ take most_before telegrams.old.items }
 {
