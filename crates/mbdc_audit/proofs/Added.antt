@@ -86,11 +86,11 @@ adds_place h l flat used weight word next flat_is named weight_is few = record {
 
 pub adds_run : (h : House) (l : Line) (n : ℕ) (r : Run) → l.word ≡ word.Meter → Counts n 0 l → text_at 1 l ≡ identity.text_of r.identity
     → number_at 2 l ≡ r.begin → maybe_at 3 l ≡ r.over → number_at 4 l ≡ r.most → number_at 5 l ≡ r.size → IsVib (text_at 6 l) r.vib
-    → InPlace (λ p. (n ≡ length p.runs) × (n < 16)) h → Adds h l (with_said (counts n r) h)
-adds_run h l n r word next identity begin over most size vib may = record {
+    → r.identity.version < 256 → r.identity.kind < 256 → InPlace (λ p. (n ≡ length p.runs) × (n < 16)) h → Adds h l (with_said (counts n r) h)
+adds_run h l n r word next identity begin over most size vib version kind may = record {
   said = counts n r;
   may = may;
-  says = (word, next, identity, begin, over, most, size, vib);
+  says = (word, next, identity, begin, over, most, size, vib, version, kind);
   with_it = refl;
 }
 
@@ -142,6 +142,10 @@ adds_number h l n made = record {
     named = names_kept (is_of_place n.key.word) l.word h n l made.0.named;
     text_is = made.0.text_is;
     beside_is = made.0.beside_is;
+    beside_all = made.0.beside_all;
+    other = made.0.other;
+    size = made.0.size;
+    whose = made.0.whose;
   };
   with_it = refl;
 }

@@ -13,7 +13,7 @@ use Rattle.mbdc_audit.specs.File.{AskedOf, InPlace, InWindow, IsFact, IsMeant, I
 use Rattle.mbdc_audit.specs.File.{allows, asks, begins, closes, counts, declares, lives, opens, parts, reads, spans, stands, strikes, totals, uses}
 use Rattle.mbdc_audit.specs.House.{Allowed, House, Key, Number, Place, Run, Source, Use, User, Value, Window, current, stored, ended, anew, put, first, last}
 use Rattle.mbdc_audit.specs.Published.{Has, HasFacts, HasOther, IsWho, MayAskOf}
-use Rattle.mbdc_audit.specs.Sound.{IsAt, IsDeclared}
+use Rattle.mbdc_audit.specs.Sound.{IsAt, IsDeclared, over_or}
 use Rattle.mbdc_audit.proofs.Bodies.{all_cons, all_front, all_rest}
 use Rattle.mbdc_audit.proofs.Grown.{all_none, last_cons}
 
@@ -85,7 +85,7 @@ abbrev pub WindowLike : Window → Window → Type 0
 WindowLike w x = (w.span ≡ x.span) × (length w.values ≡ length x.values) × (length w.parts ≡ length x.parts)
 
 abbrev pub RunLike : Run → Run → Type 0
-RunLike r q = r.begin ≡ q.begin
+RunLike r q = (r.begin ≡ q.begin) × (r.over ≡ q.over)
 
 abbrev pub PlaceLike : Place → Place → Type 0
 PlaceLike p q = (p.flat ≡ q.flat) × (p.used ≡ q.used) × Pairs RunLike p.runs q.runs × Pairs WindowLike p.windows q.windows
@@ -116,10 +116,10 @@ at_like : (r q : Run) (v : Value) (s : Source) → RunLike r q → IsAt r v s �
 at_like r q v (current bodies) like is = tt
 at_like r q v (stored e bodies) like is = is
 at_like r q v (ended e bodies) like is = is
-at_like r q v anew like is = is ∙ like
+at_like r q v anew like is = is ∙ like.0
 at_like r q v (put guess t) like is = tt
-at_like r q v (first guess t) like is = is ∙ like
-at_like r q v (last guess t) like is = tt
+at_like r q v (first guess t) like is = is ∙ like.0
+at_like r q v (last guess t) like is = is ∙ (ap (λ (n : ℕ). over_or n r.over) like.0 ∙ ap (over_or q.begin) like.1)
 
 has : (h g : House) (k : Key) (span : ℕ) → length h.spans ≡ length g.spans → Has h k span → Has (other h g) k span
 has h g k span long is = record { there = (let lt = is.there in omega arith); facts = is.facts }
@@ -248,6 +248,10 @@ said_in (asks n) h g l is = record {
   named = names_in l.word h g n.key l is.named;
   text_is = is.text_is;
   beside_is = is.beside_is;
+  beside_all = is.beside_all;
+  other = is.other;
+  size = is.size;
+  whose = is.whose;
 }
 said_in totals h g l is = is
 said_in closes h g l is = is

@@ -17,9 +17,10 @@ use Rattle.mbdc_audit.specs.declared.uses.Unit.TheVariants.{Kwh}
 use Rattle.mbdc_audit.specs.File.{Counts, IsUsed, Names, period_place, text_at}
 use Rattle.mbdc_audit.specs.Line.{number_at}
 use Rattle.mbdc_audit.specs.Published.{Has, HasOther, IsUnit, IsWho, MayAsk, declared, needs, of_factor, of_word, user_at}
-use Rattle.mbdc_audit.specs.Reader.{IsMade, IsOther, IsUnitOf, is_of_house, use_place}
-use Rattle.mbdc_audit.specs.File.{AskedOf, IsMeant, is_of_place}
+use Rattle.mbdc_audit.specs.Reader.{IsMade, IsOther, IsUnitOf, is_of_house}
+use Rattle.mbdc_audit.specs.File.{AskedOf, IsMeant, IsWhose, NoOther, NoSize, is_of_place, use_place}
 use Rattle.mbdc_audit.specs.Uses.{unit_named}
+use Rattle.mbdc_audit.specs.View.{beside_count}
 
 -- who it is of
 abbrev pub WhoseIs : Word → Key → Line → Type 0
@@ -72,12 +73,18 @@ not_of_place word.Shown is = (cc)
 not_of_place word.Value is = (cc)
 not_of_place _ is = refl
 
+one_size : (w : Word) (k : Key) → is_of_house w ≡ true → k.size ≡ 1 → NoSize w k
+one_size word.Value k is one = (cc)
+one_size _ k is one = one
+
 -- a number of the house, with its texts
 pub house_made : (h : House) (l : Line) (n : Number) → is_of_house l.word ≡ true → n.key.word ≡ l.word → number_at 0 l ≡ n.key.from
     → number_at 1 l ≡ n.key.to → Parts l.word h n.key l → text_at l.text l ≡ n.text
     → take (length n.beside) (drop (l.text + 1) (map (λ f. f.now) l.fields)) ≡ n.beside
+    → length n.beside ≡ beside_count l.word → NoOther l.word n.key → n.key.size ≡ 1
+    → (n.key.user ≡ number_at (use_place l.word - 1) l) × (n.key.flat ≡ text_at (use_place l.word - 1) l)
     → MayAsk h n.key → IsMeant h n.key.used → IsMade h l n
-house_made h l n is word from to parts text beside may meant =
+house_made h l n is word from to parts text beside all other size whose may meant =
     let start : period_place l.word ≡ 0 = from_start l.word is in
     let house : is_of_place n.key.word ≡ false = ap is_of_place word ∙ not_of_place l.word is in (
       record {
@@ -87,6 +94,10 @@ house_made h l n is word from to parts text beside may meant =
         named = of_parts l.word h n.key l is parts;
         text_is = text;
         beside_is = beside;
+        beside_all = all;
+        other = other;
+        size = one_size l.word n.key is size;
+        whose = subst (λ (b : Bool). IsWhose b n.key l) (sym (not_of_place l.word is)) whose;
       },
       subst (λ (b : Bool). AskedOf b h n) (sym house) (may, meant),
     )
@@ -180,10 +191,15 @@ other_is word.Change h k l is = is.0
 other_is word.Weather h k l is = is.0
 other_is _ h k l is = tt
 
-pub is_other : (w : Word) (h : House) (k : Key) (l : Line) → CountsOther w k l → HasOther w h k → IsOther w h k.other l
-is_other word.Change h k l is has = (is, has.there)
-is_other word.Weather h k l is has = (is, has.there)
-is_other _ h k l is has = tt
+pub is_other : (w : Word) (h : House) (k : Key) (l : Line) → CountsOther w k l → NoOther w k → HasOther w h k → IsOther w h k.other l
+is_other word.Change h k l is none has = (is, has.there)
+is_other word.Weather h k l is none has = (is, has.there)
+is_other _ h k l is none has = none
+
+pub no_other : (w : Word) (h : House) (k : Key) (l : Line) → IsOther w h k.other l → NoOther w k
+no_other word.Change h k l is = tt
+no_other word.Weather h k l is = tt
+no_other _ h k l is = is
 
 one_unit : (s : Option Unit) (a b : Unit) → s ≡ Some a → s ≡ Some b → a ≡ b
 one_unit s a b is is' = same_Some a b (sym is ∙ is')

@@ -18,14 +18,27 @@ bare_windows (w ∷ ws) = ((refl, sym (length-map w.values bare_value), refl), b
 
 bare_places : (ps : List Place) → Pairs PlaceLike ps (map bare_place ps)
 bare_places [] = tt
-bare_places (p ∷ ps) = ((refl, refl, same_pairs RunLike (λ r. refl) p.runs, bare_windows p.windows), bare_places ps)
+bare_places (p ∷ ps) = ((refl, refl, same_pairs RunLike (λ r. (refl, refl)) p.runs, bare_windows p.windows), bare_places ps)
 
-alike_bare : (h : House) → Alike h (bare_house h)
+pub alike_bare : (h : House) → Alike h (bare_house h)
 alike_bare h = record { uses = refl; allowed = refl; spans = refl; facts = refl; users = refl; places = bare_places h.places }
+
+-- and the other way
+
+windows_bare : (ws : List Window) → Pairs WindowLike (map bare_window ws) ws
+windows_bare [] = tt
+windows_bare (w ∷ ws) = ((refl, length-map w.values bare_value, refl), windows_bare ws)
+
+places_bare : (ps : List Place) → Pairs PlaceLike (map bare_place ps) ps
+places_bare [] = tt
+places_bare (p ∷ ps) = ((refl, refl, same_pairs RunLike (λ r. (refl, refl)) p.runs, windows_bare p.windows), places_bare ps)
+
+pub alike_back : (h : House) → Alike (bare_house h) h
+alike_back h = record { uses = refl; allowed = refl; spans = refl; facts = refl; users = refl; places = places_bare h.places }
 
 -- ---- a line adds the same without amounts
 
-abbrev bare_said : Said → Said
+abbrev pub bare_said : Said → Said
 bare_said (stands n p) = stands n (bare_place p)
 bare_said (reads v) = reads (bare_value v)
 bare_said x = x
@@ -52,7 +65,7 @@ number_bare : (b : Bool) (n : Number) (h : House) → with_number b n (bare_hous
 number_bare true n h = with_places h _ _ (in_bare h (λ w. record w { numbers = w.numbers ++ n ∷ [] }) (λ w. record w { numbers = w.numbers ++ n ∷ [] }) (λ w. refl))
 number_bare false n h = refl
 
-with_bare : (x : Said) (h : House) → with_said (bare_said x) (bare_house h) ≡ bare_house (with_said x h)
+pub with_bare : (x : Said) (h : House) → with_said (bare_said x) (bare_house h) ≡ bare_house (with_said x h)
 with_bare (begins label) h = refl
 with_bare (uses u) h = refl
 with_bare (allows a) h = refl

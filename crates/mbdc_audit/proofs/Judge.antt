@@ -83,16 +83,26 @@ push_all P (x ∷ xs) zero d lt all p = all_more P x [] p all
 push_all P (x ∷ xs) (suc i) d lt all p = all_more P x (take (suc i) xs) (all 0 x (omega arith))
     (push_all P xs i d (omega (arith, lt)) (λ k e below. all (suc k) e (omega (arith, below))) p)
 
--- nothing is found only if nothing was before, and this holds
-abbrev pub Only : Counts → Counts → Type 0 → Type 0
-Only old new P = IsTrue (is_clean new) → IsTrue (is_clean old) × P
+-- the other way
+pop_all : {X : Type 0} (P : X → Type 0) (xs : List X) (i : ℕ) (d : X) → i < length xs → All P (take (suc i) xs) → All P (take i xs) × P (get_or xs i d)
+pop_all P [] i d lt all = absurd (omega (arith, lt))
+pop_all P (x ∷ xs) zero d lt all = ((λ k e below. absurd (omega (arith, below))), all 0 x (omega arith))
+pop_all P (x ∷ xs) (suc i) d lt all =
+    let rest = pop_all P xs i d (omega (arith, lt)) (λ k e below. all (suc k) e (omega (arith, below))) in
+    (all_more P x (take i xs) (all 0 x (omega arith)) rest.0, rest.1)
 
-pub only_more : {X : Type 0} (P : X → Type 0) (xs : List X) (i j : ℕ) (d : X) (old mid new : Counts) → i < length xs → j ≡ i + 1
-    → Only old mid (All P (take i xs)) → Only mid new (P (get_or xs i d)) → Only old new (All P (take j xs))
-only_more P xs i j d old mid new lt e first second =
+-- nothing is found only if nothing was before, and this holds; exactly then where that is so
+abbrev pub Only : Type 0 → Counts → Counts → Type 0 → Type 0
+Only Q old new P = (IsTrue (is_clean new) → IsTrue (is_clean old) × P) × (Q → IsTrue (is_clean old) × P → IsTrue (is_clean new))
+
+pub only_more : {X : Type 0} (P : X → Type 0) (Q : Type 0) (xs : List X) (i j : ℕ) (d : X) (old mid new : Counts) → i < length xs → j ≡ i + 1
+    → Only Q old mid (All P (take i xs)) → Only Q mid new (P (get_or xs i d)) → Only Q old new (All P (take j xs))
+only_more P Q xs i j d old mid new lt e first second =
     let next : suc i ≡ j = omega (arith, e) in
-    subst (λ (n : ℕ). Only old new (All P (take n xs))) next
-    (λ clean. let m = second clean in let o = first m.0 in (o.0, push_all P xs i d lt o.1 m.1))
+    subst (λ (n : ℕ). Only Q old new (All P (take n xs))) next (
+      λ clean. let m = second.0 clean in let o = first.0 m.0 in (o.0, push_all P xs i d lt o.1 m.1),
+      λ q both. let parts = pop_all P xs i d lt both.1 in second.1 q (first.1 q (both.0, parts.0), parts.1),
+    )
 
 take_all : {X : Type 0} (n : ℕ) (xs : List X) → length xs ≤ n → take n xs ≡ xs
 take_all zero [] e = refl
@@ -100,16 +110,21 @@ take_all zero (x ∷ xs) e = absurd (omega (arith, e))
 take_all (suc n) [] e = refl
 take_all (suc n) (x ∷ xs) e = ap (λ (l : List _). x ∷ l) (take_all n xs (omega (arith, e)))
 
-pub only_all : {X : Type 0} (P : X → Type 0) (xs : List X) (i : ℕ) (old new : Counts) → length xs ≤ i → Only old new (All P (take i xs)) → Only old new (All P xs)
-only_all P xs i old new le only = subst (λ (l : List _). Only old new (All P l)) (take_all i xs le) only
+pub only_all : {X : Type 0} (P : X → Type 0) (Q : Type 0) (xs : List X) (i : ℕ) (old new : Counts) → length xs ≤ i
+    → Only Q old new (All P (take i xs)) → Only Q old new (All P xs)
+only_all P Q xs i old new le only = subst (λ (l : List _). Only Q old new (All P l)) (take_all i xs le) only
 
 pub all_unmap : {X Y : Type 0} (P : Y → Type 0) (f : X → Y) (xs : List X) → All P (map f xs) → All (λ x. P (f x)) xs
 all_unmap P f [] all k d lt = absurd (omega (arith, lt))
 all_unmap P f (x ∷ xs) all zero d lt = all 0 (f x) (omega arith)
 all_unmap P f (x ∷ xs) all (suc k) d lt = all_unmap P f xs (λ j e below. all (suc j) e (omega (arith, below))) k d (omega (arith, lt))
 
-pub only_map : {X Y : Type 0} (P : Y → Type 0) (f : X → Y) (xs : List X) (old new : Counts) → Only old new (All (λ x. P (f x)) xs) → Only old new (All P (map f xs))
-only_map P f xs old new only = λ clean. let o = only clean in (o.0, all_map P f xs o.1)
+pub only_map : {X Y : Type 0} (P : Y → Type 0) (Q : Type 0) (f : X → Y) (xs : List X) (old new : Counts) → Only Q old new (All (λ x. P (f x)) xs)
+    → Only Q old new (All P (map f xs))
+only_map P Q f xs old new only = (
+  λ clean. let o = only.0 clean in (o.0, all_map P f xs o.1),
+  λ q both. only.1 q (both.0, all_unmap P f xs both.1),
+)
 
 pub key_by : (n : number_type.Number) (fields : List (List ℕ)) → (number_by n fields).key ≡ key_of n
 key_by n [] = refl
@@ -138,18 +153,26 @@ SureOf h n = AsksNothing (number_of n) → IsNumber h (number_of n)
 pub number_more : (h : House) (xs ys : List number_type.Number) (i : ℕ) (d : number_type.Number) (x : Option Exact) (b : List (List ℕ)) (old mid new : Counts) → xs ≡ ys → i < length xs
     → All (λ n. MayAsk h n.key) (map number_of ys)
     → x ≡ number h (key_of (get_or xs i d)) → b ≡ beside h (key_of (get_or xs i d))
-    → Only old mid (All (SureOf h) (take i ys)) → (IsTrue (is_clean new) → IsTrue (is_clean mid))
+    → Only (All AsksNothing (map number_of ys)) old mid (All (SureOf h) (take i ys)) → (IsTrue (is_clean new) → IsTrue (is_clean mid))
     → (AsksNothing (number_of (get_or xs i d)) → Checked mid new (IsHeld (number_of (get_or xs i d)) x b))
-    → Only old new (All (SureOf h) (take (i + 1) ys))
+    → Only (All AsksNothing (map number_of ys)) old new (All (SureOf h) (take (i + 1) ys))
 number_more h xs ys i d x b old mid new same lt asks e f first kept second =
     let one : MayAsk h (number_of (get_or xs i d)).key =
     subst (λ (zs : List number_type.Number). All (λ n. MayAsk h (number_of n).key) zs) (sym same)
     (all_unmap (λ n. MayAsk h n.key) number_of ys asks) i d lt in
-    subst (λ (zs : List number_type.Number). Only old new (All (SureOf h) (take (i + 1) zs))) same
-    (only_more (SureOf h) xs i (i + 1) d old mid new lt refl
-    (subst (λ (zs : List number_type.Number). Only old mid (All (SureOf h) (take i zs))) (sym same) first)
-    (λ clean. (kept clean, λ none. (is_number h (get_or xs i d) x b e f one).0 ((second none).0 clean).1)))
+    let Q : Type 0 = All AsksNothing (map number_of ys) in
+    let quiet : Q → AsksNothing (number_of (get_or xs i d)) = λ all.
+    subst (λ (zs : List number_type.Number). All (λ n. AsksNothing (number_of n)) zs) (sym same) (all_unmap AsksNothing number_of ys all) i d lt in
+    subst (λ (zs : List number_type.Number). Only Q old new (All (SureOf h) (take (i + 1) zs))) same
+    (only_more (SureOf h) Q xs i (i + 1) d old mid new lt refl
+    (subst (λ (zs : List number_type.Number). Only Q old mid (All (SureOf h) (take i zs))) (sym same) first) (
+      λ clean. (kept clean, λ none. (is_number h (get_or xs i d) x b e f one).0 ((second none).0 clean).1),
+      λ all both. (second (quiet all)).1 (both.0, (is_number h (get_or xs i d) x b e f one).1 (both.1 (quiet all))),
+    ))
 
 pub numbers_all : (h : House) (xs : List number_type.Number) (i : ℕ) (old new : Counts) → length xs ≤ i
-    → Only old new (All (SureOf h) (take i xs)) → Only old new (All (λ n. AsksNothing n → IsNumber h n) (map number_of xs))
-numbers_all h xs i old new le only = only_map (λ n. AsksNothing n → IsNumber h n) number_of xs old new (only_all (SureOf h) xs i old new le only)
+    → Only (All AsksNothing (map number_of xs)) old new (All (SureOf h) (take i xs))
+    → Only (All AsksNothing (map number_of xs)) old new (All (λ n. AsksNothing n → IsNumber h n) (map number_of xs))
+numbers_all h xs i old new le only =
+    let Q : Type 0 = All AsksNothing (map number_of xs) in
+    only_map (λ n. AsksNothing n → IsNumber h n) Q number_of xs old new (only_all (SureOf h) Q xs i old new le only)

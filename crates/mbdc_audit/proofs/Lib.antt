@@ -194,6 +194,10 @@ mod Alike
 mod BareHouse
 -- a file whose lines all followed is read as its house
 mod ReadAs
+-- lines spell one house
+mod OneHouse
+-- evidence gives a house one amount a value
+mod OneReading
 -- a number that a line asks for stands in its house
 mod Standing
 -- a house with a line more asks nothing

@@ -1,5 +1,5 @@
 -- The numbers of all places are judged, one after the other.
-use Rattle.std.proofs.Common.{arith, ◌≡◌, ◌+◌, ◌<◌, ◌≤◌, ℕ, zero, suc, Bool, true, false, List, [], ◌∷◌, ◌++◌, map, length, take, Some, refl, sym, subst, get_or}
+use Rattle.std.proofs.Common.{arith, ◌≡◌, ◌↔◌, ◌+◌, ◌<◌, ◌≤◌, ℕ, zero, suc, Bool, true, false, List, [], ◌∷◌, ◌++◌, map, length, take, Some, refl, sym, subst, get_or}
 use Rattle.std.specs.Prelude.{All, flat_map, slice_get}
 use Rattle.mbdc_audit.specs.declared.house.Number as number_type
 use Rattle.mbdc_audit.specs.declared.house.Place as place_type
@@ -19,24 +19,27 @@ use Rattle.mbdc_audit.proofs.PlacedNumbers.{key_is}
 
 -- ---- one more, and all
 
-pub each_more : {X : Type 0} (P Q : X → Type 0) (xs ys : List X) (i : ℕ) (d : X) (old mid new : Counts) → xs ≡ ys → i < length xs → All P ys
-    → Only old mid (All Q (take i ys)) → (P (get_or xs i d) → Only mid new (Q (get_or xs i d))) → Only old new (All Q (take (i + 1) ys))
-each_more P Q xs ys i d old mid new same lt all first second =
-    subst (λ (zs : List _). Only old new (All Q (take (i + 1) zs))) same
-    (only_more Q xs i (i + 1) d old mid new lt refl
-    (subst (λ (zs : List _). Only old mid (All Q (take i zs))) (sym same) first)
+pub each_more : {X : Type 0} (P Q : X → Type 0) (R : Type 0) (xs ys : List X) (i : ℕ) (d : X) (old mid new : Counts) → xs ≡ ys → i < length xs → All P ys
+    → Only R old mid (All Q (take i ys)) → (P (get_or xs i d) → Only R mid new (Q (get_or xs i d))) → Only R old new (All Q (take (i + 1) ys))
+each_more P Q R xs ys i d old mid new same lt all first second =
+    subst (λ (zs : List _). Only R old new (All Q (take (i + 1) zs))) same
+    (only_more Q R xs i (i + 1) d old mid new lt refl
+    (subst (λ (zs : List _). Only R old mid (All Q (take i zs))) (sym same) first)
     (second (subst (λ (zs : List _). All P zs) (sym same) all i d lt)))
 
 -- the same, of an element that the code names
-pub item_more : {X : Type 0} (P Q : X → Type 0) (xs ys : List X) (i : ℕ) (x : X) (old mid new : Counts) → xs ≡ ys → i < length xs → x ≡ get_or xs i x → All P ys
-    → Only old mid (All Q (take i ys)) → (P x → Only mid new (Q x)) → Only old new (All Q (take (i + 1) ys))
-item_more P Q xs ys i x old mid new same lt at all first second = each_more P Q xs ys i x old mid new same lt all first
-    (λ p. subst (λ (y : _). Only mid new (Q y)) at (second (subst P (sym at) p)))
+-- that is so of each one where it is so
+pub item_more : {X : Type 0} (P Q T : X → Type 0) (R : Type 0) (xs ys : List X) (i : ℕ) (x : X) (old mid new : Counts) → xs ≡ ys → i < length xs → x ≡ get_or xs i x → All P ys
+    → (R → All T ys) → Only R old mid (All Q (take i ys)) → (P x → Only (T x) mid new (Q x)) → Only R old new (All Q (take (i + 1) ys))
+item_more P Q T R xs ys i x old mid new same lt at all whole first second = each_more P Q R xs ys i x old mid new same lt all first
+    (λ p. let one = second (subst P (sym at) p) in
+    let here : R → T x = λ r. subst T (sym at) (subst (λ (zs : List _). All T zs) (sym same) (whole r) i x lt) in
+    subst (λ (y : _). Only R mid new (Q y)) at (one.0, λ r both. one.1 (here r) both))
 
-pub each_all : {X Y : Type 0} (P : Y → Type 0) (f : X → Y) (xs ys : List X) (i : ℕ) (old new : Counts) → xs ≡ ys → length xs ≤ i
-    → Only old new (All (λ x. P (f x)) (take i ys)) → Only old new (All P (map f ys))
-each_all P f xs ys i old new same le checked = only_map P f ys old new
-    (only_all (λ x. P (f x)) ys i old new (subst (λ (zs : List _). length zs ≤ i) same le) checked)
+pub each_all : {X Y : Type 0} (P : Y → Type 0) (R : Type 0) (f : X → Y) (xs ys : List X) (i : ℕ) (old new : Counts) → xs ≡ ys → length xs ≤ i
+    → Only R old new (All (λ x. P (f x)) (take i ys)) → Only R old new (All P (map f ys))
+each_all P R f xs ys i old new same le checked = only_map P R f ys old new
+    (only_all (λ x. P (f x)) R ys i old new (subst (λ (zs : List _). length zs ≤ i) same le) checked)
 
 -- what is sure of a number of a place that asks for nothing
 abbrev pub SureAt : House → Place → Window → number_type.Number → Type 0
@@ -45,12 +48,16 @@ SureAt h p w n = AsksNothing (number_of n) → IsNumberOf h (open_of p w) (numbe
 -- one more number of a place
 pub placed_more : (h : House) (p : Place) (w : Window) (xs ys : List number_type.Number) (i : ℕ) (d : number_type.Number) (old mid new : Counts) → xs ≡ ys → i < length xs
     → All (λ n. MayAskOf h p w n.key) (map number_of ys)
-    → Only old mid (All (SureAt h p w) (take i ys)) → (MayAskOf h p w (key_of (get_or xs i d)) → Only mid new (SureAt h p w (get_or xs i d)))
-    → Only old new (All (SureAt h p w) (take (i + 1) ys))
+    → Only (All AsksNothing (map number_of ys)) old mid (All (SureAt h p w) (take i ys))
+    → (MayAskOf h p w (key_of (get_or xs i d)) → Only (AsksNothing (number_of (get_or xs i d))) mid new (SureAt h p w (get_or xs i d)))
+    → Only (All AsksNothing (map number_of ys)) old new (All (SureAt h p w) (take (i + 1) ys))
 placed_more h p w xs ys i d old mid new same lt asks first second =
-    each_more (λ n. MayAskOf h p w (number_of n).key) (SureAt h p w) xs ys i d old mid new same lt
+    let R : Type 0 = All AsksNothing (map number_of ys) in
+    let quiet : R → AsksNothing (number_of (get_or xs i d)) = λ all.
+    subst (λ (zs : List number_type.Number). All (λ n. AsksNothing (number_of n)) zs) (sym same) (all_unmap AsksNothing number_of ys all) i d lt in
+    each_more (λ n. MayAskOf h p w (number_of n).key) (SureAt h p w) R xs ys i d old mid new same lt
     (all_unmap (λ n. MayAskOf h p w n.key) number_of ys asks) first
-    (λ one. second (subst (λ (k : Key). MayAskOf h p w k) (key_is (get_or xs i d)) one))
+    (λ one. let it = second (subst (λ (k : Key). MayAskOf h p w k) (key_is (get_or xs i d)) one) in (it.0, λ r both. it.1 (quiet r) both))
 
 -- ---- the windows of a place
 
@@ -109,8 +116,11 @@ pub flat : (h : House) (P : Open → Type 0) → All (λ p. All (λ w. P (open_o
 flat h P all = all_flat_map P (λ p. map (λ w. open_of p w) p.windows) h.places
     (λ k d lt. all_map P (λ w. open_of (get_or h.places k d) w) (get_or h.places k d).windows (all k d lt))
 
-pub only_both : (P Q R : Type 0) (old mid new : Counts) → (P → R) → Only old mid P → Only mid new Q → Only old new (R × Q)
-only_both P Q R old mid new same first second = λ clean. let m = second clean in let o = first m.0 in (o.0, (same o.1, m.1))
+pub only_both : (P Q R S T U : Type 0) (old mid new : Counts) → P ↔ R → (U → S) → (U → T) → Only S old mid P → Only T mid new Q → Only U old new (R × Q)
+only_both P Q R S T U old mid new same s t first second = (
+  λ clean. let m = second.0 clean in let o = first.0 m.0 in (o.0, (same.0 o.1, m.1)),
+  λ u both. second.1 (t u) (first.1 (s u) (both.0, same.1 both.1.0), both.1.1),
+)
 
 -- unless asking is allowed, each number holds
 pub given : (asks : Bool) (P : Number → Type 0) (ns : List Number) → (asks ≡ false → All AsksNothing ns) → All (λ n. AsksNothing n → P n) ns → All (IfGiven asks P) ns

@@ -1,5 +1,5 @@
 -- Two lines of one text say the same.
-use Rattle.std.proofs.Common.{◌≡◌, ℕ, ◌+◌, ◌∙◌, List, [], ◌∷◌, length, map, get_or, take, drop, Option, None, Some, ◌⊎◌, inl, inr, refl, ap, sym, subst, arith}
+use Rattle.std.proofs.Common.{◌≡◌, ℕ, ◌+◌, ◌-◌, ◌∙◌, Bool, true, false, List, [], ◌∷◌, length, map, get_or, take, drop, Option, None, Some, ◌⊎◌, inl, inr, refl, ap, sym, subst, arith}
 use Rattle.std.specs.Prelude.{All, codes, slice_get}
 use Rattle.std.proofs.lemmas.Option.{same_Some}
 use Rattle.dc_units.proofs.DayTexts.{one_day}
@@ -19,7 +19,8 @@ use Rattle.mbdc_audit.specs.Smallest.{decimal_in, ratio_in, whole_in}
 use Rattle.mbdc_audit.specs.House.{House, Key, Number, Source, Value, current, stored, ended, anew, put, first, last}
 use Rattle.mbdc_audit.specs.Line.{AreRead, Fields, IsDayOf, IsLine, IsTypeOf, Reads, Rule, Says, SaysAbove0, SaysDecimal, digits_of, maybe_at, number_at, or_0, spelled, text_place}
 use Rattle.mbdc_audit.specs.Moment.{number_of_day}
-use Rattle.mbdc_audit.specs.File.{Adds}
+use Rattle.mbdc_audit.specs.File.{Adds, IsWhose, NoOther, NoSize, is_of_place, use_place}
+use Rattle.mbdc_audit.specs.View.{beside_count}
 use Rattle.mbdc_audit.proofs.Bodies.{all_front, all_rest, type_spelled}
 use Rattle.mbdc_audit.proofs.Forms.{dash_no_ratio, dash_no_whole, mark_no_decimal, not_both}
 use Rattle.mbdc_audit.proofs.Table.{one_row}
@@ -190,6 +191,13 @@ module _ (h : House) (l m : Line) (like : Alike l m) where
   names k word.Cost is = (n 0 ∙ is.0, (n 1 ∙ is.1.0, (t 2 ∙ is.1.1.0, unit 3 (Some k.unit) is.1.1.1, is.1.1.2)))
   names k _ is = absurd is
 
+  whose : (b : Bool) (k : Key) → IsWhose b k l → IsWhose b k m
+  whose true k is = is
+  whose false k is = (
+    is.0 ∙ (ap (λ (v : Word). number_at (use_place v - 1) l) (sym w) ∙ sym (n (use_place m.word - 1))),
+    is.1 ∙ (ap (λ (v : Word). text_at (use_place v - 1) l) (sym w) ∙ sym (t (use_place m.word - 1))),
+  )
+
   place_at : (i : ℕ) (x : ℕ) → number_at (period_place l.word + i) l ≡ x → number_at (period_place m.word + i) m ≡ x
   place_at i x is = n (period_place m.word + i) ∙ (ap (λ (v : Word). number_at (period_place v + i) l) w ∙ is)
 
@@ -202,6 +210,10 @@ module _ (h : House) (l m : Line) (like : Alike l m) where
     text_is = t m.text ∙ (ap (λ (i : ℕ). text_at i l) (sym like.text) ∙ is.text_is);
     beside_is = ap (λ (fs : Fields). take (length x.beside) (drop (m.text + 1) fs)) (sym like.fields)
         ∙ (ap (λ (i : ℕ). take (length x.beside) (drop (i + 1) (map (λ f. f.now) l.fields))) (sym like.text) ∙ is.beside_is);
+    beside_all = is.beside_all ∙ ap beside_count like.word;
+    other = subst (λ (v : Word). NoOther v x.key) like.word is.other;
+    size = subst (λ (v : Word). NoSize v x.key) like.word is.size;
+    whose = whose (is_of_place m.word) x.key (subst (λ (v : Word). IsWhose (is_of_place v) x.key l) like.word is.whose);
   }
 
   pub same_said : (x : Said) → IsSaid h x l → IsSaid h x m
@@ -221,6 +233,8 @@ module _ (h : House) (l m : Line) (like : Alike l m) where
     n 4 ∙ is.5,
     n 5 ∙ is.6,
     subst (λ (field : List ℕ). IsVib field r.vib) (sym (t 6)) is.7,
+    is.8,
+    is.9,
   )
   same_said (opens span) is = (w ∙ is.0, n 0 ∙ is.1)
   same_said (reads v) is = (n 0 ∙ is.0, source v v.source is.1)

@@ -10,7 +10,9 @@ use Rattle.mbdc_audit.specs.File.{Counts, Names, period_place, text_at}
 use Rattle.mbdc_audit.specs.Line.{number_at}
 use Rattle.mbdc_audit.specs.Published.{Has, HasFacts, IsUnit, MayAskOf, quantity}
 use Rattle.mbdc_audit.specs.Reader.{IsMade}
-use Rattle.mbdc_audit.specs.File.{AskedOf, InWindow, is_of_place}
+use Rattle.mbdc_audit.specs.File.{AskedOf, InWindow, IsWhose, NoOther, NoSize, is_of_place}
+use Rattle.mbdc_audit.specs.View.{beside_count}
+use Rattle.mbdc_audit.specs.declared.uses.Unit.TheVariants.{Smallest}
 use Rattle.mbdc_audit.specs.Uses.{size_named, unit_named}
 use Rattle.mbdc_audit.proofs.Opened.{from_window, into_window}
 
@@ -27,11 +29,14 @@ pub record Texts (l : Line) (n : Number) : Type 0 where
   pub word_is : n.key.word ≡ l.word
   pub text_is : text_at l.text l ≡ n.text
   pub beside_is : take (length n.beside) (drop (l.text + 1) (map (λ f. f.now) l.fields)) ≡ n.beside
+  pub beside_all : length n.beside ≡ beside_count l.word
+  pub other : n.key.other ≡ 0
+  pub whose : (n.key.user ≡ 0) × (n.key.flat ≡ [])
 
 pub value_made : (h : House) (l : Line) (n : Number) (p : Place) (w : Window) → l.word ≡ word.Value → Texts l n
     → last_of h.places ≡ p ∷ [] → last_of p.windows ≡ w ∷ [] → number_at 0 l ≡ n.key.from → number_at 1 l ≡ n.key.to
-    → n.key.span ≡ w.span → n.key.used ≡ p.used → OfValue h n.key.used n.key.size l → IsMade h l n
-value_made h l n p w is texts it it' from to span used of = (
+    → n.key.span ≡ w.span → n.key.used ≡ p.used → OfValue h n.key.used n.key.size l → n.key.unit ≡ Smallest → IsMade h l n
+value_made h l n p w is texts it it' from to span used of none = (
   record {
     word_is = sym texts.word_is;
     from_is = ap (λ (x : Word). number_at (period_place x) l) is ∙ from;
@@ -39,6 +44,10 @@ value_made h l n p w is texts it it' from to span used of = (
     named = subst (λ (x : Word). Names x h n.key l) (sym is) of;
     text_is = texts.text_is;
     beside_is = texts.beside_is;
+    beside_all = texts.beside_all;
+    other = subst (λ (x : Word). NoOther x n.key) (sym is) texts.other;
+    size = subst (λ (x : Word). NoSize x n.key) (sym is) none;
+    whose = subst (λ (x : Word). IsWhose (is_of_place x) n.key l) (sym is) texts.whose;
   },
   subst (λ (x : Word). AskedOf (is_of_place x) h n) (sym (texts.word_is ∙ is))
       (into_window (λ q v. MayAskOf h q v n.key) h p w it it' (record {
@@ -51,8 +60,8 @@ value_made h l n p w is texts it it' from to span used of = (
 pub shown_made : (h : House) (l : Line) (n : Number) (p : Place) (w : Window) → l.word ≡ word.Shown → Texts l n
     → last_of h.places ≡ p ∷ [] → last_of p.windows ≡ w ∷ [] → number_at 1 l ≡ n.key.from → number_at 2 l ≡ n.key.to
     → n.key.span ≡ w.span → n.key.used ≡ p.used → Counts n.key.span 0 l → unit_named (text_at 3 l) ≡ Some n.key.unit
-    → IsUnit h n.key.used n.key.unit → Has h n.key n.key.span → IsMade h l n
-shown_made h l n p w is texts it it' from to span used counts named unit has = (
+    → IsUnit h n.key.used n.key.unit → Has h n.key n.key.span → n.key.size ≡ 1 → IsMade h l n
+shown_made h l n p w is texts it it' from to span used counts named unit has none = (
   record {
     word_is = sym texts.word_is;
     from_is = ap (λ (x : Word). number_at (period_place x) l) is ∙ from;
@@ -60,6 +69,10 @@ shown_made h l n p w is texts it it' from to span used counts named unit has = (
     named = subst (λ (x : Word). Names x h n.key l) (sym is) (counts, named, unit);
     text_is = texts.text_is;
     beside_is = texts.beside_is;
+    beside_all = texts.beside_all;
+    other = subst (λ (x : Word). NoOther x n.key) (sym is) texts.other;
+    size = subst (λ (x : Word). NoSize x n.key) (sym is) none;
+    whose = subst (λ (x : Word). IsWhose (is_of_place x) n.key l) (sym is) texts.whose;
   },
   subst (λ (x : Word). AskedOf (is_of_place x) h n) (sym (texts.word_is ∙ is))
       (into_window (λ q v. MayAskOf h q v n.key) h p w it it' (record {

@@ -1,9 +1,10 @@
 -- A file whose lines all followed is read as its house.
-use Rattle.std.proofs.Common.{arith, ◌≡◌, ℕ, ◌<◌, ◌≤◌, List, [], ◌∷◌, ◌++◌, length, Bool, true, Some, refl, ap, sym, subst, ◌∙◌, ◌==◌}
+use Rattle.std.proofs.Common.{arith, ◌≡◌, ℕ, ◌<◌, ◌≤◌, List, [], ◌∷◌, length, Bool, false, true, Some, refl, ap, sym, subst, ◌∙◌, ◌==◌}
 use Rattle.std.specs.Prelude.{All, AllPairs, slice_get, ◌≢◌}
 use Rattle.std.proofs.lemmas.Bool.Decides.{nat_tests}
 use Rattle.mbdc_io.specs.Lines.{lines_of}
-use Rattle.mbdc_audit.specs.File.{IsWithin, Steps, bare_house, empty}
+use Rattle.mbdc_audit.specs.File.{IsFed, IsWithin, Steps, bare_house, empty}
+use Rattle.mbdc_audit.specs.Line.{IsAsked}
 use Rattle.mbdc_audit.specs.House.{Allowed, House, Number, Place, Run, Span, Use, User}
 use Rattle.mbdc_audit.specs.declared.house.Declared.{Declared}
 use Rattle.mbdc_audit.specs.Reader.{IsRead}
@@ -64,13 +65,16 @@ built_of h l runs = record {
 ended_apart : (s : ℕ) → s ≡ 12 → s ≢ 3
 ended_apart s is = λ e. absurd (omega arith)
 
-pub read_as : (input : List ℕ) (s : ℕ) (h : House) → (front : List ℕ) × (input ≡ front ++ 10 ∷ []) → s ≡ 12
-    → Steps 0 empty (lines_of input) s h → IsRead input h
-read_as input s h fed ends steps =
+pub read_as : (asks : Bool) (input : List ℕ) (s : ℕ) (h : House) → IsFed input → s ≡ 12 → Steps 0 empty (lines_of input) s h
+    → (asks ≡ false → All (λ line. IsAsked line → ⊥) (lines_of input)) → IsRead asks input h
+read_as asks input s h fed ends steps plain =
     let st : Staged s h = steps_staged 0 empty (lines_of input) s h steps staged_empty in
     record {
-      fed = fed;
-      spelled = subst (λ (n : ℕ). Steps 0 empty (lines_of input) n (bare_house h)) ends (steps_bare 0 empty (lines_of input) s h steps);
+      spells = record {
+        fed = fed;
+        plain = plain;
+        steps = subst (λ (n : ℕ). Steps 0 empty (lines_of input) n (bare_house h)) ends (steps_bare 0 empty (lines_of input) s h steps);
+      };
       within = steps_within 0 empty (lines_of input) s h steps within_empty;
       built = built_of h (steps_linked 0 empty (lines_of input) s h steps linked_empty) (st.runs (ended_apart s ends));
       of_places = asked_opened s h st;

@@ -1,11 +1,10 @@
 -- A number that a line of a file asks for stands in its house.
-use Rattle.std.proofs.Common.{arith, ◌≡◌, ◌⊎◌, inl, inr, ℕ, zero, suc, ◌+◌, ◌<◌, ◌≤◌, List, [], ◌∷◌, ◌++◌, length, map, get_or, Bool, true, false, refl, ap, sym, subst, ◌∙◌}
-use Rattle.std.specs.Prelude.{Any, slice_get}
-use Rattle.std.proofs.lemmas.List.{length_push}
+use Rattle.std.proofs.Common.{arith, ◌≡◌, ◌⊎◌, inl, inr, ℕ, zero, suc, ◌<◌, List, [], ◌∷◌, ◌++◌, length, get_or, Bool, true, false, refl, sym, subst}
+use Rattle.std.specs.Prelude.{Any}
 use Rattle.mbdc_audit.specs.Amount.{last_of}
 use Rattle.mbdc_audit.specs.declared.line.Line.{Line}
 use Rattle.mbdc_audit.specs.Line.{IsLine}
-use Rattle.mbdc_audit.specs.File.{AskedOf, Follows, InWindow, IsSaid, MayBeNext, Said, Steps, in_last, is_of_place, opened, with_number, with_said}
+use Rattle.mbdc_audit.specs.File.{AskedOf, IsSaid, MayBeNext, Said, Steps, in_last, is_of_place, opened, with_number, with_said}
 use Rattle.mbdc_audit.specs.File.{allows, asks, begins, closes, counts, declares, lives, opens, parts, reads, spans, stands, strikes, totals, uses}
 use Rattle.mbdc_audit.specs.House.{House, Number, Place, Window}
 use Rattle.mbdc_audit.specs.Published.{MayAskOf}

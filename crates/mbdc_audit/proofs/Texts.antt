@@ -35,6 +35,13 @@ beside word.OfFlat l n lt = one_beside l n (omega arith)
 beside word.OfHouse l n lt = two_beside l n (omega arith)
 beside _ l n lt = refl
 
+pub few : (w : Word) (a b : List ℕ) → length (take (beside_count w) (a ∷ b ∷ [])) ≡ beside_count w
+few word.Shown a b = refl
+few word.OfUser a b = refl
+few word.OfFlat a b = refl
+few word.OfHouse a b = refl
+few _ a b = refl
+
 abbrev with_beside : number_type.Number → List ℕ → List (List ℕ) → Number
 with_beside n t b = record { key = key_of n; text = t; beside = b }
 

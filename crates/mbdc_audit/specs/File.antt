@@ -1,6 +1,6 @@
 -- When a file of published numbers is right: its lines, followed one by one, make a sound house, whose numbers are the
 -- defined ones (this product).
-use Rattle.std.specs.Prelude.{◌≡◌, ◌≢◌, ◌≤◌, ◌<◌, ◌⊎◌, ⊤, ℕ, ◌+◌, Bool, true, false, if◌then◌else◌, codes}
+use Rattle.std.specs.Prelude.{◌≡◌, ◌≢◌, ◌≤◌, ◌<◌, ◌⊎◌, ⊤, ℕ, ◌+◌, ◌-◌, Bool, true, false, if◌then◌else◌, codes}
 use Rattle.std.specs.Prelude.{List, [], ◌∷◌, ◌++◌, length, map, flat_map, take, drop, Option, None, Some, IsSome, IsTrue}
 use Rattle.std.specs.Prelude.{All, Any, Contains, position, slice_get}
 use Rattle.std.specs.Str.{bytes_eq}
@@ -10,7 +10,7 @@ use Rattle.mbdc_audit.specs.declared.line.Line.{Line}
 use Rattle.mbdc_audit.specs.declared.line.Word.{Word}
 use Rattle.mbdc_audit.specs.declared.line.Word.TheVariants as word
 use Rattle.mbdc_audit.specs.Amount.{last_of}
-use Rattle.mbdc_audit.specs.Line.{IsLine, may_follow, maybe_at, number_at}
+use Rattle.mbdc_audit.specs.Line.{IsAsked, IsLine, may_follow, maybe_at, number_at}
 use Rattle.mbdc_audit.specs.Uses.{counted_named, size_named, unit_named}
 use Rattle.mbdc_audit.specs.House.{End, Spelled, Source, current, stored, ended, anew, put, first, last, Value, Run, Part, Struck}
 use Rattle.mbdc_audit.specs.House.{Key, Number, Window, Place, Span, Use, Allowed, User, House}
@@ -19,9 +19,10 @@ use Rattle.mbdc_audit.specs.declared.house.Fact.{Fact}
 use Rattle.mbdc_audit.specs.declared.house.Fact.TheVariants.{Factor, Emissions, Degrees, Price, Average}
 use Rattle.mbdc_audit.specs.declared.uses.Counted.{Counted}
 use Rattle.mbdc_audit.specs.declared.uses.Unit.{Unit}
-use Rattle.mbdc_audit.specs.declared.uses.Unit.TheVariants.{Kwh}
+use Rattle.mbdc_audit.specs.declared.uses.Unit.TheVariants.{Kwh, Smallest}
 use Rattle.mbdc_audit.specs.Published.{IsNumber, IsNumberOf, IsUnit, MayAsk, MayAskOf, Open, quantity}
 use Rattle.mbdc_audit.specs.Sound.{AreOne, IsAt, IsDeclared, IsHouse}
+use Rattle.mbdc_audit.specs.View.{beside_count}
 
 -- ---- what a line says of the house: spans, places and runs count from 0 there, and from 1 in the file
 
@@ -102,7 +103,34 @@ Names word.Mean h k l = Counts k.span 0 l × IsOne h k 1 l
 Names word.Cost h k l = Counts k.span 0 l × IsOne h k 1 l
 Names _ h k l = ⊥
 
--- A LINE ASKS for a number: its text and what is beside it are the line's
+-- words of numbers of a place; the others' are of the house
+abbrev pub is_of_place : Word → Bool
+is_of_place word.Shown = true
+is_of_place word.Value = true
+is_of_place _ = false
+
+-- where the use stands in its line
+abbrev pub use_place : Word → ℕ
+use_place word.OfHouse = 1
+use_place word.Change = 3
+use_place word.Weather = 3
+use_place _ = 2
+
+-- the other span and the size, or the unit, that a word doesn't have; the user and the flat, both the field before the use
+abbrev pub NoOther : Word → Key → Type 0
+NoOther word.Change k = ⊤
+NoOther word.Weather k = ⊤
+NoOther _ k = k.other ≡ 0
+
+abbrev pub NoSize : Word → Key → Type 0
+NoSize word.Value k = k.unit ≡ Smallest
+NoSize _ k = k.size ≡ 1
+
+abbrev pub IsWhose : Bool → Key → Line → Type 0
+IsWhose true k l = (k.user ≡ 0) × (k.flat ≡ [])
+IsWhose _ k l = (k.user ≡ number_at (use_place l.word - 1) l) × (k.flat ≡ text_at (use_place l.word - 1) l)
+
+-- A LINE ASKS for a number: its text and what is beside it are the line's, and it says nothing more
 pub record Asks (h : House) (n : Number) (l : Line) : Type 0 where
   pub word_is : l.word ≡ n.key.word
   pub from_is : number_at (period_place l.word) l ≡ n.key.from
@@ -110,6 +138,10 @@ pub record Asks (h : House) (n : Number) (l : Line) : Type 0 where
   pub named : Names l.word h n.key l
   pub text_is : text_at l.text l ≡ n.text
   pub beside_is : take (length n.beside) (drop (l.text + 1) (map (λ f. f.now) l.fields)) ≡ n.beside
+  pub beside_all : length n.beside ≡ beside_count l.word
+  pub other : NoOther l.word n.key
+  pub size : NoSize l.word n.key
+  pub whose : IsWhose (is_of_place l.word) n.key l
 
 -- what a line says
 pub data Said : Type 0 where
@@ -143,6 +175,7 @@ IsSaid h (stands n p) l = (l.word ≡ word.Place) × Counts n 0 l × (text_at 1 
     × (number_at 3 l ≡ p.weight)
 IsSaid h (counts n r) l = (l.word ≡ word.Meter) × Counts n 0 l × (text_at 1 l ≡ identity.text_of r.identity) × (number_at 2 l ≡ r.begin)
     × (maybe_at 3 l ≡ r.over) × (number_at 4 l ≡ r.most) × (number_at 5 l ≡ r.size) × IsVib (text_at 6 l) r.vib
+    × (r.identity.version < 256) × (r.identity.kind < 256)
 IsSaid h (opens span) l = (l.word ≡ word.Window) × Counts span 0 l
 IsSaid h (reads v) l = Counts v.run 0 l × IsSource v v.source l
 IsSaid h (strikes x) l = (l.word ≡ word.Struck) × Counts x.run 0 l × (number_at 1 l ≡ x.moment) × (text_at 2 l ≡ x.why)
@@ -175,12 +208,6 @@ use_of (Emissions used) = Some used
 use_of (Price used unit) = Some used
 use_of (Average used unit) = Some used
 use_of Degrees = None
-
--- words of numbers of a place; the others' are of the house
-abbrev pub is_of_place : Word → Bool
-is_of_place word.Shown = true
-is_of_place word.Value = true
-is_of_place _ = false
 
 -- what a number is of is declared before it: of a place it is of the last one, in its last window
 abbrev pub AskedOf : Bool → House → Number → Type 0
@@ -335,11 +362,16 @@ abbrev pub IfGiven : Bool → (Number → Type 0) → Number → Type 0
 IfGiven false P n = P n
 IfGiven true P n = AsksNothing n → P n
 
+-- the last line of a file ends with a feed, too
+abbrev pub IsFed : List ℕ → Type 0
+IsFed input = (front : List ℕ) × (input ≡ front ++ 10 ∷ [])
+
 -- A FILE IS RIGHT where its lines, one by one to the last word, make a sound house, and each number says what it is; where
--- asking is allowed, as far as it is given
+-- asking is allowed, as far as it is given; otherwise no line of a number has a question mark
 pub record IsRight (asks : Bool) (lines : List (List ℕ)) : Type 0 where
   pub house : House
   pub spelled : Steps 0 empty lines 12 (bare_house house)
+  pub plain : asks ≡ false → All (λ line. IsAsked line → ⊥) lines
   pub within : IsWithin house
   pub sound : IsHouse house
   pub of_places : All (λ o. All (IfGiven asks (IsNumberOf house o)) o.window.numbers) (all_opened house)

@@ -198,6 +198,10 @@ has_mark text = list_any (λ b. b == 63) text
 abbrev pub is_asked : Line → Bool
 is_asked l = ((l.stage == 9) || (l.stage == 11)) && list_any (λ f. has_mark f.now) l.fields
 
+-- a line asks
+abbrev pub IsAsked : List ℕ → Type 0
+IsAsked text = (l : Line) × IsLine text l × IsTrue (is_asked l)
+
 -- the header of version 2
 abbrev pub is_header : Fields → Bool
 is_header (word ∷ version ∷ label ∷ []) = bytes_eq word (codes "audit") && bytes_eq version (codes "2")

@@ -1,5 +1,5 @@
 -- What the reader makes of a line: the house with what it says more (this product).
-use Rattle.std.specs.Prelude.{◌≡◌, ◌<◌, ⊤, ℕ, ◌+◌, Bool, true, false, List, ◌∷◌, ◌++◌, [], length, map, take, drop, Some, All, IsTrue}
+use Rattle.std.specs.Prelude.{◌≡◌, ◌<◌, ⊤, ℕ, ◌+◌, Bool, true, false, List, [], length, map, take, drop, Some, All}
 use Rattle.mbdc_io.specs.Lines.{lines_of}
 use Rattle.mbdc_audit.specs.declared.fault.Stop.{Stop}
 use Rattle.mbdc_audit.specs.declared.fault.Stop.TheVariants as stop
@@ -7,14 +7,15 @@ use Rattle.mbdc_audit.specs.declared.line.Line.{Line}
 use Rattle.mbdc_audit.specs.declared.line.Word.{Word}
 use Rattle.mbdc_audit.specs.declared.line.Word.TheVariants as word
 use Rattle.mbdc_audit.specs.House.{House, Number, Run, Value}
-use Rattle.mbdc_audit.specs.Line.{IsLine, is_asked}
+use Rattle.mbdc_audit.specs.Line.{IsAsked}
 use Rattle.mbdc_audit.specs.Published.{IsUnit, MayAsk, MayAskOf}
 use Rattle.mbdc_audit.specs.Sound.{IsAt, IsBuilt}
-use Rattle.mbdc_audit.specs.File.{Adds, AskedOf, Asks, Counts, Follows, HasUnit, IsSource, IsWithin, Steps, all_opened, bare_house, empty}
-use Rattle.mbdc_audit.specs.File.{is_of_place, text_at}
+use Rattle.mbdc_audit.specs.File.{Adds, AskedOf, Asks, Counts, Follows, HasUnit, IsFed, IsSource, IsWithin, Steps, all_opened, bare_house, empty}
+use Rattle.mbdc_audit.specs.File.{is_of_place, text_at, use_place}
 use Rattle.mbdc_audit.specs.declared.uses.Unit.{Unit}
-use Rattle.mbdc_audit.specs.declared.uses.Unit.TheVariants.{Kwh}
+use Rattle.mbdc_audit.specs.declared.uses.Unit.TheVariants.{Kwh, Smallest}
 use Rattle.mbdc_audit.specs.Uses.{unit_named}
+use Rattle.mbdc_audit.specs.View.{beside_count}
 
 -- words of numbers of the house
 abbrev pub is_of_house : Word → Bool
@@ -28,13 +29,6 @@ is_of_house word.Carbon = true
 is_of_house word.Cost = true
 is_of_house _ = false
 
--- where the use stands in its line
-abbrev pub use_place : Word → ℕ
-use_place word.OfHouse = 1
-use_place word.Change = 3
-use_place word.Weather = 3
-use_place _ = 2
-
 -- a line says nothing that may be next
 abbrev pub AddsNothing : House → Line → Type 0
 AddsNothing h l = (new : House) → Adds h l new → ⊥
@@ -44,17 +38,18 @@ abbrev pub IsFault : Stop → Type 0
 IsFault (stop.Fault fault) = ⊤
 IsFault _ = ⊥
 
--- a line of a number has a question mark
-abbrev pub IsAsked : List ℕ → Type 0
-IsAsked text = (l : Line) × IsLine text l × IsTrue (is_asked l)
-
 abbrev pub CantFollow : ℕ → List ℕ → House → Type 0
 CantFollow stage text h = (stage' : ℕ) (h' : House) → Follows stage text h stage' h' → ⊥
 
+-- A FILE SPELLS a house, the feed after its last line too; where asking isn't allowed, no line asks
+pub record Spells (asks : Bool) (input : List ℕ) (h : House) : Type 0 where
+  pub fed : IsFed input
+  pub steps : Steps 0 empty (lines_of input) 12 (bare_house h)
+  pub plain : asks ≡ false → All (λ line. IsAsked line → ⊥) (lines_of input)
+
 -- A FILE IS READ as a house
-pub record IsRead (input : List ℕ) (h : House) : Type 0 where
-  pub fed : (front : List ℕ) × (input ≡ front ++ 10 ∷ [])
-  pub spelled : Steps 0 empty (lines_of input) 12 (bare_house h)
+pub record IsRead (asks : Bool) (input : List ℕ) (h : House) : Type 0 where
+  pub spells : Spells asks input h
   pub within : IsWithin h
   pub built : IsBuilt h
   pub of_places : All (λ o. All (λ n. MayAskOf h o.place o.window n.key) o.window.numbers) (all_opened h)
@@ -66,11 +61,13 @@ pub record IsRead (input : List ℕ) (h : House) : Type 0 where
 abbrev pub IsValueOf : Line → Run → Value → Type 0
 IsValueOf l r v = Counts v.run 0 l × IsSource v v.source l × IsAt r v v.source × HasUnit v.source
 
--- the text and what is beside it
+-- the text and what is beside it, and no more
 pub record IsTextOf (l : Line) (n : Number) : Type 0 where
   pub word_is : n.key.word ≡ l.word
   pub text_is : n.text ≡ text_at l.text l
   pub beside_is : take (length n.beside) (drop (l.text + 1) (map (λ f. f.now) l.fields)) ≡ n.beside
+  pub beside_all : length n.beside ≡ beside_count l.word
+  pub blank : (n.key.other ≡ 0) × (n.key.user ≡ 0) × (n.key.flat ≡ []) × (n.key.unit ≡ Smallest) × (n.key.size ≡ 1)
 
 -- the unit of a number of the house, and the other span of one that has two
 abbrev pub IsUnitOf : Word → House → ℕ → Unit → Line → Type 0
@@ -81,7 +78,7 @@ IsUnitOf w h used unit l = (unit_named (text_at (use_place w + 1) l) ≡ Some un
 abbrev pub IsOther : Word → House → ℕ → Line → Type 0
 IsOther word.Change h n l = Counts n 1 l × (n < length h.spans)
 IsOther word.Weather h n l = Counts n 1 l × (n < length h.spans)
-IsOther _ h n l = ⊤
+IsOther _ h n l = n ≡ 0
 
 -- a line asks for a number, and may
 abbrev pub IsMade : House → Line → Number → Type 0

@@ -87,12 +87,17 @@ abbrev pub IsEvident : List Run → Counted → List Value → Value → Type 0
 IsEvident runs q values v = (run : Run) × (slice_get runs v.run ≡ Some run) × Rests run q v v.source
     × ((run.size ≡ 0) ⊎ (v.amount < run.size)) × IfAnew v.source (Falls values v)
 
--- where it lies by its source
+abbrev pub over_or : ℕ → Option ℕ → ℕ
+over_or t None = t
+over_or t (Some over) = over
+
+-- where it lies by its source; the last one of a run that isn't over at its begin
 abbrev pub IsAt : Run → Value → Source → Type 0
 IsAt run v (stored e bodies) = v.moment ≡ at e
 IsAt run v (ended e bodies) = v.moment ≡ at e
 IsAt run v anew = v.moment ≡ run.begin
 IsAt run v (first guess t) = v.moment ≡ run.begin
+IsAt run v (last guess t) = v.moment ≡ over_or run.begin run.over
 IsAt run v _ = ⊤
 
 abbrev pub IsOfEnd : Run → Value → Source → Type 0

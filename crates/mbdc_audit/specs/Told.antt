@@ -1,5 +1,5 @@
 -- What is printed (this product).
-use Rattle.std.specs.Prelude.{ℕ, List, [], ◌∷◌, ◌++◌, decimal}
+use Rattle.std.specs.Prelude.{◌≡◌, ℕ, List, [], ◌∷◌, ◌++◌, IfSome, Option, codes, decimal}
 use Rattle.mbdc_audit.specs.declared.teller.Piece.{Piece}
 use Rattle.mbdc_audit.specs.declared.teller.Piece.TheVariants.{Text, Number}
 
@@ -12,3 +12,8 @@ abbrev pub pieces_text : List Piece → List ℕ
 pieces_text [] = []
 pieces_text (piece ∷ []) = piece_text piece
 pieces_text (piece ∷ next ∷ rest) = piece_text piece ++ pieces_text (next ∷ rest)
+
+-- AN OUTPUT ENDS with the fault TooLarge, where it is known
+abbrev pub IsTooLarge : Option (List ℕ) → Type 0
+IsTooLarge output = IfSome output (λ all. (front : List ℕ)
+    × (all ≡ front ++ (codes " FAULT " ++ (decimal 9 ++ (codes " TooLarge" ++ 10 ∷ [])))))

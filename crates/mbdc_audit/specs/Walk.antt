@@ -53,9 +53,10 @@ is_clean c = (c.rules == 0) && ((c.differ == 0) && (c.refused == 0))
 abbrev pub Checks : {X E : Type 0} → Result X E → Counts → Counts → Type 0 → Type 0
 Checks result old new P = OnOk result (IsTrue (is_clean new) ↔ (IsTrue (is_clean old) × P))
 
--- nothing is found only if nothing was before, and what is checked holds
-abbrev pub Sure : {X E : Type 0} → Result X E → Counts → Counts → Type 0 → Type 0
-Sure result old new P = OnOk result (IsTrue (is_clean new) → IsTrue (is_clean old) × P)
+-- nothing is found only if nothing was before, and what is checked holds; exactly then where no number asks
+abbrev pub Sure : {X E : Type 0} → Result X E → Counts → Counts → Type 0 → Type 0 → Type 0
+Sure result old new quiet P = OnOk result ((IsTrue (is_clean new) → IsTrue (is_clean old) × P)
+    × (quiet → IsTrue (is_clean old) × P → IsTrue (is_clean new)))
 
 -- THE OFFSETS OF DAYS that were seen: a day has the one that some end had
 pub record IsSeen (offset : ℕ → Option ℕ) (seen : List End) : Type 0 where
@@ -235,7 +236,7 @@ IsHeld n x beside = IsText n.key x n.text × (n.beside ≡ beside)
 -- a house that was read of a file, before anything was found; unless asking is allowed, it asks for nothing
 pub record IsAudited (asks : Bool) (c : Counts) (input : List ℕ) (h : House) : Type 0 where
   pub clean : is_clean c ≡ true
-  pub read : IsRead input h
+  pub read : IsRead asks input h
   pub quiet : asks ≡ false → IsQuiet h
 
 -- ---- evidence

@@ -3,8 +3,9 @@
 ghost use Rattle.std.specs.Prelude.{◌≡◌, ◌<◌, ℕ, Bool, false, true, IfNone, IfOk, IfSome, IsErrOf, List, OnOk, length};
 ghost use Rattle.mbdc_io.specs.Failures.{HasRisen};
 ghost use Rattle.mbdc_io.specs.Lines.{lines_of};
-ghost use Rattle.mbdc_audit.specs.File.{IsRight};
+ghost use Rattle.mbdc_audit.specs.File.{IsFed, IsRight};
 ghost use Rattle.mbdc_audit.specs.Reader.{IsFault};
+ghost use Rattle.mbdc_audit.specs.Told.{IsTooLarge};
 ghost use Rattle.mbdc_audit.specs.View.{house_of};
 ghost use Rattle.mbdc_audit.specs.Walk.{IsAudited, is_clean};
 
@@ -88,6 +89,9 @@ impl<'s, W: Sink> Teller<'s, W> {
     ) -> Result<bool, Stop>
         ensures right { (asks : Bool) (input : List ℕ) → IsAudited asks self.old.counts input (house_of house.old)
             → IfOk result (λ holds. holds ≡ true → IsRight asks (lines_of input)) }
+        // It is true of each right file, unless it is stopped.
+        ensures all { (input : List ℕ) → IsAudited false self.old.counts input (house_of house.old)
+            → IfOk result (λ holds. IsRight false (lines_of input) → holds ≡ true) }
     {
         put_all_allowed(self.out, house)?;
         self.read_values(alloc, house)?;
@@ -120,33 +124,34 @@ impl<'s, W: Sink> Teller<'s, W> {
         put_pieces(self.out, &words)?;
         Ok(is_read && is_sound && self.is_clean())
     }
+}
 
-    // What is returned where the audit was stopped; of a line at fault it prints the fault.
-    fn stopped(&mut self, line: u64, stop: Stop) -> Result<bool, TextFault>
-        ensures not_right { IfOk result (λ holds. holds ≡ false) }
-        ensures read { IsErrOf result TextFault.Read → ⊥ }
-        ensures fault { IfOk result (λ holds. IsFault stop) }
-    {
-        match stop {
-            Stop::NoMemory => Err(TextFault::NoMemory),
-            Stop::Fault(fault) => {
-                let (number, name) = fault.told();
-                let words = [
-                    Text(b"LINE "),
-                    Number(line),
-                    Text(b" FAULT "),
-                    Number(u64::from(number)),
-                    Text(b" "),
-                    Text(name.as_bytes()),
-                    Text(b"\n"),
-                ];
-                match put_pieces(self.out, &words) {
-                    Ok(()) => Ok(false),
-                    Err(IoFault) => Err(TextFault::Write),
-                }
+// What is returned where the audit was stopped; of a line at fault it prints the fault.
+fn stopped<W: Sink>(out: &mut W, line: u64, stop: Stop) -> Result<bool, TextFault>
+    ensures not_right { IfOk result (λ holds. holds ≡ false) }
+    ensures read { IsErrOf result TextFault.Read → ⊥ }
+    ensures fault { IfOk result (λ holds. IsFault stop) }
+    ensures told { stop ≡ Stop.Fault AuditFault.TooLarge → OnOk result (IsTooLarge (W.written out.new)) }
+{
+    match stop {
+        Stop::NoMemory => Err(TextFault::NoMemory),
+        Stop::Fault(fault) => {
+            let (number, name) = fault.told();
+            let words = [
+                Text(b"LINE "),
+                Number(line),
+                Text(b" FAULT "),
+                Number(u64::from(number)),
+                Text(b" "),
+                Text(name.as_bytes()),
+                Text(b"\n"),
+            ];
+            match put_pieces(out, &words) {
+                Ok(()) => Ok(false),
+                Err(IoFault) => Err(TextFault::Write),
             }
-            _ => Err(TextFault::Write),
         }
+        _ => Err(TextFault::Write),
     }
 }
 
@@ -163,18 +168,16 @@ fn check_file<A: Allocator + Copy, R: Source, W: Sink, F: Sink>(
     ensures ok { OnOk result (R.take_failures reader.new ≡ R.take_failures reader.old) }
     ensures right { IfOk result (λ holds. holds ≡ true
         → IfSome (R.left reader.old) (λ input. IsRight may_ask (lines_of input))) }
+    ensures all { may_ask ≡ false → IfOk result (λ holds. holds ≡ false → IfSome (R.left reader.old)
+        (λ input. IsRight false (lines_of input) → IsFed input → IsTooLarge (W.written writer.new))) }
 {
-    let mut teller = Teller {
-        out: writer,
-        counts: Counts::NONE,
-    };
     let Some(file) = read_file(alloc, reader)? else {
-        return teller.stopped(1, Stop::Fault(AuditFault::TooLarge));
+        return stopped(writer, 1, Stop::Fault(AuditFault::TooLarge));
     };
     let file = file.as_slice();
     let mut house = match read_house(alloc, file, may_ask) {
         Ok(house) => house,
-        Err((line, stop)) => return teller.stopped(line, stop),
+        Err((line, stop)) => return stopped(writer, line, stop),
     };
     let mut filler = Filler {
         may_ask,
@@ -182,9 +185,15 @@ fn check_file<A: Allocator + Copy, R: Source, W: Sink, F: Sink>(
         file,
         done: 0,
     };
+    let mut teller = Teller {
+        out: &mut *writer,
+        counts: Counts::NONE,
+    };
     match teller.walk(alloc, &mut house, &mut filler) {
         Ok(is_right) => Ok(is_right),
-        Err(stop) => teller.stopped(house.lines, stop),
+        // The reader found all that numbers are of, so that only their size can be at fault.
+        Err(Stop::Fault(_)) => stopped(writer, house.lines, Stop::Fault(AuditFault::TooLarge)),
+        Err(stop) => stopped(writer, house.lines, stop),
     }
 }
 
@@ -207,6 +216,10 @@ pub fn audit<A: Allocator + Copy, R: Source, W: Sink>(
     // True only of a right file.
     ensures right { IfOk result (λ holds. holds ≡ true
         → IfSome (R.left reader.old) (λ input. IsRight false (lines_of input))) }
+
+    // False of no right file whose last line ends with a feed, unless the output ends with the fault TooLarge.
+    ensures all { IfOk result (λ holds. holds ≡ false → IfSome (R.left reader.old)
+        (λ input. IsRight false (lines_of input) → IsFed input → IsTooLarge (W.written writer.new))) }
 {
     let mut nowhere = FixedSink::<0>::new();
     check_file(alloc, false, reader, writer, &mut nowhere)

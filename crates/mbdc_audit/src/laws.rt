@@ -9,7 +9,7 @@ ghost use Rattle.mbdc_audit.specs.House.{House, Part, Place, Run, Span, Value, W
 ghost use Rattle.mbdc_audit.specs.Amount.{amount, entries, known, mark, told};
 ghost use Rattle.dc_records.specs.Record.{Entry as Record};
 ghost use Rattle.mbdc_audit.specs.Evidence.{Gives};
-ghost use Rattle.mbdc_audit.specs.File.{IsRight, all_opened};
+ghost use Rattle.mbdc_audit.specs.File.{IsRight, Steps, all_opened, bare_house, empty};
 ghost use Rattle.mbdc_audit.specs.Published.{Open, beside, house, is_whole, plain, says_of, shares_of};
 ghost use Rattle.mbdc_audit.specs.Worked.{by_hand, meter, november, october, telegram, with_middle};
 ghost use Rattle.dc_address.specs.declared.identity.Identity.{Identity};
@@ -49,7 +49,7 @@ pub fn amounts_are_of_telegrams()
 
 /// In a sound house two runs of one use with the same identity don't overlap in time. The parts of a window sum to the
 /// amount of the place in its span, if each of them has a number. In a right file the fields beside each number are
-/// those that the definition gives.
+/// those that the definition gives. The lines of a file spell one house, but for the amounts, which they don't say.
 pub fn a_sound_house_adds_up()
     ensures once { (h : House) → IsHouse h → (i j : ℕ) (d : Fitted) → i < j → j < length (fitted h) →
         (slice_index_or (fitted h) i d).used ≡ (slice_index_or (fitted h) j d).used →
@@ -69,6 +69,8 @@ pub fn a_sound_house_adds_up()
         All (λ o. All (λ n. n.beside ≡ says_of n.key.word o n.key) o.window.numbers) (all_opened right.house) }
     ensures of_house { (lines : List (List ℕ)) (right : IsRight false lines) →
         All (λ n. n.beside ≡ beside right.house n.key) right.house.numbers }
+    ensures one_house { (lines : List (List ℕ)) (h g : House) → Steps 0 empty lines 12 h → Steps 0 empty lines 12 g →
+        bare_house h ≡ bare_house g }
 {}
 
 /// Worked examples. 9.31 m3 are `measured`, also with a value by hand in between. A value by hand that looks like a

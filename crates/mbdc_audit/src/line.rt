@@ -3,7 +3,7 @@
 ghost use Rattle.std.specs.Prelude.{◌≡◌, ◌<◌, ◌≤◌, ◌+◌, ◌^◌, ◌↔◌, ◌++◌, ◌∷◌, [], ℕ, IfErr, IfOk, IsTrue, List};
 ghost use Rattle.std.specs.Prelude.{Option, find, length, map, option_map, position};
 ghost use Rattle.std.specs.Str.{bytes_eq};
-ghost use Rattle.mbdc_audit.specs.Reader.{use_place};
+ghost use Rattle.mbdc_audit.specs.File.{use_place};
 ghost use Rattle.mbdc_audit.specs.Field.{fields_of, left_fields};
 ghost use Rattle.mbdc_audit.specs.declared.line.Line.{Line};
 ghost use Rattle.mbdc_audit.specs.declared.smallest.Spelled.{Spelled};

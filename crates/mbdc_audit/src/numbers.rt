@@ -18,7 +18,7 @@ ghost use Rattle.mbdc_audit.specs.Published.{worst as worst_share};
 ghost use Rattle.mbdc_audit.specs.Sound.{IsHouse, IsPlace, IsWindow, Tile, from, to};
 ghost use Rattle.mbdc_audit.specs.Judged.{After, IsFine, are_said, found_at, is_said, is_text_said};
 ghost use Rattle.mbdc_audit.specs.View.{beside_count, house_of, key_of, known_in, number_of, place_of, window_of};
-ghost use Rattle.mbdc_audit.specs.Walk.{AreFound, AreGradedAll, Checks, IsGradedPlace, IsHeld, Sure};
+ghost use Rattle.mbdc_audit.specs.Walk.{AreFound, AreGradedAll, Checks, IsGradedPlace, IsHeld, IsQuiet, Sure};
 ghost use Rattle.mbdc_audit.specs.Walk.{decimal_or_dash, is_clean, open_of, texts_beside};
 
 use crate::curve::amount_of;
@@ -542,7 +542,7 @@ impl<'s, W: Sink> Teller<'s, W> {
             → IsWindow (house_of house.now) o.place o.window s
             → known_in window.now.values.items ≡ known o.window.values
             → All (λ n. MayAskOf (house_of house.now) o.place o.window n.key) o.window.numbers
-            → Sure result self.old.counts self.new.counts
+            → Sure result self.old.counts self.new.counts (All AsksNothing o.window.numbers)
             (All (λ n. AsksNothing n → IsNumberOf (house_of house.now) o n) o.window.numbers) }
     {
         'numbers: for number in &window.numbers {
@@ -565,7 +565,8 @@ impl<'s, W: Sink> Teller<'s, W> {
     ) -> Result<(), Stop>
         ensures right { let h = house_of house.now in IsPlace h (place_of place.now) → IsGradedPlace place.now
             → All (λ w. All (λ n. MayAskOf h (place_of place.now) w n.key) w.numbers) (place_of place.now).windows
-            → Sure result self.old.counts self.new.counts (All (λ w. All (λ n. AsksNothing n
+            → Sure result self.old.counts self.new.counts
+            (All (λ w. All AsksNothing w.numbers) (place_of place.now).windows) (All (λ w. All (λ n. AsksNothing n
             → IsNumberOf h (open_of (place_of place.now) w) n) w.numbers) (place_of place.now).windows) }
     {
         'windows: for window in &place.windows {
@@ -583,7 +584,8 @@ impl<'s, W: Sink> Teller<'s, W> {
     ) -> Result<(), Stop>
         ensures right { let h = house_of house.now in IsHouse h → AreGradedAll house.now.places.items
             → All (λ n. MayAsk h n.key) h.numbers
-            → Sure result self.old.counts self.new.counts (All (λ n. AsksNothing n → IsNumber h n) h.numbers) }
+            → Sure result self.old.counts self.new.counts (All AsksNothing h.numbers)
+            (All (λ n. AsksNothing n → IsNumber h n) h.numbers) }
     {
         let sums = Sums::of(alloc, house, self.counts.rules == 0)?;
         let mut bases: Vec<Basis, A> = Vec::new(alloc);
@@ -604,7 +606,7 @@ impl<'s, W: Sink> Teller<'s, W> {
         ensures right { let h = house_of house.now in IsHouse h → AreGradedAll house.now.places.items
             → All (λ o. All (λ n. MayAskOf h o.place o.window n.key) o.window.numbers) (all_opened h)
             → All (λ n. MayAsk h n.key) h.numbers
-            → Sure result self.old.counts self.new.counts
+            → Sure result self.old.counts self.new.counts (IsQuiet h)
             (All (λ o. All (λ n. AsksNothing n → IsNumberOf h o n) o.window.numbers) (all_opened h)
             × All (λ n. AsksNothing n → IsNumber h n) h.numbers) }
     {

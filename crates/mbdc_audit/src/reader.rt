@@ -8,15 +8,15 @@ ghost use Rattle.mbdc_audit.specs.declared.house.Fact as fact_type;
 ghost use Rattle.mbdc_audit.specs.declared.uses.Counted as counted_type;
 ghost use Rattle.mbdc_audit.specs.declared.uses.Unit.{Unit};
 ghost use Rattle.mbdc_audit.specs.File.{IsFact, span_place, text_at, use_of};
-ghost use Rattle.mbdc_audit.specs.House.{Number as SaidNumber};
+ghost use Rattle.mbdc_audit.specs.House.{House as SaidHouse, Number as SaidNumber};
 ghost use Rattle.mbdc_audit.specs.Amount.{last_of};
-ghost use Rattle.mbdc_audit.specs.Line.{IsBounded, IsLine};
+ghost use Rattle.mbdc_audit.specs.Line.{IsAsked, IsBounded, IsLine};
 ghost use Rattle.mbdc_audit.specs.Published.{Has, IsUnit, IsWho, MayAsk, declared, is_energy, of_factor, of_word};
 ghost use Rattle.mbdc_audit.specs.Published.{quantity};
-ghost use Rattle.mbdc_audit.specs.Reader.{AddsNothing, CantFollow, IsAsked, IsFault, IsMade, IsRead, IsTextOf};
+ghost use Rattle.mbdc_audit.specs.Reader.{AddsNothing, CantFollow, IsFault, IsMade, IsRead, IsTextOf, Spells};
 ghost use Rattle.mbdc_audit.specs.File.{Adds, Follows};
-ghost use Rattle.mbdc_audit.specs.Reader.{is_fact, is_of_house, is_value, use_place};
-ghost use Rattle.mbdc_audit.specs.File.{first_named, is_of_place};
+ghost use Rattle.mbdc_audit.specs.Reader.{is_fact, is_of_house, is_value};
+ghost use Rattle.mbdc_audit.specs.File.{first_named, is_of_place, use_place};
 ghost use Rattle.mbdc_audit.specs.Reader.{IsOther, IsUnitOf};
 ghost use Rattle.mbdc_audit.specs.File.{IsMeant};
 ghost use Rattle.mbdc_audit.specs.Sound.{IsDeclared};
@@ -78,7 +78,8 @@ pub(crate) fn read_house<'a, A: Allocator + Copy>(
     file: &'a [u8],
     may_ask: bool,
 ) -> Result<House<'a, A>, (u64, Stop)>
-    ensures ok { IfOk result (λ h. IsRead file.now (house_of h)) }
+    ensures ok { IfOk result (λ h. IsRead may_ask file.now (house_of h)) }
+    ensures err { IfErr result (λ e. IsFault e.1 → (h : SaidHouse) → Spells may_ask file.now h → ⊥) }
     ensures asks { may_ask ≡ false → IfOk result (λ h. IsQuiet (house_of h)) }
 {
     let mut reader = Reader {
@@ -125,8 +126,8 @@ impl<'a, A: Allocator + Copy> Reader<'a, A> {
             self.new.stage (house_of self.new.house)) }
         ensures err { IfErr result (λ s. IsFault s → CantFollow self.old.stage text.now (house_of self.old.house)
             ⊎ ((self.old.may_ask ≡ false) × IsAsked text.now)) }
-        ensures asks { self.old.may_ask ≡ false → IfOk result (λ u. IsQuiet (house_of self.old.house)
-            → IsQuiet (house_of self.new.house)) }
+        ensures asks { self.old.may_ask ≡ false → IfOk result (λ u. (IsAsked text.now → ⊥)
+            × (IsQuiet (house_of self.old.house) → IsQuiet (house_of self.new.house))) }
         ensures kept { self.new.may_ask ≡ self.old.may_ask }
     {
         if text.len() > LONGEST {

@@ -7,7 +7,8 @@ ghost use Rattle.mbdc_audit.specs.House.{Use as UseOf};
 ghost use Rattle.mbdc_audit.specs.Consumption.Order.{IsInOrder};
 ghost use Rattle.mbdc_audit.specs.Amount.{entries, last_of, of_run};
 ghost use Rattle.mbdc_audit.specs.Evidence.{IsSpelled, list_of};
-ghost use Rattle.mbdc_audit.specs.Settled.{AreCounted, AreKnown, AreSettled, IsReadBy, IsSettled, IsTold};
+ghost use Rattle.mbdc_audit.specs.Settled.{AreCounted, AreKnown, AreOnly, AreSettled, IsOnly, IsReadBy, IsSettled};
+ghost use Rattle.mbdc_audit.specs.Settled.{IsTold};
 ghost use Rattle.mbdc_audit.specs.Sound.{Falls, IsRead, IsReadPlace, told_of};
 ghost use Rattle.mbdc_audit.specs.View.{found_of as found_list, house_of, known_in, part_of, place_of, run_of};
 ghost use Rattle.mbdc_audit.specs.View.{seen_value, spelled_in, struck_of, use_of, window_of};
@@ -357,6 +358,7 @@ impl<'s, W: Sink> Teller<'s, W> {
         ensures kept { OnOk result (bare_window (window_of window.new) ≡ bare_window (window_of window.old)) }
         ensures values { OnOk result (IsTrue (is_clean self.new.counts) → AreKnown window.new) }
         ensures parts { OnOk result (AreCounted (map run_of runs.now) window.new) }
+        ensures only { OnOk result (IsOnly (map run_of runs.now) counts window.new) }
     {
         let judged = judged(alloc, window.values.as_slice(), runs, counts)?;
         let values = settled(alloc, judged.as_slice())?;
@@ -383,6 +385,7 @@ impl<'s, W: Sink> Teller<'s, W> {
             ≡ map (λ w. bare_window (window_of w)) windows.old) }
         ensures values { OnOk result (IsTrue (is_clean self.new.counts) → All AreKnown windows.new) }
         ensures parts { OnOk result (All (AreCounted (map run_of runs.now)) windows.new) }
+        ensures only { OnOk result (All (IsOnly (map run_of runs.now) counts) windows.new) }
     {
         'windows: for window in windows.iter_mut() {
             self.read_window(alloc, window, runs, counts)?;
@@ -417,6 +420,7 @@ impl<'s, W: Sink> Teller<'s, W> {
         ensures kept { OnOk result (bare_place (place_of place.new) ≡ bare_place (place_of place.old)) }
         ensures values { OnOk result (IsTrue (is_clean self.new.counts) → All AreKnown place.new.windows.items) }
         ensures parts { OnOk result (All (AreCounted (map run_of place.new.runs.items)) place.new.windows.items) }
+        ensures only { OnOk result (AreOnly (map use_of uses.now) place.new) }
     {
         let counts = self.quantity(place.line, uses, place.used)?;
         self.read_windows(
@@ -442,6 +446,7 @@ impl<'s, W: Sink> Teller<'s, W> {
             → All (λ p. All AreKnown p.windows.items) places.new) }
         ensures parts { OnOk result
             (All (λ p. All (AreCounted (map run_of p.runs.items)) p.windows.items) places.new) }
+        ensures only { OnOk result (All (AreOnly (map use_of uses.now)) places.new) }
     {
         'places: for place in places.iter_mut() {
             self.read_place(alloc, place, uses)?;
@@ -463,6 +468,7 @@ impl<'s, W: Sink> Teller<'s, W> {
             → All (λ p. All AreKnown p.windows.items) house.new.places.items) }
         ensures parts { OnOk result
             (All (λ p. All (AreCounted (map run_of p.runs.items)) p.windows.items) house.new.places.items) }
+        ensures only { OnOk result (All (AreOnly (house_of house.new).uses) house.new.places.items) }
     {
         self.read_places(alloc, house.places.as_mut_slice(), house.uses.as_slice())
     }

@@ -1,5 +1,7 @@
-use Rattle.std.proofs.Common.{inl, inr}
+use Rattle.std.proofs.Common.{inl, inr, refl}
+use Rattle.mbdc_audit.specs.File.{empty}
 use Rattle.mbdc_audit.proofs.InOrder.{sound_sum}
+use Rattle.mbdc_audit.proofs.OneHouse.{one_house}
 use Rattle.mbdc_audit.proofs.Sums.{of_place}
 use Rattle.mbdc_audit.proofs.laws.a_sound_house_adds_up.Goals as goal
 
@@ -14,3 +16,6 @@ returns-clause-place c = of_place
 
 pub returns-clause-window : goal.returns-clause-window
 returns-clause-window c = sound_sum
+
+pub returns-clause-one_house : goal.returns-clause-one_house
+returns-clause-one_house c = λ lines h g one other. (one_house 0 empty empty lines 12 12 h g refl one other).1

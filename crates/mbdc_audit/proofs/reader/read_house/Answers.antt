@@ -1,10 +1,13 @@
-use Rattle.std.proofs.Common.{◌≡◌, ◌∷◌, ◌++◌, ◌∙◌, ℕ, List, [], map, refl, ap, sym, subst, arith}
+use Rattle.std.proofs.Common.{All, ◌≡◌, ◌∷◌, ◌++◌, ◌∙◌, ℕ, List, [], map, refl, ap, sym, subst, arith, inl, inr}
 use Rattle.std.proofs.lemmas.List.{append-nil}
-use Rattle.mbdc_audit.specs.File.{Steps, empty}
+use Rattle.mbdc_audit.specs.File.{Steps, bare_house, empty}
 use Rattle.mbdc_audit.specs.House.{House}
 use Rattle.mbdc_io.specs.Lines.{lines_of}
+use Rattle.mbdc_audit.specs.Line.{IsAsked}
 use Rattle.mbdc_audit.specs.Walk.{IsQuiet}
+use Rattle.mbdc_audit.proofs.Grown.{all_none, all_push}
 use Rattle.mbdc_audit.specs.View.{allowed_of, house_of, number_of, place_of, span_of, use_of, user_of}
+use Rattle.mbdc_audit.proofs.OneHouse.{all_mid, none_follows, one_house}
 use Rattle.mbdc_audit.proofs.Steps.{next_lines, one_step}
 use Rattle.mbdc_audit.proofs.Quiet.{quiet_empty}
 use Rattle.mbdc_audit.proofs.ReadAs.{begun, no_lines, none_left, read_as}
@@ -15,7 +18,7 @@ lines-init g c =
     let is = begun _ _ _ _ _ _ _ (ap (map use_of) c.new.ensures.items) (ap (map allowed_of) c.new-2.ensures.items)
     (ap (map span_of) c.new-3.ensures.items) c.new-4.ensures.items (ap (map user_of) c.new-5.ensures.items)
     (ap (map place_of) c.new-6.ensures.items) (ap (map number_of) c.new-7.ensures.items) in
-    ([], refl, (refl, is), omega arith, refl, λ may. subst IsQuiet (sym is) quiet_empty)
+    ([], refl, (refl, is), omega arith, refl, λ may. (subst IsQuiet (sym is) quiet_empty, all_none (λ line. IsAsked line → ⊥)))
 
 pub lines-preserved : goal.lines-preserved
 lines-preserved g c =
@@ -26,7 +29,9 @@ lines-preserved g c =
       one_step 0 empty inv.0 c.lines.reader.stage (house_of c.lines.reader.house) c.first_line.result.0.now _ _ inv.2 c.in-Ok.ensures.ok,
       omega (arith, inv.3, shorter),
       c.in-Ok.ensures.kept ∙ inv.4,
-      (λ may. c.in-Ok.ensures.asks (inv.4 ∙ may) (inv.5 may)),
+      (λ may.
+          let one = c.in-Ok.ensures.asks (inv.4 ∙ may) in
+          (one.1 (inv.5 may).0, all_push (λ line. IsAsked line → ⊥) inv.0 c.first_line.result.0.now (inv.5 may).1 one.0)),
     )
 
 all_read : (input : List ℕ) (before : List (List ℕ)) (left : List ℕ) → lines_of input ≡ before ++ lines_of left → left ≡ [] → lines_of input ≡ before
@@ -40,4 +45,25 @@ returns-clause-ok g c =
     let all = all_read c.args.file.now inv.0 c.lines.left.now inv.1 (none_left c.lines.left.now c.is_empty.ensures c.lines-test.false) in
     let steps : Steps 0 empty (lines_of c.args.file.now) c.lines.reader.stage h =
     subst (λ (ls : List (List ℕ)). Steps 0 empty ls c.lines.reader.stage h) (sym all) inv.2 in
-    read_as c.args.file.now c.lines.reader.stage h (c.is_fed.ensures.0 c.if-not-is_fed.false) c.if-reader-ne-ENDED.false steps
+    read_as c.args.may_ask c.args.file.now c.lines.reader.stage h (c.is_fed.ensures.0 c.if-not-is_fed.false) c.if-reader-ne-ENDED.false steps
+    (λ may. subst (λ (ls : List (List ℕ)). All (λ line. IsAsked line → ⊥) ls) (sym all) (inv.5 may).1)
+
+pub returns-in-Err-clause-err : goal.returns-in-Err-clause-err
+returns-in-Err-clause-err g c = λ fault h s.
+    let inv = c.lines.invariant in
+    let line = c.first_line.result.0.now in
+    let rest = lines_of c.first_line.result.1.now in
+    let all : lines_of c.args.file.now ≡ inv.0 ++ line ∷ rest = inv.1 ∙ ap (λ (ls : List (List ℕ)). inv.0 ++ ls) c.first_line.ensures.lines in
+    elim (c.in-Err.ensures.err fault) [
+      | inl cant ↦ none_follows 0 empty inv.0 line rest c.lines.reader.stage (house_of c.lines.reader.house) inv.2 cant 12 (bare_house h)
+          (subst (λ (ls : List (List ℕ)). Steps 0 empty ls 12 (bare_house h)) all s.steps)
+      | inr asked ↦ all_mid (λ l. IsAsked l → ⊥) inv.0 line rest
+          (subst (λ (ls : List (List ℕ)). All (λ l. IsAsked l → ⊥) ls) all (s.plain (sym inv.4 ∙ asked.0))) asked.1
+    ]
+
+pub returns-then-reader-ne-ENDED-clause-err : goal.returns-then-reader-ne-ENDED-clause-err
+returns-then-reader-ne-ENDED-clause-err g c = λ fault h s.
+    let inv = c.lines.invariant in
+    let all = all_read c.args.file.now inv.0 c.lines.left.now inv.1 (none_left c.lines.left.now c.is_empty.ensures c.lines-test.false) in
+    c.if-reader-ne-ENDED.true (one_house 0 empty empty inv.0 c.lines.reader.stage 12 (house_of c.lines.reader.house) (bare_house h) refl inv.2
+    (subst (λ (ls : List (List ℕ)). Steps 0 empty ls 12 (bare_house h)) all s.steps)).0

@@ -1,4 +1,4 @@
-use Rattle.std.proofs.Common.{◌≡◌, ◌==◌, ◌∙◌, Bool, ap, eq-eqb, rules, sym, tests, true}
+use Rattle.std.proofs.Common.{◌∙◌, Bool, ap, eq-eqb, rules, sym, tests, true}
 use Rattle.std.specs.Prelude.{if◌then◌else◌}
 use Rattle.std.specs.List.{list_all}
 use Rattle.std.proofs.lemmas.Iterator.{YieldsList-from_slice}

@@ -1,4 +1,4 @@
-use Rattle.std.proofs.Common.{◌≡◌, ◌<◌, ◌+◌, ◌++◌, ◌∷◌, [], ℕ, List, length, map, refl, sym, ap, subst, ◌∙◌, arith}
+use Rattle.std.proofs.Common.{◌≡◌, ◌<◌, ◌+◌, ◌++◌, ◌∷◌, [], ℕ, List, length, map, refl, sym, ap, subst, ◌∙◌, arith, rules}
 use Rattle.std.proofs.lemmas.List.{length-map, map_push}
 use Rattle.std.proofs.lemmas.Grind.{common_steps}
 use Rattle.mbdc_audit.specs.Amount.{last_of}
@@ -48,7 +48,7 @@ returns-clause-ok g c =
     subst (λ (ps : List Place). Adds h l (record h { places = ps })) (sym changed)
     (adds_run h l n r c.requires.word (sym c.number-4.ensures ∙ (next ∙ ap (λ (m : ℕ). m + 1) long))
     (sym c.field.ensures ∙ c.in-Ok.ensures.found) (sym c.number.ensures) (sym c.maybe.ensures) (sym c.number-2.ensures)
-    (sym c.number-3.ensures) (subst (λ (t : List ℕ). IsVib t r.vib) c.field-2.ensures c.vib.ensures)
+    (sym c.number-3.ensures) (subst (λ (t : List ℕ). IsVib t r.vib) c.field-2.ensures c.vib.ensures) (search rules) (search rules)
     (any_one (λ (q : Place). (n ≡ length q.runs) × (n < 16)) (last_of h.places) (place_of x) it (refl, few)))
 
 pub returns-in_default-clause-err : goal.returns-in_default-clause-err

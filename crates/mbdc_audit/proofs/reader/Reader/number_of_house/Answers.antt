@@ -2,12 +2,12 @@ use Rattle.std.proofs.Common.{◌≡◌, ◌-◌, ℕ, map, refl, sym, ap, subst
 use Rattle.std.proofs.lemmas.Grind.{common_steps}
 use Rattle.mbdc_audit.specs.House.{Key, Number}
 use Rattle.mbdc_audit.specs.declared.line.Word.{Word}
-use Rattle.mbdc_audit.specs.File.{text_at}
+use Rattle.mbdc_audit.specs.File.{text_at, use_place}
 use Rattle.mbdc_audit.specs.Line.{number_at}
 use Rattle.mbdc_audit.specs.Published.{HasOther}
-use Rattle.mbdc_audit.specs.Reader.{IsMade, IsUnitOf, is_of_house, use_place}
+use Rattle.mbdc_audit.specs.Reader.{IsMade, IsUnitOf, is_of_house}
 use Rattle.mbdc_audit.specs.View.{house_of, key_of, number_of}
-use Rattle.mbdc_audit.proofs.Asked.{house_asked, house_made, house_parts, is_other, may_same, other_is, unit_is, unit_same, whose_is}
+use Rattle.mbdc_audit.proofs.Asked.{house_asked, house_made, house_parts, is_other, may_same, no_other, other_is, unit_is, unit_same, whose_is}
 use Rattle.mbdc_audit.proofs.Classes.{at_any}
 use Rattle.mbdc_audit.proofs.Named.{named_is, named_meant, named_there, one_meant}
 use Rattle.mbdc_audit.proofs.Texts.{by_key, by_texts}
@@ -21,7 +21,7 @@ returns-in_err-other-clause-err g c =
     (λ n made.
     let may = house_asked h l n c.requires.word made in
     let parts = house_parts h l n c.requires.word made in
-    c.in_err-other.ensures.err n.key.other (is_other l.word h n.key l parts.other (subst (λ (w : Word). HasOther w h n.key) (sym made.0.word_is) may.0.other)))
+    c.in_err-other.ensures.err n.key.other (is_other l.word h n.key l parts.other made.0.other (subst (λ (w : Word). HasOther w h n.key) (sym made.0.word_is) may.0.other)))
 
 pub returns-in_err-unit_of-clause-err : goal.returns-in_err-unit_of-clause-err
 returns-in_err-unit_of-clause-err g c =
@@ -81,7 +81,8 @@ returns-clause-ok g c =
       whose = whose_is l.word k l user flat;
       used = sym text ∙ named_is h c.field.result.now c.in_ok-used.used c.in_ok-used.ensures.ok;
       unit = c.in_ok-unit_of.ensures.ok;
-    }) (sym c.requires.text.text_is) c.requires.text.beside_is
+    }) (sym c.requires.text.text_is) c.requires.text.beside_is c.requires.text.beside_all (no_other l.word h k l c.in_ok-other.ensures.ok)
+    (ap (λ (x : Key). x.size) (sym (by_key m (map (λ t. t.now) m.said))) ∙ c.requires.text.blank.4) (sym user, sym flat)
     (c.in_ok-check_number.ensures.ok (unit_is l.word h c.in_ok-used.used c.in_ok-unit_of.field-0 l
     (named_there h c.field.result.now c.in_ok-used.used c.in_ok-used.ensures.ok) c.in_ok-unit_of.ensures.ok))
     (named_meant h c.field.result.now c.in_ok-used.used c.in_ok-used.ensures.ok))

@@ -135,11 +135,19 @@ returns-in_ok-size-in-Value-clause-ok g c =
     let word : m.word ≡ l.word = ap (λ (k : Key). k.word) (sym (by_key m (map (λ t. t.now) m.said))) ∙ c.requires.text.word_is in
     let n = record m { span = y.span; used = x.used; size = c.in_ok-size-in-Value.field-0; from = c.number.result; to = c.number-in-Value.result } in
     let made : Number = record { key = key_of n; text = (number_of m).text; beside = (number_of m).beside } in
-    let texts : Texts l made = record { word_is = word; text_is = sym c.requires.text.text_is; beside_is = c.requires.text.beside_is } in
+    let same : key_of m ≡ (number_of m).key = sym (by_key m (map (λ t. t.now) m.said)) in
+    let texts : Texts l made = record {
+      word_is = word;
+      text_is = sym c.requires.text.text_is;
+      beside_is = c.requires.text.beside_is;
+      beside_all = c.requires.text.beside_all;
+      other = ap (λ (x : Key). x.other) same ∙ c.requires.text.blank.0;
+      whose = (ap (λ (x : Key). x.user) same ∙ c.requires.text.blank.1, ap (λ (x : Key). x.flat) same ∙ c.requires.text.blank.2);
+    } in
     let of = c.in_ok-size-in-Value.ensures.ok in
     subst (λ (k : Number). IsMade h l k) (sym (by_texts n m (map (λ t. t.now) m.said) refl))
     (value_made h l made (place_of x) (window_of y) c.in-Value.is texts it it' (sym c.number.ensures) (sym c.number-in-Value.ensures) refl refl
-    (of.0, of.1, ap size_named (sym c.field.ensures) ∙ of.2))
+    (of.0, of.1, ap size_named (sym c.field.ensures) ∙ of.2) (ap (λ (x : Key). x.unit) same ∙ c.requires.text.blank.3))
 
 pub returns-in_ok-only_if-in_default : goal.returns-in_ok-only_if-in_default
 returns-in_ok-only_if-in_default g c =
@@ -157,7 +165,15 @@ returns-in_ok-only_if-in_default g c =
     let word : m.word ≡ l.word = ap (λ (k : Key). k.word) (sym (by_key m (map (λ t. t.now) m.said))) ∙ c.requires.text.word_is in
     let n = record m { span = y.span; used = x.used; unit = c.in_ok-unit-in_default.field-0; from = c.number-in_default.result; to = c.number-in_default-2.result } in
     let made : Number = record { key = key_of n; text = (number_of m).text; beside = (number_of m).beside } in
-    let texts : Texts l made = record { word_is = word; text_is = sym c.requires.text.text_is; beside_is = c.requires.text.beside_is } in
+    let same : key_of m ≡ (number_of m).key = sym (by_key m (map (λ t. t.now) m.said)) in
+    let texts : Texts l made = record {
+      word_is = word;
+      text_is = sym c.requires.text.text_is;
+      beside_is = c.requires.text.beside_is;
+      beside_all = c.requires.text.beside_all;
+      other = ap (λ (x : Key). x.other) same ∙ c.requires.text.blank.0;
+      whose = (ap (λ (x : Key). x.user) same ∙ c.requires.text.blank.1, ap (λ (x : Key). x.flat) same ∙ c.requires.text.blank.2);
+    } in
     let of = c.in_ok-unit-in_default.ensures.ok in
     let span : c.in_ok-span-in_default.span ≡ y.span = same_by c.in_ok-span-in_default.span y.span c.in_ok-only_if-in_default.ensures.ok in
     record {
@@ -165,7 +181,8 @@ returns-in_ok-only_if-in_default g c =
           (shown_made h l made (place_of x) (window_of y) shown texts it it' (sym c.number-in_default.ensures) (sym c.number-in_default-2.ensures) refl refl
           (sym c.number-in_default-3.ensures ∙ (c.in_ok-span-in_default.ensures.ok.0 ∙ ap (λ (k : ℕ). k + 1) span))
           (ap unit_named (sym c.field-in_default.ensures) ∙ of.0) of.1
-          (subst (λ (k : ℕ). Has h (key_of n) k) span c.in_ok-check_facts-in_default.ensures.ok));
+          (subst (λ (k : ℕ). Has h (key_of n) k) span c.in_ok-check_facts-in_default.ensures.ok)
+          (ap (λ (x : Key). x.size) same ∙ c.requires.text.blank.4));
       err = tt;
     }
 

@@ -1,7 +1,8 @@
-use Rattle.std.proofs.Common.{◌∙◌, ℕ, ap, sym, inl}
+use Rattle.std.proofs.Common.{◌≡◌, ◌∙◌, ℕ, ap, false, sym, inl}
 use Rattle.std.proofs.lemmas.Bool.{false≢true}
-use Rattle.mbdc_audit.specs.Line.{may_follow}
+use Rattle.mbdc_audit.specs.Line.{is_asked, may_follow}
 use Rattle.mbdc_audit.specs.View.{house_of}
+use Rattle.mbdc_audit.proofs.OneHouse.{not_asked}
 use Rattle.mbdc_audit.proofs.OneLine.{one_line, same_adds}
 use Rattle.mbdc_audit.proofs.Quiet.{quiet}
 use Rattle.mbdc_audit.proofs.Table.{first_stage, header_line, one_stage}
@@ -27,10 +28,12 @@ returns-in-Err-add-clause-err g c = λ fault. inl (λ stage house f.
     (one_line c.args.text.now f.line c.in-Ok.line f.is c.in-Ok.ensures.found) f.adds))
 
 pub returns-in-Ok-add-clause-asks : goal.returns-in-Ok-add-clause-asks
-returns-in-Ok-add-clause-asks g c = λ may old.
-    quiet (house_of c.args.self.now.house) (house_of c.add.new.self.house) c.args.text.now c.in-Ok.line c.in-Ok.ensures.found
-    (elim c.else-not-self.branch [
+returns-in-Ok-add-clause-asks g c = λ may.
+    let none : is_asked c.in-Ok.line ≡ false = elim c.else-not-self.branch [
       | else-not-self-via-then-not-self+else-is_asked w ↦ sym w.is_asked.ensures ∙ w.if-is_asked.false
       | else-not-self-via-else-not-self w ↦ absurd (false≢true (sym may ∙ w.if-not-self.false))
-    ])
-    c.in-Ok-add.ensures.ok old
+    ] in (
+      not_asked c.args.text.now c.in-Ok.line c.in-Ok.ensures.found none,
+      λ old. quiet (house_of c.args.self.now.house) (house_of c.add.new.self.house) c.args.text.now c.in-Ok.line c.in-Ok.ensures.found none
+          c.in-Ok-add.ensures.ok old,
+    )

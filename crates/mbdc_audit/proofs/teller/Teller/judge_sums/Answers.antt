@@ -1,5 +1,6 @@
 use Rattle.std.proofs.Common.{arith, ap, length, map, take, ◌≤◌, List, All, subst}
 use Rattle.mbdc_audit.specs.declared.house.House.{House}
+use Rattle.mbdc_audit.specs.File.{AsksNothing}
 use Rattle.mbdc_audit.specs.Published.{MayAsk}
 use Rattle.mbdc_audit.specs.Sound.{IsHouse}
 use Rattle.mbdc_audit.specs.View.{house_of, number_of}
@@ -25,6 +26,6 @@ returns g c = record {
       numbers_all (house_of c.args.house.now) numbers c.numbers.number-index c.args.self.now.counts c.numbers.self.counts le
       (subst (λ (h : House _). IsHouse (house_of h) → AreGradedAll h.places.items
       → All (λ n. MayAsk (house_of h) n.key) (map number_of numbers)
-      → Only c.args.self.now.counts c.numbers.self.counts (All (SureOf (house_of h)) (take c.numbers.number-index numbers)))
+      → Only (All AsksNothing (map number_of numbers)) c.args.self.now.counts c.numbers.self.counts (All (SureOf (house_of h)) (take c.numbers.number-index numbers)))
       c.in_ok-sums.ensures c.numbers.invariant.judged sound graded asks);
 }

@@ -1,5 +1,6 @@
 use Rattle.std.proofs.Common.{take, map}
 use Rattle.std.specs.Prelude.{All}
+use Rattle.mbdc_audit.specs.File.{AsksNothing}
 use Rattle.mbdc_audit.specs.Published.{MayAsk}
 use Rattle.mbdc_audit.specs.Sound.{IsHouse}
 use Rattle.mbdc_audit.specs.View.{house_of, number_of}
@@ -14,5 +15,5 @@ invariant-numbers g l = record {
   known : AreBases l.sums.house.now.places.items l.sums.house.now.users.items l.bases.items;
   judged : IsHouse (house_of l.sums.house.now) → AreGradedAll l.sums.house.now.places.items
       → All (λ n. MayAsk (house_of l.sums.house.now) n.key) (map number_of l.house.numbers.items)
-      → Only l.initial.self.counts l.self.counts (All (SureOf (house_of l.sums.house.now)) (take l.number-index l.house.numbers.items));
+      → Only (All AsksNothing (map number_of l.house.numbers.items)) l.initial.self.counts l.self.counts (All (SureOf (house_of l.sums.house.now)) (take l.number-index l.house.numbers.items));
 }

@@ -2,10 +2,11 @@ use Rattle.std.proofs.Common.{arith, List, map, ap, subst, sym}
 use Rattle.std.specs.Prelude.{All}
 use Rattle.std.proofs.lemmas.Result.{on_ok_weaker}
 use Rattle.mbdc_audit.specs.House.{Window}
-use Rattle.mbdc_audit.specs.Settled.{AreCounted, AreKnown}
+use Rattle.mbdc_audit.specs.Settled.{AreCounted, AreKnown, IsOnly}
 use Rattle.mbdc_audit.specs.View.{place_of, run_of, use_of, window_of}
 use Rattle.mbdc_audit.specs.File.{bare_window}
 use Rattle.mbdc_audit.specs.declared.curve.Run as run_type
+use Rattle.mbdc_audit.specs.declared.uses.Counted.{Counted}
 use Rattle.mbdc_audit.proofs.Checks.{link}
 use Rattle.mbdc_audit.proofs.Evidences.{read_by}
 use Rattle.mbdc_audit.proofs.Written.{in_vector, looks}
@@ -42,3 +43,12 @@ returns-clause-parts g c =
     let are = in_vector p.windows.len new p.windows.items (omega (arith, p.windows.ok.0, c.read_windows.auto.windows, c.as_mut_slice.ensures.len)) in
     on_ok_weaker c.read_windows.result (λ h. subst (λ l. All (λ w. AreCounted (map run_of p.runs.items) w) l) (sym are)
     (subst (λ (k : List run_type.Run). All (λ w. AreCounted (map run_of k) w) new) c.as_slice.ensures.value h)) c.read_windows.ensures.parts
+
+pub returns-clause-only : goal.returns-clause-only
+returns-clause-only g c =
+    let p = c.args.place.now in
+    let new = c.read_windows.new.windows in
+    let are = in_vector p.windows.len new p.windows.items (omega (arith, p.windows.ok.0, c.read_windows.auto.windows, c.as_mut_slice.ensures.len)) in
+    on_ok_weaker c.read_windows.result (λ h u is. subst (λ l. All (λ w. IsOnly (map run_of p.runs.items) u.counts w) l) (sym are)
+    (subst (λ (q : Counted). All (λ w. IsOnly (map run_of p.runs.items) q w) new) (sym (c.in_ok-counts.ensures.one u is))
+    (subst (λ (k : List run_type.Run). All (λ w. IsOnly (map run_of k) c.in_ok-counts.counts w) new) c.as_slice.ensures.value h))) c.read_windows.ensures.only

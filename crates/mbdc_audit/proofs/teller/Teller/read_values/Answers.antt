@@ -2,7 +2,7 @@ use Rattle.std.proofs.Common.{arith, List, map, ap, subst, sym}
 use Rattle.std.specs.Prelude.{All}
 use Rattle.std.proofs.lemmas.Result.{on_ok_weaker}
 use Rattle.mbdc_audit.specs.House.{Place}
-use Rattle.mbdc_audit.specs.Settled.{AreCounted, AreKnown}
+use Rattle.mbdc_audit.specs.Settled.{AreCounted, AreKnown, AreOnly}
 use Rattle.mbdc_audit.specs.View.{house_of, place_of, run_of, use_of}
 use Rattle.mbdc_audit.specs.File.{bare_place}
 use Rattle.mbdc_audit.specs.declared.house.Use as use_type
@@ -42,3 +42,11 @@ returns-clause-parts g c =
     let are = in_vector h.places.len new h.places.items (omega (arith, h.places.ok.0, c.read_places.auto.places, c.as_mut_slice.ensures.len)) in
     on_ok_weaker c.read_places.result (λ counted. subst (λ l. All (λ p. All (λ w. AreCounted (map run_of p.runs.items) w) p.windows.items) l) (sym are) counted)
     c.read_places.ensures.parts
+
+pub returns-clause-only : goal.returns-clause-only
+returns-clause-only g c =
+    let h = c.args.house.now in
+    let new = c.read_places.new.places in
+    let are = in_vector h.places.len new h.places.items (omega (arith, h.places.ok.0, c.read_places.auto.places, c.as_mut_slice.ensures.len)) in
+    on_ok_weaker c.read_places.result (λ only. subst (λ l. All (λ p. AreOnly (map use_of h.uses.items) p) l) (sym are)
+    (subst (λ (us : List use_type.Use). All (λ p. AreOnly (map use_of us) p) new) c.as_slice.ensures.value only)) c.read_places.ensures.only

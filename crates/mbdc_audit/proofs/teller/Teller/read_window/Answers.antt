@@ -10,6 +10,7 @@ use Rattle.mbdc_audit.specs.declared.house.Part as part_type
 use Rattle.mbdc_audit.specs.declared.house.Value as value_type
 use Rattle.mbdc_audit.proofs.Checks.{same}
 use Rattle.mbdc_audit.proofs.Evident.{reads}
+use Rattle.mbdc_audit.proofs.OneReading.{only}
 use Rattle.mbdc_audit.proofs.Windows.{at_slices, bare_same, bare_values, told_known}
 use Rattle.mbdc_audit.proofs.teller.Teller.read_window.Goals as goal
 
@@ -51,3 +52,9 @@ returns-clause-parts g c =
     let ps = c.in_ok-parts.parts.items in
     subst (λ (l : List value_type.Value). IsInOrder (entries rs (known_in l)) → All (λ x. x.from ≤ x.to) ps → AreGraded rs (known_in l) ps)
     c.as_slice-5.ensures.value c.in_ok-parts.ensures.graded
+
+pub returns-clause-only : goal.returns-clause-only
+returns-clause-only g c =
+    only (map run_of c.args.runs.now) c.args.counts c.as_slice.result.now c.in_ok-judged.judged.items
+    (record c.args.window.now { values = c.in_ok-values.values; parts = c.in_ok-parts.parts }) c.in_ok-judged.ensures
+    (subst (λ (l : List value_type.Value). AreSettled l c.in_ok-values.values.items) c.as_slice-2.ensures.value c.in_ok-values.ensures)

@@ -1,6 +1,6 @@
 use Rattle.std.proofs.Common.{arith, ◌≤◌, ◌<◌, length, map, ◌∙◌}
 use Rattle.std.proofs.lemmas.Grind.{common_steps}
-use Rattle.mbdc_audit.specs.Settled.{AreCounted, AreKnown}
+use Rattle.mbdc_audit.specs.Settled.{AreCounted, AreKnown, IsOnly}
 use Rattle.mbdc_audit.specs.Sound.{IsRead}
 use Rattle.mbdc_audit.specs.View.{run_of, window_of}
 use Rattle.mbdc_audit.specs.File.{bare_window}
@@ -20,6 +20,7 @@ windows-preserved g c =
       stays (λ w. bare_window (window_of w)) ws i c.window-item.result new lt c.in_ok-read_window.ensures.kept ∙ c.windows.invariant.1,
       λ clean. (written (λ w. AreKnown w) ws i new lt).1 (c.windows.invariant.2 (found.0 clean).0, c.in_ok-read_window.ensures.values clean),
       (written (λ w. AreCounted rs w) ws i new lt).1 (c.windows.invariant.3, c.in_ok-read_window.ensures.parts),
+      (written (λ w. IsOnly rs c.args.counts w) ws i new lt).1 (c.windows.invariant.4, c.in_ok-read_window.ensures.only),
     )
 
 pub returns-clause-found : goal.returns-clause-found
@@ -44,3 +45,8 @@ offset_bounds-windows-window-index g c = grind (arith, common_steps)
 
 pub returns-clause-kept : goal.returns-clause-kept
 returns-clause-kept g c = grind (arith, common_steps)
+
+pub returns-clause-only : goal.returns-clause-only
+returns-clause-only g c =
+    let past : length c.windows.windows ≤ c.windows.window-index = omega (arith, c.windows-test.false) in
+    (all_full (λ w. IsOnly (map run_of c.args.runs.now) c.args.counts w) c.windows.windows c.windows.window-index past).0 c.windows.invariant.4

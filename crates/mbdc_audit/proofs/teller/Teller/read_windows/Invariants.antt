@@ -1,6 +1,6 @@
 -- the windows so far are read, and the others stand as they were
 use Rattle.std.proofs.Common.{◌≡◌, ◌↔◌, All, IsTrue, map, take}
-use Rattle.mbdc_audit.specs.Settled.{AreCounted, AreKnown}
+use Rattle.mbdc_audit.specs.Settled.{AreCounted, AreKnown, IsOnly}
 use Rattle.mbdc_audit.specs.Sound.{IsRead}
 use Rattle.mbdc_audit.specs.View.{run_of, window_of}
 use Rattle.mbdc_audit.specs.Walk.{is_clean}
@@ -13,3 +13,4 @@ invariant-windows g l = (IsTrue (is_clean l.self.counts) ↔ (IsTrue (is_clean l
     × (map (λ w. bare_window (window_of w)) l.windows ≡ map (λ w. bare_window (window_of w)) l.initial.windows)
     × (IsTrue (is_clean l.self.counts) → All AreKnown (take l.window-index l.windows))
     × All (AreCounted (map run_of l.runs)) (take l.window-index l.windows)
+    × All (IsOnly (map run_of l.runs) l.counts) (take l.window-index l.windows)
