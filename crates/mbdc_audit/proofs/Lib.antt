@@ -198,8 +198,6 @@ mod ReadAs
 mod OneHouse
 -- evidence gives a house one amount a value
 mod OneReading
--- a number that a line asks for stands in its house
-mod Standing
 -- a house with a line more asks nothing
 mod Quiet
 -- what is computed of the places of a flat
