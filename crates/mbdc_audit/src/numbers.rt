@@ -26,7 +26,7 @@ use crate::exact::Exact;
 use crate::fault::{AuditFault, Stop};
 use crate::field::{first_field, is_word};
 use crate::grade::Grade;
-use crate::house::{House, Number, Part, Place, Value, Window};
+use crate::house::{House, Number, Place, Value, Window};
 use crate::line::Word;
 use crate::smallest::{MOST_VALUE_DECIMALS, decimal_in, first_point, of_spelled};
 use crate::teller::Piece::{Number as Count, Text};
@@ -128,14 +128,6 @@ fn is_cut<A: Allocator + Copy>(place: &Place<'_, A>, window: &Window<'_, A>, mom
     by_part || by_run
 }
 
-// Whether a period has time, and lies between the begin and the end of the parts.
-fn is_within(first: &Part, last: &Part, number: &Number<'_>) -> bool
-    ensures { IsTrue result ↔ ((number.now.from < number.now.to)
-        × (first.now.from ≤ number.now.from) × (number.now.to ≤ last.now.to)) }
-{
-    first.from <= number.from && number.from < number.to && number.to <= last.to
-}
-
 // Whether a period is of whole parts or runs, within the parts.
 fn is_period<A: Allocator + Copy>(
     place: &Place<'_, A>,
@@ -158,7 +150,7 @@ fn is_period<A: Allocator + Copy>(
     if !is_cut(place, window, number.to) {
         return false;
     }
-    is_within(first, last, number)
+    first.from <= number.from && number.from < number.to && number.to <= last.to
 }
 
 // Whether a number of decimals suffices for a number.
