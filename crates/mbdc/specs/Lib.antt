@@ -4,3 +4,5 @@
 pub mod Tasks
 -- what the commands that write an image have done
 pub mod Commands
+-- what is done on the bus of a link
+pub mod Linked

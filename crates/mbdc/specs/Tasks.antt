@@ -5,8 +5,10 @@ use Rattle.dc_poller.specs.Fold.{IsFolded}
 use Rattle.dc_roots.specs.declared.root.Root.{Root}
 use Rattle.dc_sectors.specs.declared.device.Disk.{Ghosts}
 use Rattle.mbdc_audit.specs.File.{IsRight}
+use Rattle.mbdc_bus.specs.declared.bus.Bus.{Ghosts as BusGhosts}
 use Rattle.mbdc_change.specs.State.{State}
 use Rattle.mbdc_commands.specs.Rescue.{Renews}
+use Rattle.mbdc_commands.specs.declared.words.link.LinkName.{LinkName}
 use Rattle.mbdc_commands.specs.declared.words.task.Engine.{Engine}
 use Rattle.mbdc_commands.specs.declared.words.task.Engine.TheVariants.{Decode, Fold, Audit, Fill}
 use Rattle.mbdc_commands.specs.declared.words.task.Task.{Task}
@@ -24,6 +26,7 @@ use Rattle.mbdc_log.specs.declared.greatest.Greatest.{Greatest}
 use Rattle.mbdc_log.specs.declared.rescuing.Source.{Source}
 use Rattle.mbdc_sheet.specs.Sheet.{is_sheet}
 use Rattle.mbdc.specs.Commands.{Fitted, Ordered, Polled, Refuses, Scripted}
+use Rattle.mbdc.specs.Linked.{OnBus}
 
 -- THE ANSWER OF AN ENGINE: whether a line or frame of the input has a fault, and of published numbers that they may be
 -- wrong.
@@ -64,8 +67,8 @@ Rescues {Old} {New} o n copied named = (copy : Old) × (cleared : Old) × (made 
     × copied copy × named made × Renews o n copy cleared source root place last state greatest made
 
 -- what a system has, as contracts see it: disks of copies, of new images and of those that a command writes, what was
--- copied, got a name or was opened, and what is left of an input
-pub record Files (Old New Image Input : Type 0) : Type 1 where
+-- copied, got a name or was opened, what is left of an input, and which link was connected, with which bus
+pub record Files (Old New Image Input Peer B : Type 0) : Type 1 where
   pub old : Ghosts Old
   pub new : Ghosts New
   pub image : Ghosts Image
@@ -74,14 +77,19 @@ pub record Files (Old New Image Input : Type 0) : Type 1 where
   pub held : List ℕ → Image → Type 0
   pub opened : List ℕ → Input → Type 0
   pub left : Input → Option (List ℕ)
+  pub bus : BusGhosts B
+  pub linked : LinkName → Peer → Type 0
+  pub joined : Peer → ℕ → B → Type 0
 
--- WHAT A TASK HAS DONE AT ITS END, of the tasks whose files contracts name: its engine, over what has the task's names.
-abbrev pub Runs : {Old New Image Input : Type 0} → Files Old New Image Input → Task → Ending → Type 0
+-- WHAT A TASK HAS DONE AT ITS END, of the tasks whose files or link contracts name: its engine, over what has the task's
+-- names.
+abbrev pub Runs : {Old New Image Input Peer B : Type 0} → Files Old New Image Input Peer B → Task → Ending → Type 0
 Runs s (Lines engine None) ending = Works s.opened s.left engine (codes "-") ending
 Runs s (Lines engine (Some file)) ending = Works s.opened s.left engine file.now ending
-Runs {Old} {New} {Image} {Input} s (Format image sectors) ending = IsUnmade ending image.now
+Runs {Old} {New} {Image} {Input} {Peer} {B} s (Format image sectors) ending = IsUnmade ending image.now
     ⊎ ((ending ≡ Clean) × (made : New) × s.named image.now made × IsFormatted s.new sectors made)
-Runs {Old} {New} {Image} {Input} s (Copy image file) ending = (IsUncopied ending image.now ⊎ IsUnmade ending file.now)
+Runs {Old} {New} {Image} {Input} {Peer} {B} s (Copy image file) ending =
+    (IsUncopied ending image.now ⊎ IsUnmade ending file.now)
     ⊎ ((ending ≡ Clean) × (copy : Old) × (read : Old) × (made : New) × s.copied image.now copy
     × s.named file.now made × IsCopied s.old s.new copy read made)
 Runs s (Rescue image file) ending = ending ≡ Clean → Rescues s.old s.new (s.copied image.now) (s.named file.now)
@@ -95,5 +103,5 @@ Runs s (Status image silent layout) ending = Unit {0}
 Runs s (Fit image list) ending = Refuses ending ⊎ Fitted s.image (s.held image.now) (s.opened list.now) s.left ending
 Runs s (Order task) ending = Refuses ending ⊎ Ordered s.image (s.held task.image.now) task ending
 Runs s (Poll task) ending = Refuses ending ⊎ Polled s.image (s.held task.image.now) task.only.items task.image.now ending
-Runs s (Bus task) ending = Unit {0}
+Runs s (Bus task) ending = Refuses ending ⊎ OnBus s.bus s.linked s.joined task ending
 Runs s Demo ending = Unit {0}

@@ -1,6 +1,6 @@
 //! The links of the bus lines on this system.
 
-ghost use Rattle.std.specs.Prelude.{⊤, IfErr};
+ghost use Rattle.std.specs.Prelude.{⊤, IfOk, IfErr};
 ghost use Rattle.mbdc.specs.Commands.{Refuses};
 
 use libc::net::poll;
@@ -30,23 +30,63 @@ const MOST_TRIES: usize = 12;
 // The links of a command, or the ending of the command without them.
 type Connected<'a, R> = Result<Vec<Option<Peer<R>>>, Ending<'a>>;
 
-/// Connects the one link of a command, which has no numbers of lines, if it has one.
-///
-/// # Errors
-/// The ending of the command: the link can't be connected, or memory ran out.
-pub fn connected<'a, R>(host: &Host<'_, R>, links: &[Option<LinkName<'_>>; 1]) -> Connected<'a, R>
+/// The one link of a command, and its bus.
+pub trait Linking<R: Net<Stream = TcpStream> + Clock + Copy> {
+    ghost use Rattle.std.specs.Prelude.{ℕ, List, Option};
+    ghost use Rattle.mbdc_commands.specs.declared.words.link.LinkName.{LinkName as Name};
+    ghost use Rattle.mbdc_raw.specs.declared.links.peer.Peer.{Peer as Link};
+
+    // Of these names these links were connected, each at its place.
+    ghost linked: { Self → List (Option Name) → List (Option (Link R)) → Type 0 };
+
+    // This is the bus of such a link, newly made, with a time-out of this many milliseconds. Its type is any, for no
+    // member can name that of a link's bus.
+    ghost joined: { Self → List (Option (Link R)) → ℕ → {B : Type 0} → B → Type 0 };
+
+    /// Connects the one link of a command, which has no numbers of lines, if it has one.
+    ///
+    /// # Errors
+    /// The ending of the command: the link can't be connected, or memory ran out.
+    fn connected<'e>(&self, names: &[Option<LinkName<'_>>; 1]) -> Connected<'e, R>
+        ensures linked { IfOk result (λ peers. linked self.now names.now peers.items) }
+        ensures refused { IfErr result (λ ending. Refuses ending) };
+
+    /// Makes the bus of the one link, with a time-out of this many milliseconds. Where there is no link, it is absent.
+    ///
+    /// # Errors
+    /// The clock fails.
+    fn bus<'p>(&self, peers: &'p [Option<Peer<R>>], patience: u16) -> io::Result<SystemBus<'p, R>>
+        ensures { IfOk result (λ bus. joined self.now peers.now patience bus) };
+}
+
+impl<R> Linking<R> for Host<'_, R>
 where
     R: Files<File = File> + Net<Stream = TcpStream> + Clock + Copy + Eprint + AllocGlobal,
-    ensures { IfErr result (λ ending. Refuses ending) }
 {
-    let mut linker = Linker {
-        rt: host.rt,
-        has_lines: false,
-        begun: None,
-    };
-    match reach_all(host.rt.alloc(), links, &mut linker) {
-        Err(Unconnected::Link(missed)) => Err(host.why.link(None, missed.why)),
-        peers => links_of(host.why, peers),
+    ghost use Rattle.std.specs.Prelude.{⊤};
+
+    // What the system does is in no contract.
+    ghost linked = { λ _ _ _. ⊤ };
+
+    ghost joined = { λ _ _ _ _. ⊤ };
+
+    fn connected<'e>(&self, names: &[Option<LinkName<'_>>; 1]) -> Connected<'e, R> {
+        let mut linker = Linker {
+            rt: self.rt,
+            has_lines: false,
+            begun: None,
+        };
+        match reach_all(self.rt.alloc(), names, &mut linker) {
+            Err(Unconnected::Link(missed)) => Err(self.why.link(None, missed.why)),
+            peers => links_of(self.why, peers),
+        }
+    }
+
+    fn bus<'p>(&self, peers: &'p [Option<Peer<R>>], patience: u16) -> io::Result<SystemBus<'p, R>> {
+        match peers {
+            [Some(peer)] => peer.bus(*self.rt, patience),
+            _ => Ok(LinkBus::Absent),
+        }
     }
 }
 

@@ -3,7 +3,7 @@
 ghost use Rattle.std.specs.Prelude.{◌⊎◌};
 ghost use Rattle.mbdc.specs.Commands.{Refuses, RunsLines, Scripted};
 
-use crate::connecting::{connected, released};
+use crate::connecting::{Linking, released};
 use crate::fit::read_whole;
 use crate::journal::Noting;
 use crate::system::System;
@@ -38,7 +38,7 @@ where
         Ok(lines) => lines,
         Err(ending) => return ending,
     };
-    let peers = match connected(host, &[task.gateway]) {
+    let peers = match host.connected(&[task.gateway]) {
         Ok(peers) => peers,
         Err(ending) => return ending,
     };

@@ -1,9 +1,10 @@
 //! The commands: an engine of a library between the files and links that the words name.
 
-ghost use Rattle.std.specs.Prelude.{IfOk};
+ghost use Rattle.std.specs.Prelude.{IfOk, Some, [], ◌∷◌};
 ghost use Rattle.mbdc.specs.Tasks.{Answers, Runs, Works};
 
-use crate::bench::on_bus;
+use crate::bench::{TaskBus, on_bus};
+use crate::connecting::Linking;
 use crate::demo;
 use crate::fit::fit_on_image;
 use crate::inspect::{Screen, look_into, report_on, tell};
@@ -15,6 +16,7 @@ use crate::sheet::audit_sheet;
 use crate::system::System;
 use dc_poller::fold_lines;
 use mbdc_audit::{audit, fill};
+use mbdc_bus::Bus;
 use mbdc_commands::words::{Engine, Form, Layout, Task};
 use mbdc_decode::decode_lines;
 use mbdc_decode::objects::json_lines;
@@ -32,8 +34,8 @@ use std::{io, str};
 // Number of bytes that go to standard output at once.
 const ROOM: usize = 65_536;
 
-/// Runs the task that the words name. The files that an engine over lines reads, and those that are made, are of the
-/// system; no clause names what the other commands do.
+/// Runs the task that the words name. The files that are read and made, and a link with its bus, are of the system; no
+/// clause says what the demo does, nor a look at an image.
 pub fn run<'a, R, S>(host: &Host<'a, R>, system: &S, task: &Task<'a>, screen: Screen) -> Ending<'a>
 where
     R: Files<File = File>
@@ -44,7 +46,7 @@ where
         + Print
         + Eprint
         + AllocGlobal,
-    S: System<'a>,
+    S: System<'a> + Linking<R>,
     ensures { Runs (record {
       old = S.Old.Disk;
       new = S.New.Disk;
@@ -54,6 +56,9 @@ where
       held = S.held system.now;
       opened = S.opened system.now;
       left = S.Lines.left;
+      bus = ⟦<TaskBus<'static, R> as Bus>⟧;
+      linked = λ name. S.linked system.now (Some name ∷ []);
+      joined = λ peers patience line. S.joined system.now peers patience line.bus.bus;
     }) task.now result }
 {
     match task {
@@ -81,7 +86,7 @@ where
         Task::Order(task) => order_on_image(host, system, task),
         Task::Copy { image, file } => back_up(system, image, file),
         Task::Rescue { image, file } => rescue_image(host, system, image, file),
-        Task::Bus(task) => on_bus(host, task),
+        Task::Bus(task) => on_bus(host, system, task),
         Task::Poll(task) => {
             let ending = poll_on_image(host, system, task);
             let is_polled = matches!(ending, Ending::Clean | Ending::Faulty);
