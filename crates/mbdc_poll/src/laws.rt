@@ -87,8 +87,8 @@ pub fn what_is_read_is_committed<B: HalfBus + Drop, T: Timer<B>>()
 {}
 
 /// [`Sparing`](crate::Sparing) lets all through where each meter that was silent in the last poll answers its first
-/// question in this one: the talk is one on the bus itself, with no more requests. Where silence comes of that question,
-/// it goes out once, though the readout makes its request again.
+/// question in this one: the talk is one on the bus itself, with no more requests. Where silence comes of that
+/// question, it goes out once, though the readout makes its request again.
 pub fn a_silent_meter_gets_one_question<B: HalfBus + Drop>()
     ensures spares { SparesNothing B.HalfBus }
     ensures once { (question : List ℕ) → IsAskedOnce question }
@@ -101,10 +101,10 @@ pub fn a_busy_meter_is_asked_again<B: HalfBus + Drop>()
     ensures asked_again { (request third : List ℕ) (answer : LineHeard) → IsAskedAgain request third answer }
 {}
 
-/// [`Remembering`](crate::Remembering) lets all through where no telegram is one of the last 64 before it, and no answer
-/// is a frame with a wrong checksum. Where a copy of the first telegram comes third, the readout hears silence and asks
-/// the same again. It hears what comes then: a third telegram, or the first one, which its meter sends. After a wrong
-/// checksum it hears silence in place of a telegram, and that telegram once it comes again.
+/// [`Remembering`](crate::Remembering) lets all through where no telegram is one of the last 64 before it, and no
+/// answer is a frame with a wrong checksum. Where a copy of the first telegram comes third, the readout hears
+/// silence and asks the same again. It hears what comes then: a third telegram, or the first one, which its meter
+/// sends. After a wrong checksum it hears silence in place of a telegram, and that telegram once it comes again.
 pub fn a_dropped_telegram_is_asked_for_again<B: HalfBus + Drop>()
     ensures remembers { DropsNoTelegram B.HalfBus }
     ensures third { (answer : LineHeard) → IsDropped 3 answer }
@@ -113,9 +113,9 @@ pub fn a_dropped_telegram_is_asked_for_again<B: HalfBus + Drop>()
         → is_some (telegram_in (frame_of telegram)) ≡ true → IsTakenTwice telegram answer }
 {}
 
-/// [`Recounting`](crate::Recounting) lets all through where each meter sends as many telegrams as in its last reading.
-/// Where one telegram comes in place of two, the readout hears silence, and its next requests aren't sent. After the next
-/// reset it hears that telegram.
+/// [`Recounting`](crate::Recounting) lets all through where each meter sends as many telegrams as in its last
+/// reading. Where one telegram comes in place of two, the readout hears silence, and its next requests aren't sent.
+/// After the next reset it hears that telegram.
 pub fn a_readout_that_differs_begins_anew<B: HalfBus + Drop>()
     ensures recounts { DropsNoReadout B.HalfBus }
     ensures anew { (meter : Identity) (telegram : List ℕ) (answer : LineHeard)

@@ -38,12 +38,12 @@ pub fn what_a_line_gives_is_heard<W: Wire + Drop>()
         × Heard old.hearing.request sounds answer }
 {}
 
-/// A wire waits by its clock. It measures from moments that the clock told. Between a request and the silence that it
-/// meets, the clock told two moments that lie the time-out apart, the first one right after the request was written; the
-/// early repeat of a request has a time-out of its own. Where several meters may answer, silence comes no sooner than an
-/// answer may begin, or after the patience: on a line on which a byte and the converter take as long as what came shows,
-/// and only selections are acknowledged. On a line that is given up since nobody answers, no byte came since it was
-/// connected, and requests had waited for 120 s.
+/// A wire waits by its clock. It measures from moments that the clock told. Between a request and the silence that
+/// it meets, the clock told two moments that lie the time-out apart, the first one right after the request was
+/// written; the early repeat of a request has a time-out of its own. Where several meters may answer, silence comes
+/// no sooner than an answer may begin, or after the patience: on a line on which a byte and the converter take as
+/// long as what came shows, and only selections are acknowledged. On a line that is given up since nobody answers,
+/// no byte came since it was connected, and requests had waited for 120 s.
 pub fn a_wire_waits_by_its_clock<R, W, C>()
 where
     R: Read + AsRawFd + Drop,
