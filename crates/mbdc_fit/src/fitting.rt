@@ -16,25 +16,7 @@ use dc_meters::House;
 use dc_recovery::Store;
 use dc_sectors::Disk;
 use mbdc_change::DecodeFault;
-use mbdc_io::{Bytes, IoFault, NoMemory};
 use std::alloc::Allocator;
-
-// A copy of a house, to plan on.
-fn copy_of<A: Allocator + Copy>(alloc: A, house: &House<A>) -> Result<House<A>, NoMemory>
-    ensures { IfOk result (λ copy. copy ≡ house.now) }
-{
-    let budget = house.budget();
-    let mut bytes = Bytes::new(alloc);
-    match house.encode(&mut bytes) {
-        Ok(()) => {}
-        Err(IoFault) => return Err(NoMemory),
-    }
-    match House::decode(alloc, bytes.as_slice(), budget) {
-        Ok(copy) => Ok(copy),
-        Err(DecodeFault::NoMemory) => Err(NoMemory),
-        Err(DecodeFault::Bad) => unreachable!(),
-    }
-}
 
 // Plans what is asked, and writes it where nothing is wrong. The result is the plan. The house isn't used any more.
 fn fit<D: Disk + Drop, A: Allocator + Copy>(
@@ -52,8 +34,7 @@ fn fit<D: Disk + Drop, A: Allocator + Copy>(
     ensures back { D.keeps store.new.disk → D.keeps store.old.disk }
     ensures count { D.sectors store.new.disk ≡ D.sectors store.old.disk }
 {
-    let copy = copy_of(alloc, house)?;
-    let plan = plan_wish(alloc, wish, copy)?;
+    let plan = plan_wish(alloc, wish, house)?;
     let is_wrong = plan.is_wrong();
     if is_wrong {
         return Ok(plan);

@@ -185,13 +185,13 @@ impl<A: Allocator + Copy> Plan<A> {
 pub fn plan_for<A: Allocator + Copy>(
     alloc: A,
     order: &Order,
-    mut house: House<A>,
+    house: &mut House<A>,
 ) -> Result<Plan<A>, NoMemory>
-    ensures ordered { IfOk result (λ plan. IsOrdered order.now house plan) }
-    ensures one_group { IfOk result (λ plan. IsOneGroup house plan) }
+    ensures ordered { IfOk result (λ plan. IsOrdered order.now house.old plan) }
+    ensures one_group { IfOk result (λ plan. IsOneGroup house.old plan) }
 {
-    let verdict = verdict_for(order, &house);
+    let verdict = verdict_for(order, house);
     let mut plan = Plan::empty(alloc);
-    plan.add_order(verdict, order, &mut house)?;
+    plan.add_order(verdict, order, house)?;
     Ok(plan)
 }

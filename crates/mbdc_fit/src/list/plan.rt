@@ -191,10 +191,10 @@ impl<A: Allocator + Copy> Plan<A> {
 pub fn plan_on<A: Allocator + Copy>(
     alloc: A,
     list: &Listing,
-    mut house: House<A>,
+    house: &mut House<A>,
 ) -> Result<Plan<A>, NoMemory>
-    ensures planned { IfOk result (λ plan. IsPlanned list.now house plan) }
-    ensures one_group { IfOk result (λ plan. IsOneGroup house plan) }
+    ensures planned { IfOk result (λ plan. IsPlanned list.now house.old plan) }
+    ensures one_group { IfOk result (λ plan. IsOneGroup house.old plan) }
 {
     let mut plan = Plan::empty(alloc);
     match list {
@@ -204,7 +204,7 @@ pub fn plan_on<A: Allocator + Copy>(
             Ok(plan)
         }
         Listing::Rows(rows) => {
-            plan.add_rows(rows.as_slice(), &mut house)?;
+            plan.add_rows(rows.as_slice(), house)?;
             Ok(plan)
         }
     }

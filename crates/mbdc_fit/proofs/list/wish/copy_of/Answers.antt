@@ -2,7 +2,7 @@ use Rattle.std.proofs.Common.{◌∙◌, arith, rules}
 use Rattle.mbdc_change.specs.Spelled.{SpellsState}
 use Rattle.dc_meters.specs.Language.{one_register}
 use Rattle.mbdc_fit.proofs.Copies.{same_held}
-use Rattle.mbdc_fit.proofs.fitting.copy_of.Goals as goal
+use Rattle.mbdc_fit.proofs.list.wish.copy_of.Goals as goal
 
 pub returns-in-Ok-decode : goal.returns-in-Ok-decode
 returns-in-Ok-decode g c =
