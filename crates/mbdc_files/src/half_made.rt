@@ -1,6 +1,8 @@
 //! The files in which images are made, until they are whole.
 
-ghost use Rattle.std.specs.Prelude.{IfErr};
+ghost use Rattle.std.specs.Prelude.{◌≡◌, [], IfErr, IfOk, IfSome};
+ghost use Rattle.mbdc_ending.specs.Outcome.{IsOfFile};
+ghost use Rattle.mbdc_files.specs.Copied.{IsOfCopy};
 ghost use Rattle.mbdc_files.specs.Formatted.{IsUnmade};
 
 use crate::copied::{Copied, read_all};
@@ -79,17 +81,11 @@ impl<'h, R: Files<File = File> + AllocGlobal> Shelf for Host<'h, R> {
 
     fn copy<'a>(&self, image: &'a str) -> Result<DiskOver<Copied>, Ending<'a>> {
         let looked = LookedAt::open(self, image)?;
-        let mut disk = looked.disk(image)?;
-        // It is too small, or both root slots can be read and neither has a root.
-        if disk.count() < FEWEST_SECTORS
-            || matches!(choose(&mut disk), Err(RootFault::NoRoot(None)))
-        {
+        if is_no_image(&looked, image)? {
             return Err(Ending::Open(OpenFault::NotImage));
         }
         for _ in 0..ROUNDS {
-            let mut sample = Sample::new(self.rt.alloc(), looked.disk(image)?);
-            let copied = read_all(self.rt.alloc(), &mut sample)?;
-            if looked.stands(sample, image)? {
+            if let Some(copied) = copied_of(self, &looked, image)? {
                 return match DiskOver::over(copied) {
                     Ok(disk) => Ok(disk),
                     Err(error) => Err(self.why.file(image, error)),
@@ -164,6 +160,35 @@ impl<'h, R: Files<File = File> + AllocGlobal> Shelf for Host<'h, R> {
             let _ = fs::remove_file(self.rt, name.as_str());
         }
     }
+}
+
+// Whether a file holds no image: it is too small, or both root slots can be read and neither has a root.
+fn is_no_image<'a, R: Files<File = File>>(
+    looked: &LookedAt<'_, R>,
+    image: &'a str,
+) -> Result<bool, Ending<'a>>
+    ensures { IfErr result (λ ending. IsOfFile ending image.now) }
+{
+    let mut disk = looked.disk(image)?;
+    Ok(disk.count() < FEWEST_SECTORS || matches!(choose(&mut disk), Err(RootFault::NoRoot(None))))
+}
+
+// The sectors of an image as they stood at one instant; none where it changed within the look.
+fn copied_of<'a, R: Files<File = File> + AllocGlobal>(
+    host: &Host<'_, R>,
+    looked: &LookedAt<'_, R>,
+    image: &'a str,
+) -> Result<Option<Copied>, Ending<'a>>
+    ensures copied { IfOk result (λ some. IfSome some (λ copied. copied.log.notes ≡ [])) }
+    ensures failed { IfErr result (λ ending. IsOfCopy ending image.now) }
+{
+    let mut sample = Sample::new(host.rt.alloc(), looked.disk(image)?);
+    let copied = read_all(host.rt.alloc(), &mut sample)?;
+    Ok(if looked.stands(sample, image)? {
+        Some(copied)
+    } else {
+        None
+    })
 }
 
 // A new file of that length, locked, beside a name that nothing has: `FOLDER/IMAGE.N.half-made`, a name that nothing had

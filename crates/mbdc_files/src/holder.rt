@@ -39,24 +39,30 @@ pub fn holder_of<R: Files<File = File>>(rt: &R, name: &str) -> Option<u32> {
 pub fn holder_in(locks: &str, device: u64, inode: u64) -> Option<u32> {
     let (whole, _) = locks.rsplit_once('\n')?;
     whole.lines().find_map(|line| {
+        let mut words = line.split_whitespace();
         // A line of one that waits has `->` before the kind.
-        let mut words = line.split_whitespace().skip(1);
-        if words.next() != Some("FLOCK") {
+        if words.nth(1) != Some("FLOCK") {
             return None;
         }
-        let mut words = words.skip(2);
-        let process = words.next()?.parse::<u32>().ok()?;
-        let mut place = words.next()?.split(':');
-        let major = u64::from_str_radix(place.next()?, 16).ok()?;
-        let minor = u64::from_str_radix(place.next()?, 16).ok()?;
-        let number = place.next()?.parse::<u64>().ok()?;
-        // The two numbers of a device, as the C library splits them.
-        let is_of_device = major == ((device >> 8) & 0xFFF) | ((device >> 32) & 0xFFFF_F000)
-            && minor == (device & 0xFF) | ((device >> 12) & 0xFFFF_FF00);
-        if process > 0 && number == inode && is_of_device {
+        let process = words.nth(2)?.parse::<u32>().ok()?;
+        if process > 0 && is_place_of(words.next()?, device, inode) {
             Some(process)
         } else {
             None
         }
     })
+}
+
+// Whether these three numbers are the file's: the two of its device, as the C library splits them, and the inode's.
+fn is_place_of(place: &str, device: u64, inode: u64) -> bool {
+    let mut numbers = place.split(':');
+    let (Some(major), Some(minor), Some(number)) = (numbers.next(), numbers.next(), numbers.next())
+    else {
+        return false;
+    };
+    let of_major = ((device >> 8) & 0xFFF) | ((device >> 32) & 0xFFFF_F000);
+    let of_minor = (device & 0xFF) | ((device >> 12) & 0xFFFF_FF00);
+    matches!(u64::from_str_radix(major, 16), Ok(read) if read == of_major)
+        && matches!(u64::from_str_radix(minor, 16), Ok(read) if read == of_minor)
+        && matches!(number.parse::<u64>(), Ok(read) if read == inode)
 }
