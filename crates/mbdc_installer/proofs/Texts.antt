@@ -55,7 +55,7 @@ module _ {B : Type 0} (bus : BusGhosts B) (P Q : List ℕ → Type 0) (then : (t
   -- so the work of any command
   pub is_done_so : (work : Work) (old new : B) (done : Done) → IsDone bus P work old new done → IsDone bus Q work old new done
   is_done_so _ old new _ (scans budget count s) = scans budget count (scanned_so budget old new _ s)
-  is_done_so _ old new _ (asks_each text asked wrote) = asks_each text asked (then text wrote)
+  is_done_so _ old new _ (asks_each text late asked wrote) = asks_each text late asked (then text wrote)
   is_done_so _ old new _ (reads meter r) = reads meter (is_read_so meter old new _ r)
   is_done_so _ old new _ (addresses target to is wrote) = addresses target to is (then _ wrote)
 

@@ -1,5 +1,5 @@
 -- The commands `scan`, `read` and `address`: what goes over the bus, what is printed, and how they end (this product).
-use Rattle.std.specs.Prelude.{◌≡◌, ◌==◌, ◌||◌, ◌&&◌, ◌++◌, ℕ, Bool, true, false, not, List, [], codes, None, Some}
+use Rattle.std.specs.Prelude.{◌≡◌, ◌==◌, ◌||◌, ◌&&◌, ◌++◌, ◌+◌, ◌-◌, ◌^◌, min, ℕ, Bool, true, false, not, List, [], codes, None}
 use Rattle.std.specs.Prelude.{Result, Ok, Err, Option, SomeIff}
 use Rattle.std.specs.Bool.{then_some}
 use Rattle.std.specs.List.{range_with_len}
@@ -8,7 +8,7 @@ use Rattle.dc_address.specs.declared.identity.Identity.{Identity}
 use Rattle.mbdc_installer.specs.Ending.{EndsOver, IsStopped, late_text}
 use Rattle.mbdc_installer.specs.declared.bench.listening.Listening.{Listening}
 use Rattle.mbdc_installer.specs.declared.bench.command.Done.{Done}
-use Rattle.mbdc_installer.specs.declared.bench.command.Done.TheVariants.{Searched, ReadOut, Addressed}
+use Rattle.mbdc_installer.specs.declared.bench.command.Done.TheVariants.{Searched, Asked, ReadOut, Addressed}
 use Rattle.mbdc_installer.specs.declared.bench.command.Listing.{Listing}
 use Rattle.mbdc_installer.specs.declared.bench.command.Listing.TheVariants.{Text, Csv, Json}
 use Rattle.mbdc_installer.specs.declared.bench.command.Work.{Work}
@@ -21,7 +21,8 @@ use Rattle.mbdc_installer.specs.Listening.{Confirmed, Hears, Passed, is_given_up
 use Rattle.mbdc_installer.specs.Number.{IsFound, unfound_text}
 use Rattle.mbdc_installer.specs.Other.{others_text}
 use Rattle.mbdc_installer.specs.Read.{IsReadOn, Tells}
-use Rattle.mbdc_installer.specs.Scan.{AsksEach, Counts, Identifies, Scanned, greatest}
+use Rattle.mbdc_installer.specs.Addresses.{AsksEach, greatest}
+use Rattle.mbdc_installer.specs.Scan.{Counts, Identifies, Scanned}
 use Rattle.mbdc_installer.specs.declared.address.Addressing.{Addressing}
 use Rattle.mbdc_installer.specs.declared.address.Target.{Target}
 use Rattle.mbdc_installer.specs.declared.address.Addressing.TheVariants.{Set, Taken, Nobody as NobodyThere}
@@ -70,15 +71,16 @@ pub data IsRead {B : Type 0} (bus : BusGhosts B) (wrote : List ℕ → Type 0)
       → IsFound bus.asks_all digits old (Nobody misses) new → wrote (unfound_text digits false)
       → IsRead bus wrote (ByNumber digits) old new (Failed misses)
 
--- WHAT A COMMAND DOES to the bus, and prints of that. How much a search at primary addresses finds isn't counted.
+-- WHAT A COMMAND DOES to the bus, and prints of that. Of a search at primary addresses the late bytes are counted, and not
+-- what it finds.
 pub data IsDone {B : Type 0} (bus : BusGhosts B) (wrote : List ℕ → Type 0)
     : Work → B → B → Done → Type 0 where
   scans : {old new : B} (budget : ℕ) (count : Count)
       → Scanned bus.asks_all bus.meters budget old new wrote (Counts count)
-      → IsDone bus wrote (Search (Wildcards budget)) old new (Searched (Some count))
-  asks_each : {old new : B} (text : List ℕ)
-      → AsksEach bus.asks_all (range_with_len 1 greatest) old text new → wrote text
-      → IsDone bus wrote (Search Primary) old new (Searched None)
+      → IsDone bus wrote (Search (Wildcards budget)) old new (Searched count)
+  asks_each : {old new : B} (text : List ℕ) (late : ℕ)
+      → AsksEach bus.asks_all (range_with_len 1 greatest) old text late new → wrote text
+      → IsDone bus wrote (Search Primary) old new (Asked late)
   reads : {old new : B} {readout : Readout} (meter : MeterName)
       → IsRead bus wrote meter old new readout
       → IsDone bus wrote (Read meter) old new (ReadOut readout)
@@ -104,8 +106,17 @@ is_unset (Unconfirmed meter) = true
 -- a search that heard bytes which nothing on the bus could have sent may have missed a meter
 abbrev pub is_faulty : (late : ℕ) → Done → Bool
 is_faulty late (Searched count) = not (late == 0)
+is_faulty late (Asked own) = not (late == 0)
 is_faulty late (ReadOut readout) = has_failed readout
 is_faulty late (Addressed outcome) = is_unset outcome
+
+-- how often late bytes came: those of a search at primary addresses count, unless the bus was lost, and is silent
+abbrev pub late_in : (is_lost : Bool) → (late : ℕ) → Done → ℕ
+late_in true late done = late
+late_in false late (Searched count) = late
+late_in false late (Asked own) = min (late + own) (2 ^ 64 - 1)
+late_in false late (ReadOut readout) = late
+late_in false late (Addressed outcome) = late
 
 -- ---- the whole command
 
@@ -113,12 +124,12 @@ is_faulty late (Addressed outcome) = is_unset outcome
 abbrev pub DoesOrStops : {B S : Type 0} → BusGhosts B → (B → List Other) → Ghosts S → Work → B → B → S → S
     → Result Done ScanFault → Type 0
 DoesOrStops bus others g work old new before behind (Ok done) = IsDone bus (λ text. PutsInto g before behind
-    (text ++ (others_text (others new) ++ late_text (bus.late new)))) work old new done
+    (text ++ (others_text (others new) ++ late_text (late_in (bus.lost new) (bus.late new) done)))) work old new done
 DoesOrStops bus others g work old new before behind (Err fault) = IsStopped g before behind fault
 
 -- whether it was at fault
 abbrev pub fault_of : (late : ℕ) → Result Done ScanFault → Result Bool ScanFault
-fault_of late (Ok done) = Ok (is_faulty late done)
+fault_of late (Ok done) = Ok (is_faulty (late_in false late done) done)
 fault_of late (Err fault) = Err fault
 
 -- THE COMMAND, from the bus to its ending. Where it wasn't stopped, the text that was printed is that of what it did, and

@@ -6,6 +6,8 @@ pub mod Read
 pub mod Scan
 -- setting a primary address
 pub mod Address
+-- the search at primary addresses
+pub mod Addresses
 -- how far a search is
 pub mod Course
 -- what is said of answers that can't be read

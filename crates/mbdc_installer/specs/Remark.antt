@@ -2,7 +2,7 @@
 use Rattle.std.specs.Prelude.{◌==◌, ◌&&◌, ◌++◌, ℕ, Bool, true, false, not, List, [], codes}
 use Rattle.std.specs.Prelude.{Option, None, Some, if◌then◌else◌}
 use Rattle.mbdc_installer.specs.declared.bench.command.Done.{Done}
-use Rattle.mbdc_installer.specs.declared.bench.command.Done.TheVariants.{Searched, ReadOut, Addressed}
+use Rattle.mbdc_installer.specs.declared.bench.command.Done.TheVariants.{Searched, Asked, ReadOut, Addressed}
 use Rattle.mbdc_installer.specs.declared.bench.command.Work.{Work}
 use Rattle.mbdc_installer.specs.declared.bench.command.Work.TheVariants.{Search, Read, Address}
 use Rattle.mbdc_installer.specs.Unread.{is_all_read, unread_text}
@@ -48,7 +48,8 @@ owner_of (ByNumber digits) = OfNumber digits
 
 -- WHAT IS SAID: advice after a search, what the failed tries brought after a failed readout, and else nothing
 abbrev pub remark_text : Work → Done → Course → (is_watched : Bool) → List ℕ
-remark_text work (Searched count) course is_watched = advice_text course count is_watched
+remark_text work (Searched count) course is_watched = advice_text course (Some count) is_watched
+remark_text work (Asked late) course is_watched = advice_text course None is_watched
 remark_text (Read meter) (ReadOut (Failed misses)) course is_watched = reason_text (owner_of meter) misses
 remark_text (Read meter) (ReadOut Whole) course is_watched = []
 remark_text (Search what) (ReadOut readout) course is_watched = []

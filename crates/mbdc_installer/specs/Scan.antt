@@ -1,5 +1,5 @@
 -- The search for meters on a bus, without an image (EN 13757-3, wildcards; EN 13757-2, primary addresses).
-use Rattle.std.specs.Prelude.{◌≡◌, ◌≢◌, ℕ, ◌≤◌, ◌==◌, ◌||◌, not, Bool, true, false, if◌then◌else◌}
+use Rattle.std.specs.Prelude.{◌≡◌, ◌≢◌, ℕ, ◌≤◌, ◌==◌, Bool, true, false, if◌then◌else◌}
 use Rattle.std.specs.Prelude.{IsTrue, List, [], ◌∷◌, ◌++◌, codes, Option, None, Some, IfSome, length}
 use Rattle.std.specs.Prelude.{Result, Ok, Err}
 use Rattle.dc_address.specs.Text.{text_of}
@@ -57,10 +57,6 @@ abbrev pub address_line : ℕ → Option Identity → List ℕ
 address_line address meter = codes "ADDRESS"
     ++ (number_word address ++ (identity_word meter ++ codes "\n"))
 
--- the greatest primary address
-abbrev pub greatest : ℕ
-greatest = 250
-
 abbrev pub is_ack : Option FrameSeen → Bool
 is_ack None = false
 is_ack (Some ack) = true
@@ -106,27 +102,3 @@ pub record Identifies {B : Type 0} (asks_all : B → List ℕ → List ℕ → B
   pub telegram : List ℕ
   pub asked : IsAsked asks_all address old answer telegram new
   pub result_is : result ≡ identified (sender_at address telegram) telegram
-
--- somebody is there: the reset is acknowledged, or bytes come to the request
-abbrev pub is_there : List ℕ → List ℕ → Bool
-is_there answer telegram = is_ack (frame_of answer) || not (is_none telegram)
-
-abbrev pub line_of : ℕ → List ℕ → List ℕ → List ℕ
-line_of address answer telegram =
-    if is_there answer telegram then address_line address (sender_at address telegram) else []
-
--- an address is asked, and printed where somebody is there
-pub record AsksOne {B : Type 0} (asks_all : B → List ℕ → List ℕ → B → Type 0) (address : ℕ)
-    (old : B) (line : List ℕ) (new : B) : Type 0 where
-  pub answer : List ℕ
-  pub telegram : List ℕ
-  pub asked : IsAsked asks_all address old answer telegram new
-  pub line_is : line ≡ line_of address answer telegram
-
--- THESE ADDRESSES are asked in turn, and nothing else goes out.
-abbrev pub AsksEach : {B : Type 0} → (B → List ℕ → List ℕ → B → Type 0) → List ℕ → B → List ℕ → B
-    → Type 0
-AsksEach asks_all [] old text new = (new ≡ old) × (text ≡ [])
-AsksEach {B} asks_all (address ∷ more) old text new =
-    (line later : List ℕ) × (between : B) × (text ≡ line ++ later)
-    × AsksOne asks_all address old line between × AsksEach asks_all more between later new

@@ -101,7 +101,7 @@ impl Course {
 }
 
 // A count, and one more where this is one.
-fn one_if(is_one: bool, count: u64) -> u64
+pub(crate) fn one_if(is_one: bool, count: u64) -> u64
     ensures { result ≡ one_if is_one count }
 {
     if is_one {

@@ -28,7 +28,7 @@ pub use laws::{
     any_wildcard_may_be_closed,
 };
 pub use number::{Numbered, find_number, put_unfound};
-pub use primary::{Asked, GREATEST, ask_address, identify, is_there, scan_primary, sender_at};
+pub use primary::{Asked, GREATEST, ask_address, identify, judge, scan_primary, sender_at};
 pub use reading::{Readout, read};
 pub use unread::{is_all_read, put_unread};
 pub use wildcards::{Count, ScanFault, scan};

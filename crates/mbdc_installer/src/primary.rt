@@ -1,6 +1,6 @@
 //! The search at primary addresses.
 
-ghost use Rattle.std.specs.Prelude.{◌≡◌, ◌≤◌, ◌+◌, true, List, ℕ, OnOk, OnErr, length};
+ghost use Rattle.std.specs.Prelude.{◌≡◌, ◌≤◌, ◌+◌, true, List, ℕ, IfOk, OnOk, OnErr, length};
 ghost use Rattle.std.specs.List.{range_with_len};
 ghost use Rattle.mbdc_bus.specs.Limits.{most_request};
 ghost use Rattle.mbdc_bus.specs.Windows.{Insists, most_tries};
@@ -9,9 +9,10 @@ ghost use Rattle.dc_linkframe.specs.Frame.{spelling};
 ghost use Rattle.dc_linkframe.specs.Reading.{frame_of};
 ghost use Rattle.mbdc_io.specs.Failures.{HasRisen};
 ghost use Rattle.mbdc_io.specs.Written.{PutsInto, Wrote};
-ghost use Rattle.mbdc_installer.specs.Scan.{AsksEach, Identifies, IsAsked, IsCalled, address_line, greatest};
-ghost use Rattle.mbdc_installer.specs.Scan.{is_ack, is_there, sender_at};
+ghost use Rattle.mbdc_installer.specs.Addresses.{AsksEach, is_late, is_there};
+ghost use Rattle.mbdc_installer.specs.Scan.{Identifies, IsAsked, IsCalled, address_line, is_ack, sender_at};
 
+use crate::course::one_if;
 use dc_address::Identity;
 use dc_linkframe::control::{write_request, write_reset};
 use dc_linkframe::{Frame, FrameBuf, parse};
@@ -20,6 +21,9 @@ use dc_search::meter_of;
 use mbdc_bus::{AnswerBuf, Bus, TRIES, insist, read_twice};
 use mbdc_decode::tokens::{Piece, put_pieces};
 use mbdc_io::{IoFault, Sink};
+
+// The byte of an acknowledgement.
+const ACKNOWLEDGED: u8 = 0xE5;
 
 /// The greatest primary address (EN 13757-2).
 pub const GREATEST: u8 = 250;
@@ -31,21 +35,6 @@ pub struct Asked {
     pub answer: AnswerBuf,
     /// The bytes that came to the request; none where it wasn't sent.
     pub telegram: AnswerBuf,
-}
-
-/// Asks each primary address from 1 to 250 (EN 13757-2), and prints each at which somebody answers, with the meter
-/// where one answers alone and its telegram comes from that address.
-///
-/// # Errors
-/// A write failed.
-pub fn scan_primary<B: Bus, W: Sink>(bus: &mut B, out: &mut W) -> Result<(), IoFault>
-    ensures asked { OnOk result ((text : List ℕ)
-        × AsksEach B.asks_all (range_with_len 1 greatest) bus.old text bus.new
-        × PutsInto W.Sink out.old out.new text) }
-    ensures failed { OnErr result (HasRisen (W.put_failures out.old) (W.put_failures out.new)) }
-    ensures well { OnOk result (W.put_failures out.new ≡ W.put_failures out.old) }
-{
-    scan_range(1, GREATEST, bus, out)
 }
 
 /// Identifies the meter at a primary address, or at 0, which a meter has that got none. The meter repeats its telegram
@@ -65,36 +54,54 @@ pub fn identify<B: Bus>(bus: &mut B, address: u8) -> Result<Identity, Misses>
     Ok(meter)
 }
 
-// Asks `count` addresses from the first one on, and prints each at which somebody answers.
-fn scan_range<B: Bus, W: Sink>(
+/// Asks `count` primary addresses from the first one on (EN 13757-2), and prints each at which somebody answers, with the
+/// meter where one answers alone and its telegram comes from that address. Returns at how many of them late bytes came.
+///
+/// # Errors
+/// A write failed.
+pub fn scan_primary<B: Bus, W: Sink>(
     first: u8,
     count: u8,
     bus: &mut B,
     out: &mut W,
-) -> Result<(), IoFault>
+) -> Result<u64, IoFault>
     requires { first + count ≤ 251 }
-    ensures asked { OnOk result ((text : List ℕ)
-        × AsksEach B.asks_all (range_with_len first count) bus.old text bus.new
+    ensures asked { IfOk result (λ late. (text : List ℕ)
+        × AsksEach B.asks_all (range_with_len first count) bus.old text late bus.new
         × PutsInto W.Sink out.old out.new text) }
     ensures failed { OnErr result (HasRisen (W.put_failures out.old) (W.put_failures out.new)) }
     ensures well { OnOk result (W.put_failures out.new ≡ W.put_failures out.old) }
 {
     if count == 0 {
-        return Ok(());
+        return Ok(0);
     }
     let asked = ask_address(bus, first);
-    if !is_there(&asked) {
-        return scan_range(first + 1, count - 1, bus, out);
+    let (is_there, is_late) = judge(&asked);
+    if !is_there {
+        let rest = scan_primary(first + 1, count - 1, bus, out)?;
+        return Ok(one_if(is_late, rest));
     }
     put_address(first, sender_at(first, &asked.telegram), out)?;
-    scan_range(first + 1, count - 1, bus, out)
+    let rest = scan_primary(first + 1, count - 1, bus, out)?;
+    Ok(one_if(is_late, rest))
 }
 
-/// Whether somebody answers.
-pub fn is_there(asked: &Asked) -> bool
-    ensures { result ≡ is_there asked.now.answer asked.now.telegram }
+/// Whether somebody answers, and whether late bytes came, which nobody at the address sends to this reset or request:
+/// some came to the reset, and nothing to three requests; an acknowledgement came before other bytes; or one meter's
+/// telegram, and not one acknowledgement to the reset.
+pub fn judge(asked: &Asked) -> (bool, bool)
+    ensures there { result.0 ≡ is_there asked.now.answer asked.now.telegram }
+    ensures late { result.1 ≡ is_late asked.now.answer asked.now.telegram }
 {
-    is_ack(&asked.answer) || !asked.telegram.as_slice().is_empty()
+    let telegram = asked.telegram.as_slice();
+    let is_ack = is_ack(&asked.answer);
+    match telegram.split_first() {
+        None => (is_ack, !asked.answer.as_slice().is_empty()),
+        Some((first, more)) => {
+            let is_mixed = *first == ACKNOWLEDGED && !more.is_empty();
+            (true, is_mixed || meter_of(telegram).is_some() && !is_ack)
+        }
+    }
 }
 
 /// Resets an address, and requests its telegram where bytes come to that.

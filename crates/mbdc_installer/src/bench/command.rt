@@ -5,7 +5,7 @@ ghost use Rattle.mbdc_io.specs.Written.{PutsInto};
 ghost use Rattle.mbdc_installer.specs.Command.{DoesOrStops, IsDone, RunsOver, Works, WorksUnseen, is_text};
 ghost use Rattle.mbdc_installer.specs.Ending.{IsStopped};
 
-use crate::bench::ending::{conclude, finish};
+use crate::bench::ending::{conclude, finish, late_in};
 use crate::bench::listening::{Listening, MOST_NOISE};
 use crate::bench::listing::list_over;
 use crate::bench::printer::Printer;
@@ -14,7 +14,8 @@ use crate::bench::reading::read_named;
 use crate::hearing::Wildcard;
 use crate::other::Noting;
 use crate::{
-    Addressing, Count, Readout, ScanFault, Target, put_addressing, scan, scan_primary, set_address,
+    Addressing, Count, GREATEST, Readout, ScanFault, Target, put_addressing, scan, scan_primary,
+    set_address,
 };
 use dc_address::Identity;
 use mbdc_bus::Bus;
@@ -74,7 +75,9 @@ pub enum Work {
 #[derive(Clone, Copy)]
 pub enum Done {
     /// How much a search by wildcards found.
-    Searched(Option<Count>),
+    Searched(Count),
+    /// At how many primary addresses late bytes came.
+    Asked(u64),
     /// The end of a readout.
     ReadOut(Readout),
     /// What came of setting an address.
@@ -164,7 +167,7 @@ fn do_and_finish<B: Noting, W: Printer>(
     ensures { DoesOrStops B.Bus B.others W.Sink work bus.old bus.new out.old out.new result }
 {
     let done = do_work(alloc, work, bus, out)?;
-    finish(bus.others(), bus.late(), out)?;
+    finish(bus.others(), late_in(bus, &done), out)?;
     Ok(done)
 }
 
@@ -182,11 +185,11 @@ fn do_work<B: Bus, W: Sink>(
     match work {
         Work::Search(what) => match what {
             Scan::Wildcards(budget) => match scan(alloc, budget, bus, out) {
-                Ok(count) => Ok(Done::Searched(Some(count))),
+                Ok(count) => Ok(Done::Searched(count)),
                 Err(fault) => Err(fault),
             },
-            Scan::Primary => match scan_primary(bus, out) {
-                Ok(()) => Ok(Done::Searched(None)),
+            Scan::Primary => match scan_primary(1, GREATEST, bus, out) {
+                Ok(late) => Ok(Done::Asked(late)),
                 Err(IoFault) => Err(ScanFault::Write),
             },
         },

@@ -3,7 +3,7 @@
 ghost use Rattle.std.specs.Prelude.{◌≡◌, ◌++◌, OnOk, OnErr};
 ghost use Rattle.mbdc_io.specs.Failures.{HasRisen};
 ghost use Rattle.mbdc_io.specs.Written.{PutsInto, Wrote};
-ghost use Rattle.mbdc_installer.specs.Command.{fault_of};
+ghost use Rattle.mbdc_installer.specs.Command.{fault_of, late_in};
 ghost use Rattle.mbdc_installer.specs.Ending.{EndsOver, late_text};
 ghost use Rattle.mbdc_installer.specs.Other.{others_text};
 
@@ -43,6 +43,16 @@ fn put_late<W: Sink>(late: u64, out: &mut W) -> Result<(), IoFault>
     }
 }
 
+/// How often late bytes came: those of a search at primary addresses count, unless the bus was lost, and is silent.
+pub(crate) fn late_in<B: Bus>(bus: &B, done: &Done) -> u64
+    ensures { result ≡ late_in (B.lost bus.now) (B.late bus.now) done.now }
+{
+    match done {
+        Done::Asked(late) if !bus.is_lost() => bus.late().saturating_add(*late),
+        _ => bus.late(),
+    }
+}
+
 /// The ending of a command, by what came of it. Says on standard error what is to be known of that, unless the bus was
 /// lost, which comes before a fault.
 pub(crate) fn conclude<'a, R: Clock + Eprint, B: Bus>(
@@ -63,9 +73,9 @@ pub(crate) fn conclude<'a, R: Clock + Eprint, B: Bus>(
     }
     progress.remark(work, done);
     match done {
-        Done::Searched(_) if bus.late() != 0 => Ending::Faulty,
+        Done::Searched(_) | Done::Asked(_) if late_in(bus, done) != 0 => Ending::Faulty,
         Done::ReadOut(Readout::Failed(_)) => Ending::Faulty,
-        Done::Searched(_) | Done::ReadOut(Readout::Whole) => Ending::Clean,
+        Done::Searched(_) | Done::Asked(_) | Done::ReadOut(Readout::Whole) => Ending::Clean,
         Done::Addressed(Addressing::Set(_)) => Ending::Clean,
         Done::Addressed(_) => Ending::Faulty,
     }

@@ -1,16 +1,19 @@
 //! What a search finds as a list for `fit`, and as JSON Lines. Its text is in no contract.
 
-ghost use Rattle.std.specs.Prelude.{◌≤◌, ◌+◌, List as Listed, ℕ, IfOk, OnOk};
+ghost use Rattle.std.specs.Prelude.{◌≤◌, ◌+◌, List as Listed, ℕ, IfOk};
 ghost use Rattle.std.specs.List.{range_with_len};
 ghost use Rattle.mbdc_installer.specs.Command.{DoesUnseen};
-ghost use Rattle.mbdc_installer.specs.Scan.{AsksEach, Counts};
+ghost use Rattle.mbdc_installer.specs.Addresses.{AsksEach};
+ghost use Rattle.mbdc_installer.specs.Scan.{Counts};
 ghost use Rattle.mbdc_installer.specs.declared.bench.command.Work.{Work};
 
 use crate::bench::command::{Done, Listing, Scan};
+use crate::bench::ending::late_in;
 use crate::bench::printer::Printer;
 use crate::bench::progress::Progress;
+use crate::course::one_if;
 use crate::other::{Noting, Other, digits_of, put_other};
-use crate::{Count, GREATEST, ScanFault, ask_address, is_there, sender_at};
+use crate::{Count, GREATEST, ScanFault, ask_address, judge, sender_at};
 use dc_address::Identity;
 use dc_records::names::medium_name;
 use dc_search::{Search, Step};
@@ -62,27 +65,25 @@ where
     if let Listing::Csv(_) = list.listing {
         list.out.put(HEADER)?;
     }
-    let count = match scan {
+    let done = match scan {
         Scan::Wildcards(budget) => {
             let Ok(search) = search_windows(alloc, budget, bus) else {
                 return Err(ScanFault::NoMemory);
             };
-            Some(list.put_search(&search)?)
+            Done::Searched(list.put_search(&search)?)
         }
-        Scan::Primary => {
-            list.ask_each(1, GREATEST, bus)?;
-            None
-        }
+        Scan::Primary => Done::Asked(list.ask_each(1, GREATEST, bus)?),
     };
     for other in bus.others() {
         list.put_closed(other)?;
     }
-    if bus.late() != 0 {
-        let late = Piece::Number(bus.late());
+    let late = late_in(bus, &done);
+    if late != 0 {
+        let late = Piece::Number(late);
         list.put_event(b"LATE ", b"late\",\"answers\":", late, b"}\n")?;
     }
     list.out.flush()?;
-    Ok(Done::Searched(count))
+    Ok(done)
 }
 
 impl<W: Printer, R: Clock + Eprint> List<'_, '_, W, R> {
@@ -114,17 +115,18 @@ impl<W: Printer, R: Clock + Eprint> List<'_, '_, W, R> {
         })
     }
 
-    // Asks `count` primary addresses from the first one on.
-    fn ask_each<B: Bus>(&mut self, first: u8, count: u8, bus: &mut B) -> Result<(), IoFault>
+    // Asks `count` primary addresses from the first one on. Returns at how many of them late bytes came.
+    fn ask_each<B: Bus>(&mut self, first: u8, count: u8, bus: &mut B) -> Result<u64, IoFault>
         requires { first + count ≤ 251 }
-        ensures { OnOk result ((text : Listed ℕ)
-            × AsksEach B.asks_all (range_with_len first count) bus.old text bus.new) }
+        ensures { IfOk result (λ late. (text : Listed ℕ)
+            × AsksEach B.asks_all (range_with_len first count) bus.old text late bus.new) }
     {
         if count == 0 {
-            return Ok(());
+            return Ok(0);
         }
         let asked = ask_address(bus, first);
-        if is_there(&asked) {
+        let (is_there, is_late) = judge(&asked);
+        if is_there {
             match sender_at(first, &asked.telegram) {
                 Some(meter) => self.put_meter(&meter, Some(first))?,
                 // Somebody answers, but no meter alone.
@@ -134,7 +136,8 @@ impl<W: Printer, R: Clock + Eprint> List<'_, '_, W, R> {
                 }
             }
         }
-        self.ask_each(first + 1, count - 1, bus)
+        let rest = self.ask_each(first + 1, count - 1, bus)?;
+        Ok(one_if(is_late, rest))
     }
 
     // Writes a wildcard that was closed: an object; beside a list a line on standard error.

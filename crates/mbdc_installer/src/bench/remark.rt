@@ -26,7 +26,11 @@ pub fn put_remark<W: Sink>(
     match (work, done) {
         (_, Done::Searched(count)) => {
             put_unread(out, course)?;
-            out.put(hint(course, *count, is_watched))
+            out.put(hint(course, Some(*count), is_watched))
+        }
+        (_, Done::Asked(_)) => {
+            put_unread(out, course)?;
+            out.put(hint(course, None, is_watched))
         }
         (Work::Read(MeterName::Identity(meter)), Done::ReadOut(Readout::Failed(misses))) => {
             put_reason(out, &Owner::Meter(*meter), misses)

@@ -13,7 +13,7 @@ pub returns-in-Ok-scan_primary-clause-done : goal.returns-in-Ok-scan_primary-cla
 returns-in-Ok-scan_primary-clause-done g c =
     let is : c.args.work ≡ Search Primary = cc (c.in-Search.is, c.in-Primary.is) in
     let asked = c.in-Ok-scan_primary.ensures.asked in
-    rw is (asks_each asked.0 asked.1 asked.2)
+    rw is (asks_each asked.0 c.in-Ok-scan_primary.late asked.1 asked.2)
 
 pub returns-in-Ok-read_named-clause-done : goal.returns-in-Ok-read_named-clause-done
 returns-in-Ok-read_named-clause-done g c =

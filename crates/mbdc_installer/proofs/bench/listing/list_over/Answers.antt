@@ -5,7 +5,7 @@ use Rattle.mbdc_installer.proofs.bench.listing.list_over.Goals.{in-Wildcards+in-
 pub returns : goal.returns
 returns g c =
     elim c.match-scan.branch [
-      | in-Wildcards+in-Ok+in_ok-put_search-in-Wildcards w ↦ rw w.bus-is (rw w.count-is (rw w.in-Wildcards.is (scans w.in-Wildcards.budget w.in_ok-put_search-in-Wildcards.field-0 (record {
+      | in-Wildcards+in-Ok+in_ok-put_search-in-Wildcards w ↦ rw w.bus-is (rw w.done-is (rw w.in-Wildcards.is (scans w.in-Wildcards.budget w.in_ok-put_search-in-Wildcards.field-0 (record {
         search = w.in-Ok.search;
         look = record {
           asked = w.in-Ok.ensures.asked;
@@ -19,5 +19,5 @@ returns g c =
       }))))
       | in-Primary+in_ok-ask_each-in-Primary w ↦
           let asked = w.in_ok-ask_each-in-Primary.ensures in
-          rw w.bus-is (rw w.count-is (rw w.in-Primary.is (asks_each asked.0 asked.1 tt)))
+          rw w.bus-is (rw w.done-is (rw w.in-Primary.is (asks_each asked.0 w.in_ok-ask_each-in-Primary.field-0 asked.1 tt)))
     ]
