@@ -10,6 +10,7 @@ SND_NKE, SND_UD, RSP_UD = 0x40, 0x53, 0x08  # control bytes
 REQ_UD2 = (0x5B, 0x7B)  # by the frame count bit
 CI_VARIABLE, CI_SELECT, CI_DATA, CI_ERROR = 0x72, 0x52, 0x51, 0x70
 SECONDARY = 0xFD  # the address of the meter that is selected
+EVERYBODY = 0xFE  # the address that all meters answer to
 LAST, MORE = b"\x0f", b"\x1f"  # DIFs that end the records: manufacturer data; another telegram follows
 
 

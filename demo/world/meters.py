@@ -6,7 +6,7 @@ import random
 from collections.abc import Sequence
 from typing import Optional
 
-from world.frames import (ACK, CI_DATA, CI_SELECT, CI_VARIABLE, MORE, REQ_UD2, SECONDARY, SND_NKE, SND_UD, Frame, Identity,
+from world.frames import (ACK, CI_DATA, CI_SELECT, CI_VARIABLE, EVERYBODY, MORE, REQ_UD2, SECONDARY, SND_NKE, SND_UD, Frame, Identity,
                           answer, bcd, header, type_g)
 
 DUE, DUE_BEFORE = datetime.date(2024, 12, 31), datetime.date(2023, 12, 31)
@@ -91,7 +91,7 @@ class Meter:
         is_selection = control | FRAME_COUNT == SND_UD | FRAME_COUNT and len(content) == 9 and content[0] == CI_SELECT
         if address == SECONDARY and is_selection:
             return self.select(content[1:])
-        if address != (self.primary or 0) and not (address == SECONDARY and self.is_selected):
+        if address not in (self.primary or 0, EVERYBODY) and not (address == SECONDARY and self.is_selected):
             return b""
         if control == SND_NKE:
             self.bit, self.is_selected = None, self.is_selected and address != SECONDARY

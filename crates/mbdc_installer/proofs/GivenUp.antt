@@ -46,7 +46,7 @@ goes_on false lost late (Err Write) worked up ends = ends
 goes_on false lost late (Err NoMemory) worked up ends = ends
 
 module _ {B : Type 0} (bus : BusGhosts B) (work : Work) (old : B) (first last : Listening B) (worked : Ending) (works : WorksUnseen (listening bus) work first last worked)
-    (begins : Begins work old first) where
+    (begins : Begins bus work old first) where
   pub given_up : is_given_up last.left ≡ true → worked ≡ Gateway → RunsOver bus work old Faulty
   given_up up is = record {
     first = first;

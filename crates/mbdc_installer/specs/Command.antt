@@ -5,6 +5,9 @@ use Rattle.std.specs.Bool.{then_some}
 use Rattle.std.specs.List.{range_with_len}
 use Rattle.dc_address.specs.Primary.{IsPrimary}
 use Rattle.dc_address.specs.declared.identity.Identity.{Identity}
+use Rattle.dc_linkframe.specs.Control.{reset_to}
+use Rattle.dc_linkframe.specs.Frame.{spelling}
+use Rattle.mbdc_bus.specs.Windows.{Insists, most_tries}
 use Rattle.mbdc_installer.specs.Ending.{EndsOver, IsStopped, late_text}
 use Rattle.mbdc_installer.specs.declared.bench.listening.Listening.{Listening}
 use Rattle.mbdc_installer.specs.declared.bench.command.Done.{Done}
@@ -184,9 +187,21 @@ is_search (Address target to) = false
 abbrev pub noise_of : Work → Option ℕ
 noise_of work = then_some (is_search work) 16
 
--- nothing was asked yet
-pub record Begins {B : Type 0} (work : Work) (bus : B) (first : Listening B) : Type 0 where
-  pub same : first.bus ≡ bus
+-- the address that all meters answer to (EN 13757-2)
+abbrev pub all_meters : ℕ
+all_meters = 254
+
+-- before a search at primary addresses that one is reset
+abbrev pub Greets : {B : Type 0} → BusGhosts B → Work → B → B → Type 0
+Greets bus (Search Primary) old new =
+    (answer : List ℕ) × Insists bus.asks_all (spelling (reset_to all_meters)) most_tries old answer new
+Greets bus (Search (Wildcards budget)) old new = new ≡ old
+Greets bus (Read meter) old new = new ≡ old
+Greets bus (Address target to) old new = new ≡ old
+
+-- nothing else was asked yet
+pub record Begins {B : Type 0} (bus : BusGhosts B) (work : Work) (old : B) (first : Listening B) : Type 0 where
+  pub greets : Greets bus work old first.bus
   pub left : first.left ≡ noise_of work
   pub wildcard : first.wildcard ≡ new_wildcard (is_search work)
 
@@ -199,7 +214,7 @@ or_fault given_up (Err fault) = Err fault
 pub record RunsOver {B : Type 0} (bus : BusGhosts B) (work : Work) (old : B) (ending : Ending) : Type 0 where
   pub first : Listening B
   pub last : Listening B
-  pub begins : Begins work old first
+  pub begins : Begins bus work old first
   pub outcome : Result Done ScanFault
   pub does : DoesUnseen (listening bus) work first last outcome
   pub ends : EndsOver (not (is_given_up last.left) && bus.lost last.bus)

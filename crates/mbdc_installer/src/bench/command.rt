@@ -2,7 +2,7 @@
 
 ghost use Rattle.std.specs.Prelude.{◌≡◌, ◌⊎◌, true, IfOk, IfErr, OnOk};
 ghost use Rattle.mbdc_io.specs.Written.{PutsInto};
-ghost use Rattle.mbdc_installer.specs.Command.{DoesOrStops, IsDone, RunsOver, Works, WorksUnseen, is_text};
+ghost use Rattle.mbdc_installer.specs.Command.{DoesOrStops, Greets, IsDone, RunsOver, Works, WorksUnseen, is_text};
 ghost use Rattle.mbdc_installer.specs.Ending.{IsStopped};
 
 use crate::bench::ending::{conclude, finish, late_in};
@@ -18,12 +18,17 @@ use crate::{
     set_address,
 };
 use dc_address::Identity;
-use mbdc_bus::Bus;
+use dc_linkframe::FrameBuf;
+use dc_linkframe::control::write_reset;
+use mbdc_bus::{Bus, TRIES, insist};
 use mbdc_ending::Ending;
 use mbdc_io::{IoFault, Sink, WriteSink};
 use std::alloc::Global;
 use std::io::{LineWriter, Write};
 use std::rt::Clock;
+
+// The address that all meters answer to (EN 13757-2).
+const ALL: u8 = 254;
 
 // What 16 answers without a frame mean.
 const NOISE: &str =
@@ -91,7 +96,7 @@ pub fn run_over<'a, R, B, O>(
     alloc: Global,
     work: Work,
     listing: Listing,
-    bus: B,
+    mut bus: B,
     out: O,
     progress: &Progress<'_, R>,
 ) -> Ending<'a>
@@ -108,6 +113,7 @@ where
     let Ok(out) = LineWriter::new(alloc, out) else {
         return Ending::Memory;
     };
+    greet(&work, &mut bus);
     let is_search = matches!(work, Work::Search(_));
     let mut bus = Listening {
         bus,
@@ -126,6 +132,18 @@ where
             Ending::Faulty
         }
         _ => ending,
+    }
+}
+
+// Before a search at primary addresses resets the one that all meters answer to: where the lowest of their own is great,
+// nobody would answer for so long that the bus is given up.
+fn greet<B: Bus>(work: &Work, bus: &mut B)
+    ensures { Greets B.Bus work.now bus.old bus.new }
+{
+    if let Work::Search(Scan::Primary) = work {
+        let mut request = FrameBuf::new();
+        write_reset(ALL, &mut request);
+        insist(bus, &request, TRIES);
     }
 }
 

@@ -13,7 +13,7 @@ returns-then-not-is_given_up g c =
       | in_default-matches w ↦ w.matches-is ∙ sym (no_search c.args.work w.in_default-matches.not-Search)
     ] in
     inr (went_on g.B.Bus c.args.work c.args.bus _ c.work_over-ending.new.bus c.work_over-ending.result c.work_over-ending.ensures.done
-    (record { same = refl; left = c.then_some.ensures ∙ ap (λ (b : Bool). then_some b 16) is; wildcard = c.new-2.ensures ∙ ap new_wildcard is }) (sym c.is_given_up.ensures ∙ c.if-not-is_given_up.true))
+    (record { greets = c.greet.ensures; left = c.then_some.ensures ∙ ap (λ (b : Bool). then_some b 16) is; wildcard = c.new-2.ensures ∙ ap new_wildcard is }) (sym c.is_given_up.ensures ∙ c.if-not-is_given_up.true))
 
 pub returns-in-Gateway : goal.returns-in-Gateway
 returns-in-Gateway g c =
@@ -22,7 +22,7 @@ returns-in-Gateway g c =
       | in_default-matches w ↦ w.matches-is ∙ sym (no_search c.args.work w.in_default-matches.not-Search)
     ] in
     inr (given_up g.B.Bus c.args.work c.args.bus _ c.work_over-ending.new.bus c.work_over-ending.result c.work_over-ending.ensures.done
-    (record { same = refl; left = c.then_some.ensures ∙ ap (λ (b : Bool). then_some b 16) is; wildcard = c.new-2.ensures ∙ ap new_wildcard is }) (sym c.is_given_up.ensures ∙ c.if-not-is_given_up.false) c.in-Gateway.is)
+    (record { greets = c.greet.ensures; left = c.then_some.ensures ∙ ap (λ (b : Bool). then_some b 16) is; wildcard = c.new-2.ensures ∙ ap new_wildcard is }) (sym c.is_given_up.ensures ∙ c.if-not-is_given_up.false) c.in-Gateway.is)
 
 pub returns : goal.returns
 returns g c =
@@ -31,4 +31,4 @@ returns g c =
       | in_default-matches w ↦ w.matches-is ∙ sym (no_search c.args.work w.in_default-matches.not-Search)
     ] in
     inr (stopped g.B.Bus c.args.work c.args.bus _ c.work_over-ending.new.bus c.work_over-ending.result c.work_over-ending.ensures.done
-    (record { same = refl; left = c.then_some.ensures ∙ ap (λ (b : Bool). then_some b 16) is; wildcard = c.new-2.ensures ∙ ap new_wildcard is }) c.in_default-ending.not-Gateway)
+    (record { greets = c.greet.ensures; left = c.then_some.ensures ∙ ap (λ (b : Bool). then_some b 16) is; wildcard = c.new-2.ensures ∙ ap new_wildcard is }) c.in_default-ending.not-Gateway)
