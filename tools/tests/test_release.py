@@ -46,6 +46,17 @@ def test_symbols_and_versions_of_images(release: types.ModuleType) -> None:
     assert release.image_versions_in("| 4 | version: 2, or 1 of an earlier release |\n") == {"1", "2"}
 
 
+def test_what_changelog_lists_may_go(release: types.ModuleType, tmp_path: pathlib.Path) -> None:
+    for name, text in (("old", "{ mbdc_a; mbdc_b; }"), ("new", "{ mbdc_a; }")):
+        (tmp_path / name).write_text(text)
+    for listed, wanted in (("", ["symbol is gone: mbdc_b"]), ("`mbdc_b` goes", [])):
+        assert release.gone_from(tmp_path / "old", tmp_path / "new", "symbol", release.symbols_in, listed) == wanted
+    this = release.Release()
+    for version, last, may in (("0.3.0", "0.2.9", True), ("0.2.1", "0.2.0", False), ("1.1.0", "1.0.0", False), ("2.0.0", "1.0.0", True)):
+        this.version = version
+        assert this.may_change(last) == may
+
+
 def test_each_step_has_a_program(release: types.ModuleType) -> None:
     for step, commands in release.STEPS.items():
         assert bool(commands) != (step in release.OWN or step == "check")
