@@ -102,12 +102,13 @@ class Office:
 class Box:
     """A box: an image of the program, and what was done there."""
 
-    def __init__(self, folder: pathlib.Path, name: str) -> None:
+    def __init__(self, folder: pathlib.Path, name: str, is_new: bool = True) -> None:
         self.folder, self.name, self.image = folder, name, folder / f"{name}.image"
         self.journal = folder / f"{name}.image.journal"
         (folder / f"{name}.conf").write_text(f"IMAGE={self.image}\n", encoding="ascii")
-        self.image.unlink(missing_ok=True)
-        subprocess.run([MBDC, "format", self.image, "1000"], check=True)
+        if is_new:
+            self.image.unlink(missing_ok=True)
+            subprocess.run([MBDC, "format", self.image, "1000"], check=True)
 
     def run(self, *lines: str) -> List[str]:
         script = self.folder / "script"

@@ -1,22 +1,19 @@
-"""office/migrate: a filled database of 0.2.0 comes to what a new one is; and a dump (pg_dump) is restored whole."""
+"""office/migrate: the database of 0.2.0 comes to what a new one is, and goes on; a dump (pg_dump) is restored whole."""
 
 import pathlib
+import shutil
 import subprocess
 from typing import Any, List, Set, Tuple
 
 import pytest
-from conftest import OFFICE, Box, Ended, Office, Server
+from conftest import MOMENT, OFFICE, ROOT, TESTS, Box, Ended, Office, Server
 from fleet_database import OWNER, PROGRAMS
 from supplied import COLD, HEAT, Supplied, at
 from test_boxes import housed
 from test_schema import refused
 
-from box_commands import BOX_COMMANDS
-
 FIRST, LAST = 25, max(int(path.stem) for path in (OFFICE / "schema").glob("[0-9]*.sql"))
-HEADING = "## 0.2.0, "  # of CHANGELOG: the commit that wrote it is the version's
-VERSIONS = """CREATE TABLE schema_versions (version integer PRIMARY KEY, applied_at timestamptz NOT NULL DEFAULT now(),
-    applied_by text NOT NULL DEFAULT session_user)"""
+MADE = ROOT / "tests/upgrade/0.2.0.tar.xz"  # by tests/upgrade/make
 FILLED = """
 INSERT INTO houses (house, address) VALUES ('elm', 'Elm Street 1');
 INSERT INTO flats (house, flat) VALUES ('elm', 'A1');
@@ -24,7 +21,7 @@ INSERT INTO tenancies (house, flat, days, person, mail) VALUES ('elm', 'A1', '[2
 INSERT INTO boxes (name, command, house) VALUES ('elm', 'false', 'elm');
 INSERT INTO meters (box, identity, line, address, flat) VALUES ('elm', '11111111.PAD.01.04', 1, '1', 'A1');
 INSERT INTO sheets (tenancy, month, form, path, sha256, is_before_audits)
-SELECT id, '2025-01-01', 'html', 'x', repeat('0', 64), true FROM tenancies;
+SELECT id, '2025-01-01', 'html', 'x', repeat('0', 64), true FROM tenancies WHERE house = 'elm';
 INSERT INTO versions (house, month, version, why, out_at, is_before_audits)
 VALUES ('elm', '2025-01-01', 1, 'first', now(), true);
 INSERT INTO versions (house, month, version, why) VALUES ('elm', '2025-01-01', 2, 'late');
@@ -74,19 +71,9 @@ CATALOGUE = (
 
 @pytest.fixture
 def older(server: Server, tmp_path: pathlib.Path) -> Office:
-    """A filled database of 0.2.0."""
-    def git(*words: str) -> str:
-        done = subprocess.run(["git", "-C", OFFICE, *words], capture_output=True, text=True, check=False)
-        return done.stdout if done.returncode == 0 else pytest.skip("the history of 0.2.0 isn't here")
-    root = git("rev-parse", "--show-toplevel").strip()
-    commit = git("-C", root, "log", "--reverse", "--format=%H", f"-S{HEADING}", "--", "CHANGELOG.md").split()[0]
-    made = Office(server, server.make(), tmp_path)
-    made.sql(VERSIONS)
-    for version in range(1, FIRST + 1):
-        made.sql(git("-C", root, "show", f"{commit}:office/schema/{version:03}.sql"))
-        made.sql("INSERT INTO schema_versions (version) VALUES (%s)", version)
-    for verb, command in BOX_COMMANDS.items():
-        made.sql("INSERT INTO box_commands VALUES (%s, %s)", verb, len(command.words))
+    """The database of 0.2.0, and a house of which each kind of number is published."""
+    shutil.unpack_archive(MADE, tmp_path)
+    made = restored(server, (tmp_path / "office.sql").read_text(), tmp_path)
     made.sql(FILLED)
     return made
 
@@ -102,13 +89,14 @@ def test_a_filled_database_of_0_2_0(older: Office, office: Office) -> None:
     assert ended == Ended(0, "look: flat A1 of elm had the address x,all@b, which is none\n" + "".join(
         f"version {path.stem.lstrip('0')}\n" for path in sorted((OFFICE / "schema").glob("0*.sql"))))
     assert shape(older) ^ shape(office) == set()
-    assert older.sql("SELECT version, is_before_audits FROM versions ORDER BY 1") == [(1, True), (2, False)]
-    assert older.sql("SELECT flat, mail FROM tenancies") == [("A1", None)]
-    assert older.sql("SELECT kind, flat, use, place, period, unit FROM published ORDER BY kind") == KEYS
-    assert older.sql("UPDATE sheets SET sent_at = now() RETURNING is_before_audits") == [(True,)]
+    of_elm = "WHERE house = 'elm' ORDER BY 1"
+    assert older.sql(f"SELECT version, is_before_audits FROM versions {of_elm}") == [(1, True), (2, False)]
+    assert older.sql(f"SELECT flat, mail FROM tenancies {of_elm}") == [("A1", None)]
+    assert older.sql(f"SELECT kind, flat, use, place, period, unit FROM published {of_elm}") == KEYS
+    assert older.sql("UPDATE sheets SET sent_at = now() WHERE path = 'x' RETURNING is_before_audits") == [(True,)]
     for query in ("UPDATE versions SET out_at = now() WHERE version = 2", "UPDATE sheets SET is_before_audits = false",
                   "INSERT INTO sheets (tenancy, month, form, path, sha256) SELECT id, '2025-01-01', 'pdf', 'x',"
-                  " repeat('0', 64) FROM tenancies",
+                  " repeat('0', 64) FROM tenancies WHERE house = 'elm'",
                   "INSERT INTO bills (house, days, version, why, out_at) VALUES ('elm', '[2025-01-01,2025-02-01)', 1,"
                   " 'a', now())"):
         assert '"has_an_audit"' in refused(older, query), query
@@ -117,7 +105,29 @@ def test_a_filled_database_of_0_2_0(older: Office, office: Office) -> None:
     assert older.order("house-3", "FIT 11111111.PAD.01.07 1 1 A1").status == 0
     box.hears(3)
     assert older.collect("house-3").status == 0
-    assert older.sql("SELECT count(*) FROM readings") == [(3,)]
+    assert older.sql("SELECT count(*) FROM readings WHERE box = 'house-3'") == [(3,)]
+
+
+def test_the_office_of_0_2_0_goes_on(older: Office) -> None:
+    """Its box, numbers that are out, and a month that was published and isn't."""
+    texts = "SELECT month, text, mark FROM published WHERE house = 'elm-1' ORDER BY month, text, mark"
+    printed = older.sql(texts)
+    older.run("migrate").ok()
+    assert older.sql(texts) == printed != []
+    older.sql("UPDATE boxes SET command = %s WHERE name = 'elm-1'", f"{TESTS}/way {older.folder} {{box}}")
+    box = Box(older.folder, "elm-1", is_new=False)
+    box.hears(5, moment=MOMENT + 40_000_000)
+    assert older.order("elm-1", "MOVE 08470054.PAD.3A.07 C1").status == 0
+    assert older.collect("elm-1").status == 0 and box.confirmed() == 22
+    assert older.sql("SELECT count(*), min(serial), max(serial) FROM readings WHERE box = 'elm-1'") == [(12, 11, 22)]
+    assert older.run("bill", "elm-1", "2026-10").ok() == (older.folder / "bill.csv").read_text()
+    older.run("close", "--all", "--since", "2026-10-01", "--month", "2026-10", "--month", "2026-11").ok()
+    assert older.run("publish", "elm-1", "2026-11").ok() == "2026-11: 1 published, 0 refused\n"
+    assert set(older.sql(texts)) >= {row for row in printed if f"{row[0]}" == "2026-10-01"}
+    pages = older.folder / "pages"
+    for month, audits in (("2026-11", 4), ("2026-10", 0)):  # of a month that is out, a sheet has no file
+        older.run("sheets", month, "--out", str(pages), "--pdf", "none", "--house", "elm-1").ok()
+        assert len(list(pages.rglob(f"sheets/*/{month}.audit"))) == audits
 
 
 def test_each_function_is_whole(office: Office) -> None:
