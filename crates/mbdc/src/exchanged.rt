@@ -2,11 +2,11 @@
 //! others.
 
 use crate::connecting::buses_of;
+use crate::journal::Before;
 use crate::tracing::{Trace, tracers_of};
 use dc_address::{Identity, Mask};
 use dc_linkframe::control::{SELECTED, write_request, write_reset, write_selection};
 use dc_linkframe::{Frame, FrameBuf, parse};
-use dc_meters::House;
 use dc_readout::Why;
 use dc_search::meter_of;
 use mbdc_bus::trace::Observer;
@@ -15,7 +15,6 @@ use mbdc_files::Host;
 use mbdc_poll::Event;
 use mbdc_poll::events::Notes;
 use mbdc_raw::links::{Peer, Waiter};
-use std::alloc::Global;
 use std::cell::Cell;
 use std::fs::File;
 use std::net::{Net, TcpStream};
@@ -32,9 +31,9 @@ const DISTURBED: u64 = 2;
 // The patience in milliseconds where none is given, that of a search: nothing is stored.
 const PATIENCE: u16 = 2_000;
 
-// What a poll has found of a line.
+/// What a poll has found of a line.
 #[derive(Clone, Copy)]
-struct Found {
+pub struct Found {
     // Number of its registered meters, and of those that are missing.
     meters: u64,
     missing: u64,
@@ -44,46 +43,31 @@ struct Found {
     disturbed: u64,
 }
 
+/// Before a poll nothing is found of each line.
+pub const NOTHING_FOUND: [Found; LINES] = [Found {
+    meters: 0,
+    missing: 0,
+    first: None,
+    disturbed: 0,
+}; LINES];
+
 /// The meters that are missing in a poll: silent, or another one answers at their address.
 #[derive(Drop)]
 pub struct Missing {
-    lines: Cell<[Found; LINES]>,
-}
-
-impl Missing {
-    /// Begins with none of the meters of this register.
-    pub fn new(house: &Option<House<Global>>) -> Self {
-        let none = Found {
-            meters: 0,
-            missing: 0,
-            first: None,
-            disturbed: 0,
-        };
-        let mut lines = [none; LINES];
-        if let Some(house) = house {
-            for (_, row) in house.meters() {
-                // Lines are numbered from 1.
-                if let Some(found) = lines.get_mut(usize::from(row.line()).wrapping_sub(1)) {
-                    found.meters = found.meters.saturating_add(1);
-                }
-            }
-        }
-        Missing {
-            lines: Cell::new(lines),
-        }
-    }
+    /// What was found of each line.
+    pub lines: Cell<[Found; LINES]>,
 }
 
 /// Hands the events of a poll on to its notes, and keeps who is missing.
 #[derive(Drop)]
-pub struct Attending<'m, J: Notes + Drop> {
+pub struct Attending<'m, J> {
     /// The notes.
-    pub notes: J,
+    pub notes: &'m mut J,
     /// Who is missing.
     pub missing: &'m Missing,
 }
 
-impl<J: Notes + Drop> Notes for Attending<'_, J> {
+impl<J: Notes> Notes for Attending<'_, J> {
     fn note(&mut self, event: &Event<'_>) {
         if let Event::Failed {
             line,
@@ -109,20 +93,27 @@ impl<J: Notes + Drop> Notes for Attending<'_, J> {
 
 /// Where all meters of a line were missing in the poll, and some of another one, the first of them is selected on each
 /// other line with missing meters, one after the other, and standard error says where it answers with its telegram: the
-/// lines are exchanged there. Where something unreadable or another meter answered for meters of a line, a number that
-/// nobody has is selected there, and standard error says which meter answers it: that one answers for others. Each
-/// selection is taken back. Nothing is stored, and without memory nothing is asked.
+/// lines are exchanged there. Where something unreadable or another meter answered for meters of a line, or a meter was
+/// named there before, a number that nobody has is selected there, and standard error says which meter answers it: that
+/// one answers for others, and is returned. Each selection is taken back. Without memory nothing is asked.
 pub fn look_for_missing<R>(
     host: &Host<'_, R>,
     peers: &[Option<Peer<R>>],
     trace: Option<&Trace<'_, R>>,
     missing: &Missing,
+    before: &[Before],
     patience: Option<u16>,
-)
+) -> [Option<Identity>; LINES]
 where
     R: Files<File = File> + Net<Stream = TcpStream> + Clock + Copy + Eprint + AllocGlobal,
 {
-    let lines = missing.lines.get();
+    let mut lines = missing.lines.get();
+    for (found, before) in lines.iter_mut().zip(before) {
+        found.meters = before.meters;
+        if before.is_odd {
+            found.disturbed = found.disturbed.max(DISTURBED);
+        }
+    }
     let short = lines.iter().filter(|found| found.missing > 0).count();
     let is_deserted = lines
         .iter()
@@ -131,8 +122,9 @@ where
     if (is_disturbed || short > 1 && is_deserted)
         && let Ok(observers) = tracers_of(host, trace, peers.len())
     {
-        look_over(host, peers, observers, &lines, patience);
+        return look_over(host, peers, observers, &lines, patience);
     }
+    [None; LINES]
 }
 
 // Makes the buses of connected links, the first of which is that of line 1, and looks on each. The observers are any,
@@ -143,39 +135,41 @@ fn look_over<O, R>(
     observers: Vec<O>,
     lines: &[Found; LINES],
     patience: Option<u16>,
-)
+) -> [Option<Identity>; LINES]
 where
     O: Observer + Drop,
     R: Net<Stream = TcpStream> + Clock + Copy + Eprint + AllocGlobal,
 {
     let patience = Some(patience.unwrap_or(PATIENCE));
+    let mut odd = [None; LINES];
     let Ok(buses) = buses_of(host, peers, observers, patience) else {
-        return;
+        return odd;
     };
     let mut line = 0u8;
-    for (bus, found) in buses.into_iter().zip(lines) {
+    for (bus, (found, odd)) in buses.into_iter().zip(lines.iter().zip(odd.iter_mut())) {
         line = line.saturating_add(1);
-        if found.missing > 0 {
+        if found.missing > 0 || found.disturbed > 0 {
             let mut bus = Both { bus, pause: Waiter };
-            look_on_line(host, &mut bus, line, lines);
+            *odd = look_on_line(host, &mut bus, line, lines);
         }
     }
+    odd
 }
 
 // Looks on the bus of this line for a meter of each other one on which all are missing, and, where it was disturbed,
-// for one that answers to a number that nobody has.
+// for one that answers to a number that nobody has, which it returns.
 fn look_on_line<B: Bus, R: Eprint>(
     host: &Host<'_, R>,
     bus: &mut B,
     line: u8,
     lines: &[Found; LINES],
-) {
-    let mut own = 0u8;
+) -> Option<Identity> {
+    let (mut own, mut odd) = (0u8, None);
     for found in lines {
         own = own.saturating_add(1);
         let is_own = own == line;
         let asked = match found.first {
-            Some(_) if is_own && found.disturbed >= DISTURBED => Identity::greatest(),
+            _ if is_own && found.disturbed >= DISTURBED => Identity::greatest(),
             Some(first) if !is_own && found.missing == found.meters => first,
             _ => continue,
         };
@@ -185,12 +179,14 @@ fn look_on_line<B: Bus, R: Eprint>(
             let text = sender.text();
             let name = str::from_utf8(&text).unwrap_or_default();
             let _ = if is_own {
+                odd = Some(sender);
                 eprint!(host.rt; "mbdc: line {line}: {name} answers for other meters\n")
             } else {
                 eprint!(host.rt; "mbdc: line {own}: {name} answers on line {line}\n")
             };
         }
     }
+    odd
 }
 
 // The sender of the telegram that comes where this meter is selected. Without an acknowledgement it is asked for only

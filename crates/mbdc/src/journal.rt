@@ -1,8 +1,8 @@
 //! What the commands put into the journal of their image: the events of a poll, and the commands that were done. A poll
-//! first reads there who was silent in the last one, and how many telegrams each meter sent.
+//! first reads there who was silent in the last one, how many telegrams each meter sent, and from which addresses.
 
 use crate::clock::moment;
-use dc_address::Identity;
+use dc_address::{Identity, Primary};
 use dc_meters::House;
 use dc_poller::CommandNotes;
 use dc_readout::Why;
@@ -11,7 +11,7 @@ use mbdc_files::{Host, Journal, journal_lines, own_lines};
 use mbdc_io::{Bytes, NoMemory};
 use mbdc_json::journal;
 use mbdc_poll::events::{Notes, put_command_note, put_note, put_object};
-use mbdc_poll::{Doubt, Event, Known};
+use mbdc_poll::{Addressed, Doubt, Event, Known};
 use std::alloc::Global;
 use std::fs::File;
 use std::rt::{Clock, Files};
@@ -21,6 +21,37 @@ use std::str;
 const END: &str = "\"event\":\"end\"";
 
 const LOST: &str = "\"event\":\"lost\",\"line\":";
+
+// What the line of the primary addresses on a bus line has before the number of that, and after it.
+const ADDRESSES: &str = "\"event\":\"addresses\",\"line\":";
+
+const ODD: &str = ",\"answers_for_others\":";
+
+const NAMED: char = '"';
+
+const METERS: &str = ",\"meters\":{";
+
+const LAST: &str = "}}";
+
+// No meter answers for others, and no address is known.
+const NOTHING: &str = "null,\"meters\":{}}";
+
+/// What the journal says of a bus line and its meters before a poll.
+#[derive(Drop)]
+pub struct Before {
+    /// Number of its registered meters.
+    pub meters: u64,
+    /// The meters that nobody answered for in the last poll.
+    pub silent: Vec<Doubt>,
+    /// How many telegrams those sent that were read.
+    pub sent: Vec<Known>,
+    /// The meters that are registered without a primary address, and from which address their telegrams come.
+    pub selected: Vec<Addressed>,
+    /// Whether a meter was named there that answers for others.
+    pub is_odd: bool,
+    // Who that is, and the addresses, as the last line has them.
+    said: String,
+}
 
 /// Puts what happened into the journal of an image. It is opened for its first line: a file that is no image gets none.
 #[derive(Drop)]
@@ -56,14 +87,15 @@ impl<'h, 'i, R: Files<File = File> + Clock + Eprint + AllocGlobal> Noting<'h, 'i
             _ => false,
         };
         if is_due {
-            noting.append(&line, true);
+            noting.append(line.as_slice(), true);
         }
         noting
     }
 
-    /// What the journal says of the meters of each of this many lines, of the last poll: those that nobody answered
-    /// for, none of a line that was lost then, or where meters aren't spared; and how many telegrams those sent that
-    /// were read, of none where readouts don't begin anew. Of an image without a journal it says nothing.
+    /// What the journal says of each of this many lines. Of the last poll: the meters that nobody answered for, none of
+    /// a line that was lost then, or where meters aren't spared; and how many telegrams those sent that were read, of
+    /// none where readouts don't begin anew. Where a meter was named that answers for others, the others are read by the
+    /// addresses that are known. Of an image without a journal it says nothing.
     ///
     /// # Errors
     /// Out of memory.
@@ -72,7 +104,7 @@ impl<'h, 'i, R: Files<File = File> + Clock + Eprint + AllocGlobal> Noting<'h, 'i
         lines: u8,
         spares: bool,
         recounts: bool,
-    ) -> Result<(Vec<Vec<Doubt>>, Vec<Vec<Known>>), NoMemory> {
+    ) -> Result<Vec<Before>, NoMemory> {
         let (alloc, now) = (self.rt.alloc(), self.now());
         // It is open for the last command: an image without one has no meters.
         let journal = match &self.journal {
@@ -88,14 +120,17 @@ impl<'h, 'i, R: Files<File = File> + Clock + Eprint + AllocGlobal> Noting<'h, 'i
         let begun = own.rsplit_once(END).map_or("", |(begun, _)| begun);
         let poll = begun.rsplit_once(END).map_or(begun, |(_, poll)| poll);
         self.last = journal::read_journal(alloc, poll.as_bytes(), now)?;
-        let (mut silent, mut known) = (Vec::new(alloc), Vec::new(alloc));
+        let mut before = Vec::new(alloc);
         for line in 1..=lines {
             let was_lost = poll.contains(format!(in alloc; "{LOST}{line}")?.as_str());
-            let (of_line, sent) = self.before_on(line, spares && !was_lost, recounts)?;
-            silent.push(of_line)?;
-            known.push(sent)?;
+            let head = format!(in alloc; "{ADDRESSES}{line}{ODD}")?;
+            let said = own
+                .rsplit_once(head.as_str())
+                .map_or("", |(_, after)| after);
+            let said = said.split_once('\n').map_or(said, |(said, _)| said);
+            before.push(self.before_on(line, spares && !was_lost, recounts, said)?)?;
         }
-        Ok((silent, known))
+        Ok(before)
     }
 
     // What it says of the meters of a line.
@@ -104,42 +139,141 @@ impl<'h, 'i, R: Files<File = File> + Clock + Eprint + AllocGlobal> Noting<'h, 'i
         line: u8,
         spares: bool,
         recounts: bool,
-    ) -> Result<(Vec<Doubt>, Vec<Known>), NoMemory> {
+        said: &str,
+    ) -> Result<Before, NoMemory> {
         let alloc = self.rt.alloc();
-        let (mut silent, mut known) = (Vec::new(alloc), Vec::new(alloc));
+        // A line that is torn says nothing.
+        let said = if said.ends_with(LAST) { said } else { NOTHING };
+        let mut before = Before {
+            meters: 0,
+            silent: Vec::new(alloc),
+            sent: Vec::new(alloc),
+            selected: self.selected_on(line, said)?,
+            is_odd: said.starts_with(NAMED),
+            said: String::from_str(alloc, said)?,
+        };
         let Some(house) = &self.house else {
-            return Ok((silent, known));
+            return Ok(before);
         };
         for (meter, row) in house.meters() {
+            if row.line() != line {
+                continue;
+            }
+            before.meters = before.meters.saturating_add(1);
             let count = self.last.bodies_of(meter).len();
-            if row.line() == line && recounts && count != 0 {
-                known.push(Known {
+            if recounts && count != 0 {
+                before.sent.push(Known {
                     meter: meter.wire(),
                     telegrams: u8::try_from(count).unwrap_or(u8::MAX),
                     is_doubted: false,
                 })?;
             }
-            if row.line() == line
-                && spares
+            if spares
                 && let Some(failing) = self.last.of(meter).failing
                 && failing.number == Why::NoAnswer.number()
             {
-                silent.push(Doubt::of(meter, row.address()))?;
+                before.silent.push(Doubt::of(meter, row.address()))?;
             }
         }
-        Ok((silent, known))
+        Ok(before)
+    }
+
+    // The meters that are registered without a primary address, with what its last line says of them.
+    fn selected_on(&self, line: u8, said: &str) -> Result<Vec<Addressed>, NoMemory> {
+        let alloc = self.rt.alloc();
+        let mut selected = Vec::new(alloc);
+        let Some(house) = &self.house else {
+            return Ok(selected);
+        };
+        for (meter, row) in house.meters() {
+            if row.line() != line || row.address().is_some() {
+                continue;
+            }
+            let text = meter.text();
+            let name = str::from_utf8(&text).unwrap_or_default();
+            let name = format!(in alloc; "\"{name}\":")?;
+            let after = said
+                .split_once(name.as_str())
+                .map_or("", |(_, after)| after);
+            let end = after.find(|it: char| !it.is_ascii_digit());
+            let number = after.get(..end.unwrap_or_default()).unwrap_or_default();
+            let known = Primary::new(number.parse::<u8>().unwrap_or_default());
+            selected.push(Addressed {
+                meter: *meter,
+                known,
+                asked: if said.starts_with(NAMED) { known } else { None },
+            })?;
+        }
+        Ok(selected)
+    }
+
+    /// Puts a line for each bus line into the journal: the meter that answers there for others, and the primary addresses
+    /// of the telegrams of those that are registered without one, where these are known to belong to one meter. What the
+    /// journal says already isn't put there again. Without memory less is put.
+    pub fn note_addresses(&mut self, before: &[Before], odd: &[Option<Identity>]) {
+        let (alloc, now) = (self.rt.alloc(), self.now());
+        let mut line = 0u8;
+        for (before, odd) in before.iter().zip(odd) {
+            line = line.saturating_add(1);
+            if let Ok(said) = self.addresses_on(line, before, odd)
+                && said.as_str() != before.said.as_str()
+                && let Ok(text) = format!(in alloc;
+                    "{{\"at\":{now},{ADDRESSES}{line}{ODD}{said}\n"
+                )
+            {
+                self.append(text.as_bytes(), false);
+            }
+        }
+    }
+
+    // What the journal's line has after the number of a bus line.
+    fn addresses_on(
+        &self,
+        line: u8,
+        before: &Before,
+        odd: &Option<Identity>,
+    ) -> Result<String, NoMemory> {
+        let alloc = self.rt.alloc();
+        if let Some(meter) = odd {
+            let text = meter.text();
+            let name = str::from_utf8(&text).unwrap_or_default();
+            // Beside such a meter a telegram may be that of two.
+            let addresses = before.said.as_str().split_once(METERS);
+            let addresses = addresses.map_or(LAST, |(_, addresses)| addresses);
+            return Ok(format!(in alloc; "\"{name}\"{METERS}{addresses}")?);
+        }
+        let mut said = format!(in alloc; "null{METERS}")?;
+        let mut between = "";
+        for it in &before.selected {
+            let others = before
+                .selected
+                .iter()
+                .filter(|other| other.known == it.known);
+            let mut rows = self.house.iter().flat_map(|house| house.meters());
+            if let Some(address) = it.known
+                && others.count() == 1
+                && !rows.any(|(_, row)| row.line() == line && row.address() == it.known)
+            {
+                let (text, address) = (it.meter.text(), address.get());
+                let name = str::from_utf8(&text).unwrap_or_default();
+                said.push_str(format!(in alloc; "{between}\"{name}\":{address}")?.as_str())?;
+                between = ",";
+            }
+        }
+        said.push_str(LAST)?;
+        Ok(said)
     }
 
     // Appends a line, or only one that isn't there.
-    fn append(&mut self, line: &Bytes<Global>, is_new: bool) {
+    fn append(&mut self, line: &[u8], is_new: bool) {
         if !self.is_open {
             self.journal = Journal::open(self.rt, self.image);
             self.is_open = true;
         }
         if let Some(journal) = &mut self.journal
-            && (!is_new || matches!(journal.has(self.image, line.as_slice()), Ok(false)))
+            && (!is_new || matches!(journal.has(self.image, line), Ok(false)))
         {
-            journal.append(line.as_slice());
+            journal.append(line);
         }
     }
 
@@ -185,7 +319,7 @@ impl<R: Files<File = File> + Clock + Eprint + AllocGlobal> Notes for Noting<'_, 
         if put_object(&mut object, event).is_ok()
             && put_note(&mut line, self.now(), flat, object.as_slice()).is_ok()
         {
-            self.append(&line, false);
+            self.append(line.as_slice(), false);
         }
     }
 }
@@ -195,7 +329,7 @@ impl<R: Files<File = File> + Clock + Eprint + AllocGlobal> CommandNotes for Noti
         let command = done.command.line(done.number);
         let mut line = Bytes::new(self.rt.alloc());
         if put_command_note(&mut line, self.now(), done.number, command.as_slice()).is_ok() {
-            self.append(&line, false);
+            self.append(line.as_slice(), false);
         }
     }
 }

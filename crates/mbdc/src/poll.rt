@@ -5,8 +5,8 @@ ghost use Rattle.mbdc.specs.Commands.{IsPolled, Polled, Refuses};
 
 use crate::clock::moment;
 use crate::connecting::{buses_of, reached, released};
-use crate::exchanged::{Attending, Missing, look_for_missing};
-use crate::journal::Noting;
+use crate::exchanged::{Attending, Missing, NOTHING_FOUND, look_for_missing};
+use crate::journal::{Before, Noting};
 use crate::names::meters_of;
 use crate::system::System;
 use crate::tracing::{Trace, shows_progress, trace_of, tracers_of};
@@ -22,9 +22,10 @@ use mbdc_ending::Ending;
 use mbdc_files::{Host, Output};
 use mbdc_io::NoMemory;
 use mbdc_poll::events::{Form, Notes};
-use mbdc_poll::{Doubt, Known, Plan, with_filters};
+use mbdc_poll::{Plan, with_filters};
 use mbdc_raw::links::{Peer, Watched};
 use std::alloc::Global;
+use std::cell::Cell;
 use std::fs::File;
 use std::io;
 use std::net::{Net, TcpStream};
@@ -94,29 +95,40 @@ where
         form: if task.is_json { Form::Json } else { Form::Text },
         is_shown: shows_progress(host, trace),
     };
-    let missing = Missing::new(&house);
+    let missing = Missing {
+        lines: Cell::new(NOTHING_FOUND),
+    };
     let mut notes = Noting::new(host, task.image, house);
     // A meter that is named gets all its tries. A readout may begin anew where there is a second try.
     let lines = u8::try_from(peers.len()).unwrap_or_default();
-    let before = notes.before(lines, only.is_empty(), task.tries > 1);
-    let ending = match (tracers_of(host, trace, peers.len()), before) {
-        (Ok(observers), Ok((mut silent, mut sent))) => poll_peers(
+    let mut before = match notes.before(lines, only.is_empty(), task.tries > 1) {
+        Ok(before) => before,
+        Err(NoMemory) => return Ending::Memory,
+    };
+    let ending = match tracers_of(host, trace, peers.len()) {
+        Ok(observers) => poll_peers(
             host,
             disk,
             peers,
             observers,
-            silent.as_mut_slice(),
-            sent.as_mut_slice(),
+            before.as_mut_slice(),
             only.as_slice(),
             printing,
-            notes,
+            &mut notes,
             &missing,
             task,
         ),
-        (Err(ending), _before) => ending,
-        (_observers, Err(NoMemory)) => Ending::Memory,
+        Err(ending) => ending,
     };
-    look_for_missing(host, peers, trace, &missing, task.patience);
+    let odd = look_for_missing(
+        host,
+        peers,
+        trace,
+        &missing,
+        before.as_slice(),
+        task.patience,
+    );
+    notes.note_addresses(before.as_slice(), &odd);
     ending
 }
 
@@ -127,24 +139,23 @@ fn poll_peers<'a, D, O, J, R>(
     disk: D,
     peers: &[Option<Peer<R>>],
     observers: Vec<O>,
-    silent: &mut [Vec<Doubt>],
-    sent: &mut [Vec<Known>],
+    before: &mut [Before],
     only: &[Identity],
     printing: Printing,
-    notes: J,
+    notes: &mut J,
     missing: &Missing,
     task: &PollTask<'a>,
 ) -> Ending<'a>
 where
     D: Disk + Drop,
     O: Observer + Drop,
-    J: Notes + Drop,
+    J: Notes,
     R: Files<File = File> + Net<Stream = TcpStream> + Clock + Copy + Print + Eprint + AllocGlobal,
     ensures { Refuses result ⊎ IsPolled D.Disk only.now task.now.image.now disk result }
 {
     let notes = Attending { notes, missing };
     match buses_of(host, peers, observers, task.patience) {
-        Ok(buses) => poll_filtered(host, disk, buses, silent, sent, only, printing, notes, task),
+        Ok(buses) => poll_filtered(host, disk, buses, before, only, printing, notes, task),
         Err(ending) => ending,
     }
 }
@@ -154,8 +165,7 @@ fn poll_filtered<'a, D, B, J, R>(
     host: &Host<'_, R>,
     disk: D,
     buses: Vec<B>,
-    silent: &mut [Vec<Doubt>],
-    sent: &mut [Vec<Known>],
+    before: &mut [Before],
     only: &[Identity],
     printing: Printing,
     notes: J,
@@ -169,9 +179,13 @@ where
     ensures { Refuses result ⊎ IsPolled D.Disk only.now task.now.image.now disk result }
 {
     let mut all = Vec::new(host.rt.alloc());
-    let before = silent.iter_mut().zip(sent.iter_mut());
-    for (bus, (silent, sent)) in buses.into_iter().zip(before) {
-        let bus = with_filters(bus, silent.as_mut_slice(), sent.as_mut_slice());
+    for (bus, before) in buses.into_iter().zip(before.iter_mut()) {
+        let bus = with_filters(
+            bus,
+            before.silent.as_mut_slice(),
+            before.sent.as_mut_slice(),
+            before.selected.as_mut_slice(),
+        );
         if all.push(bus).is_err() {
             return Ending::Memory;
         }

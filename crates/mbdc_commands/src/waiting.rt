@@ -42,7 +42,7 @@ impl FilteredWatch {
     }
 }
 
-impl<B: HalfBus + Watched + Drop> Waits<PollBus<'_, '_, B>> for FilteredWatch {
+impl<B: HalfBus + Watched + Drop> Waits<PollBus<'_, '_, '_, B>> for FilteredWatch {
     ghost use Rattle.std.specs.Prelude.{⊤};
 
     // What a wait does is in no contract.
@@ -50,12 +50,12 @@ impl<B: HalfBus + Watched + Drop> Waits<PollBus<'_, '_, B>> for FilteredWatch {
 
     ghost waited = { λ _ _. ⊤ };
 
-    fn add_bus(&mut self, bus: &PollBus<'_, '_, B>)
+    fn add_bus(&mut self, bus: &PollBus<'_, '_, '_, B>)
         ensures { ⊤ }
     {
         let sparing = &bus.bus.bus.bus;
         self.withholds = self.withholds || bus.withholds || sparing.withholds;
-        sparing.bus.add_to(&mut self.watch);
+        sparing.bus.bus.add_to(&mut self.watch);
     }
 
     fn wait_for_all(&mut self)

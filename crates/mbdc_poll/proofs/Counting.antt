@@ -1,6 +1,5 @@
 -- How many rounds a line takes at most, by what becomes of it.
-use Rattle.std.proofs.Common.{◌≡◌, ◌⊎◌, ℕ, zero, suc, ◌+◌, ◌-◌, ◌*◌, ◌<◌, ◌≤◌, inl, inr, Bool, true, false, List, [], ◌∷◌, ◌++◌, length, length-append, take, drop, refl, ap, arith}
-use Rattle.std.specs.Prelude.{min}
+use Rattle.std.proofs.Common.{◌≡◌, ℕ, suc, ◌+◌, ◌-◌, ◌*◌, ◌<◌, ◌≤◌, List, [], ◌∷◌, ◌++◌, length, length-append, take, drop, ap, arith}
 use Rattle.dc_address.specs.declared.identity.Identity.{Identity}
 use Rattle.mbdc_bus.specs.Halves.{most_waits}
 use Rattle.mbdc_poll.specs.Queue.{most_asks}

@@ -1,5 +1,5 @@
 -- How many rounds a line takes at most that takes no step.
-use Rattle.std.proofs.Common.{◌≡◌, ℕ, ◌-◌, ◌≤◌, Bool, List, [], length, refl, sym, subst, arith}
+use Rattle.std.proofs.Common.{◌≡◌, ℕ, ◌-◌, ◌≤◌, List, [], length, refl, sym, subst, arith}
 use Rattle.mbdc_poll.specs.Bus.{Bus}
 use Rattle.mbdc_poll.specs.Station.{IsSoundIn, IsSound, rounds_in, rounds_of}
 use Rattle.mbdc_poll.specs.declared.phase.Phase.{Phase}

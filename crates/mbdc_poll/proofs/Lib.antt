@@ -20,6 +20,8 @@ pub mod Storing
 pub mod Spared
 -- where a filter lets all through, a talk is one on the bus itself
 pub mod Through
+-- where no meter is read by its address, nothing is readdressed; and how one is read by it
+pub mod Readdressed
 -- where each meter sends as many telegrams as before, nothing is dropped
 pub mod Recounted
 -- a telegram agrees with itself

@@ -1,5 +1,5 @@
 -- The fields of events, in pieces.
-use Rattle.std.proofs.Common.{◌≡◌, ◌<◌, ◌≤◌, ◌-◌, ℕ, List, [], ◌∷◌, ◌++◌, arith, codes, decimal, drop, get_or, length, map, refl, take, ap, sym, ◌∙◌, append-nil}
+use Rattle.std.proofs.Common.{◌≡◌, ◌<◌, ◌≤◌, ◌-◌, ℕ, List, [], ◌∷◌, ◌++◌, arith, codes, drop, get_or, length, map, refl, take, ap, sym, ◌∙◌, append-nil}
 use Rattle.std.proofs.lemmas.List.{take_all}
 use Rattle.json.specs.Json.{Json}
 use Rattle.json.specs.Token as Token

@@ -1,5 +1,5 @@
 -- Events that a teller took, one after the other.
-use Rattle.std.proofs.Common.{◌≡◌, ◌⊎◌, inl, inr, Bool, true, false, List, [], ◌∷◌, ◌++◌, refl, ap, sym, subst, ◌∙◌}
+use Rattle.std.proofs.Common.{◌≡◌, ◌⊎◌, inl, inr, true, false, List, [], ◌∷◌, refl, ap, sym, subst, ◌∙◌}
 use Rattle.mbdc_io.specs.Stream.{Puts}
 use Rattle.mbdc_io.specs.declared.stream.Sink.{Ghosts as SinkGhosts}
 use Rattle.mbdc_io.proofs.Pieces.{puts-both, puts-none}

@@ -1,6 +1,6 @@
 -- Where each meter sends as many telegrams as in its last reading, nothing is dropped.
 use Rattle.std.proofs.Common.{◌≡◌, ℕ, Bool, true, false, ◌&&◌, ◌||◌, List, [], ◌∷◌, refl, sym, subst, ◌∙◌, ap, if◌then◌else◌}
-use Rattle.std.specs.Prelude.{bytes_eq, not, Option, Some}
+use Rattle.std.specs.Prelude.{bytes_eq, Option, None, Some}
 use Rattle.dc_address.specs.Identity.{wire_of}
 use Rattle.dc_address.specs.declared.identity.Identity.{Identity}
 use Rattle.std.proofs.lemmas.Slice.Eq.{bytes_eq-Decides}
@@ -38,10 +38,10 @@ Agrees old given = gives_up old given ≡ false
 
 passes : Passes recounting IsKept Agrees
 passes = record {
-  asks = λ old request goes new kept asks.
+  asks = λ old request out new kept asks.
       let still : new.count.is_given_up ≡ false = ap (λ (count : Count). count.is_given_up) asks.count
       ∙ goes_on (begins_readout (frame_of request)) (bytes_eq old.count.request request) request old.count kept in
-      (asks.goes_out ∙ ap not still, still);
+      (asks.goes_out ∙ ap (λ (b : Bool). if b then None else Some request) still, still);
   hears = λ old given answer new kept agrees heard. (
     heard.is_answer ∙ subst (λ (b : Bool). (if b then [] else given) ≡ given) (sym agrees) refl,
     ap (λ (count : Count). count.is_given_up) heard.count ∙ neither (gives_up old given) old.count.is_given_up agrees kept,
@@ -90,19 +90,19 @@ module _ (meter : Identity) (telegram : List ℕ) (answer : LineHeard) (sent : s
   abbrev last : Filtered (List (List ℕ)) Recounting
   last = giving [] doubts (asked_one true false 1) false
 
-  asks_first : Asks at_first.filter (request_by true) true asked_it.filter
+  asks_first : Asks at_first.filter (request_by true) (Some (request_by true)) asked_it.filter
   unfolding frame_of
   asks_first = record { known = refl; count = refl; goes_out = refl }
 
-  asks_held : Asks gave_up.filter (request_by true) false held.filter
+  asks_held : Asks gave_up.filter (request_by true) None held.filter
   unfolding frame_of
   asks_held = record { known = refl; count = refl; goes_out = refl }
 
-  asks_reset : Asks held.filter reset true begun.filter
+  asks_reset : Asks held.filter reset (Some reset) begun.filter
   unfolding frame_of
   asks_reset = record { known = refl; count = refl; goes_out = refl }
 
-  asks_again : Asks reset_it.filter (request_by true) true asked_again.filter
+  asks_again : Asks reset_it.filter (request_by true) (Some (request_by true)) asked_again.filter
   unfolding frame_of
   asks_again = record { known = refl; count = refl; goes_out = refl }
 
@@ -142,10 +142,10 @@ module _ (meter : Identity) (telegram : List ℕ) (answer : LineHeard) (sent : s
   hears_last = hears_by asked_again.filter telegram last.filter (hears_same (bytes_eq (wire_of meter) (wire_of meter)) same)
 
   talk : Talks (filtered_over scripted_bus recounting) 1 (at_rest at_first) (tried (request_by true) [] Again (tried (request_by true) [] Again (tried reset acknowledged Again (tried (request_by true) telegram answer [])))) (at_rest last)
-  talk = sends_it {next = asked_it} (goes_out refl asks_first refl refl) (takes_it {next = gave_up} (of_bus telegram refl refl refl gives_up_first refl)
+  talk = sends_it {next = asked_it} (goes_out (request_by true) refl asks_first refl refl) (takes_it {next = gave_up} (of_bus telegram refl refl refl gives_up_first refl)
       (hears_it (sends_it {next = held} (stays refl asks_held refl refl) (takes_it {next = held} (of_none refl refl refl)
-      (hears_it (sends_it {next = begun} (goes_out refl asks_reset refl refl) (takes_it {next = reset_it} (of_bus acknowledged refl refl refl hears_reset refl)
-      (hears_it (sends_it {next = asked_again} (goes_out refl asks_again refl refl) (takes_it {next = last} (of_bus telegram refl refl refl hears_last refl) (hears_it rests)))))))))))
+      (hears_it (sends_it {next = begun} (goes_out reset refl asks_reset refl refl) (takes_it {next = reset_it} (of_bus acknowledged refl refl refl hears_reset refl)
+      (hears_it (sends_it {next = asked_again} (goes_out (request_by true) refl asks_again refl refl) (takes_it {next = last} (of_bus telegram refl refl refl hears_last refl) (hears_it rests)))))))))))
 
   pub is_begun_anew : IsBegunAnew meter telegram answer
   is_begun_anew = record { last = last; talk = talk; all_given = refl }

@@ -41,7 +41,7 @@ still_clear false request old clear = clear
 
 passes : Passes remembering IsClear IsNew
 passes = record {
-  asks = λ old request goes new clear asks. (
+  asks = λ old request out new clear asks. (
     asks.0,
     subst IsClear (sym asks.1) (still_clear (bytes_eq old.request request) request old clear),
   );
@@ -113,7 +113,7 @@ module _ (byte : ℕ) (answer : LineHeard) where
   gives_copy = of_bus (telegram 1) refl refl refl hears_copy refl
 
   sends : (old new : Filtered (List (List ℕ)) Remembering) (request : List ℕ) → new.bus ≡ old.bus → new.filter ≡ asked_by request old.filter → new.withholds ≡ false → Sends scripted_bus remembering old request new
-  sends old new request same asks goes = goes_out refl (refl, asks) same goes
+  sends old new request same asks goes = goes_out request refl (refl, asks) same goes
 
   -- where the fourth answer isn't dropped
   is_dropped_first : telegram byte ≡ answer_by has_copy.filter (telegram byte) → IsDropped byte answer
@@ -191,8 +191,8 @@ module _ (sent : List ℕ) (answer : LineHeard) (some : is_some (telegram_in (fr
   at_rest bus = record { bus = bus; request = Quiet; said = false }
 
   talk : Talks (filtered_over scripted_bus remembering) 1 (giving (sent ∷ sent ∷ []) 0) (tried (request_by true) [] Again (tried (request_by true) sent answer [])) (at_rest ended)
-  talk = sends_it {next = before_first} (goes_out refl (refl, refl) refl refl) (takes_it {next = after_first} (of_bus sent refl refl refl hears_before refl)
-      (hears_it (sends_it {next = after_first} (goes_out refl (refl, refl) refl refl) (takes_it {next = ended} (of_bus sent refl refl refl hears_again refl) (hears_it rests)))))
+  talk = sends_it {next = before_first} (goes_out (request_by true) refl (refl, refl) refl refl) (takes_it {next = after_first} (of_bus sent refl refl refl hears_before refl)
+      (hears_it (sends_it {next = after_first} (goes_out (request_by true) refl (refl, refl) refl refl) (takes_it {next = ended} (of_bus sent refl refl refl hears_again refl) (hears_it rests)))))
 
   pub is_taken_twice : IsTakenTwice sent answer
   is_taken_twice = record { last = at_rest ended; talk = talk; all_given = refl }

@@ -24,7 +24,7 @@ kept dropped given free =
 
 passes : Passes retrying (λ r. ⊤) (λ r given. is_busy (frame_of given) ≡ false)
 passes = record {
-  asks = λ old request goes new clear asks. (asks.0, tt);
+  asks = λ old request out new clear asks. (asks.0, tt);
   hears = λ old given answer new clear free heard. (heard.is_answer ∙ kept old.dropped given free, tt);
 }
 
@@ -54,7 +54,7 @@ module _ (request third : List ℕ) (answer : LineHeard) where
   is_busy_frame = refl
 
   sends : (bus : Filtered (List (List ℕ)) Retrying) → bus.withholds ≡ false → Sends scripted_bus retrying bus request bus
-  sends bus goes = goes_out refl (refl, refl) refl goes
+  sends bus goes = goes_out request refl (refl, refl) refl goes
 
   hears_first : Hears first.filter busy_frame [] second.filter
   unfolding frame_of

@@ -1,6 +1,6 @@
 -- Where first questions are answered, nothing is spared.
-use Rattle.std.proofs.Common.{◌≡◌, ◌≢◌, ℕ, Bool, true, false, ◌&&◌, ◌||◌, ◌==◌, List, [], ◌∷◌, map, length, arith, refl, sym, subst, ◌∙◌, ap, if◌then◌else◌, Some, Ok}
-use Rattle.std.specs.Prelude.{bytes_eq, not}
+use Rattle.std.proofs.Common.{◌≡◌, ◌≢◌, ℕ, Bool, true, false, ◌&&◌, ◌||◌, ◌==◌, List, [], ◌∷◌, map, length, arith, refl, sym, subst, ◌∙◌, ap, if◌then◌else◌, None, Some, Ok}
+use Rattle.std.specs.Prelude.{bytes_eq}
 use Rattle.std.proofs.lemmas.Bool.{ne_eqb}
 use Rattle.std.proofs.lemmas.Slice.Eq.{bytes_eq-Decides}
 use Rattle.dc_core.specs.Event.{asks, hears, asked, heard}
@@ -56,7 +56,7 @@ all_open request answer (doubt ∷ doubts) clear answered =
 
 passes : Passes sparing (λ s. NoneIsSilent s.doubts.now) AnswersFirst
 passes = record {
-  asks = λ old request goes new clear asks. (asks.goes_out ∙ ap not (none_spared old.doubts.now request clear), subst NoneIsSilent (sym asks.doubts) clear);
+  asks = λ old request out new clear asks. (asks.goes_out ∙ ap (λ (b : Bool). if b then None else Some request) (none_spared old.doubts.now request clear), subst NoneIsSilent (sym asks.doubts) clear);
   hears = λ old given answer new clear answers heard. (heard.same, subst NoneIsSilent (sym heard.doubts) (all_open old.out given old.doubts.now clear answers));
 }
 
@@ -96,13 +96,13 @@ module _ (question : List ℕ) where
   is_same = by_same (bytes_eq question question) ((bytes_eq-Decides question question).1 refl)
 
   sends_one : Sends counting_bus sparing at_first question asked_it
-  sends_one = goes_out refl (record { doubts = refl; out = refl; goes_out = refl }) refl refl
+  sends_one = goes_out question refl (record { doubts = refl; last = refl; goes_out = refl }) refl refl
 
   gives_one : Gives counting_bus sparing asked_it [] silent
   gives_one = of_bus [] refl refl refl (record { same = refl; out = refl; doubts = refl }) refl
 
   spares_one : Sends counting_bus sparing silent question held
-  spares_one = stays refl (record { doubts = refl; out = refl; goes_out = sym (ap not is_same) }) refl refl
+  spares_one = stays refl (record { doubts = refl; last = refl; goes_out = sym (ap (λ (b : Bool). if b then None else Some question) is_same) }) refl refl
 
   gives_none : Gives counting_bus sparing held [] held
   gives_none = of_none refl refl refl

@@ -1,14 +1,15 @@
 -- Where a filter lets each answer through, the talk is one on the bus itself.
-use Rattle.std.proofs.Common.{◌≡◌, ℕ, Bool, true, false, List, sym, subst, ◌∙◌}
+use Rattle.std.proofs.Common.{◌≡◌, ℕ, true, false, List, sym, subst, ◌∙◌}
+use Rattle.std.specs.Prelude.{Option, None, Some}
 use Rattle.mbdc_poll.specs.Bus.{Bus}
 use Rattle.mbdc_poll.specs.Filtered.{EachAnswer, Filter, Gives, IfGiven, LetsThrough, Sends, filtered_over, goes_out, of_bus, of_lost, of_none, on_bus, on_lost, stays}
 use Rattle.mbdc_poll.specs.Happening.{Happening}
 use Rattle.mbdc_poll.specs.Talking.{Talk, Talks, rests, begins, has_none, sends_it, waits_it, takes_it, hears_it, stands_by, tells_it, loses_it}
 use Rattle.mbdc_poll.specs.declared.filtered.Filtered.{Filtered}
 
--- each request goes out, and each answer of which this holds is heard as it is
+-- each request goes out as it is, and each answer of which this holds is heard as it is
 pub record Passes {F : Type 0} (f : Filter F) (Keeps : F → Type 0) (said : F → List ℕ → Type 0) : Type 0 where
-  pub asks : (old : F) (request : List ℕ) (goes : Bool) (new : F) → Keeps old → f.asks old request goes new → (goes ≡ true) × Keeps new
+  pub asks : (old : F) (request : List ℕ) (out : Option (List ℕ)) (new : F) → Keeps old → f.asks old request out new → (out ≡ Some request) × Keeps new
   pub hears : (old : F) (given answer : List ℕ) (new : F) → Keeps old → said old given → f.hears old given answer new → (answer ≡ given) × Keeps new
 
 module _ {B F : Type 0} (g : Bus B) (f : Filter F) (Keeps : F → Type 0) (said : F → List ℕ → Type 0) (passes : Passes f Keeps said) where
@@ -17,10 +18,12 @@ module _ {B F : Type 0} (g : Bus B) (f : Filter F) (Keeps : F → Type 0) (said 
 
   is_sent : {old new : Filtered B F} {request : List ℕ} → Sends g f old request new → Clear old → g.sends old.bus request new.bus × Clear new
   is_sent {old = old} (on_lost lost sends same) clear = (sends, subst Clear (sym same) clear)
-  is_sent {old = old} {new = new} {request = request} (goes_out there asks sends goes) clear =
-      (sends, ((passes.asks old.filter request true new.filter clear.0 asks).1, goes))
+  is_sent {old = old} {new = new} {request = request} (goes_out out there asks sends goes) clear =
+      let passed : (Some out ≡ Some request) × Keeps new.filter = passes.asks old.filter request (Some out) new.filter clear.0 asks in
+      let same : out ≡ request = (let e = passed.0 in cc) in
+      (subst (λ (bytes : List ℕ). g.sends old.bus bytes new.bus) same sends, (passed.1, goes))
   is_sent {old = old} {new = new} {request = request} (stays there asks same held) clear =
-      absurd (let none : false ≡ true = (passes.asks old.filter request false new.filter clear.0 asks).0 in cc)
+      absurd (let none : None ≡ Some request = (passes.asks old.filter request None new.filter clear.0 asks).0 in cc)
 
   is_given : {old new : Filtered B F} {answer : List ℕ} (gives : Gives g f old answer new) → Clear old → IfGiven said gives → g.gives old.bus answer new.bus × Clear new
   is_given (of_lost sent lost gives same) clear is_so = (gives, subst Clear (sym same) clear)

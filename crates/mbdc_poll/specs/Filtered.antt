@@ -1,5 +1,5 @@
 -- A bus over which a filter decides what goes out and what is heard (this product).
-use Rattle.std.specs.Prelude.{◌≡◌, ℕ, true, false, List, []}
+use Rattle.std.specs.Prelude.{◌≡◌, ℕ, true, false, List, [], None, Some}
 use Rattle.mbdc_poll.specs.Bus.{Bus}
 use Rattle.mbdc_poll.specs.Happening.{Happening}
 use Rattle.mbdc_poll.specs.Talking.{Talk, Talks, rests, begins, has_none, sends_it}
@@ -13,14 +13,14 @@ Filter F = Ghosts F
 
 -- ---- the bus
 
--- A REQUEST goes out, or is withheld. A lost bus is untouched, and its filter.
+-- A REQUEST goes out, or what the filter has in its place, or it is withheld. A lost bus is untouched, and its filter.
 pub data Sends {B F : Type 0} (g : Bus B) (f : Filter F) (old : Filtered B F) (request : List ℕ) (new : Filtered B F)
     : Type 0 where
   on_lost : g.lost old.bus ≡ true → g.sends old.bus request new.bus → new ≡ record old { bus = new.bus }
       → Sends g f old request new
-  goes_out : g.lost old.bus ≡ false → f.asks old.filter request true new.filter → g.sends old.bus request new.bus
-      → new.withholds ≡ false → Sends g f old request new
-  stays : g.lost old.bus ≡ false → f.asks old.filter request false new.filter → new.bus ≡ old.bus
+  goes_out : (out : List ℕ) → g.lost old.bus ≡ false → f.asks old.filter request (Some out) new.filter
+      → g.sends old.bus out new.bus → new.withholds ≡ false → Sends g f old request new
+  stays : g.lost old.bus ≡ false → f.asks old.filter request None new.filter → new.bus ≡ old.bus
       → new.withholds ≡ true → Sends g f old request new
 
 -- AN ANSWER is what the filter makes of that of the bus. A request that was withheld meets silence.
@@ -75,7 +75,7 @@ EachAnswer said (loses_it is_lost more) = EachAnswer said more
 abbrev pub on_bus : {B F : Type 0} → Talk (Filtered B F) → Talk B
 on_bus talk = record { bus = talk.bus.bus; request = talk.request; said = talk.said }
 
--- THEN ALL GOES THROUGH: where the filter keeps such things at first, and this holds of each answer, the talk is one on the
+-- THEN ALL GOES THROUGH, each request as itself: where the filter keeps such things at first, and this holds of each answer, the talk is one on the
 -- bus itself.
 abbrev pub LetsThrough : {B F : Type 0} → Bus B → Filter F → (F → Type 0) → (F → List ℕ → Type 0) → Type 0
 LetsThrough {B} {F} g f Keeps said = (line : ℕ) (first last : Talk (Filtered B F)) (happened : List Happening)

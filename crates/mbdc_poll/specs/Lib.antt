@@ -10,6 +10,8 @@ pub mod Telling
 pub mod Queue
 -- what goes over the bus of a line
 pub mod Talking
+-- a filter by which the meters beside one that answers for them are read by their primary addresses
+pub mod Addressing
 -- a filter that asks a meter that was silent in the last poll one question
 pub mod Sparing
 -- a bus with a filter

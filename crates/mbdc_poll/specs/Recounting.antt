@@ -84,10 +84,10 @@ doubted telegrams (Some (meter, false)) known = map (doubted_by (wire_of meter) 
 -- ---- the filter
 
 -- A REQUEST GOES OUT, unless its readout was given up.
-pub record Asks (old : Recounting) (request : List ℕ) (goes : Bool) (new : Recounting) : Type 0 where
+pub record Asks (old : Recounting) (request : List ℕ) (out : Option (List ℕ)) (new : Recounting) : Type 0 where
   pub known : new.known.now ≡ old.known.now
   pub count : new.count ≡ asked_by request old.count
-  pub goes_out : goes ≡ not new.count.is_given_up
+  pub goes_out : out ≡ (if new.count.is_given_up then None else Some request)
 
 -- the telegrams with this one
 abbrev pub count_with : Recounting → List ℕ → Count

@@ -71,8 +71,8 @@ asked_by request old =
     if bytes_eq old.request request then old else record old { request = request; is_answered = false }
 
 -- each request goes out
-abbrev pub Asks : Remembering → List ℕ → Bool → Remembering → Type 0
-Asks old request goes new = (goes ≡ true) × (new ≡ asked_by request old)
+abbrev pub Asks : Remembering → List ℕ → Option (List ℕ) → Remembering → Type 0
+Asks old request out new = (out ≡ Some request) × (new ≡ asked_by request old)
 
 -- AN ANSWER PASSES; silence is heard of a copy of one of the last 64 telegrams, and where one of the last 200 answers had
 -- a wrong checksum, of a telegram that none of them confirms.

@@ -52,8 +52,8 @@ dropped_by before given =
 -- ---- the filter
 
 -- each request goes out
-abbrev pub Asks : Retrying → List ℕ → Bool → Retrying → Type 0
-Asks old request goes new = (goes ≡ true) × (new ≡ old)
+abbrev pub Asks : Retrying → List ℕ → Option (List ℕ) → Retrying → Type 0
+Asks old request out new = (out ≡ Some request) × (new ≡ old)
 
 -- AN ANSWER PASSES; of one that a meter is busy silence is heard, where fewer than two were dropped in a row.
 pub record Hears (old : Retrying) (given answer : List ℕ) (new : Retrying) : Type 0 where

@@ -1,5 +1,5 @@
 -- A filter that asks a meter that was silent in the last poll one question in this one (this product).
-use Rattle.std.specs.Prelude.{◌≡◌, ◌≢◌, ℕ, ◌+◌, Bool, true, false, not, ◌&&◌, ◌==◌, List, map, length, bytes_eq, []}
+use Rattle.std.specs.Prelude.{◌≡◌, ◌≢◌, ℕ, ◌+◌, Bool, true, false, ◌&&◌, ◌==◌, List, map, length, bytes_eq, []}
 use Rattle.std.specs.Prelude.{Option, None, Some, if◌then◌else◌}
 use Rattle.std.specs.List.{AllByRecursion, list_any}
 use Rattle.dc_address.specs.declared.identity.Identity.{Identity}
@@ -57,10 +57,10 @@ noted_by request silent doubt =
 -- ---- the filter
 
 -- A REQUEST GOES OUT, unless it is a first question that met silence.
-pub record Asks (old : Sparing) (request : List ℕ) (goes : Bool) (new : Sparing) : Type 0 where
+pub record Asks (old : Sparing) (request : List ℕ) (out : Option (List ℕ)) (new : Sparing) : Type 0 where
   pub doubts : new.doubts.now ≡ old.doubts.now
-  pub out : new.out ≡ request
-  pub goes_out : goes ≡ not (is_spared old.doubts.now request)
+  pub last : new.out ≡ request
+  pub goes_out : out ≡ (if is_spared old.doubts.now request then None else Some request)
 
 -- AN ANSWER PASSES. What comes of a first question is noted.
 pub record Hears (old : Sparing) (given answer : List ℕ) (new : Sparing) : Type 0 where

@@ -1,7 +1,9 @@
 //! A bus over which a filter decides what goes out and what is heard.
 
-ghost use Rattle.std.specs.Prelude.{◌≡◌, Bool, List, [], ℕ, false};
+ghost use Rattle.std.specs.Prelude.{◌≡◌, ◌≤◌, List, [], ℕ, Option, None, IfSome, false, length};
+ghost use Rattle.mbdc_bus.specs.Limits.{most_request};
 
+use crate::addressing::{Addressed, Addressing};
 use crate::confirming::MOST_CLEAR;
 use crate::recounting::{Count, Known, Recounting};
 use crate::remembering::Remembering;
@@ -14,15 +16,16 @@ use mbdc_bus::{AnswerBuf, HalfBus};
 /// What decides, between a readout and its bus, which requests go out and which answers are heard. A lost bus isn't
 /// asked about.
 pub trait Filter {
-    // What it keeps after a request, and whether that goes out.
-    ghost asks: { Self → List ℕ → Bool → Self → Type 0 };
+    // What it keeps after a request, and what goes out in its place, if anything.
+    ghost asks: { Self → List ℕ → Option (List ℕ) → Self → Type 0 };
 
     // What it keeps after an answer of the bus, and what is heard of it.
     ghost hears: { Self → List ℕ → List ℕ → Self → Type 0 };
 
-    /// Takes a request. Returns whether it goes out.
-    fn ask(&mut self, request: &FrameBuf) -> bool
-        ensures { asks self.old request.now result self.new };
+    /// Takes a request. Returns what goes out in its place: mostly the request itself, and nothing where it is withheld.
+    fn ask(&mut self, request: &FrameBuf) -> Option<FrameBuf>
+        ensures step { asks self.old request.now result self.new }
+        ensures short { length request.now ≤ most_request → IfSome result (λ out. length out ≤ most_request) };
 
     /// Takes an answer of the bus. Returns what is heard: silence stays silence.
     fn hear(&mut self, answer: AnswerBuf) -> AnswerBuf
@@ -67,9 +70,10 @@ impl<B: HalfBus + Drop, F: Filter + Drop> HalfBus for Filtered<B, F> {
             self.bus.send(request);
             return;
         }
-        self.withholds = !self.filter.ask(request);
-        if !self.withholds {
-            self.bus.send(request);
+        let out = self.filter.ask(request);
+        self.withholds = out.is_none();
+        if let Some(out) = out {
+            self.bus.send(&out);
         }
     }
 
@@ -99,29 +103,42 @@ impl<B: HalfBus + Drop, F: Filter + Drop> HalfBus for Filtered<B, F> {
 }
 
 /// A bus with the filters of a poll.
-pub type PollBus<'a, 'b, B> = Filtered<
-    Filtered<Filtered<Filtered<B, Sparing<'a>>, Retrying>, Remembering>,
+pub type PollBus<'a, 'b, 'c, B> = Filtered<
+    Filtered<Filtered<Filtered<Filtered<B, Addressing<'c>>, Sparing<'a>>, Retrying>, Remembering>,
     Recounting<'b>,
 >;
 
-/// This bus with the filters of a poll: it asks who was silent in the last one one question, asks who is busy again,
-/// drops copies of telegrams, takes a telegram only once it has come twice where one lately had wrong bits, and begins
-/// a readout anew that differs from what is known. A copy that comes of a first question is no silence.
-pub fn with_filters<'a, 'b, B: HalfBus + Drop>(
+/// This bus with the filters of a poll: it asks some meters by their primary addresses in place of their selections,
+/// asks who was silent in the last poll one question, asks who is busy again, drops copies of telegrams, takes a
+/// telegram only once it has come twice where one lately had wrong bits, and begins a readout anew that differs from
+/// what is known. A copy that comes of a first question is no silence.
+pub fn with_filters<'a, 'b, 'c, B: HalfBus + Drop>(
     bus: B,
     doubts: &'a mut [Doubt],
     known: &'b mut [Known],
-) -> PollBus<'a, 'b, B>
-    ensures bus { result.bus.bus.bus.bus ≡ bus }
+    selected: &'c mut [Addressed],
+) -> PollBus<'a, 'b, 'c, B>
+    ensures bus { result.bus.bus.bus.bus.bus ≡ bus }
+    ensures selected { result.bus.bus.bus.bus.filter.selected.now ≡ selected.old }
+    ensures by_selection { result.bus.bus.bus.bus.filter.address ≡ None }
     ensures doubts { result.bus.bus.bus.filter.doubts.now ≡ doubts.old }
     ensures known { result.filter.known.now ≡ known.old }
     ensures clear { result.bus.filter.clear ≡ 200 }
     ensures goes_on { result.filter.count.is_given_up ≡ false }
     ensures begins { (result.withholds ≡ false) × (result.bus.withholds ≡ false)
-        × (result.bus.bus.withholds ≡ false) × (result.bus.bus.bus.withholds ≡ false) }
+        × (result.bus.bus.withholds ≡ false) × (result.bus.bus.bus.withholds ≡ false)
+        × (result.bus.bus.bus.bus.withholds ≡ false) }
 {
-    let sparing = Filtered {
+    let addressing = Filtered {
         bus,
+        filter: Addressing {
+            selected,
+            address: None,
+        },
+        withholds: false,
+    };
+    let sparing = Filtered {
+        bus: addressing,
         filter: Sparing {
             doubts,
             out: FrameBuf::new(),

@@ -8,6 +8,7 @@
 //! Events go to a [`Teller`]. [`events`] has tellers that print them as text and as JSON.
 #![tactic(auto)]
 
+mod addressing;
 mod brought;
 mod clock;
 mod confirming;
@@ -34,6 +35,7 @@ mod telling;
 mod timer;
 mod waiting;
 
+pub use addressing::{Addressed, Addressing};
 pub use brought::Brought;
 pub use end::{End, Refusal};
 pub use event::Event;
@@ -41,9 +43,8 @@ pub use filtered::{Filter, Filtered, PollBus, with_filters};
 pub use image::{Plan, poll_image};
 pub use last_part::LastPart;
 pub use laws::{
-    a_busy_meter_is_asked_again, a_dropped_telegram_is_asked_for_again, a_queue_goes_in_passes,
-    a_readout_that_differs_begins_anew, a_silent_meter_gets_one_question,
-    what_a_failed_readout_brought_is_told, what_is_read_is_committed,
+    a_queue_goes_in_passes, what_a_failed_readout_brought_is_told, what_is_read_is_committed,
+    what_the_filters_do,
 };
 pub use outcome::{Counts, Outcome};
 pub use phase::{Phase, Request};

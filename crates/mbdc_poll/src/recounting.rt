@@ -53,7 +53,7 @@ impl Filter for Recounting<'_> {
 
     ghost hears = { Hears };
 
-    fn ask(&mut self, request: &FrameBuf) -> bool {
+    fn ask(&mut self, request: &FrameBuf) -> Option<FrameBuf> {
         if begins_readout(request.as_slice()) {
             self.count = Count {
                 request: *request,
@@ -61,13 +61,17 @@ impl Filter for Recounting<'_> {
                 telegrams: 0,
                 is_given_up: false,
             };
-            return true;
+            return Some(*request);
         }
         if self.count.request.as_slice() != request.as_slice() {
             self.count.request = *request;
             self.count.is_answered = false;
         }
-        !self.count.is_given_up
+        if self.count.is_given_up {
+            None
+        } else {
+            Some(*request)
+        }
     }
 
     fn hear(&mut self, answer: AnswerBuf) -> AnswerBuf {
@@ -88,7 +92,7 @@ impl Filter for Recounting<'_> {
 }
 
 // Whether a request begins a readout: a reset, or a selection.
-fn begins_readout(request: &[u8]) -> bool
+pub(crate) fn begins_readout(request: &[u8]) -> bool
     ensures { result ≡ begins_readout (frame_of request.now) }
 {
     match parse(request) {

@@ -1,10 +1,9 @@
 //! A filter that remembers telegrams: a copy of an earlier one is dropped, and on a line with wrong bits one that none
 //! before it confirms.
 
-ghost use Rattle.std.specs.Prelude.{◌≡◌, ◌≤◌, ◌∷◌, [], false, length, take};
-ghost use Rattle.dc_linkframe.specs.Reading.{frame_of};
+ghost use Rattle.std.specs.Prelude.{◌≡◌, ◌≤◌, ◌∷◌, length, take};
 ghost use Rattle.mbdc_bus.specs.Limits.{most_answer};
-ghost use Rattle.mbdc_poll.specs.Remembering.{is_copy, is_telegram, most_before};
+ghost use Rattle.mbdc_poll.specs.Remembering.{is_copy, most_before};
 
 use crate::confirming::{MOST_CLEAR, clear_after, is_unconfirmed};
 use crate::filtered::Filter;
@@ -42,18 +41,23 @@ impl Filter for Remembering {
 
     ghost hears = { Hears };
 
-    fn ask(&mut self, request: &FrameBuf) -> bool {
+    fn ask(&mut self, request: &FrameBuf) -> Option<FrameBuf> {
         if self.request.as_slice() != request.as_slice() {
             self.request = *request;
             self.is_answered = false;
         }
-        true
+        Some(*request)
     }
 
+    #[tactic(auto, using(dc_readout::proofs::Moves::no_frame_of_nothing))]
     fn hear(&mut self, answer: AnswerBuf) -> AnswerBuf {
         let has_wrong_bits = self.clear < MOST_CLEAR;
         self.clear = clear_after(self.clear, answer.as_slice());
-        if !is_telegram(answer.as_slice()) {
+        let is_telegram = match parse(answer.as_slice()) {
+            Ok(Frame::Long { control, ci, .. }) => is_rsp_ud(control) && ci == VARIABLE_DATA,
+            _ => false,
+        };
+        if !is_telegram {
             return answer;
         }
         let telegrams = self.telegrams.as_slice();
@@ -62,18 +66,6 @@ impl Filter for Remembering {
         note(&mut self.telegrams, answer.as_slice());
         self.is_answered = true;
         if is_dropped { AnswerBuf::new() } else { answer }
-    }
-}
-
-// Whether these bytes are a telegram with a meter's data.
-#[tactic(auto, using(dc_readout::proofs::Moves::no_frame_of_nothing))]
-fn is_telegram(answer: &[u8]) -> bool
-    ensures telegram { result ≡ is_telegram (frame_of answer.now) }
-    ensures silence { answer.now ≡ [] → result ≡ false }
-{
-    match parse(answer) {
-        Ok(Frame::Long { control, ci, .. }) => is_rsp_ud(control) && ci == VARIABLE_DATA,
-        _ => false,
     }
 }
 

@@ -1,9 +1,5 @@
 //! A filter by which a busy meter is asked again.
 
-ghost use Rattle.std.specs.Prelude.{◌≡◌, [], false};
-ghost use Rattle.dc_linkframe.specs.Reading.{frame_of};
-ghost use Rattle.mbdc_poll.specs.Retrying.{is_busy};
-
 use crate::filtered::Filter;
 use dc_linkframe::control::{APPLICATION_ERROR, is_rsp_ud};
 use dc_linkframe::{Frame, FrameBuf, parse};
@@ -31,12 +27,24 @@ impl Filter for Retrying {
 
     ghost hears = { Hears };
 
-    fn ask(&mut self, _request: &FrameBuf) -> bool {
-        true
+    fn ask(&mut self, request: &FrameBuf) -> Option<FrameBuf> {
+        Some(*request)
     }
 
+    #[tactic(auto, using(dc_readout::proofs::Moves::no_frame_of_nothing))]
     fn hear(&mut self, answer: AnswerBuf) -> AnswerBuf {
-        if self.dropped < MOST_DROPPED && is_busy(answer.as_slice()) {
+        let is_busy = match parse(answer.as_slice()) {
+            Ok(
+                Frame::Long {
+                    control,
+                    ci,
+                    body,
+                    ..
+                },
+            ) => is_rsp_ud(control) && ci == APPLICATION_ERROR && body.first() == Some(&TOO_BUSY),
+            _ => false,
+        };
+        if self.dropped < MOST_DROPPED && is_busy {
             self.dropped += 1;
             return AnswerBuf::new();
         }
@@ -44,24 +52,5 @@ impl Filter for Retrying {
             self.dropped = 0;
         }
         answer
-    }
-}
-
-// Whether a meter answers that it is busy.
-#[tactic(auto, using(dc_readout::proofs::Moves::no_frame_of_nothing))]
-fn is_busy(answer: &[u8]) -> bool
-    ensures busy { result ≡ is_busy (frame_of answer.now) }
-    ensures silence { answer.now ≡ [] → result ≡ false }
-{
-    match parse(answer) {
-        Ok(
-            Frame::Long {
-                control,
-                ci,
-                body,
-                ..
-            },
-        ) => is_rsp_ud(control) && ci == APPLICATION_ERROR && body.first() == Some(&TOO_BUSY),
-        _ => false,
     }
 }

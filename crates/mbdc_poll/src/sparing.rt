@@ -77,9 +77,13 @@ impl Filter for Sparing<'_> {
 
     ghost hears = { Hears };
 
-    fn ask(&mut self, request: &FrameBuf) -> bool {
+    fn ask(&mut self, request: &FrameBuf) -> Option<FrameBuf> {
         self.out = *request;
-        !self.spares(request.as_slice())
+        if self.spares(request.as_slice()) {
+            None
+        } else {
+            Some(*request)
+        }
     }
 
     fn hear(&mut self, answer: AnswerBuf) -> AnswerBuf {

@@ -26,8 +26,8 @@ pub fn each_readout_of_a_poll_ends_in_a_reading<B: HalfBus>()
 /// the poll reports. No readout fails, and the counts say so.
 ///
 /// What a [filter](mbdc_poll::Filter) withholds or drops counts as lost: so each meter wasn't silent in the last poll,
-/// or answers its first question, sends as many telegrams as in it, isn't busy, and sends no telegram of before (the
-/// laws of mbdc_poll say so of each filter).
+/// or answers its first question, sends as many telegrams as in it, isn't busy, and sends no telegram of before; and
+/// none that is registered without a primary address is read by one (the laws of mbdc_poll say so of each filter).
 pub fn every_meter_is_read<D: Disk + Drop, B: HalfBus + Drop, T: Timer<B>, N: Teller>()
     ensures { EveryMeterIsRead D.Disk B.HalfBus T.tells T.passes T.warns N.takes }
 {}

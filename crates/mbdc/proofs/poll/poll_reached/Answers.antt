@@ -1,16 +1,15 @@
-use Rattle.std.proofs.Common.{◌⊎◌, List, inl, arith, sym, subst}
+use Rattle.std.proofs.Common.{◌⊎◌, List, inl, sym, subst}
 use Rattle.dc_address.specs.declared.identity.Identity.{Identity}
 use Rattle.mbdc_ending.specs.declared.ending.Ending.{Ending}
 use Rattle.mbdc.specs.Commands.{IsPolled, Refuses}
 use Rattle.mbdc.proofs.poll.poll_reached.Goals as goal
-use Rattle.mbdc.proofs.poll.poll_reached.Goals.{in-Ok-Ok, in_default-Err, in-Err-default}
+use Rattle.mbdc.proofs.poll.poll_reached.Goals.{in-Ok, in-Err}
 
 pub returns : goal.returns
 returns g c =
     let ends = λ (only : List Identity) (e : Ending). Refuses e ⊎ IsPolled g.D.Disk only c.args.task.now.image.now c.args.disk e in
     elim c.match-tracers_of.branch [
-      | in-Ok-Ok w ↦ subst (ends c.args.known.0.items) (sym w.ending-is)
+      | in-Ok w ↦ subst (ends c.args.known.0.items) (sym w.ending-is)
           (subst (λ (only : List Identity). ends only w.poll_peers-ending.result) w.as_slice.ensures.value w.poll_peers-ending.ensures)
-      | in_default-Err w ↦ subst (ends c.args.known.0.items) (sym w.ending-is) (inl (omega (arith)))
-      | in-Err-default w ↦ subst (ends c.args.known.0.items) (sym w.ending-is) (inl w.in-Err-default.ensures)
+      | in-Err w ↦ subst (ends c.args.known.0.items) (sym w.ending-is) (inl w.in-Err.ensures)
     ]
