@@ -75,8 +75,8 @@ EachAnswer said (loses_it is_lost more) = EachAnswer said more
 abbrev pub on_bus : {B F : Type 0} → Talk (Filtered B F) → Talk B
 on_bus talk = record { bus = talk.bus.bus; request = talk.request; said = talk.said }
 
--- THEN ALL GOES THROUGH, each request as itself: where the filter keeps such things at first, and this holds of each answer, the talk is one on the
--- bus itself.
+-- THEN ALL GOES THROUGH, each request as itself: where the filter keeps such things at first, and this holds of each
+-- answer, the talk is one on the bus itself.
 abbrev pub LetsThrough : {B F : Type 0} → Bus B → Filter F → (F → Type 0) → (F → List ℕ → Type 0) → Type 0
 LetsThrough {B} {F} g f Keeps said = (line : ℕ) (first last : Talk (Filtered B F)) (happened : List Happening)
     (talk : Talks (filtered_over g f) line first happened last)

@@ -87,35 +87,46 @@ pub fn what_is_read_is_committed<B: HalfBus + Drop, T: Timer<B>>()
     ensures room { AnswersFindRoom T.tells T.passes }
 {}
 
-/// What the filters of a poll do, which let all else through: the talk is one on the bus itself, with no more requests.
-///
-/// * [`Sparing`](crate::Sparing): where each meter that was silent in the last poll answers its first question in this
-///   one. Where silence comes of that question, it goes out once, though the readout makes its request again.
-/// * [`Retrying`](crate::Retrying): where no meter answers that it is busy. Where one does twice, the readout hears
-///   silence twice, and the third answer to the same request.
-/// * [`Remembering`](crate::Remembering): where no telegram is one of the last 64 before it, and no answer is a frame with
-///   a wrong checksum. Where a copy of the first telegram comes third, the readout hears silence and asks the same again.
-///   It hears what comes then: a third telegram, or the first one, which its meter sends. After a wrong checksum it hears
-///   silence in place of a telegram, and that telegram once it comes again.
-/// * [`Recounting`](crate::Recounting): where each meter sends as many telegrams as in its last reading. Where one telegram
-///   comes in place of two, the readout hears silence, and its next requests aren't sent. After the next reset it hears
-///   that telegram.
-/// * [`Addressing`](crate::Addressing): where no meter is read by another address than it is registered with. Where one of
-///   two is, its reset and the request for its telegram go to that address, and the other one is selected and asked as
-///   ever. Of both the address is noted that their telegrams have.
-pub fn what_the_filters_do<B: HalfBus + Drop>()
+/// [`Sparing`](crate::Sparing) lets all through where each meter that was silent in the last poll answers its first
+/// question in this one: the talk is one on the bus itself, with no more requests. Where silence comes of that
+/// question, it goes out once, though the readout makes its request again.
+pub fn a_silent_meter_gets_one_question<B: HalfBus + Drop>()
     ensures spares { SparesNothing B.HalfBus }
     ensures once { (question : List ℕ) → IsAskedOnce question }
+{}
+
+/// [`Retrying`](crate::Retrying) lets all through where no meter answers that it is busy. Where one does twice, the
+/// readout hears silence twice, and the third answer to the same request.
+pub fn a_busy_meter_is_asked_again<B: HalfBus + Drop>()
     ensures retries { DropsNoAnswer B.HalfBus }
     ensures asked_again { (request third : List ℕ) (answer : LineHeard) → IsAskedAgain request third answer }
+{}
+
+/// [`Remembering`](crate::Remembering) lets all through where no telegram is one of the last 64 before it, and no
+/// answer is a frame with a wrong checksum. Where a copy of the first telegram comes third, the readout hears
+/// silence and asks the same again. It hears what comes then: a third telegram, or the first one, which its meter
+/// sends. After a wrong checksum it hears silence in place of a telegram, and that telegram once it comes again.
+pub fn a_dropped_telegram_is_asked_for_again<B: HalfBus + Drop>()
     ensures remembers { DropsNoTelegram B.HalfBus }
     ensures third { (answer : LineHeard) → IsDropped 3 answer }
     ensures sent_again { (answer : LineHeard) → IsDropped 1 answer }
     ensures twice { (telegram : List ℕ) (answer : LineHeard)
         → is_some (telegram_in (frame_of telegram)) ≡ true → IsTakenTwice telegram answer }
+{}
+
+/// [`Recounting`](crate::Recounting) lets all through where each meter sends as many telegrams as in its last
+/// reading. Where one telegram comes in place of two, the readout hears silence, and its next requests aren't sent.
+/// After the next reset it hears that telegram.
+pub fn a_readout_that_differs_begins_anew<B: HalfBus + Drop>()
     ensures recounts { DropsNoReadout B.HalfBus }
     ensures anew { (meter : Identity) (telegram : List ℕ) (answer : LineHeard)
         → sent_in (frame_of telegram) ≡ Some (meter, false) → IsBegunAnew meter telegram answer }
+{}
+
+/// [`Addressing`](crate::Addressing) lets all through where no meter is read by another address than it is registered
+/// with. Where one of two is, its reset and the request for its telegram go to that address, and the other one is
+/// selected and asked as ever. Of both the address is noted that their telegrams have.
+pub fn a_meter_is_read_by_its_address<B: HalfBus + Drop>()
     ensures addresses { ReaddressesNothing B.HalfBus }
     ensures by_address { (one other : Identity) (asked known known_other : ℕ) (first second : List ℕ)
         (answer : LineHeard) → wire_of one ≢ wire_of other → IsFrom one known first

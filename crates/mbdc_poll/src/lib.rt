@@ -43,8 +43,10 @@ pub use filtered::{Filter, Filtered, PollBus, with_filters};
 pub use image::{Plan, poll_image};
 pub use last_part::LastPart;
 pub use laws::{
-    a_queue_goes_in_passes, what_a_failed_readout_brought_is_told, what_is_read_is_committed,
-    what_the_filters_do,
+    a_busy_meter_is_asked_again, a_dropped_telegram_is_asked_for_again,
+    a_meter_is_read_by_its_address, a_queue_goes_in_passes, a_readout_that_differs_begins_anew,
+    a_silent_meter_gets_one_question, what_a_failed_readout_brought_is_told,
+    what_is_read_is_committed,
 };
 pub use outcome::{Counts, Outcome};
 pub use phase::{Phase, Request};
