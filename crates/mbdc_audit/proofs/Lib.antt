@@ -6,6 +6,8 @@ mod Consumed
 pub mod Powers
 -- the fields of a text
 pub mod Commas
+-- what telegrams show
+mod Shows
 -- a number that is measured
 mod Told
 -- parts add up

@@ -106,22 +106,3 @@ pub no_other : (values : List value_type.Value) (struck : List struck_type.Struc
     → IsOneValue values (map struck_of struck) v → list_any (is_other v) values ≡ false
 no_other values struck v h = none_from (Agrees v) (is_other v) (agrees_from v) values
     (λ k d lt same_moment m n s f. h.1 n f k d lt same_moment m s)
-
--- ---- what is told
-
--- where a test finds something, the counts aren't clean, and else they stay
-pub record Step (t old new : Bool) : Type 0 where
-  pub found : t ≡ true → new ≡ false
-  pub none : t ≡ false → new ≡ old
-
-not_both : (b : Bool) → b ≡ true → b ≡ false → ⊥
-not_both b e e' = cc
-
-pub told : (P : Type 0) (a b x y z : Bool) → Step a x y → Step b y z → (a ≡ false → b ≡ false → P) → (P → a ≡ false) → (P → b ≡ false)
-    → (z ≡ true → (x ≡ true) × P) × ((x ≡ true) × P → z ≡ true)
-told P true true x y z s t to fa fb = (λ e. absurd (not_both z e (t.found refl)), λ h. absurd (not_both true refl (fa h.1)))
-told P true false x y z s t to fa fb =
-    (λ e. absurd (not_both z e (t.none refl ∙ s.found refl)), λ h. absurd (not_both true refl (fa h.1)))
-told P false true x y z s t to fa fb = (λ e. absurd (not_both z e (t.found refl)), λ h. absurd (not_both true refl (fb h.1)))
-told P false false x y z s t to fa fb =
-    (λ e. (sym (t.none refl ∙ s.none refl) ∙ e, to refl refl), λ h. t.none refl ∙ (s.none refl ∙ h.0))

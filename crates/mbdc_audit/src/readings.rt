@@ -1,15 +1,15 @@
 //! The second walk: whether each value of a window has evidence, and what the place consumed by them.
 
 ghost use Rattle.std.specs.Prelude.{◌≡◌, ◌≤◌, ◌&&◌, ◌==◌, ℕ, true, All, IfErr, IfOk, IsSome, IsTrue, OnOk, Some};
-ghost use Rattle.std.specs.Prelude.{filter, flat_map, map, nat_lt, slice_get, take};
+ghost use Rattle.std.specs.Prelude.{flat_map, map, slice_get};
 ghost use Rattle.std.specs.List.{list_any};
 ghost use Rattle.mbdc_audit.specs.House.{Use as UseOf};
 ghost use Rattle.mbdc_audit.specs.Consumption.Order.{IsInOrder};
-ghost use Rattle.mbdc_audit.specs.Amount.{entries, last_of, of_run};
-ghost use Rattle.mbdc_audit.specs.Evidence.{IsSpelled, list_of};
+ghost use Rattle.mbdc_audit.specs.Amount.{entries, of_run};
+ghost use Rattle.mbdc_audit.specs.Evidence.{IsSpelled};
 ghost use Rattle.mbdc_audit.specs.Settled.{AreCounted, AreKnown, AreOnly, AreSettled, IsOnly, IsReadBy, IsSettled};
 ghost use Rattle.mbdc_audit.specs.Settled.{IsTold};
-ghost use Rattle.mbdc_audit.specs.Sound.{Falls, IsRead, IsReadPlace, told_of};
+ghost use Rattle.mbdc_audit.specs.Sound.{Falls, IsRead, IsReadPlace};
 ghost use Rattle.mbdc_audit.specs.View.{found_of as found_list, house_of, known_in, part_of, place_of, run_of};
 ghost use Rattle.mbdc_audit.specs.View.{seen_value, spelled_in, struck_of, use_of, window_of};
 ghost use Rattle.mbdc_audit.specs.Walk.{AreGraded, AreJudged, Checks, IsJudged, IsOneValue, IsRefused, IsSmall};
@@ -89,49 +89,33 @@ fn shown(value: &Value<'_>, run: u64) -> Option<u64>
     }
 }
 
-// What the last telegram of a run shows, of those that have evidence.
-fn last_shown(values: &[Value<'_>], run: u64) -> Option<u64>
-    ensures { list_of result ≡ map (λ v. v.amount) (last_of (told_of run (flat_map found_list values.now))) }
-{
-    let mut last = None;
-    'values: for value in values {
-        let found = shown(value, run);
-        if found.is_some() {
-            last = found;
-        }
-    }
-    last
-}
-
-// What the first telegram of a run after a moment shows, of those that have evidence.
-fn first_shown(values: &[Value<'_>], run: u64, moment: u64) -> Option<u64>
-    ensures { list_of result ≡ map (λ v. v.amount)
-        (take 1 (filter (λ x. nat_lt moment x.moment) (told_of run (flat_map found_list values.now)))) }
-{
-    'values: for value in values {
-        if value.moment <= moment {
-            continue;
-        }
-        let found = shown(value, run);
-        if found.is_some() {
-            return found;
-        }
-    }
-    None
-}
-
 // Whether telegrams show that a run began anew: its first one after a moment shows less than the last one before.
 fn began_anew(values: &[Value<'_>], zero: &Value<'_>) -> bool
     ensures ok { result ≡ true → Falls (flat_map found_list values.now) (seen_value zero.now) }
     ensures only { Falls (flat_map found_list values.now) (seen_value zero.now) → result ≡ true }
 {
-    if zero.run == 0 {
-        return false;
-    }
-    let Some(high) = last_shown(values, zero.run - 1) else {
+    let Some(before) = zero.run.checked_sub(1) else {
         return false;
     };
-    let Some(low) = first_shown(values, zero.run, zero.moment) else {
+    let (mut high, mut low) = (None, None);
+    'values: for value in values {
+        let old = shown(value, before);
+        if old.is_some() {
+            high = old;
+            continue;
+        }
+        if low.is_some() {
+            continue;
+        }
+        if value.moment <= zero.moment {
+            continue;
+        }
+        low = shown(value, zero.run);
+    }
+    let Some(high) = high else {
+        return false;
+    };
+    let Some(low) = low else {
         return false;
     };
     low < high
@@ -308,9 +292,8 @@ impl<'s, W: Sink> Teller<'s, W> {
     {
         let is_struck = struck.iter().any(|struck| struck.run == value.run
             && struck.moment == value.moment);
-        if is_struck {
-            self.rule(value.line, "Struck", &[Text(b"a struck value counts")])?;
-        }
+        let words = [Text(b"a struck value counts")];
+        self.unless(!is_struck, value.line, "Struck", &words)?;
         let has_other = values.iter().any(|other| {
             if other.moment != value.moment {
                 return false;
@@ -320,9 +303,8 @@ impl<'s, W: Sink> Teller<'s, W> {
                 _ => false,
             }
         });
-        if has_other {
-            self.rule(value.line, "Moment", &[Text(b"two values at one moment")])?;
-        }
+        let words = [Text(b"two values at one moment")];
+        self.unless(!has_other, value.line, "Moment", &words)?;
         Ok(())
     }
 
@@ -371,28 +353,6 @@ impl<'s, W: Sink> Teller<'s, W> {
         Ok(())
     }
 
-    // The windows of a place; says what is wrong.
-    fn read_windows<'a, A: Allocator + Copy>(
-        &mut self,
-        alloc: A,
-        windows: &mut [Window<'a, A>],
-        runs: &[Run<'a>],
-        counts: Counted,
-    ) -> Result<(), Stop>
-        ensures found { Checks result self.old.counts self.new.counts
-            (All (IsRead (map run_of runs.now) counts) (map window_of windows.new)) }
-        ensures kept { OnOk result (map (λ w. bare_window (window_of w)) windows.new
-            ≡ map (λ w. bare_window (window_of w)) windows.old) }
-        ensures values { OnOk result (IsTrue (is_clean self.new.counts) → All AreKnown windows.new) }
-        ensures parts { OnOk result (All (AreCounted (map run_of runs.now)) windows.new) }
-        ensures only { OnOk result (All (IsOnly (map run_of runs.now) counts) windows.new) }
-    {
-        'windows: for window in windows.iter_mut() {
-            self.read_window(alloc, window, runs, counts)?;
-        }
-        Ok(())
-    }
-
     // What a use counts; says where there is no such use.
     fn quantity(&mut self, line: u64, uses: &[Use<'_>], used: u64) -> Result<Counted, Stop>
         ensures found { Checks result self.old.counts self.new.counts (IsSome (slice_get (map use_of uses.now) used)) }
@@ -423,33 +383,10 @@ impl<'s, W: Sink> Teller<'s, W> {
         ensures only { OnOk result (AreOnly (map use_of uses.now) place.new) }
     {
         let counts = self.quantity(place.line, uses, place.used)?;
-        self.read_windows(
-            alloc,
-            place.windows.as_mut_slice(),
-            place.runs.as_slice(),
-            counts,
-        )
-    }
-
-    // The places of a house with these uses; says what is wrong.
-    fn read_places<'a, A: Allocator + Copy>(
-        &mut self,
-        alloc: A,
-        places: &mut [Place<'a, A>],
-        uses: &[Use<'a>],
-    ) -> Result<(), Stop>
-        ensures found { Checks result self.old.counts self.new.counts
-            (All (λ p. IsReadBy (map use_of uses.now) (place_of p)) places.new) }
-        ensures kept { OnOk result (map (λ p. bare_place (place_of p)) places.new
-            ≡ map (λ p. bare_place (place_of p)) places.old) }
-        ensures values { OnOk result (IsTrue (is_clean self.new.counts)
-            → All (λ p. All AreKnown p.windows.items) places.new) }
-        ensures parts { OnOk result
-            (All (λ p. All (AreCounted (map run_of p.runs.items)) p.windows.items) places.new) }
-        ensures only { OnOk result (All (AreOnly (map use_of uses.now)) places.new) }
-    {
-        'places: for place in places.iter_mut() {
-            self.read_place(alloc, place, uses)?;
+        let runs = place.runs.as_slice();
+        let windows = place.windows.as_mut_slice();
+        'windows: for window in windows.iter_mut() {
+            self.read_window(alloc, window, runs, counts)?;
         }
         Ok(())
     }
@@ -470,6 +407,11 @@ impl<'s, W: Sink> Teller<'s, W> {
             (All (λ p. All (AreCounted (map run_of p.runs.items)) p.windows.items) house.new.places.items) }
         ensures only { OnOk result (All (AreOnly (house_of house.new).uses) house.new.places.items) }
     {
-        self.read_places(alloc, house.places.as_mut_slice(), house.uses.as_slice())
+        let uses = house.uses.as_slice();
+        let places = house.places.as_mut_slice();
+        'places: for place in places.iter_mut() {
+            self.read_place(alloc, place, uses)?;
+        }
+        Ok(())
     }
 }

@@ -4,7 +4,7 @@ use Rattle.mbdc_audit.specs.Settled.{AreCounted, AreKnown, AreOnly, IsReadBy}
 use Rattle.mbdc_audit.specs.View.{place_of, run_of, use_of}
 use Rattle.mbdc_audit.specs.Walk.{is_clean}
 use Rattle.mbdc_audit.specs.File.{bare_place}
-use Rattle.mbdc_audit.proofs.teller.Teller.read_places.Given as goal
+use Rattle.mbdc_audit.proofs.teller.Teller.read_values.Given as goal
 
 abbrev pub invariant-places : goal.invariant-places
 invariant-places g l = (IsTrue (is_clean l.self.counts) ↔ (IsTrue (is_clean l.initial.self.counts)

@@ -5,7 +5,7 @@ use Rattle.mbdc_audit.specs.Sound.{IsRead}
 use Rattle.mbdc_audit.specs.View.{run_of, window_of}
 use Rattle.mbdc_audit.specs.Walk.{is_clean}
 use Rattle.mbdc_audit.specs.File.{bare_window}
-use Rattle.mbdc_audit.proofs.teller.Teller.read_windows.Given as goal
+use Rattle.mbdc_audit.proofs.teller.Teller.read_place.Given as goal
 
 abbrev pub invariant-windows : goal.invariant-windows
 invariant-windows g l = (IsTrue (is_clean l.self.counts) ↔ (IsTrue (is_clean l.initial.self.counts)
