@@ -2,7 +2,7 @@
 
 ghost use Rattle.std.specs.Prelude.{◌≡◌, ◌≢◌, ℕ, ◌==◌, ◌&&◌, ◌<◌, ◌≤◌, ◌+◌, ◌^◌, ◌⊎◌, IfErr, IfOk, OnOk};
 ghost use Rattle.std.specs.Prelude.{All, Some, find, fold, is_some};
-ghost use Rattle.std.specs.List.{list_all, list_any};
+ghost use Rattle.std.specs.List.{list_any};
 ghost use Rattle.std.specs.Str.{bytes_eq};
 ghost use Rattle.mbdc_audit.specs.declared.line.Word.TheVariants as word;
 ghost use Rattle.mbdc_audit.specs.Grade.{worst};
@@ -339,24 +339,6 @@ impl<'h, 'a, A: Allocator + Copy> Sums<'h, 'a, A> {
         ))
     }
 
-    // Whether a flat has a place of a number's use with a window of a span, and the time of each of these covers it,
-    // and parts that are all the number's user's.
-    fn is_filled(&self, flat: &[u8], number: &Number<'_>, span: u64, within: &Span<'a>) -> bool
-        ensures { let places = self.now.house.now.places.items in let used = number.now.used in
-            result ≡ (list_any (has_own flat.now used span) places
-            && list_all (is_filled number.now.user flat.now used span (span_of within.now)) places) }
-    {
-        let (mut has_own, mut are_filled) = (false, true);
-        'numbers: for i in self.flats.at(flat_key(flat)) {
-            if let Some(place) = self.house.places.get(*i as usize) {
-                has_own = place.is_own(flat, number.used, span) || has_own;
-                are_filled = place.is_filled(number.user, flat, number.used, span, within)
-                    && are_filled;
-            }
-        }
-        has_own && are_filled
-    }
-
     // Whether a user has the whole of a span: each place of a use of the flat has a time that covers it, and all parts
     // are the user's.
     fn has_whole(&self, span: u64, number: &Number<'_>) -> bool
@@ -368,7 +350,15 @@ impl<'h, 'a, A: Allocator + Copy> Sums<'h, 'a, A> {
         let Some(within) = self.house.spans.get(span as usize) else {
             return false;
         };
-        self.is_filled(user.flat, number, span, within)
+        let (mut has_own, mut are_filled) = (false, true);
+        'numbers: for i in self.flats.at(flat_key(user.flat)) {
+            if let Some(place) = self.house.places.get(*i as usize) {
+                has_own = place.is_own(user.flat, number.used, span) || has_own;
+                are_filled = place.is_filled(number.user, user.flat, number.used, span, within)
+                    && are_filled;
+            }
+        }
+        has_own && are_filled
     }
 
     // A basis with a user's flat more, if the flat's sum is measured, or by hand: of the users of a flat the last one who
