@@ -1,6 +1,7 @@
 -- What a field of a form spells, and nothing else.
 use Rattle.std.proofs.Common.{◌≡◌, ℕ, ◌<◌, List, Bool, true, false, refl, ap, sym, ◌∙◌, subst, arith, Option, None, Some, ◌⊎◌, inl, inr, is_some, rules, Result, Ok, Err, is_ok}
 use Rattle.std.specs.Prelude.{◌↔◌, IfOk, IfSome, IsSome, IsTrue, codes, if◌then◌else◌, option_map}
+use Rattle.std.specs.Bool.{then_some}
 use Rattle.std.specs.Str.{bytes_eq}
 use Rattle.std.proofs.lemmas.Bool.{false≢true}
 use Rattle.std.proofs.lemmas.Option.{none-some, same_Some}
@@ -25,13 +26,13 @@ moved P r s is form = subst (λ (t : Option (Option Spelled)). IsForm P t) (sym 
 
 -- ---- nothing
 
-nothing_by : (P : Type 0) (b : Bool) → IsTrue b ↔ P → IsForm (λ said. (said ≡ None) × P) (if b then Some None else None)
+nothing_by : (P : Type 0) (b : Bool) → IsTrue b ↔ P → IsForm (λ said. (said ≡ None) × P) (then_some b None)
 nothing_by P true iff = record { found = (refl, iff.0 refl); only = λ said is. ap Some (sym is.0) }
 nothing_by P false iff = record { found = tt; only = λ said is. absurd (false≢true (iff.1 is.1)) }
 
-pub nothing : (P : Type 0) (b : Bool) (r : Option (Option Spelled)) → r ≡ (if b then Some None else None) → IsTrue b ↔ P
+pub nothing : (P : Type 0) (b : Bool) (r : Option (Option Spelled)) → r ≡ then_some b None → IsTrue b ↔ P
     → IsForm (λ said. (said ≡ None) × P) r
-nothing P b r is iff = moved (λ said. (said ≡ None) × P) r (if b then Some None else None) is (nothing_by P b iff)
+nothing P b r is iff = moved (λ said. (said ≡ None) × P) r (then_some b None) is (nothing_by P b iff)
 
 pub any : IsForm (λ said. said ≡ None) (Some None)
 any = record { found = refl; only = λ said is. ap Some (sym is) }

@@ -6,7 +6,8 @@ use Rattle.std.specs.List.{list_any}
 use Rattle.mbdc_audit.specs.declared.house.Value as value_type
 use Rattle.mbdc_audit.specs.House.{Value, put}
 use Rattle.mbdc_audit.specs.Amount.{counting, is_again, is_same, known, no_text}
-use Rattle.mbdc_audit.specs.Judged.{After, found_at}
+use Rattle.mbdc_audit.specs.Judged.{found_at}
+use Rattle.mbdc_audit.specs.Sound.{After}
 use Rattle.mbdc_audit.specs.View.{amount_or_0, as_known, known_in, seen_value, value_by}
 use Rattle.mbdc_audit.specs.Walk.{AreFound, is_found, of_result}
 use Rattle.mbdc_audit.proofs.AllOpened.{all_more, length_of}

@@ -12,7 +12,8 @@ use Rattle.mbdc_audit.specs.Amount.{counting, is_same}
 use Rattle.mbdc_audit.specs.Grade.{grade_name}
 use Rattle.mbdc_audit.specs.House.{House, Key, Number, Place, Span, Value, Window}
 use Rattle.mbdc_audit.specs.Published.{ByWord, IsNumberOf, IsPeriod, IsShown, IsText, IsValueOf, MayAskOf, Open, of_text, says_of, share_of, shown_of, worst}
-use Rattle.mbdc_audit.specs.Judged.{After, found_at}
+use Rattle.mbdc_audit.specs.Judged.{found_at}
+use Rattle.mbdc_audit.specs.Sound.{After}
 use Rattle.mbdc_audit.specs.View.{beside_count, key_of, number_by, number_of, seen_value}
 use Rattle.mbdc_audit.specs.File.{AsksNothing}
 use Rattle.mbdc_audit.specs.Walk.{AreFound, Checks, IsHeld, is_clean, open_of}

@@ -6,12 +6,8 @@ use Rattle.std.specs.Prelude.{ℕ, ◌+◌, ◌*◌, ◌/◌, ◌^◌, ◌<◌}
 abbrev pub half_up : ℕ → ℕ → ℕ → ℕ
 half_up num den decimals = (2 * (num * 10 ^ decimals) + den) / (2 * den)
 
--- numbers that are printed have at most 18 digits
-abbrev pub end_of_printed : ℕ
-end_of_printed = 10 ^ 18
-
--- all that is computed on the way fits 128 bits
+-- all that is computed on the way fits 128 bits, and at most 18 digits are printed
 pub record FitsRounded (num den decimals : ℕ) : Type 0 where
   pub scaled : 2 * (num * 10 ^ decimals) + den < 2 ^ 128
   pub half : 2 * den < 2 ^ 128
-  pub few : half_up num den decimals < end_of_printed
+  pub few : half_up num den decimals < 10 ^ 18

@@ -1,11 +1,11 @@
 -- Whether what is published is what holds, as the code compares it (this product).
-use Rattle.std.specs.Prelude.{◌≡◌, ◌<◌, ◌≤◌, ◌⊎◌, ℕ, ◌+◌, ◌==◌, ◌&&◌, ◌||◌, Bool, true, false, if◌then◌else◌, codes}
+use Rattle.std.specs.Prelude.{◌≡◌, ◌⊎◌, ℕ, ◌+◌, ◌==◌, ◌&&◌, ◌||◌, Bool, true, false, if◌then◌else◌, codes}
 use Rattle.std.specs.Prelude.{List, [], ◌∷◌, Option, None, Some, is_some, ⊤}
 use Rattle.mbdc_audit.specs.declared.exact.Exact.{Exact}
 use Rattle.mbdc_audit.specs.Published.{Suffice}
 use Rattle.std.specs.Str.{bytes_eq}
 use Rattle.mbdc_audit.specs.declared.house.Value as value_type
-use Rattle.mbdc_audit.specs.House.{Number, Value}
+use Rattle.mbdc_audit.specs.House.{Number}
 use Rattle.mbdc_audit.specs.Walk.{of_result}
 
 -- a text that begins with a question mark asks
@@ -35,7 +35,3 @@ IsFine n decimals (Some x) = (n.text ≡ codes "-") ⊎ Suffice n.key.word n.key
 abbrev pub found_at : ℕ → ℕ → Option ℕ → value_type.Value → Option ℕ
 found_at run moment before v = if (v.run + 1 == run) && ((v.moment == moment) && is_some (of_result v.found))
     then of_result v.found else before
-
--- a value is no earlier than another one
-abbrev pub After : Value → Value → Type 0
-After a b = (a.moment < b.moment) ⊎ ((a.moment ≡ b.moment) × (a.run ≤ b.run))

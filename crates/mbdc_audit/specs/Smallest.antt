@@ -56,8 +56,7 @@ spelled_after most (Some before) (Some after) =
 
 -- the decimal that a text spells
 unfoldable pub decimal_in : ℕ → List ℕ → Option Spelled
-decimal_in most text = if is_whole_part (parts_of text).0
-    then spelled_after most (digits_on 0 (parts_of text).0) (parts_of text).1 else None
+decimal_in most text = spelled_after most (whole_in (parts_of text).0) (parts_of text).1
 
 -- a decimal of at most nine digits before the point and six after it, times 10^6
 abbrev pub ratio_of : Spelled → Option ℕ

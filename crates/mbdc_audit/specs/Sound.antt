@@ -139,9 +139,13 @@ pub record IsRead (runs : List Run) (q : Counted) (w : Window) : Type 0 where
   pub struck : All (λ x. All (λ v. is_telegram v.source ≡ true → v.run ≡ x.run → v.moment ≡ x.moment → ⊥) w.values)
       w.struck
 
+-- a value is no earlier than another one, and at its moment of no earlier run
+abbrev pub After : Value → Value → Type 0
+After a b = (a.moment < b.moment) ⊎ ((a.moment ≡ b.moment) × (a.run ≤ b.run))
+
 pub record AreTimed (runs : List Run) (s : Span) (w : Window) : Type 0 where
   pub each : All (IsTimed runs) w.values
-  pub order : AllPairs (λ a b. (a.moment < b.moment) ⊎ ((a.moment ≡ b.moment) × (a.run ≤ b.run))) w.values
+  pub order : AllPairs After w.values
   pub near : All (λ e. AreNear e s.from ⊎ AreNear e s.to) (ends_of w)
 
 pub record AreParts (h : House) (p : Place) (s : Span) (w : Window) : Type 0 where
@@ -270,19 +274,15 @@ all_ends h = ends_of_spans h ++ flat_map ends_of_place h.places
 abbrev pub IsLabel : List ℕ → ℕ → Type 0
 IsLabel label day = (d : Day) × IsTrue (exists d.year d.month d.day) × (number_of d ≡ day + 1) × (label ≡ take 7 (day_text d))
 
--- the label is the month of the first day of a span that ends last
-abbrev pub IsLabelled : House → Type 0
-IsLabelled h = Any (λ s. All (λ x. at x.to ≤ at s.to) h.spans × IsLabel h.label s.from.day) h.spans
-
 -- two facts of one key
 abbrev pub AreOne : Declared → Declared → Type 0
 AreOne a b = (a.fact ≡ b.fact) × (a.span ≡ b.span)
 
--- Spans have a time, no two are the same, and the label is the month after the last one's first day
+-- Spans have a time, no two are the same, and the label is the month of the first day of one that ends last
 pub record AreSpans (h : House) : Type 0 where
   pub times : All (λ s. at s.from < at s.to) h.spans
   pub once : AllPairs (λ a b. (at a.from ≡ at b.from) × (at a.to ≡ at b.to) → ⊥) h.spans
-  pub labelled : IsLabelled h
+  pub labelled : Any (λ s. All (λ x. at x.to ≤ at s.to) h.spans × IsLabel h.label s.from.day) h.spans
 
 -- ONE DAY, ONE OFFSET, of quarters of an hour, at most 14 hours; after days that were seen before
 abbrev pub Agree : List End → List End → Type 0

@@ -103,13 +103,6 @@ fn above_0(ratio: Option<u64>) -> Option<Option<Spelled>>
     number(ratio)
 }
 
-// Nothing, for a field that is of its form.
-fn nothing_if(is_of: bool) -> Option<Option<Spelled>>
-    ensures { result ≡ if is_of then Some None else None }
-{
-    if is_of { Some(None) } else { None }
-}
-
 // What a field spells, where a word spells nothing.
 fn unless(word: &str, field: &[u8], otherwise: Option<Option<Spelled>>) -> Option<Option<Spelled>>
     ensures { result ≡ if bytes_eq field.now word.now then Some None else otherwise }
@@ -204,17 +197,17 @@ impl Kind {
     {
         match self {
             Kind::Any | Kind::Beside => Some(None),
-            Kind::Two => nothing_if(is_word(field, "2")),
-            Kind::Dash => nothing_if(is_word(field, "-")),
-            Kind::Month => nothing_if(is_month(field)),
-            Kind::Use => nothing_if(self.is_of(field, 32)),
-            Kind::Flat => nothing_if(self.is_of(field, 12)),
-            Kind::Why => nothing_if(self.is_of(field, 60)),
-            Kind::Vib => nothing_if(is_vib(field)),
-            Kind::Bodies => nothing_if(are_bodies(field)),
-            Kind::Identity => nothing_if(Identity::parse_text(field).is_ok()),
-            Kind::Quantity => nothing_if(Counted::named(field).is_some()),
-            Kind::Text => nothing_if(is_text(field)),
+            Kind::Two => is_word(field, "2").then_some(None),
+            Kind::Dash => is_word(field, "-").then_some(None),
+            Kind::Month => is_month(field).then_some(None),
+            Kind::Use => self.is_of(field, 32).then_some(None),
+            Kind::Flat => self.is_of(field, 12).then_some(None),
+            Kind::Why => self.is_of(field, 60).then_some(None),
+            Kind::Vib => is_vib(field).then_some(None),
+            Kind::Bodies => are_bodies(field).then_some(None),
+            Kind::Identity => Identity::parse_text(field).is_ok().then_some(None),
+            Kind::Quantity => Counted::named(field).is_some().then_some(None),
+            Kind::Text => is_text(field).then_some(None),
             Kind::Whole => number(whole_in(field)),
             Kind::WholeOrNone => unless("-", field, number(whole_in(field))),
             Kind::Ratio => number(ratio_in(field)),

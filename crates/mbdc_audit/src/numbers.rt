@@ -15,8 +15,8 @@ ghost use Rattle.mbdc_audit.specs.House.{Span};
 ghost use Rattle.mbdc_audit.specs.Published.{IsNumber, IsNumberOf, IsPeriod, IsShown, IsValueOf, MayAsk, MayAskOf};
 ghost use Rattle.mbdc_audit.specs.Published.{Open, Suffice, cuts, of_text, printed, rounded, share_of, shown_of};
 ghost use Rattle.mbdc_audit.specs.Published.{worst as worst_share};
-ghost use Rattle.mbdc_audit.specs.Sound.{IsHouse, IsPlace, IsWindow, Tile, from, to};
-ghost use Rattle.mbdc_audit.specs.Judged.{After, IsFine, are_said, found_at, is_said, is_text_said};
+ghost use Rattle.mbdc_audit.specs.Sound.{After, IsHouse, IsPlace, IsWindow, Tile, from, to};
+ghost use Rattle.mbdc_audit.specs.Judged.{IsFine, are_said, found_at, is_said, is_text_said};
 ghost use Rattle.mbdc_audit.specs.View.{beside_count, house_of, key_of, known_in, number_of, place_of, window_of};
 ghost use Rattle.mbdc_audit.specs.Walk.{AreFound, AreGradedAll, Checks, IsGradedPlace, IsHeld, IsQuiet, Sure};
 ghost use Rattle.mbdc_audit.specs.Walk.{decimal_or_dash, is_clean, open_of, texts_beside};
@@ -344,24 +344,6 @@ impl<'f, 'a, F: Sink> Filler<'f, 'a, F> {
         self.done = place;
         self.out.put(front)
     }
-
-    // Writes the file up to a number, and what holds for each field that is asked for.
-    fn fill<A: Allocator + Copy>(
-        &mut self,
-        number: &Number<'_>,
-        held: &[Vec<u8, A>],
-    ) -> Result<(), IoFault> {
-        let mut at = number.at;
-        'fields: for (said, text) in number.said.iter().zip(held.iter()) {
-            if self.may_ask && matches!(*said, [b'?', ..]) {
-                self.up_to(at)?;
-                self.out.put(text.as_slice())?;
-                self.done = at.saturating_add(said.len());
-            }
-            at = at.saturating_add(said.len() + 1);
-        }
-        Ok(())
-    }
 }
 
 // Writes texts, each after a blank.
@@ -413,7 +395,15 @@ impl<'s, W: Sink> Teller<'s, W> {
         ensures { Checks result self.old.counts self.new.counts (is_right ≡ true) }
     {
         self.counts.numbers = self.counts.numbers.saturating_add(1);
-        filler.fill(number, held)?;
+        let mut at = number.at;
+        'fields: for (said, text) in number.said.iter().zip(held.iter()) {
+            if filler.may_ask && matches!(*said, [b'?', ..]) {
+                filler.up_to(at)?;
+                filler.out.put(text.as_slice())?;
+                filler.done = at.saturating_add(said.len());
+            }
+            at = at.saturating_add(said.len() + 1);
+        }
         if is_right {
             return Ok(());
         }

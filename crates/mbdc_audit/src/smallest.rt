@@ -3,7 +3,6 @@
 ghost use Rattle.std.specs.Prelude.{◌≡◌, ◌<◌, ◌≤◌, ◌^◌, ◌*◌, IfSome, option_map, pos, ℕ};
 ghost use Rattle.std.specs.List.{position};
 ghost use Rattle.mbdc_audit.specs.Smallest.{decimal_in, digits_on, end_of_values, fitting};
-ghost use Rattle.mbdc_audit.specs.Smallest.{is_whole_part};
 ghost use Rattle.mbdc_audit.specs.Smallest.{is_point, of_decimal, of_spelled, parts_of};
 ghost use Rattle.mbdc_audit.specs.Smallest.{ratio_in, scaled_down};
 ghost use Rattle.mbdc_audit.specs.Smallest.{whole_in};
@@ -59,10 +58,15 @@ pub fn whole_in(text: &[u8]) -> Option<u64>
     ensures value { result ≡ whole_in text.now }
     ensures small { IfSome result (λ n. n < end_of_values) }
 {
-    if is_whole_part(text) {
-        digits_on(0, text)
-    } else {
-        None
+    match text {
+        [] => None,
+        [_] => digits_on(0, text),
+        [first, ..] => {
+            if *first == b'0' {
+                return None;
+            }
+            digits_on(0, text)
+        }
     }
 }
 
@@ -88,17 +92,6 @@ fn parts_of(text: &[u8]) -> (&[u8], Option<&[u8]>)
     }
 }
 
-// Whether the digits before the point have no 0 that could be left out.
-fn is_whole_part(whole: &[u8]) -> bool
-    ensures { result ≡ is_whole_part whole.now }
-{
-    match whole {
-        [] => false,
-        [_] => true,
-        [first, ..] => *first != b'0',
-    }
-}
-
 /// The decimal that a text spells, with at most this many decimals; without a point or with digits on both sides of it.
 #[tactic(auto, unfolding(crate::specs::Smallest::decimal_in))]
 pub fn decimal_in(text: &[u8], most: usize) -> Option<Spelled>
@@ -108,10 +101,7 @@ pub fn decimal_in(text: &[u8], most: usize) -> Option<Spelled>
     ensures small { IfSome result (λ s. s.digits < end_of_values) }
 {
     let (whole, after) = parts_of(text);
-    if !is_whole_part(whole) {
-        return None;
-    }
-    let before = digits_on(0, whole)?;
+    let before = whole_in(whole)?;
     let Some(after) = after else {
         return Some(Spelled {
             digits: before,

@@ -14,68 +14,68 @@ returns-in-Any c =
 
 pub returns-in-Two : goal.returns-in-Two
 returns-in-Two c =
-    let form = as_kind c.args.self kind.Two c.args.field.now c.nothing_if.result c.in-Two.is
-    (nothing _ _ c.nothing_if.result c.nothing_if.ensures (rw c.is_word.ensures (word_iff c.args.field.now (codes "2")))) in
+    let form = as_kind c.args.self kind.Two c.args.field.now c.then_some.result c.in-Two.is
+    (nothing _ _ c.then_some.result c.then_some.ensures (rw c.is_word.ensures (word_iff c.args.field.now (codes "2")))) in
     record { found = form.found; only = form.only }
 
 pub returns-in-Dash : goal.returns-in-Dash
 returns-in-Dash c =
-    let form = as_kind c.args.self kind.Dash c.args.field.now c.nothing_if-in-Dash.result c.in-Dash.is
-    (nothing _ _ c.nothing_if-in-Dash.result c.nothing_if-in-Dash.ensures (rw c.is_word-in-Dash.ensures (word_iff c.args.field.now (codes "-")))) in
+    let form = as_kind c.args.self kind.Dash c.args.field.now c.then_some-in-Dash.result c.in-Dash.is
+    (nothing _ _ c.then_some-in-Dash.result c.then_some-in-Dash.ensures (rw c.is_word-in-Dash.ensures (word_iff c.args.field.now (codes "-")))) in
     record { found = form.found; only = form.only }
 
 pub returns-in-Month : goal.returns-in-Month
 returns-in-Month c =
-    let form = as_kind c.args.self kind.Month c.args.field.now c.nothing_if-in-Month.result c.in-Month.is
-    (nothing _ c.is_month.result c.nothing_if-in-Month.result c.nothing_if-in-Month.ensures (c.is_month.ensures)) in
+    let form = as_kind c.args.self kind.Month c.args.field.now c.then_some-in-Month.result c.in-Month.is
+    (nothing _ c.is_month.result c.then_some-in-Month.result c.then_some-in-Month.ensures (c.is_month.ensures)) in
     record { found = form.found; only = form.only }
 
 pub returns-in-Use : goal.returns-in-Use
 returns-in-Use c =
-    let form = as_kind c.args.self kind.Use c.args.field.now c.nothing_if-in-Use.result c.in-Use.is
-    (nothing _ c.is_of.result c.nothing_if-in-Use.result c.nothing_if-in-Use.ensures (same_test c.is_of.result (is_of kind.Use 32 c.args.field.now) (c.is_of.ensures ∙ ap (λ (k : Kind). is_of k 32 c.args.field.now) c.in-Use.is))) in
+    let form = as_kind c.args.self kind.Use c.args.field.now c.then_some-in-Use.result c.in-Use.is
+    (nothing _ c.is_of.result c.then_some-in-Use.result c.then_some-in-Use.ensures (same_test c.is_of.result (is_of kind.Use 32 c.args.field.now) (c.is_of.ensures ∙ ap (λ (k : Kind). is_of k 32 c.args.field.now) c.in-Use.is))) in
     record { found = form.found; only = form.only }
 
 pub returns-in-Flat : goal.returns-in-Flat
 returns-in-Flat c =
-    let form = as_kind c.args.self kind.Flat c.args.field.now c.nothing_if-in-Flat.result c.in-Flat.is
-    (nothing _ c.is_of-in-Flat.result c.nothing_if-in-Flat.result c.nothing_if-in-Flat.ensures (same_test c.is_of-in-Flat.result (is_of kind.Flat 12 c.args.field.now) (c.is_of-in-Flat.ensures ∙ ap (λ (k : Kind). is_of k 12 c.args.field.now) c.in-Flat.is))) in
+    let form = as_kind c.args.self kind.Flat c.args.field.now c.then_some-in-Flat.result c.in-Flat.is
+    (nothing _ c.is_of-in-Flat.result c.then_some-in-Flat.result c.then_some-in-Flat.ensures (same_test c.is_of-in-Flat.result (is_of kind.Flat 12 c.args.field.now) (c.is_of-in-Flat.ensures ∙ ap (λ (k : Kind). is_of k 12 c.args.field.now) c.in-Flat.is))) in
     record { found = form.found; only = form.only }
 
 pub returns-in-Why : goal.returns-in-Why
 returns-in-Why c =
-    let form = as_kind c.args.self kind.Why c.args.field.now c.nothing_if-in-Why.result c.in-Why.is
-    (nothing _ c.is_of-in-Why.result c.nothing_if-in-Why.result c.nothing_if-in-Why.ensures (same_test c.is_of-in-Why.result (is_of kind.Why 60 c.args.field.now) (c.is_of-in-Why.ensures ∙ ap (λ (k : Kind). is_of k 60 c.args.field.now) c.in-Why.is))) in
+    let form = as_kind c.args.self kind.Why c.args.field.now c.then_some-in-Why.result c.in-Why.is
+    (nothing _ c.is_of-in-Why.result c.then_some-in-Why.result c.then_some-in-Why.ensures (same_test c.is_of-in-Why.result (is_of kind.Why 60 c.args.field.now) (c.is_of-in-Why.ensures ∙ ap (λ (k : Kind). is_of k 60 c.args.field.now) c.in-Why.is))) in
     record { found = form.found; only = form.only }
 
 pub returns-in-Vib : goal.returns-in-Vib
 returns-in-Vib c =
-    let form = as_kind c.args.self kind.Vib c.args.field.now c.nothing_if-in-Vib.result c.in-Vib.is
-    (nothing _ c.is_vib.result c.nothing_if-in-Vib.result c.nothing_if-in-Vib.ensures (c.is_vib.ensures)) in
+    let form = as_kind c.args.self kind.Vib c.args.field.now c.then_some-in-Vib.result c.in-Vib.is
+    (nothing _ c.is_vib.result c.then_some-in-Vib.result c.then_some-in-Vib.ensures (c.is_vib.ensures)) in
     record { found = form.found; only = form.only }
 
 pub returns-in-Bodies : goal.returns-in-Bodies
 returns-in-Bodies c =
-    let form = as_kind c.args.self kind.Bodies c.args.field.now c.nothing_if-in-Bodies.result c.in-Bodies.is
-    (nothing _ c.are_bodies.result c.nothing_if-in-Bodies.result c.nothing_if-in-Bodies.ensures (c.are_bodies.ensures)) in
+    let form = as_kind c.args.self kind.Bodies c.args.field.now c.then_some-in-Bodies.result c.in-Bodies.is
+    (nothing _ c.are_bodies.result c.then_some-in-Bodies.result c.then_some-in-Bodies.ensures (c.are_bodies.ensures)) in
     record { found = form.found; only = form.only }
 
 pub returns-in-Identity : goal.returns-in-Identity
 returns-in-Identity c =
-    let form = as_kind c.args.self kind.Identity c.args.field.now c.nothing_if-in-Identity.result c.in-Identity.is
-    (nothing _ c.is_ok.result c.nothing_if-in-Identity.result c.nothing_if-in-Identity.ensures (identity_iff c.args.field.now c.parse_text.result c.is_ok.result c.is_ok.ensures.value (search rules) c.parse_text.ensures.found c.parse_text.ensures.only)) in
+    let form = as_kind c.args.self kind.Identity c.args.field.now c.then_some-in-Identity.result c.in-Identity.is
+    (nothing _ c.is_ok.result c.then_some-in-Identity.result c.then_some-in-Identity.ensures (identity_iff c.args.field.now c.parse_text.result c.is_ok.result c.is_ok.ensures.value (search rules) c.parse_text.ensures.found c.parse_text.ensures.only)) in
     record { found = form.found; only = form.only }
 
 pub returns-in-Quantity : goal.returns-in-Quantity
 returns-in-Quantity c =
-    let form = as_kind c.args.self kind.Quantity c.args.field.now c.nothing_if-in-Quantity.result c.in-Quantity.is
-    (nothing _ c.is_some.result c.nothing_if-in-Quantity.result c.nothing_if-in-Quantity.ensures (some_iff (counted_named c.args.field.now) c.is_some.result (c.is_some.ensures ∙ ap is_some c.named.ensures))) in
+    let form = as_kind c.args.self kind.Quantity c.args.field.now c.then_some-in-Quantity.result c.in-Quantity.is
+    (nothing _ c.is_some.result c.then_some-in-Quantity.result c.then_some-in-Quantity.ensures (some_iff (counted_named c.args.field.now) c.is_some.result (c.is_some.ensures ∙ ap is_some c.named.ensures))) in
     record { found = form.found; only = form.only }
 
 pub returns-in-Text : goal.returns-in-Text
 returns-in-Text c =
-    let form = as_kind c.args.self kind.Text c.args.field.now c.nothing_if-in-Text.result c.in-Text.is
-    (nothing _ c.is_text.result c.nothing_if-in-Text.result c.nothing_if-in-Text.ensures (c.is_text.ensures)) in
+    let form = as_kind c.args.self kind.Text c.args.field.now c.then_some-in-Text.result c.in-Text.is
+    (nothing _ c.is_text.result c.then_some-in-Text.result c.then_some-in-Text.ensures (c.is_text.ensures)) in
     record { found = form.found; only = form.only }
 
 pub returns-in-Whole : goal.returns-in-Whole
