@@ -7,34 +7,25 @@ ghost use Rattle.mbdc_audit.specs.declared.fault.Stop.TheVariants.{Fault as OfFa
 use crate::evidence::Refusal;
 use mbdc_io::IoFault;
 use std::alloc::{AllocError, AllocFailed};
-use thiserror::Error;
 
 /// Why a line spells nothing (this product). Numbers 4 and 5 were used until version 1.
-#[derive(Clone, Copy, Debug, Error)]
+#[derive(Clone, Copy)]
 pub enum AuditFault {
     /// The first line isn't the header of version 2.
-    #[error("the first line isn't the header of version 2")]
     Header,
     /// The line has no known word, or its fields aren't of their forms.
-    #[error("the line's word or fields aren't of their forms")]
     Row,
     /// The line can't follow the one before it.
-    #[error("the line can't follow the one before it")]
     Order,
     /// The unit isn't one of the use's.
-    #[error("the unit isn't one of the use's")]
     Unit,
     /// A fact isn't declared, or twice.
-    #[error("a fact isn't declared, or twice")]
     Fact,
     /// There are more than the limit.
-    #[error("there are more than the limit")]
     TooMany,
     /// What is computed of a number doesn't fit 128 bits, or the file is longer than the limit.
-    #[error("a number or the file is too large")]
     TooLarge,
     /// The last line isn't `end`.
-    #[error("the last line isn't the end")]
     End,
 }
 

@@ -30,5 +30,4 @@ mod uses;
 mod values;
 
 pub use engine::{audit, fill};
-pub use fault::AuditFault;
 pub use laws::{a_sound_house_adds_up, amounts_are_of_telegrams, worked_examples};
