@@ -27,8 +27,8 @@ use std::alloc::Global;
 use std::io::{LineWriter, Write};
 use std::rt::Clock;
 
-// The address that all meters answer to (EN 13757-2).
-const ALL: u8 = 254;
+/// The address that all meters answer to (EN 13757-2).
+pub(crate) const ALL: u8 = 254;
 
 // What 16 answers without a frame mean.
 const NOISE: &str =

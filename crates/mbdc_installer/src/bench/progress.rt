@@ -1,6 +1,6 @@
 //! The progress of a search, on a terminal.
 
-use crate::bench::command::{Done, Scan, Work};
+use crate::bench::command::{ALL, Done, Scan, Work};
 use crate::bench::remark::put_remark;
 use crate::{Course, GREATEST};
 use dc_address::Identity;
@@ -165,7 +165,11 @@ impl<R: Clock + Eprint> Observer for Show<'_, '_, R> {
     fn see_answer(&mut self, answer: &[u8]) {
         let progress = self.progress;
         let before = progress.course.get();
-        let course = before.after_answer(answer);
+        let mut course = before.after_answer(answer);
+        if before.address == ALL {
+            // Meters that answer at once say nothing of the bus.
+            course.unreadable = before.unreadable;
+        }
         progress.course.set(course);
         if course.meter == before.meter {
             return;
