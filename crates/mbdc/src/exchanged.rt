@@ -10,7 +10,7 @@ use dc_linkframe::{Frame, FrameBuf, parse};
 use dc_readout::Why;
 use dc_search::meter_of;
 use mbdc_bus::trace::Observer;
-use mbdc_bus::{Both, Bus};
+use mbdc_bus::{Both, Bus, HalfBus, Pause};
 use mbdc_files::Host;
 use mbdc_poll::Event;
 use mbdc_poll::events::Notes;
@@ -140,17 +140,30 @@ where
     O: Observer + Drop,
     R: Net<Stream = TcpStream> + Clock + Copy + Eprint + AllocGlobal,
 {
-    let patience = Some(patience.unwrap_or(PATIENCE));
+    match buses_of(host, peers, observers, Some(patience.unwrap_or(PATIENCE))) {
+        Ok(buses) => look_on_buses(host, buses, Waiter, lines),
+        Err(_) => [None; LINES],
+    }
+}
+
+// Looks on each of these buses, which are any, as the observers are.
+fn look_on_buses<B, P, R>(
+    host: &Host<'_, R>,
+    buses: Vec<B>,
+    pause: P,
+    lines: &[Found; LINES],
+) -> [Option<Identity>; LINES]
+where
+    B: HalfBus + Drop,
+    P: Pause<B> + Copy + Drop,
+    R: Eprint,
+{
     let mut odd = [None; LINES];
-    let Ok(buses) = buses_of(host, peers, observers, patience) else {
-        return odd;
-    };
     let mut line = 0u8;
     for (bus, (found, odd)) in buses.into_iter().zip(lines.iter().zip(odd.iter_mut())) {
         line = line.saturating_add(1);
         if found.missing > 0 || found.disturbed > 0 {
-            let mut bus = Both { bus, pause: Waiter };
-            *odd = look_on_line(host, &mut bus, line, lines);
+            *odd = look_on_line(host, &mut Both { bus, pause }, line, lines);
         }
     }
     odd
