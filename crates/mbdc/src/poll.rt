@@ -22,7 +22,7 @@ use mbdc_ending::Ending;
 use mbdc_files::{Host, Output};
 use mbdc_io::NoMemory;
 use mbdc_poll::events::{Form, Notes};
-use mbdc_poll::{Plan, with_filters};
+use mbdc_poll::{Plan, PollBus, with_filters};
 use mbdc_raw::links::{Peer, Watched};
 use std::alloc::Global;
 use std::cell::Cell;
@@ -180,13 +180,7 @@ where
 {
     let mut all = Vec::new(host.rt.alloc());
     for (bus, before) in buses.into_iter().zip(before.iter_mut()) {
-        let bus = with_filters(
-            bus,
-            before.silent.as_mut_slice(),
-            before.sent.as_mut_slice(),
-            before.selected.as_mut_slice(),
-        );
-        if all.push(bus).is_err() {
+        if all.push(filtered(bus, before)).is_err() {
             return Ending::Memory;
         }
     }
@@ -209,4 +203,14 @@ where
         task.image,
     );
     ending
+}
+
+// This bus with the filters of a poll, a call that the borrow checker doesn't cover within the loop.
+fn filtered<'b, B: HalfBus + Drop>(bus: B, before: &'b mut Before) -> PollBus<'b, 'b, 'b, B> {
+    with_filters(
+        bus,
+        before.silent.as_mut_slice(),
+        before.sent.as_mut_slice(),
+        before.selected.as_mut_slice(),
+    )
 }
