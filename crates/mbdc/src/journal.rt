@@ -243,7 +243,6 @@ impl<'h, 'i, R: Files<File = File> + Clock + Eprint + AllocGlobal> Noting<'h, 'i
             return Ok(format!(in alloc; "\"{name}\"{METERS}{addresses}")?);
         }
         let mut said = format!(in alloc; "null{METERS}")?;
-        let mut between = "";
         for it in &before.selected {
             let others = before
                 .selected
@@ -256,8 +255,10 @@ impl<'h, 'i, R: Files<File = File> + Clock + Eprint + AllocGlobal> Noting<'h, 'i
             {
                 let (text, address) = (it.meter.text(), address.get());
                 let name = str::from_utf8(&text).unwrap_or_default();
-                said.push_str(format!(in alloc; "{between}\"{name}\":{address}")?.as_str())?;
-                between = ",";
+                if !said.as_str().ends_with('{') {
+                    said.push_str(",")?;
+                }
+                said.push_str(format!(in alloc; "\"{name}\":{address}")?.as_str())?;
             }
         }
         said.push_str(LAST)?;
