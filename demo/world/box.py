@@ -9,7 +9,7 @@ from collections.abc import Iterable, Iterator, Sequence
 from typing import NamedTuple, Optional, Union
 
 WINDOW = 100  # the most readings that one line of the office shows
-RUN_SECONDS = 180  # at most, of one run of the program
+RUN_SECONDS = 240  # at most, of one run of the program
 COMMITTED = "COMMITTED 1"
 
 Word = Union[str, int, pathlib.Path]
