@@ -15,4 +15,4 @@ from mbdc._library import LibraryFault, decode_json, decode_text
 
 __all__ = ["Frame", "LibraryFault", "Meter", "Record", "Telegram", "TelegramFault", "Value", "decode", "decode_json", "decode_text",
            "frames", "telegram"]
-__version__ = "0.2.0"
+__version__ = "0.3.0"

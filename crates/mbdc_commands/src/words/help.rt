@@ -2,7 +2,7 @@
 //! columns, lines and faults.
 
 /// The version, and the logic in which the program is proved: `rt version` names it too.
-pub const VERSION: &str = "0.2.0, logic dac8208d650f15bf";
+pub const VERSION: &str = "0.3.0, logic dac8208d650f15bf";
 
 /// Of the program. Each command has the first line of its own help here; packaging/words.py
 /// compares them.
