@@ -107,7 +107,7 @@ def troubles_of(days: Days) -> list[Trouble]:
                 " 00:12'), clock_at = now() WHERE name = '{house}'", "take_over", {},
                 "UPDATE boxes SET clock = NULL, clock_at = NULL WHERE name = '{house}'"),
         Trouble("disturbed", values.format(change="value + 2000", house="{house}", place="{place}") + " AND day ="
-                f" '{end}'", "strike", {}, place=COLD),
+                f" '{end - datetime.timedelta(days=3)}'", "strike", {}, place=COLD),
         Trouble("turn", values.format(change=f"(value + {99_200 - turned(days) / 4}) %% 100000", house="{house}",
                                       place="{place}") + "; INSERT INTO points (box, serial, part, place, storage,"
                 " function, tariff, subunit, vib, shown, value, unit) SELECT '{house}', id, 1, 1, 0, 0, 0, 0, '13',"
