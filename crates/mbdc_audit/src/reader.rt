@@ -1,7 +1,7 @@
 //! Reads lines into a house.
 
 ghost use Rattle.std.specs.Prelude.{◌≡◌, ◌≤◌, ◌<◌, ◌+◌, ◌-◌, ◌⊎◌, ◌↔◌, ◌==◌, ◌&&◌, ◌||◌, ℕ, true, false};
-ghost use Rattle.std.specs.Prelude.{All, IfErr, IfOk, IsSome, IsTrue, None, Some, is_some, length, slice_get};
+ghost use Rattle.std.specs.Prelude.{All, IfErr, IfOk, IsSome, IsTrue, None, Some, is_some, length, map, slice_get};
 ghost use Rattle.dc_address.specs.Text.{text_of};
 ghost use Rattle.dc_address.specs.declared.identity.Identity as identity_type;
 ghost use Rattle.mbdc_audit.specs.declared.house.Fact as fact_type;
@@ -27,7 +27,7 @@ ghost use Rattle.mbdc_audit.specs.View.{beside_count, house_of, key_of, number_o
 use crate::curve::{Amount, Run};
 use crate::fault::{AuditFault, Stop};
 use crate::house::{
-    Allowed, Declared, Fact, House, Number, Part, Place, Span, Struck, Use, User, Value, Window,
+    Allowed, Declared, Fact, House, Number, Part, Place, Span, Struck, Use, User, Window,
 };
 use crate::line::{BEGUN, ENDED, Line, Word, is_asked, is_fed, is_header, may_follow, use_place};
 use crate::number::scale_in;
@@ -60,15 +60,6 @@ fn only_if(may: bool, fault: AuditFault) -> Result<(), AuditFault>
     if may { Ok(()) } else { Err(fault) }
 }
 
-/// Reads a file: the lines so far as a house.
-#[derive(Drop)]
-pub(crate) struct Reader<'a, A: Allocator + Copy> {
-    alloc: A,
-    may_ask: bool,
-    stage: u8,
-    pub house: House<'a, A>,
-}
-
 /// The house that a file spells.
 ///
 /// # Errors
@@ -82,91 +73,91 @@ pub(crate) fn read_house<'a, A: Allocator + Copy>(
     ensures err { IfErr result (λ e. IsFault e.1 → (h : SaidHouse) → Spells may_ask file.now h → ⊥) }
     ensures asks { may_ask ≡ false → IfOk result (λ h. IsQuiet (house_of h)) }
 {
-    let mut reader = Reader {
-        alloc,
-        may_ask,
-        stage: BEGUN,
-        house: House {
-            lines: 0,
-            label: &[],
-            uses: Vec::new(alloc),
-            allowed: Vec::new(alloc),
-            spans: Vec::new(alloc),
-            facts: Vec::new(alloc),
-            users: Vec::new(alloc),
-            places: Vec::new(alloc),
-            numbers: Vec::new(alloc),
-        },
+    let mut house = House {
+        lines: 0,
+        label: &[],
+        uses: Vec::new(alloc),
+        allowed: Vec::new(alloc),
+        spans: Vec::new(alloc),
+        facts: Vec::new(alloc),
+        users: Vec::new(alloc),
+        places: Vec::new(alloc),
+        numbers: Vec::new(alloc),
     };
+    let mut stage = BEGUN;
     let mut left = file;
     'lines: while !left.is_empty() {
         let (line, rest) = first_line(left);
         let at = file.len() - left.len();
-        reader.house.lines = reader.house.lines.saturating_add(1);
-        match reader.step(line, at) {
-            Ok(()) => left = rest,
-            Err(stop) => return Err((reader.house.lines, stop)),
+        house.lines = house.lines.saturating_add(1);
+        match house.step(alloc, may_ask, stage, line, at) {
+            Ok(next) => stage = next,
+            Err(stop) => return Err((house.lines, stop)),
         }
+        left = rest;
     }
-    let line = reader.house.lines.saturating_add(1);
-    if reader.stage != ENDED {
+    let line = house.lines.saturating_add(1);
+    if stage != ENDED {
         return Err((line, Stop::Fault(AuditFault::End)));
     }
     // The last line ends with a feed, too.
     if !is_fed(file) {
         return Err((line, Stop::Fault(AuditFault::End)));
     }
-    Ok(reader.house)
+    Ok(house)
 }
 
-impl<'a, A: Allocator + Copy> Reader<'a, A> {
-    // Reads a line, which begins at a place of the file.
-    fn step(&mut self, text: &'a [u8], at: usize) -> Result<(), Stop>
-        ensures ok { IfOk result (λ u. Follows self.old.stage text.now (house_of self.old.house)
-            self.new.stage (house_of self.new.house)) }
-        ensures err { IfErr result (λ s. IsFault s → CantFollow self.old.stage text.now (house_of self.old.house)
-            ⊎ ((self.old.may_ask ≡ false) × IsAsked text.now)) }
-        ensures asks { self.old.may_ask ≡ false → IfOk result (λ u. (IsAsked text.now → ⊥)
-            × (IsQuiet (house_of self.old.house) → IsQuiet (house_of self.new.house))) }
-        ensures kept { self.new.may_ask ≡ self.old.may_ask }
+impl<'a, A: Allocator + Copy> House<'a, A> {
+    // Reads a line, which begins at a place of the file, after those up to a stage; returns the next one.
+    fn step(
+        &mut self,
+        alloc: A,
+        may_ask: bool,
+        stage: u8,
+        text: &'a [u8],
+        at: usize,
+    ) -> Result<u8, Stop>
+        ensures ok { IfOk result (λ n. Follows stage text.now (house_of self.old) n (house_of self.new)) }
+        ensures err { IfErr result (λ s. IsFault s → CantFollow stage text.now (house_of self.old)
+            ⊎ ((may_ask ≡ false) × IsAsked text.now)) }
+        ensures asks { may_ask ≡ false → IfOk result (λ n. (IsAsked text.now → ⊥)
+            × (IsQuiet (house_of self.old) → IsQuiet (house_of self.new))) }
     {
         if text.len() > LONGEST {
             return Err(Stop::Fault(AuditFault::End));
         }
-        if self.stage == ENDED {
+        if stage == ENDED {
             return Err(Stop::Fault(AuditFault::End));
         }
-        if self.stage == BEGUN && !is_header(text) {
+        if stage == BEGUN && !is_header(text) {
             return Err(Stop::Fault(AuditFault::Header));
         }
         let line = match Line::read(text) {
             Ok(line) => line,
             Err(fault) => return Err(Stop::Fault(fault)),
         };
-        if !self.may_ask && is_asked(&line) {
+        if !may_ask && is_asked(&line) {
             return Err(Stop::Fault(AuditFault::Row));
         }
-        if !may_follow(line.stage, self.stage) {
+        if !may_follow(line.stage, stage) {
             return Err(Stop::Fault(AuditFault::Order));
         }
-        self.stage = line.stage;
-        match self.add(&line, text, at) {
-            Ok(()) => Ok(()),
+        match self.add(alloc, &line, text, at) {
+            Ok(()) => Ok(line.stage),
             Err(stop) => Err(stop),
         }
     }
 
     // Adds what a line says, which begins at a place of the file.
-    fn add(&mut self, line: &Line<'a>, text: &'a [u8], at: usize) -> Result<(), Stop>
+    fn add(&mut self, alloc: A, line: &Line<'a>, text: &'a [u8], at: usize) -> Result<(), Stop>
         requires line { IsLine text.now line.now }
         requires bounded { IsBounded line.now.word line.now }
-        ensures ok { IfOk result (λ u. Adds (house_of self.old.house) line.now (house_of self.new.house)) }
-        ensures err { IfErr result (λ s. IsFault s → AddsNothing (house_of self.old.house) line.now) }
-        ensures kept { (self.new.stage ≡ self.old.stage) × (self.new.may_ask ≡ self.old.may_ask) }
+        ensures ok { IfOk result (λ u. Adds (house_of self.old) line.now (house_of self.new)) }
+        ensures err { IfErr result (λ s. IsFault s → AddsNothing (house_of self.old) line.now) }
     {
         match line.word {
             Word::Audit => {
-                self.house.label = field(line, 1);
+                self.label = field(line, 1);
                 Ok(())
             }
             Word::Use => self.add_use(line),
@@ -176,9 +167,9 @@ impl<'a, A: Allocator + Copy> Reader<'a, A> {
                 self.add_fact(line)
             }
             Word::User => self.add_user(line),
-            Word::Place => self.add_place(line),
+            Word::Place => self.add_place(alloc, line),
             Word::Meter => self.add_meter(line),
-            Word::Window => self.open(line),
+            Word::Window => self.open(alloc, line),
             Word::Part => self.add_part(line),
             Word::Totals => Ok(()),
             Word::End => Ok(()),
@@ -205,11 +196,11 @@ impl<'a, A: Allocator + Copy> Reader<'a, A> {
     }
 
     // The place of a use's word.
-    fn used(&self, name: &[u8]) -> Result<u64, AuditFault>
-        ensures ok { IfOk result (λ n. first_named (house_of self.now.house) name.now ≡ Some n) }
-        ensures err { IfErr result (λ f. first_named (house_of self.now.house) name.now ≡ None) }
+    fn use_named(&self, name: &[u8]) -> Result<u64, AuditFault>
+        ensures ok { IfOk result (λ n. first_named (house_of self.now) name.now ≡ Some n) }
+        ensures err { IfErr result (λ f. first_named (house_of self.now) name.now ≡ None) }
     {
-        let place = self.house.uses.iter().position(|used| used.name == name);
+        let place = self.uses.iter().position(|used| used.name == name);
         match place {
             Some(place) => Ok(place as u64),
             None => Err(AuditFault::Fact),
@@ -218,19 +209,19 @@ impl<'a, A: Allocator + Copy> Reader<'a, A> {
 
     // The place of a span by its number.
     fn span(&self, number: u64) -> Result<u64, AuditFault>
-        ensures ok { IfOk result (λ n. (number ≡ n + 1) × (n < length self.now.house.spans.items)) }
-        ensures err { IfErr result (λ f. (number ≡ 0) ⊎ (length self.now.house.spans.items < number)) }
+        ensures ok { IfOk result (λ n. (number ≡ n + 1) × (n < length self.now.spans.items)) }
+        ensures err { IfErr result (λ f. (number ≡ 0) ⊎ (length self.now.spans.items < number)) }
     {
-        let is_there = 0 < number && number <= self.house.spans.len() as u64;
+        let is_there = 0 < number && number <= self.spans.len() as u64;
         only_if(is_there, AuditFault::Fact)?;
         Ok(number - 1)
     }
 
     // What the meters of a use count.
     fn counts(&self, used: u64) -> Option<Counted>
-        ensures { result ≡ quantity (house_of self.now.house) used }
+        ensures { result ≡ quantity (house_of self.now) used }
     {
-        match self.house.uses.get(used as usize) {
+        match self.uses.get(used as usize) {
             Some(it) => Some(it.counts),
             None => None,
         }
@@ -238,9 +229,9 @@ impl<'a, A: Allocator + Copy> Reader<'a, A> {
 
     // The unit of a number of a use, which is one of the use's.
     fn unit(&self, used: u64, unit: &[u8]) -> Result<Unit, AuditFault>
-        ensures ok { IfOk result (λ u. (unit_named unit.now ≡ Some u) × IsUnit (house_of self.now.house) used u) }
+        ensures ok { IfOk result (λ u. (unit_named unit.now ≡ Some u) × IsUnit (house_of self.now) used u) }
         ensures err { IfErr result (λ f. (u : Unit) → unit_named unit.now ≡ Some u →
-            IsUnit (house_of self.now.house) used u → ⊥) }
+            IsUnit (house_of self.now) used u → ⊥) }
     {
         let unit = Unit::named(unit).ok_or(AuditFault::Unit)?;
         let counts = self.counts(used).ok_or(AuditFault::Unit)?;
@@ -252,10 +243,10 @@ impl<'a, A: Allocator + Copy> Reader<'a, A> {
 
     // The size of a reading's unit, which counts what the use does.
     fn size(&self, used: u64, unit: &[u8]) -> Result<u64, AuditFault>
-        ensures ok { IfOk result (λ n. (q : counted_type.Counted) × (quantity (house_of self.now.house) used ≡ Some q)
+        ensures ok { IfOk result (λ n. (q : counted_type.Counted) × (quantity (house_of self.now) used ≡ Some q)
             × (size_named unit.now ≡ Some (q, n))) }
         ensures err { IfErr result (λ f. (q : counted_type.Counted) (n : ℕ)
-            → quantity (house_of self.now.house) used ≡ Some q → size_named unit.now ≡ Some (q, n) → ⊥) }
+            → quantity (house_of self.now) used ≡ Some q → size_named unit.now ≡ Some (q, n) → ⊥) }
     {
         let (counted, size) = size_named(unit).ok_or(AuditFault::Unit)?;
         let counts = self.counts(used).ok_or(AuditFault::Unit)?;
@@ -265,83 +256,79 @@ impl<'a, A: Allocator + Copy> Reader<'a, A> {
 
     fn add_use(&mut self, line: &Line<'a>) -> Result<(), Stop>
         requires { line.now.word ≡ Word.Use }
-        ensures ok { IfOk result (λ u. Adds (house_of self.old.house) line.now (house_of self.new.house)) }
-        ensures err { IfErr result (λ s. IsFault s → AddsNothing (house_of self.old.house) line.now) }
-        ensures kept { (self.new.stage ≡ self.old.stage) × (self.new.may_ask ≡ self.old.may_ask) }
+        ensures ok { IfOk result (λ u. Adds (house_of self.old) line.now (house_of self.new)) }
+        ensures err { IfErr result (λ s. IsFault s → AddsNothing (house_of self.old) line.now) }
     {
         let name = field(line, 0);
-        only_if(self.used(name).is_err(), AuditFault::Fact)?;
-        only_if(self.house.uses.len() < MOST_USES, AuditFault::TooMany)?;
+        only_if(self.use_named(name).is_err(), AuditFault::Fact)?;
+        only_if(self.uses.len() < MOST_USES, AuditFault::TooMany)?;
         let counts = Counted::named(field(line, 1)).ok_or(AuditFault::Row)?;
-        self.house.uses.push(Use { name, counts })?;
+        self.uses.push(Use { name, counts })?;
         Ok(())
     }
 
     fn add_allowed(&mut self, line: &Line<'a>) -> Result<(), Stop>
         requires word { line.now.word ≡ Word.As }
         requires bounded { IsBounded line.now.word line.now }
-        ensures ok { IfOk result (λ u. Adds (house_of self.old.house) line.now (house_of self.new.house)) }
-        ensures err { IfErr result (λ s. IsFault s → AddsNothing (house_of self.old.house) line.now) }
-        ensures kept { (self.new.stage ≡ self.old.stage) × (self.new.may_ask ≡ self.old.may_ask) }
+        ensures ok { IfOk result (λ u. Adds (house_of self.old) line.now (house_of self.new)) }
+        ensures err { IfErr result (λ s. IsFault s → AddsNothing (house_of self.old) line.now) }
     {
         let allowed = Allowed {
-            line: self.house.lines,
-            used: self.used(field(line, 0))?,
+            line: self.lines,
+            used: self.use_named(field(line, 0))?,
             kind: line.number(1) as u8,
             why: field(line, 2),
         };
-        let is_there = self.house.allowed.iter().any(|other| other.used == allowed.used
+        let is_there = self.allowed.iter().any(|other| other.used == allowed.used
             && other.kind == allowed.kind);
         only_if(!is_there, AuditFault::Fact)?;
-        self.house.allowed.push(allowed)?;
+        self.allowed.push(allowed)?;
         Ok(())
     }
 
     fn add_span(&mut self, line: &Line<'a>) -> Result<(), Stop>
         requires word { line.now.word ≡ Word.Span }
         requires bounded { IsBounded line.now.word line.now }
-        ensures ok { IfOk result (λ u. Adds (house_of self.old.house) line.now (house_of self.new.house)) }
-        ensures err { IfErr result (λ s. IsFault s → AddsNothing (house_of self.old.house) line.now) }
-        ensures kept { (self.new.stage ≡ self.old.stage) × (self.new.may_ask ≡ self.old.may_ask) }
+        ensures ok { IfOk result (λ u. Adds (house_of self.old) line.now (house_of self.new)) }
+        ensures err { IfErr result (λ s. IsFault s → AddsNothing (house_of self.old) line.now) }
     {
-        let count = self.house.spans.len();
+        let count = self.spans.len();
         only_if(line.number(0) == count as u64 + 1, AuditFault::Order)?;
         only_if(count < MOST_SPANS, AuditFault::TooMany)?;
         let span = Span {
-            line: self.house.lines,
+            line: self.lines,
             from: line.day_end(1),
             to: line.day_end(3),
         };
-        self.house.spans.push(span)?;
+        self.spans.push(span)?;
         Ok(())
     }
 
     fn add_fact(&mut self, line: &Line<'a>) -> Result<(), Stop>
         requires { is_fact line.now.word ≡ true }
-        ensures ok { IfOk result (λ u. Adds (house_of self.old.house) line.now (house_of self.new.house)) }
-        ensures err { IfErr result (λ s. IsFault s → AddsNothing (house_of self.old.house) line.now) }
-        ensures kept { (self.new.stage ≡ self.old.stage) × (self.new.may_ask ≡ self.old.may_ask) }
+        ensures ok { IfOk result (λ u. Adds (house_of self.old) line.now (house_of self.new)) }
+        ensures err { IfErr result (λ s. IsFault s → AddsNothing (house_of self.old) line.now) }
     {
         let fact = self.fact(line)?;
         let at = span_place(fact);
         let (span, ratio) = (self.span(line.number(at))?, line.number(at + 1));
-        only_if(self.house.declared(fact, span).is_none(), AuditFault::Fact)?;
-        self.house.facts.push(Declared { fact, span, ratio })?;
+        only_if(self.declared(fact, span).is_none(), AuditFault::Fact)?;
+        self.facts.push(Declared { fact, span, ratio })?;
         Ok(())
     }
 
     // What a line declares of a span.
     fn fact(&self, line: &Line<'a>) -> Result<Fact, AuditFault>
         requires { is_fact line.now.word ≡ true }
-        ensures ok { IfOk result (λ f. IsFact (house_of self.now.house) f line.now
-            × ((used : ℕ) → use_of f ≡ Some used → IsMeant (house_of self.now.house) used)) }
-        ensures err { IfErr result (λ f. (f : fact_type.Fact) → IsFact (house_of self.now.house) f line.now
-            → ((used : ℕ) → use_of f ≡ Some used → IsMeant (house_of self.now.house) used) → ⊥) }
+        ensures ok { IfOk result (λ f. IsFact (house_of self.now) f line.now
+            × ((used : ℕ) → use_of f ≡ Some used → IsMeant (house_of self.now) used)) }
+        ensures err { IfErr result (λ f. (f : fact_type.Fact) → IsFact (house_of self.now) f line.now
+            → ((used : ℕ) → use_of f ≡ Some used → IsMeant (house_of self.now) used) → ⊥) }
     {
         if matches!(line.word, Word::Degrees) {
             return Ok(Fact::Degrees);
         }
-        let used = self.used(field(line, 0))?;
+        let used = self.use_named(field(line, 0))?;
         match line.word {
             Word::Factor => Ok(Fact::Factor(used)),
             Word::Emissions => Ok(Fact::Emissions(used)),
@@ -352,51 +339,49 @@ impl<'a, A: Allocator + Copy> Reader<'a, A> {
 
     fn add_user(&mut self, line: &Line<'a>) -> Result<(), Stop>
         requires { line.now.word ≡ Word.User }
-        ensures ok { IfOk result (λ u. Adds (house_of self.old.house) line.now (house_of self.new.house)) }
-        ensures err { IfErr result (λ s. IsFault s → AddsNothing (house_of self.old.house) line.now) }
-        ensures kept { (self.new.stage ≡ self.old.stage) × (self.new.may_ask ≡ self.old.may_ask) }
+        ensures ok { IfOk result (λ u. Adds (house_of self.old) line.now (house_of self.new)) }
+        ensures err { IfErr result (λ s. IsFault s → AddsNothing (house_of self.old) line.now) }
     {
         let number = line.number(0);
         only_if(self.is_next_user(number), AuditFault::Order)?;
-        only_if(self.house.users.len() < MOST_USERS, AuditFault::TooMany)?;
+        only_if(self.users.len() < MOST_USERS, AuditFault::TooMany)?;
         let user = User {
-            line: self.house.lines,
+            line: self.lines,
             number,
             flat: field(line, 1),
             area: line.maybe(2),
         };
-        self.house.users.push(user)?;
+        self.users.push(user)?;
         Ok(())
     }
 
     // Whether a user's number is above the last one's.
     fn is_next_user(&self, number: u64) -> bool
-        ensures { IsTrue result ↔ All (λ u. u.number < number) (last_of (house_of self.now.house).users) }
+        ensures { IsTrue result ↔ All (λ u. u.number < number) (last_of (house_of self.now).users) }
     {
-        match self.house.users.last() {
+        match self.users.last() {
             Some(last) => last.number < number,
             None => true,
         }
     }
 
-    fn add_place(&mut self, line: &Line<'a>) -> Result<(), Stop>
+    fn add_place(&mut self, alloc: A, line: &Line<'a>) -> Result<(), Stop>
         requires { line.now.word ≡ Word.Place }
-        ensures ok { IfOk result (λ u. Adds (house_of self.old.house) line.now (house_of self.new.house)) }
-        ensures err { IfErr result (λ s. IsFault s → AddsNothing (house_of self.old.house) line.now) }
-        ensures kept { (self.new.stage ≡ self.old.stage) × (self.new.may_ask ≡ self.old.may_ask) }
+        ensures ok { IfOk result (λ u. Adds (house_of self.old) line.now (house_of self.new)) }
+        ensures err { IfErr result (λ s. IsFault s → AddsNothing (house_of self.old) line.now) }
     {
-        let count = self.house.places.len();
+        let count = self.places.len();
         only_if(line.number(0) == count as u64 + 1, AuditFault::Order)?;
         only_if(count < MOST_PLACES, AuditFault::TooMany)?;
-        let place = Place {
-            line: self.house.lines,
+        let used = self.use_named(field(line, 2))?;
+        self.places.push(Place {
+            line: self.lines,
             flat: field(line, 1),
-            used: self.used(field(line, 2))?,
+            used,
             weight: line.number(3),
-            runs: Vec::new(self.alloc),
-            windows: Vec::new(self.alloc),
-        };
-        self.house.places.push(place)?;
+            runs: Vec::new(alloc),
+            windows: Vec::new(alloc),
+        })?;
         Ok(())
     }
 
@@ -404,64 +389,63 @@ impl<'a, A: Allocator + Copy> Reader<'a, A> {
         requires word { line.now.word ≡ Word.Meter }
         requires identity { (i : identity_type.Identity) × (i.version < 256) × (i.kind < 256)
             × (text_at 1 line.now ≡ text_of i) }
-        ensures ok { IfOk result (λ u. Adds (house_of self.old.house) line.now (house_of self.new.house)) }
-        ensures err { IfErr result (λ s. IsFault s → AddsNothing (house_of self.old.house) line.now) }
-        ensures kept { (self.new.stage ≡ self.old.stage) × (self.new.may_ask ≡ self.old.may_ask) }
+        ensures ok { IfOk result (λ u. Adds (house_of self.old) line.now (house_of self.new)) }
+        ensures err { IfErr result (λ s. IsFault s → AddsNothing (house_of self.old) line.now) }
     {
         let Ok(identity) = Identity::parse_text(field(line, 1)) else {
             return Err(Stop::Fault(AuditFault::Row));
         };
-        let run = Run {
-            line: self.house.lines,
+        let at = self.lines;
+        let place = self.places.last_mut().ok_or(AuditFault::Order)?;
+        only_if(
+            line.number(0) == place.runs.len() as u64 + 1,
+            AuditFault::Order,
+        )?;
+        only_if(place.runs.len() < MOST_METERS, AuditFault::TooMany)?;
+        place.runs.push(Run {
+            line: at,
             identity,
             begin: line.number(2),
             end: line.maybe(3),
             most: line.number(4),
             size: line.number(5),
             vib: vib(field(line, 6)),
-        };
-        let place = self.house.places.last_mut().ok_or(AuditFault::Order)?;
-        only_if(
-            line.number(0) == place.runs.len() as u64 + 1,
-            AuditFault::Order,
-        )?;
-        only_if(place.runs.len() < MOST_METERS, AuditFault::TooMany)?;
-        place.runs.push(run)?;
+        })?;
         Ok(())
     }
 
     // Opens the window of a span; their numbers rise.
-    fn open(&mut self, line: &Line<'a>) -> Result<(), Stop>
+    fn open(&mut self, alloc: A, line: &Line<'a>) -> Result<(), Stop>
         requires { line.now.word ≡ Word.Window }
-        ensures ok { IfOk result (λ u. Adds (house_of self.old.house) line.now (house_of self.new.house)) }
-        ensures err { IfErr result (λ s. IsFault s → AddsNothing (house_of self.old.house) line.now) }
-        ensures kept { (self.new.stage ≡ self.old.stage) × (self.new.may_ask ≡ self.old.may_ask) }
+        ensures ok { IfOk result (λ u. Adds (house_of self.old) line.now (house_of self.new)) }
+        ensures err { IfErr result (λ s. IsFault s → AddsNothing (house_of self.old) line.now) }
     {
-        let window = Window {
-            line: self.house.lines,
-            span: self.span(line.number(0))?,
-            values: Vec::new(self.alloc),
-            struck: Vec::new(self.alloc),
-            parts: Vec::new(self.alloc),
-            numbers: Vec::new(self.alloc),
-        };
-        let place = self.house.places.last_mut().ok_or(AuditFault::Order)?;
-        only_if(is_next_window(place, window.span), AuditFault::Order)?;
-        place.windows.push(window)?;
+        let span = self.span(line.number(0))?;
+        let at = self.lines;
+        let place = self.places.last_mut().ok_or(AuditFault::Order)?;
+        only_if(is_next_window(place, span), AuditFault::Order)?;
+        place.windows.push(Window {
+            line: at,
+            span,
+            values: Vec::new(alloc),
+            struck: Vec::new(alloc),
+            parts: Vec::new(alloc),
+            numbers: Vec::new(alloc),
+        })?;
         Ok(())
     }
 
     fn add_value(&mut self, line: &Line<'a>) -> Result<(), Stop>
         requires bounded { IsBounded line.now.word line.now }
         requires word { (line.now.word ≡ Word.Struck) ⊎ (is_value line.now.word ≡ true) }
-        ensures ok { IfOk result (λ u. Adds (house_of self.old.house) line.now (house_of self.new.house)) }
-        ensures err { IfErr result (λ s. IsFault s → AddsNothing (house_of self.old.house) line.now) }
-        ensures kept { (self.new.stage ≡ self.old.stage) × (self.new.may_ask ≡ self.old.may_ask) }
+        ensures ok { IfOk result (λ u. Adds (house_of self.old) line.now (house_of self.new)) }
+        ensures err { IfErr result (λ s. IsFault s → AddsNothing (house_of self.old) line.now) }
     {
-        let at = self.house.lines;
+        let at = self.lines;
         let number = line.number(0);
-        let place = self.house.places.last_mut().ok_or(AuditFault::Order)?;
-        let meter = run_at(place, number)?;
+        let place = self.places.last_mut().ok_or(AuditFault::Order)?;
+        let runs = place.runs.as_slice();
+        let meter = run_at(runs, number)?;
         let window = place.windows.last_mut().ok_or(AuditFault::Order)?;
         match line.word {
             Word::Struck => {
@@ -475,8 +459,8 @@ impl<'a, A: Allocator + Copy> Reader<'a, A> {
             }
             _ => {
                 only_if(window.values.len() < MOST_VALUES, AuditFault::TooMany)?;
-                let value = value_of(line, &meter)?;
-                window.values.push(Value { line: at, ..value })?;
+                let value = value_of(line, meter, at)?;
+                window.values.push(value)?;
                 Ok(())
             }
         }
@@ -484,68 +468,68 @@ impl<'a, A: Allocator + Copy> Reader<'a, A> {
 
     fn add_part(&mut self, line: &Line<'a>) -> Result<(), Stop>
         requires { line.now.word ≡ Word.Part }
-        ensures ok { IfOk result (λ u. Adds (house_of self.old.house) line.now (house_of self.new.house)) }
-        ensures err { IfErr result (λ s. IsFault s → AddsNothing (house_of self.old.house) line.now) }
-        ensures kept { (self.new.stage ≡ self.old.stage) × (self.new.may_ask ≡ self.old.may_ask) }
+        ensures ok { IfOk result (λ u. Adds (house_of self.old) line.now (house_of self.new)) }
+        ensures err { IfErr result (λ s. IsFault s → AddsNothing (house_of self.old) line.now) }
     {
-        let part = Part {
-            line: self.house.lines,
-            from: line.number(1),
-            to: line.number(2),
-            user: line.maybe(3),
-            amount: Amount::NONE,
-        };
-        let is_declared = self.is_declared(part.user);
+        let at = self.lines;
+        let user = line.maybe(3);
+        let is_declared = self.is_declared(user);
         let number = line.number(0);
-        let place = self.house.places.last_mut().ok_or(AuditFault::Order)?;
+        let place = self.places.last_mut().ok_or(AuditFault::Order)?;
         let window = place.windows.last_mut().ok_or(AuditFault::Order)?;
         only_if(0 < number && number - 1 == window.span, AuditFault::Order)?;
         only_if(window.parts.len() < MOST_PARTS, AuditFault::TooMany)?;
         only_if(is_declared, AuditFault::Fact)?;
-        window.parts.push(part)?;
+        window.parts.push(Part {
+            line: at,
+            from: line.number(1),
+            to: line.number(2),
+            user,
+            amount: Amount::NONE,
+        })?;
         Ok(())
     }
 
     // Whether a user is declared, if there is one.
     fn is_declared(&self, user: Option<u64>) -> bool
-        ensures { IsTrue result ↔ IsDeclared (house_of self.now.house) user }
+        ensures { IsTrue result ↔ IsDeclared (house_of self.now) user }
     {
         match user {
-            Some(user) => self.house.user(user).is_some(),
+            Some(user) => self.user(user).is_some(),
             None => true,
         }
     }
 
     // Whether what a number needs in a span is declared: the use's factor, and one more fact.
     fn check_facts(&self, number: &Number<'_>, span: u64) -> Result<(), AuditFault>
-        ensures ok { IfOk result (λ u. Has (house_of self.now.house) (key_of number.now) span) }
-        ensures err { IfErr result (λ f. Has (house_of self.now.house) (key_of number.now) span → ⊥) }
+        ensures ok { IfOk result (λ u. Has (house_of self.now) (key_of number.now) span) }
+        ensures err { IfErr result (λ f. Has (house_of self.now) (key_of number.now) span → ⊥) }
     {
-        only_if(span < self.house.spans.len() as u64, AuditFault::Fact)?;
+        only_if(span < self.spans.len() as u64, AuditFault::Fact)?;
         self.check_factor(number, span)?;
         self.check_fact(number, span)
     }
 
     // Whether the factor of a number in kilowatt hours is declared, where it isn't of energy.
     fn check_factor(&self, number: &Number<'_>, span: u64) -> Result<(), AuditFault>
-        ensures ok { IfOk result (λ u. All (λ f. IsSome (declared (house_of self.now.house) f span))
-            (of_factor (house_of self.now.house) number.now.used number.now.unit)) }
-        ensures err { IfErr result (λ f. All (λ f. IsSome (declared (house_of self.now.house) f span))
-            (of_factor (house_of self.now.house) number.now.used number.now.unit) → ⊥) }
+        ensures ok { IfOk result (λ u. All (λ f. IsSome (declared (house_of self.now) f span))
+            (of_factor (house_of self.now) number.now.used number.now.unit)) }
+        ensures err { IfErr result (λ f. All (λ f. IsSome (declared (house_of self.now) f span))
+            (of_factor (house_of self.now) number.now.used number.now.unit) → ⊥) }
     {
         let is_energy = matches!(self.counts(number.used), Some(Counted::Energy));
         if is_energy || number.unit != Unit::Kwh {
             return Ok(());
         }
-        let factor = self.house.declared(Fact::Factor(number.used), span);
+        let factor = self.declared(Fact::Factor(number.used), span);
         only_if(factor.is_some(), AuditFault::Fact)
     }
 
     // Whether the fact that a number's word needs is declared.
     fn check_fact(&self, number: &Number<'_>, span: u64) -> Result<(), AuditFault>
-        ensures ok { IfOk result (λ u. All (λ f. IsSome (declared (house_of self.now.house) f span))
+        ensures ok { IfOk result (λ u. All (λ f. IsSome (declared (house_of self.now) f span))
             (of_word number.now.word (key_of number.now))) }
-        ensures err { IfErr result (λ f. All (λ f. IsSome (declared (house_of self.now.house) f span))
+        ensures err { IfErr result (λ f. All (λ f. IsSome (declared (house_of self.now) f span))
             (of_word number.now.word (key_of number.now)) → ⊥) }
     {
         let fact = match number.word {
@@ -554,7 +538,7 @@ impl<'a, A: Allocator + Copy> Reader<'a, A> {
             Word::Cost => Fact::Price(number.used, number.unit),
             _ => return Ok(()),
         };
-        only_if(self.house.declared(fact, span).is_some(), AuditFault::Fact)
+        only_if(self.declared(fact, span).is_some(), AuditFault::Fact)
     }
 
     // A number without what it is of: its text, and what is beside it.
@@ -564,7 +548,7 @@ impl<'a, A: Allocator + Copy> Reader<'a, A> {
     {
         let (asked, _) = text.split_at(line.asked.min(text.len()));
         Number {
-            line: self.house.lines,
+            line: self.lines,
             word: line.word,
             span: 0,
             other: 0,
@@ -586,60 +570,76 @@ impl<'a, A: Allocator + Copy> Reader<'a, A> {
     }
 
     // A number of the open place.
-    fn number_of_place(&self, line: &Line<'a>, said: Number<'a>) -> Result<Number<'a>, AuditFault>
+    fn number_of_place(
+        &self,
+        line: &Line<'a>,
+        text: &'a [u8],
+        at: usize,
+    ) -> Result<Number<'a>, AuditFault>
         requires word { is_of_place line.now.word ≡ true }
-        requires text { IsTextOf line.now (number_of said) }
-        ensures ok { IfOk result (λ n. IsMade (house_of self.now.house) line.now (number_of n)) }
-        ensures err { IfErr result (λ f. (n : SaidNumber) → IsMade (house_of self.now.house) line.now n → ⊥) }
+        requires text { line.now.text + beside_count line.now.word < 7 }
+        ensures ok { IfOk result (λ n. IsMade (house_of self.now) line.now (number_of n)) }
+        ensures err { IfErr result (λ f. (n : SaidNumber) → IsMade (house_of self.now) line.now n → ⊥) }
     {
-        let place = self.house.places.last().ok_or(AuditFault::Order)?;
+        let place = self.places.last().ok_or(AuditFault::Order)?;
         let window = place.windows.last().ok_or(AuditFault::Order)?;
-        let number = Number {
-            span: window.span,
-            used: place.used,
-            ..said
-        };
         match line.word {
-            Word::Value => Ok(Number {
-                size: self.size(number.used, field(line, 3))?,
-                from: line.number(0),
-                to: line.number(1),
-                ..number
-            }),
+            Word::Value => {
+                let size = self.size(place.used, field(line, 3))?;
+                Ok(Number {
+                    span: window.span,
+                    used: place.used,
+                    size,
+                    from: line.number(0),
+                    to: line.number(1),
+                    ..self.said(line, text, at)
+                })
+            }
             _ => {
+                let unit = self.unit(place.used, field(line, 3))?;
+                let span = self.span(line.number(0))?;
                 let number = Number {
-                    unit: self.unit(number.used, field(line, 3))?,
+                    span: window.span,
+                    used: place.used,
+                    unit,
                     from: line.number(1),
                     to: line.number(2),
-                    ..number
+                    ..self.said(line, text, at)
                 };
-                let span = self.span(line.number(0))?;
                 self.check_facts(&number, span)?;
-                only_if(span == number.span, AuditFault::Order)?;
+                only_if(span == window.span, AuditFault::Order)?;
                 Ok(number)
             }
         }
     }
 
     // A number of the house: its use stands before the unit, and the user or the flat before the use.
-    fn number_of_house(&self, line: &Line<'a>, said: Number<'a>) -> Result<Number<'a>, AuditFault>
+    fn number_of_house(
+        &self,
+        line: &Line<'a>,
+        text: &'a [u8],
+        begin: usize,
+    ) -> Result<Number<'a>, AuditFault>
         requires word { is_of_house line.now.word ≡ true }
-        requires text { IsTextOf line.now (number_of said) }
-        ensures ok { IfOk result (λ n. IsMade (house_of self.now.house) line.now (number_of n)) }
-        ensures err { IfErr result (λ f. (n : SaidNumber) → IsMade (house_of self.now.house) line.now n → ⊥) }
+        requires text { line.now.text + beside_count line.now.word < 7 }
+        ensures ok { IfOk result (λ n. IsMade (house_of self.now) line.now (number_of n)) }
+        ensures err { IfErr result (λ f. (n : SaidNumber) → IsMade (house_of self.now) line.now n → ⊥) }
     {
         let at = use_place(line.word);
-        let used = self.used(field(line, at))?;
+        let used = self.use_named(field(line, at))?;
+        let unit = self.unit_of(line, used)?;
+        let span = self.span(line.number(0))?;
+        let other = self.other(line)?;
         let number = Number {
-            unit: self.unit_of(line, used)?,
-            span: self.span(line.number(0))?,
-            other: self.other(line)?,
+            span,
+            other,
             user: line.number(at - 1),
             flat: field(line, at - 1),
             used,
+            unit,
             from: line.number(0),
             to: line.number(1),
-            ..said
+            ..self.said(line, text, begin)
         };
         self.check_number(&number)?;
         Ok(number)
@@ -647,9 +647,9 @@ impl<'a, A: Allocator + Copy> Reader<'a, A> {
 
     // The unit of a number of the house.
     fn unit_of(&self, line: &Line<'a>, used: u64) -> Result<Unit, AuditFault>
-        ensures ok { IfOk result (λ u. IsUnitOf line.now.word (house_of self.now.house) used u line.now) }
+        ensures ok { IfOk result (λ u. IsUnitOf line.now.word (house_of self.now) used u line.now) }
         ensures err { IfErr result (λ f. (u : Unit)
-            → IsUnitOf line.now.word (house_of self.now.house) used u line.now → ⊥) }
+            → IsUnitOf line.now.word (house_of self.now) used u line.now → ⊥) }
     {
         match line.word {
             Word::Weather | Word::Carbon => Ok(Unit::Kwh),
@@ -659,8 +659,8 @@ impl<'a, A: Allocator + Copy> Reader<'a, A> {
 
     // The other span of a number that has two.
     fn other(&self, line: &Line<'a>) -> Result<u64, AuditFault>
-        ensures ok { IfOk result (λ n. IsOther line.now.word (house_of self.now.house) n line.now) }
-        ensures err { IfErr result (λ f. (n : ℕ) → IsOther line.now.word (house_of self.now.house) n line.now → ⊥) }
+        ensures ok { IfOk result (λ n. IsOther line.now.word (house_of self.now) n line.now) }
+        ensures err { IfErr result (λ f. (n : ℕ) → IsOther line.now.word (house_of self.now) n line.now → ⊥) }
     {
         match line.word {
             Word::Change | Word::Weather => self.span(line.number(1)),
@@ -671,9 +671,9 @@ impl<'a, A: Allocator + Copy> Reader<'a, A> {
     // Whether what a number of the house is of is declared, but for its unit.
     fn check_number(&self, number: &Number<'_>) -> Result<(), AuditFault>
         requires word { is_of_house number.now.word ≡ true }
-        ensures ok { IfOk result (λ u. IsUnit (house_of self.now.house) number.now.used number.now.unit
-            → MayAsk (house_of self.now.house) (key_of number.now)) }
-        ensures err { IfErr result (λ f. MayAsk (house_of self.now.house) (key_of number.now) → ⊥) }
+        ensures ok { IfOk result (λ u. IsUnit (house_of self.now) number.now.used number.now.unit
+            → MayAsk (house_of self.now) (key_of number.now)) }
+        ensures err { IfErr result (λ f. MayAsk (house_of self.now) (key_of number.now) → ⊥) }
     {
         self.check_facts(number, number.span)?;
         if matches!(number.word, Word::Change | Word::Weather) {
@@ -685,35 +685,33 @@ impl<'a, A: Allocator + Copy> Reader<'a, A> {
     // Whether who a number of the house is of is declared.
     fn has_holder(&self, number: &Number<'_>) -> bool
         requires word { is_of_house number.now.word ≡ true }
-        ensures { IsTrue result ↔ IsWho number.now.word (house_of self.now.house) (key_of number.now) }
+        ensures { IsTrue result ↔ IsWho number.now.word (house_of self.now) (key_of number.now) }
     {
         match number.word {
             Word::OfHouse => true,
             Word::OfFlat => {
-                let (users, places) = (&self.house.users, &self.house.places);
+                let (users, places) = (&self.users, &self.places);
                 users.iter().any(|user| user.flat == number.flat)
                     || places.iter().any(|place| place.flat == number.flat)
             }
-            _ => self.house.user(number.user).is_some(),
+            _ => self.user(number.user).is_some(),
         }
     }
 
     fn add_number(&mut self, line: &Line<'a>, text: &'a [u8], at: usize) -> Result<(), Stop>
         requires word { (is_of_place line.now.word || is_of_house line.now.word) ≡ true }
         requires text { line.now.text + beside_count line.now.word < 7 }
-        ensures ok { IfOk result (λ u. Adds (house_of self.old.house) line.now (house_of self.new.house)) }
-        ensures err { IfErr result (λ s. IsFault s → AddsNothing (house_of self.old.house) line.now) }
-        ensures kept { (self.new.stage ≡ self.old.stage) × (self.new.may_ask ≡ self.old.may_ask) }
+        ensures ok { IfOk result (λ u. Adds (house_of self.old) line.now (house_of self.new)) }
+        ensures err { IfErr result (λ s. IsFault s → AddsNothing (house_of self.old) line.now) }
     {
-        let said = self.said(line, text, at);
         let is_of_place = matches!(line.word, Word::Shown | Word::Value);
         if !is_of_place {
-            let number = self.number_of_house(line, said)?;
-            self.house.numbers.push(number)?;
+            let number = self.number_of_house(line, text, at)?;
+            self.numbers.push(number)?;
             return Ok(());
         }
-        let number = self.number_of_place(line, said)?;
-        let place = self.house.places.last_mut().ok_or(AuditFault::Order)?;
+        let number = self.number_of_place(line, text, at)?;
+        let place = self.places.last_mut().ok_or(AuditFault::Order)?;
         let window = place.windows.last_mut().ok_or(AuditFault::Order)?;
         window.numbers.push(number)?;
         Ok(())
@@ -731,17 +729,17 @@ fn span_place(fact: Fact) -> usize
     }
 }
 
-// The run of a place by its number, which counts from 1.
-fn run_at<'a, A: Allocator + Copy>(place: &Place<'a, A>, number: u64) -> Result<Run<'a>, AuditFault>
+// The run with a number, which counts from 1.
+fn run_at<'r, 'a>(runs: &'r [Run<'a>], number: u64) -> Result<&'r Run<'a>, AuditFault>
     ensures ok { IfOk result (λ r. (0 < number)
-        × (slice_get (place_of place.now).runs (number - 1) ≡ Some (run_of r))) }
-    ensures err { IfErr result (λ f. (number ≡ 0) ⊎ (length (place_of place.now).runs < number)) }
+        × (slice_get (map run_of runs.now) (number - 1) ≡ Some (run_of r.now))) }
+    ensures err { IfErr result (λ f. (number ≡ 0) ⊎ (length (map run_of runs.now) < number)) }
 {
     if number == 0 {
         return Err(AuditFault::Order);
     }
-    match place.runs.get(number as usize - 1) {
-        Some(run) => Ok(*run),
+    match runs.get(number as usize - 1) {
+        Some(run) => Ok(run),
         None => Err(AuditFault::Order),
     }
 }

@@ -35,11 +35,11 @@ pub fn vib(field: &[u8]) -> &[u8]
     }
 }
 
-/// The value of a run that a line spells.
+/// The value of a run that a line spells, by the line's number.
 ///
 /// # Errors
 /// Its unit isn't one of readings.
-pub fn value_of<'a>(line: &Line<'a>, run: &Run<'_>) -> Result<Value<'a>, AuditFault>
+pub fn value_of<'a>(line: &Line<'a>, run: &Run<'_>, at: u64) -> Result<Value<'a>, AuditFault>
     requires bounded { IsBounded line.now.word line.now }
     requires word { is_value line.now.word ≡ true }
     requires run { 0 < number_at 0 line.now }
@@ -47,7 +47,7 @@ pub fn value_of<'a>(line: &Line<'a>, run: &Run<'_>) -> Result<Value<'a>, AuditFa
     ensures err { IfErr result (λ f. (v : SaidValue) → IsValueOf line.now (run_of run.now) v → ⊥) }
 {
     let blank = Value {
-        line: 0,
+        line: at,
         word: line.word,
         run: line.number(0).saturating_sub(1),
         moment: line.number(1),
