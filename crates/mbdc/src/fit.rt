@@ -71,6 +71,8 @@ where
 {
     let out = Output::new(io::writer(host.rt), host, false);
     let mut notes = Noting::new(host, image, house);
+    // The image has its own register in memory.
+    notes.house = None;
     let (_disk, ending) = fit_over(host.rt.alloc(), disk, wish, out, &mut notes);
     ending
 }

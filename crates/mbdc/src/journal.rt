@@ -60,8 +60,8 @@ pub struct Noting<'h, 'i, R> {
     image: &'i str,
     journal: Option<Journal<'h, R>>,
     is_open: bool,
-    // The register, for the flats.
-    house: Option<House<Global>>,
+    /// The register, for the flats of readings. Commands need none of it.
+    pub house: Option<House<Global>>,
     // What the journal says of the last poll.
     last: journal::Journal<Global>,
 }

@@ -79,6 +79,8 @@ where
         .ok()
         .map(|read| read.0);
     let mut notes = Noting::new(host, task.image, house);
+    // The image has its own register in memory.
+    notes.house = None;
     let (_, ending) = run_over(
         host.rt.alloc(),
         host.why,
