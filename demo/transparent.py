@@ -9,7 +9,7 @@ import random
 import sys
 
 sys.dont_write_bytecode = True
-from world.bus import Bus, Noise
+from world.bus import Bus
 from world.gateways import TransparentGateway
 from world.meters import LOW_BATTERY, meters_of, shown
 
@@ -21,13 +21,12 @@ def main() -> None:
     words.add_argument("--seed", type=int, default=1, help="of chance (1)")
     words.add_argument("--dead", type=int, metavar="N", action="append", default=[], help="the Nth meter doesn't answer")
     words.add_argument("--low-battery", type=int, metavar="N", help="the Nth meter has a low battery")
-    words.add_argument("--noise", action="store_true", help="each answer is noise, as of another speed")
     given = words.parse_args()
     meters = meters_of(given.meters, random.Random(given.seed))
     for place, meter in enumerate(meters, 1):
         meter.status = LOW_BATTERY if place == given.low_battery else 0
     living = [meter for place, meter in enumerate(meters, 1) if place not in given.dead]
-    gateway = TransparentGateway((Noise if given.noise else Bus)(living, random.Random(given.seed)), given.port)
+    gateway = TransparentGateway(Bus(living, random.Random(given.seed)), given.port)
     print(f"gateway {gateway.address}\n{shown(meters)}", end="", flush=True)
     gateway.run()
 
