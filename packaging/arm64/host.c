@@ -57,7 +57,7 @@ void rattle_set_errno(int32_t error)
     errno = error;
 }
 
-/* ---- the command line */
+/* ---- the command line, and the environment */
 
 static size_t words_count;
 static char **words;
@@ -69,15 +69,27 @@ __attribute__((constructor)) static void keep_words(int count, char **values)
     words = values;
 }
 
-/* Puts argument `i` without its zero byte at the start of a room; argument 0 is the program's name. Returns its length;
- * -1 where there is no such argument, -2 where it doesn't fit, and then the room is full. */
+/* Puts a text without its zero byte at the start of a room. Returns its length; -1 where there is no text, -2 where it
+ * doesn't fit, and then the room is full. */
+static ptrdiff_t put(const char *text, uint8_t *room, size_t size)
+{
+    if (!text)
+        return -1;
+    size_t length = strlen(text);
+    memcpy(room, text, length <= size ? length : size);
+    return length <= size ? (ptrdiff_t)length : -2;
+}
+
+/* Puts argument `i`; argument 0 is the program's name. */
 ptrdiff_t rattle_arg(size_t i, uint8_t *room, size_t size)
 {
-    if (i >= words_count)
-        return -1;
-    size_t length = strlen(words[i]);
-    memcpy(room, words[i], length <= size ? length : size);
-    return length <= size ? (ptrdiff_t)length : -2;
+    return put(i < words_count ? words[i] : NULL, room, size);
+}
+
+/* Puts the value of an environment variable. */
+ptrdiff_t rattle_env(const char *name, uint8_t *room, size_t size)
+{
+    return put(getenv(name), room, size);
 }
 
 /* ---- sockets */

@@ -1,6 +1,6 @@
 /* Prints what each function of host.c does with the same calls. tools/arm64 runs it over the toolchain's own archives,
- * over host.c on x86-64 and over host.c on ARM, and compares the three texts. The words of the command line are a part of
- * the test, and so is a file of hosts with a name `many.test` of several addresses.
+ * over host.c on x86-64 and over host.c on ARM, and compares the three texts. The words of the command line and the
+ * environment are a part of the test, and so is a file of hosts with a name `many.test` of several addresses.
  */
 #define _GNU_SOURCE
 #include <errno.h>
@@ -29,6 +29,7 @@ void rattle_dealloc(void *block);
 int32_t rattle_errno(void);
 void rattle_set_errno(int32_t error);
 ptrdiff_t rattle_arg(size_t i, uint8_t *room, size_t size);
+ptrdiff_t rattle_env(const char *name, uint8_t *room, size_t size);
 int32_t rattle_set_nonblocking(int32_t fd, bool on);
 ptrdiff_t rattle_lookup_host(const char *name, struct address *found, size_t room);
 
@@ -99,25 +100,31 @@ static void try_errno(void)
     printf(" %d %d\n", rattle_errno() == ENOSPC, errno == ENOSPC);
 }
 
-/* Prints what an argument leaves of a room of so many bytes, the bytes beyond it too. */
-static void try_arg(size_t i, size_t size)
+/* Prints what an argument leaves of a room of so many bytes, or a variable where there is a name, the bytes beyond it
+ * too. */
+static void try_text(const char *name, size_t i, size_t size)
 {
     uint8_t room[ROOM];
     memset(room, UNTOUCHED, sizeof room);
-    ptrdiff_t length = rattle_arg(i, room, size);
-    printf("arg %zu %zu: %td", i, size, length);
+    ptrdiff_t length = name ? rattle_env(name, room, size) : rattle_arg(i, room, size);
+    printf("%s %zu %zu: %td", name ? name : "arg", i, size, length);
     for (size_t at = 0; at < sizeof room && room[at] != UNTOUCHED; at++)
         printf(" %02X", room[at]);
     printf(", %d\n", room[ROOM - 1] == UNTOUCHED && (size == 0 || room[size] == UNTOUCHED));
 }
 
 /* (not argument 0, which is the program's own path) */
-static void try_args(size_t count)
+static void try_texts(size_t count)
 {
     for (size_t i = 1; i <= count + 1; i++)
         for (size_t size = 0; size < 12; size++)
-            try_arg(i, size);
-    try_arg(SIZE_MAX, ROOM - 1);
+            try_text(NULL, i, size);
+    try_text(NULL, SIZE_MAX, ROOM - 1);
+    for (size_t size = 0; size < 12; size++) {
+        try_text("NO_COLOR", 0, size);
+        try_text("EMPTY", 0, size);
+        try_text("MISSING", 0, size);
+    }
 }
 
 static void try_nonblocking(int fd, const char *what)
@@ -172,7 +179,7 @@ int main(int count, char **words)
     (void)words;
     try_heap();
     try_errno();
-    try_args((size_t)count - 1);
+    try_texts((size_t)count - 1);
     try_descriptors();
     try_lookups();
     return ferror(stdout) || fflush(stdout) ? 1 : 0;
