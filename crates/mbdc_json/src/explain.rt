@@ -10,53 +10,72 @@ ghost use Rattle.mbdc_decode.specs.Text.{has_fault};
 
 use crate::place::{body_place, frame_place};
 use crate::table::put_content;
+use crate::text::TextWriter;
 use dc_linkframe::Frame;
 use dc_linkframe::control::VARIABLE_DATA;
 use dc_records::Telegram;
 use dc_records::names::{ci_name, control_name};
 use mbdc_decode::tokens::{Piece, put_pieces};
 use mbdc_decode::{Input, LineForm, read_frame};
-use mbdc_io::{Bytes, IoFault, Sink, Source, TextFault, put_byte, put_fault, put_number};
+use mbdc_io::{Bytes, IoFault, Sink, Source, TextFault, pair_of};
 use mbdc_reading::content::content_of;
 use std::alloc::Allocator;
 
 // Number of bytes of a long frame before its body.
 const BODY: usize = 7;
 
-// Writes the place of a fault in the line and what was expected there.
-fn put_expected<W: Sink>(out: &mut W, place: usize, expected: &str) -> Result<(), IoFault> {
-    out.put(b" at byte ")?;
-    put_number(out, place as u64)?;
-    out.put(b": expected ")?;
-    out.put(expected.as_bytes())?;
-    out.put(b"\n")
+// Writes a fault, its place in the line and what was expected there.
+fn put_fault<'x, W: Sink>(
+    out: &mut TextWriter<'_, W>,
+    what: &'x [u8],
+    number: u8,
+    name: &'x str,
+    place: usize,
+    expected: &'x str,
+) {
+    out.put_row(&[
+        Piece::Text(what),
+        Piece::Number(u64::from(number)),
+        Piece::Text(b" "),
+        Piece::Text(name.as_bytes()),
+        Piece::Text(b" at byte "),
+        Piece::Number(place as u64),
+        Piece::Text(b": expected "),
+        Piece::Text(expected.as_bytes()),
+        Piece::Text(b"\n"),
+    ]);
 }
 
 // Writes a body in words, and its fault if the CI field states a telegram; returns whether it has one.
 // `start` is its place in the line.
 #[tactic(auto, unfolding(mbdc_decode::specs::Frames::is_bad_content))]
-fn put_body<W: Sink>(out: &mut W, start: usize, ci: u8, body: &[u8]) -> Result<bool, IoFault>
-    ensures { IfOk result (λ bad. bad ≡ is_bad_content ci body.now) }
+fn put_body<W: Sink>(out: &mut TextWriter<'_, W>, start: usize, ci: u8, body: &[u8]) -> bool
+    ensures { result ≡ is_bad_content ci body.now }
 {
     let mut is_bad = false;
     if ci == VARIABLE_DATA {
         if let Err(fault) = Telegram::parse(body) {
             let (place, expected) = body_place(body, fault);
-            out.put(b"  body fault ")?;
-            put_fault(out, fault.number(), fault.name())?;
-            put_expected(out, start.saturating_add(place), expected)?;
+            put_fault(
+                out,
+                b"  body fault ",
+                fault.number(),
+                fault.name(),
+                start.saturating_add(place),
+                expected,
+            );
             is_bad = true;
         }
     }
     if let Some(content) = content_of(ci, body) {
-        put_content(out, &content, ci == VARIABLE_DATA && !is_bad)?;
+        put_content(out, &content, ci == VARIABLE_DATA && !is_bad);
     }
-    Ok(is_bad)
+    is_bad
 }
 
 // Writes a frame that begins at this place of a line, and returns whether its body has a fault.
-fn put_frame<W: Sink>(out: &mut W, start: usize, frame: Frame<'_>) -> Result<bool, IoFault>
-    ensures { IfOk result (λ bad. bad ≡ is_bad_frame (seen frame.entry)) }
+fn put_frame<W: Sink>(out: &mut TextWriter<'_, W>, start: usize, frame: Frame<'_>) -> bool
+    ensures { result ≡ is_bad_frame (seen frame.entry) }
 {
     let (words, control, address): (&[u8], Option<u8>, u8) = match frame {
         Frame::Ack => (b"acknowledgement", None, 0),
@@ -67,23 +86,27 @@ fn put_frame<W: Sink>(out: &mut W, start: usize, frame: Frame<'_>) -> Result<boo
             ..
         } => (b"long frame, ", Some(control), address),
     };
-    out.put(words)?;
+    out.put(words);
     if let Some(control) = control {
-        out.put(control_name(control).as_bytes())?;
-        out.put(b" (")?;
-        put_byte(out, control)?;
-        out.put(b"), address ")?;
-        put_number(out, u64::from(address))?;
+        out.put(control_name(control).as_bytes());
+        out.put_row(&[
+            Piece::Text(b" ("),
+            Piece::Text(&pair_of(control)),
+            Piece::Text(b"), address "),
+            Piece::Number(u64::from(address)),
+        ]);
     }
     let Frame::Long { ci, body, .. } = frame else {
-        out.put(b"\n")?;
-        return Ok(false);
+        out.put(b"\n");
+        return false;
     };
-    out.put(b", ")?;
-    out.put(ci_name(ci).as_bytes())?;
-    out.put(b" (")?;
-    put_byte(out, ci)?;
-    out.put(b")\n")?;
+    out.put(b", ");
+    out.put(ci_name(ci).as_bytes());
+    out.put_row(&[
+        Piece::Text(b" ("),
+        Piece::Text(&pair_of(ci)),
+        Piece::Text(b")\n"),
+    ]);
     put_body(out, start.saturating_add(BODY), ci, body)
 }
 
@@ -106,24 +129,34 @@ impl LineForm for Table {
         bytes: &[u8],
         out: &mut W,
     ) -> Result<bool, IoFault> {
-        put_pieces(
+        let mut text = TextWriter {
             out,
-            &[
-                Piece::Text(b"line "),
-                Piece::Number(line),
-                Piece::Text(b": "),
-            ],
-        )?;
-        match read_frame(bytes) {
-            Ok(frame) => put_frame(out, start, frame),
+            has_failed: false,
+        };
+        text.put_row(&[
+            Piece::Text(b"line "),
+            Piece::Number(line),
+            Piece::Text(b": "),
+        ]);
+        let is_bad = match read_frame(bytes) {
+            Ok(frame) => put_frame(&mut text, start, frame),
             Err(fault) => {
                 let (place, expected) = frame_place(bytes, fault);
-                out.put(b"frame fault ")?;
-                put_fault(out, fault.number(), fault.name())?;
-                put_expected(out, start.saturating_add(place), expected)?;
-                Ok(true)
+                put_fault(
+                    &mut text,
+                    b"frame fault ",
+                    fault.number(),
+                    fault.name(),
+                    start.saturating_add(place),
+                    expected,
+                );
+                true
             }
+        };
+        if text.has_failed {
+            return Err(IoFault);
         }
+        Ok(is_bad)
     }
 
     fn put_hex_fault<W: Sink>(line: u64, out: &mut W) -> Result<(), IoFault> {

@@ -14,6 +14,7 @@ mod overview;
 mod place;
 pub mod status;
 mod table;
+mod text;
 mod values;
 
 pub use explain::explain_lines;

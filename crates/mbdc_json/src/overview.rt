@@ -56,12 +56,22 @@ fn put_line<A: Allocator + Copy, W: Sink>(
     ensures { Wrote W.Sink result out.old out.new
         (overview_line clock.patience clock.now journal.now house.now.state place.now) }
 {
-    out.put(place.flat.as_slice())?;
-    out.put(b"\t")?;
-    out.put(&place.meter.text()[..8])?;
-    out.put(b"\t")?;
-    out.put(medium_name(place.meter.kind).as_bytes())?;
-    out.put(b"\t")?;
+    put_pieces(
+        out,
+        &[
+            Piece::Text(place.flat.as_slice()),
+            Piece::Text(b"\t"),
+            Piece::Text(&place.meter.text()[..8]),
+            Piece::Text(b"\t"),
+        ],
+    )?;
+    put_pieces(
+        out,
+        &[
+            Piece::Text(medium_name(place.meter.kind).as_bytes()),
+            Piece::Text(b"\t"),
+        ],
+    )?;
     put_value(
         out,
         place.meter.kind,
@@ -96,8 +106,10 @@ fn put_state<W: Sink>(out: &mut W, row: &Row) -> Result<(), IoFault>
     ensures { Wrote W.Sink result out.old out.new (state_cells row.now) }
 {
     put_age(out, row.age)?;
-    out.put(b"\t")?;
-    out.put(state_of(row).as_bytes())?;
+    put_pieces(
+        out,
+        &[Piece::Text(b"\t"), Piece::Text(state_of(row).as_bytes())],
+    )?;
     match row.told {
         Some(
             Told {

@@ -15,7 +15,7 @@ use dc_meters::{House, Place};
 use dc_records::names::medium_name;
 use dc_units::TEXT_ROOM;
 use mbdc_decode::tokens::{Piece, put_pieces};
-use mbdc_io::{IoFault, Sink, put_number_word};
+use mbdc_io::{IoFault, Sink};
 use mbdc_reading::{
     READING_ROOM, Sent, code_at, is_extension, number_after, number_of, reading_of, told_of,
     unit_text, value_text, vife_at,
@@ -49,12 +49,22 @@ fn put_meter<A: Allocator + Copy, W: Sink>(
     ensures { Wrote W.Sink result out.old out.new
         (meter_text journal.now house.now.state place.now) }
 {
-    out.put(b"METER ")?;
-    out.put(place.flat.as_slice())?;
-    out.put(b" ")?;
-    out.put(&place.meter.text())?;
-    out.put(b" ")?;
-    out.put(medium_name(place.meter.kind).as_bytes())?;
+    put_pieces(
+        out,
+        &[
+            Piece::Text(b"METER "),
+            Piece::Text(place.flat.as_slice()),
+            Piece::Text(b" "),
+            Piece::Text(&place.meter.text()),
+        ],
+    )?;
+    put_pieces(
+        out,
+        &[
+            Piece::Text(b" "),
+            Piece::Text(medium_name(place.meter.kind).as_bytes()),
+        ],
+    )?;
     match shown_of(house, journal, &place.meter) {
         Some(shown) => put_shown_reading(out, place.meter.kind, &shown),
         None => out.put(b" NONE\n"),
@@ -121,8 +131,13 @@ fn put_also<W: Sink>(out: &mut W, also: Listed<'_>) -> Result<(), IoFault>
     for sent in also {
         let vib = sent.record.vib;
         put_sent(out, b"ALSO", &sent)?;
-        out.put(b" ")?;
-        out.put(code_at(number_of(vib)).name.as_bytes())?;
+        put_pieces(
+            out,
+            &[
+                Piece::Text(b" "),
+                Piece::Text(code_at(number_of(vib)).name.as_bytes()),
+            ],
+        )?;
         put_names(out, told_of(vib))?;
         out.put(b"\n")?;
     }
@@ -137,10 +152,15 @@ fn put_sent<W: Sink>(out: &mut W, word: &'static [u8], sent: &Sent<'_>) -> Resul
     let record = &sent.record;
     let reading = reading_of(record, sent.len);
     let mut room = [0u8; READING_ROOM];
-    out.put(word)?;
-    put_number_word(out, u64::from(record.tariff))?;
-    put_number_word(out, u64::from(record.subunit))?;
-    out.put(b" ")?;
+    put_pieces(
+        out,
+        &[
+            Piece::Text(word),
+            Piece::Word(u64::from(record.tariff)),
+            Piece::Word(u64::from(record.subunit)),
+            Piece::Text(b" "),
+        ],
+    )?;
     put_word(out, value_text(&reading, record.content, &mut room))?;
     out.put(b" ")?;
     put_word(out, Some(unit_text(&reading, record.vib, &mut room)))

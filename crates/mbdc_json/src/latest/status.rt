@@ -1,37 +1,36 @@
 //! The status byte of a meter in words (EN 13757-3, long data header).
 
+ghost use Rattle.std.specs.Prelude.{◌≡◌};
 ghost use Rattle.mbdc_io.specs.Written.{Wrote};
-ghost use Rattle.mbdc_json.specs.LatestValues.{bit_words, bits_words, byte_words, status_line};
+ghost use Rattle.mbdc_json.specs.LatestValues.{bit_words, byte_words, status_line};
 
 use dc_records::names::application_name;
+use mbdc_decode::tokens::{Piece, put_pieces};
 use mbdc_io::{IoFault, Sink, put_byte_word};
 
-// Writes the words of a bit that is set.
-#[tactic(auto, using(mbdc_io::proofs::Pieces::written), unfolding(crate::specs::LatestValues::bit_words))]
-fn put_bit<W: Sink>(out: &mut W, bit: u8, words: &[u8]) -> Result<(), IoFault>
-    ensures { Wrote W.Sink result out.old out.new (bit_words bit words.now) }
+// The words of a bit, where it is set.
+#[tactic(auto, unfolding(crate::specs::LatestValues::bit_words))]
+fn bit_words(bit: u8, words: &'static [u8]) -> &'static [u8]
+    ensures { result.now ≡ bit_words bit words.now }
 {
-    if bit % 2 == 1 { out.put(words) } else { Ok(()) }
-}
-
-// Writes the words of the bits that are set.
-#[tactic(auto, using(mbdc_io::proofs::Pieces::written), unfolding(crate::specs::LatestValues::bits_words))]
-fn put_bits<W: Sink>(out: &mut W, status: u8) -> Result<(), IoFault>
-    ensures { Wrote W.Sink result out.old out.new (bits_words status) }
-{
-    put_bit(out, status / 4, b", power low")?;
-    put_bit(out, status / 8, b", permanent error")?;
-    put_bit(out, status / 16, b", temporary error")
+    if bit % 2 == 1 { words } else { b"" }
 }
 
 /// Writes what a status byte says.
-#[tactic(auto, using(mbdc_io::proofs::Pieces::written), unfolding(crate::specs::LatestValues::byte_words))]
+#[tactic(auto, using(mbdc_io::proofs::Pieces::written), unfolding(crate::specs::LatestValues::byte_words, crate::specs::LatestValues::bits_words))]
 pub(crate) fn put_byte_words<W: Sink>(out: &mut W, status: u8) -> Result<(), IoFault>
     ensures { Wrote W.Sink result out.old out.new (byte_words status) }
 {
-    out.put(b" ")?;
-    out.put(application_name(status).as_bytes())?;
-    put_bits(out, status)
+    put_pieces(
+        out,
+        &[
+            Piece::Text(b" "),
+            Piece::Text(application_name(status).as_bytes()),
+            Piece::Text(bit_words(status / 4, b", power low")),
+            Piece::Text(bit_words(status / 8, b", permanent error")),
+            Piece::Text(bit_words(status / 16, b", temporary error")),
+        ],
+    )
 }
 
 /// Writes the line of a status byte, in hex and in words.

@@ -3,7 +3,7 @@
 ghost use Rattle.std.specs.Prelude.{◌≡◌, ◌≤◌, IfSome};
 ghost use Rattle.mbdc_io.specs.Written.{Wrote};
 ghost use Rattle.mbdc_change.specs.Fields.{last_moment};
-ghost use Rattle.mbdc_json.specs.Status.{failed_text, failed_words, failure_name, heard_words, name_end, row_text};
+ghost use Rattle.mbdc_json.specs.Status.{failed_text, failed_words, failure_name, heard_words, row_text};
 ghost use Rattle.mbdc_json.specs.Status.{source_words, state_words, status_text};
 
 use crate::journal::Journal;
@@ -62,8 +62,10 @@ fn put_row<W: Sink>(out: &mut W, row: &Row) -> Result<(), IoFault>
     put_heard(out, row.heard, row.age)?;
     out.put(if row.is_silent { b" SILENT" } else { b"" })?;
     put_state(out, row.status)?;
-    out.put(source_words(row.told))?;
-    out.put(b"\n")?;
+    put_pieces(
+        out,
+        &[Piece::Text(source_words(row.told)), Piece::Text(b"\n")],
+    )?;
     put_failed(out, row.told)
 }
 
@@ -78,7 +80,7 @@ fn source_words(told: Option<Told>) -> &'static [u8]
 }
 
 // Writes the last failed readout since.
-#[tactic(auto, using(mbdc_io::proofs::Pieces::written), unfolding(crate::specs::Status::failed_line))]
+#[tactic(auto, using(mbdc_io::proofs::Pieces::written), unfolding(crate::specs::Status::failed_line, crate::specs::Status::name_end))]
 fn put_failed<W: Sink>(out: &mut W, told: Option<Told>) -> Result<(), IoFault>
     requires { IfSome told (λ told. IfSome told.failed (λ moment. moment ≤ last_moment)) }
     ensures { Wrote W.Sink result out.old out.new (failed_text told) }
@@ -92,7 +94,14 @@ fn put_failed<W: Sink>(out: &mut W, told: Option<Told>) -> Result<(), IoFault>
             },
         ) => {
             put_failed_words(out, moment, number)?;
-            put_name_end(out, number)
+            put_pieces(
+                out,
+                &[
+                    Piece::Text(b" "),
+                    Piece::Text(failure_name(number).as_bytes()),
+                    Piece::Text(b"\n"),
+                ],
+            )
         }
         _ => Ok(()),
     }
@@ -114,16 +123,6 @@ fn put_failed_words<W: Sink>(out: &mut W, moment: u64, number: u8) -> Result<(),
             Piece::Word(u64::from(number)),
         ],
     )
-}
-
-// Writes the name of a failure, at the end of its line.
-#[tactic(auto, using(mbdc_io::proofs::Pieces::written), unfolding(crate::specs::Status::name_end))]
-fn put_name_end<W: Sink>(out: &mut W, number: u8) -> Result<(), IoFault>
-    ensures { Wrote W.Sink result out.old out.new (name_end number) }
-{
-    out.put(b" ")?;
-    out.put(failure_name(number).as_bytes())?;
-    out.put(b"\n")
 }
 
 /// The name of a failure by its number.

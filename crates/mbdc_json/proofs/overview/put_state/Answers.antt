@@ -7,13 +7,9 @@ pub returns-in_err-put_age : goal.returns-in_err-put_age
 unfolding state_cells
 returns-in_err-put_age g c = grind (arith, written)
 
-pub returns-in_err-put : goal.returns-in_err-put
+pub returns-in_err-put_pieces : goal.returns-in_err-put_pieces
 unfolding state_cells
-returns-in_err-put g c = grind (arith, written)
-
-pub returns-in_err-put-2 : goal.returns-in_err-put-2
-unfolding state_cells
-returns-in_err-put-2 g c = grind (arith, written)
+returns-in_err-put_pieces g c = grind (arith, written)
 
 pub returns-in-Some-Some : goal.returns-in-Some-Some
 unfolding state_cells

@@ -7,21 +7,17 @@ pub returns-in_err-put_sent : goal.returns-in_err-put_sent
 unfolding also_lines also_line
 returns-in_err-put_sent g c = grind (arith, written)
 
-pub returns-in_err-put : goal.returns-in_err-put
+pub returns-in_err-put_pieces : goal.returns-in_err-put_pieces
 unfolding also_lines also_line
-returns-in_err-put g c = grind (arith, written)
-
-pub returns-in_err-put-2 : goal.returns-in_err-put-2
-unfolding also_lines also_line
-returns-in_err-put-2 g c = grind (arith, written)
+returns-in_err-put_pieces g c = grind (arith, written)
 
 pub returns-in_err-put_names : goal.returns-in_err-put_names
 unfolding also_lines also_line
 returns-in_err-put_names g c = grind (arith, written)
 
-pub returns-in_err-put-3 : goal.returns-in_err-put-3
+pub returns-in_err-put : goal.returns-in_err-put
 unfolding also_lines also_line
-returns-in_err-put-3 g c = grind (arith, written)
+returns-in_err-put g c = grind (arith, written)
 
 pub returns : goal.returns
 unfolding also_lines also_line

@@ -3,29 +3,13 @@ use Rattle.mbdc_io.proofs.Pieces.{written}
 use Rattle.mbdc_json.specs.Latest.{meter_text}
 use Rattle.mbdc_json.proofs.latest.lines.put_meter.Goals as goal
 
-pub returns-in_err-put : goal.returns-in_err-put
+pub returns-in_err-put_pieces : goal.returns-in_err-put_pieces
 unfolding meter_text
-returns-in_err-put g c = grind (arith, written)
+returns-in_err-put_pieces g c = grind (arith, written)
 
-pub returns-in_err-put-2 : goal.returns-in_err-put-2
+pub returns-in_err-put_pieces-2 : goal.returns-in_err-put_pieces-2
 unfolding meter_text
-returns-in_err-put-2 g c = grind (arith, written)
-
-pub returns-in_err-put-3 : goal.returns-in_err-put-3
-unfolding meter_text
-returns-in_err-put-3 g c = grind (arith, written)
-
-pub returns-in_err-put-4 : goal.returns-in_err-put-4
-unfolding meter_text
-returns-in_err-put-4 g c = grind (arith, written)
-
-pub returns-in_err-put-5 : goal.returns-in_err-put-5
-unfolding meter_text
-returns-in_err-put-5 g c = grind (arith, written)
-
-pub returns-in_err-put-6 : goal.returns-in_err-put-6
-unfolding meter_text
-returns-in_err-put-6 g c = grind (arith, written)
+returns-in_err-put_pieces-2 g c = grind (arith, written)
 
 pub returns-in-Some : goal.returns-in-Some
 unfolding meter_text

@@ -19,13 +19,9 @@ pub returns-in_err-put_state : goal.returns-in_err-put_state
 unfolding row_text
 returns-in_err-put_state g c = grind (arith, written)
 
-pub returns-in_err-put-2 : goal.returns-in_err-put-2
+pub returns-in_err-put_pieces-2 : goal.returns-in_err-put_pieces-2
 unfolding row_text
-returns-in_err-put-2 g c = grind (arith, written)
-
-pub returns-in_err-put-3 : goal.returns-in_err-put-3
-unfolding row_text
-returns-in_err-put-3 g c = grind (arith, written)
+returns-in_err-put_pieces-2 g c = grind (arith, written)
 
 pub returns : goal.returns
 unfolding row_text
