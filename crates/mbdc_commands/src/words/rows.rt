@@ -39,15 +39,56 @@ pub(crate) fn program<'a>(alloc: Global) -> Result<Command<'a>, AllocError> {
     let verbose = arg_of(alloc, &VERBOSE)?;
     // It may stand before a command and after it.
     let verbose = verbose.global(true).display_order(LAST);
-    let mut program = Command::new(alloc, "mbdc")
+    let program = Command::new(alloc, "mbdc")
         .version(help::VERSION)
         .override_help(help::PROGRAM)
         .arg(verbose)?;
-    for row in [LINES, READING, IMAGES, BUS].into_iter().flatten() {
+    let program = with_lines(alloc, program)?;
+    let program = with_reading(alloc, program)?;
+    let program = with_changes(alloc, program)?;
+    let program = with_copies(alloc, program)?;
+    let program = with_looks(alloc, program)?;
+    with_bus(alloc, program)
+}
+
+// The program with these commands.
+fn with<'a>(
+    alloc: Global,
+    program: Command<'a>,
+    rows: &[CommandRow],
+) -> Result<Command<'a>, AllocError> {
+    let mut program = program;
+    for row in rows {
         let command = command_of(alloc, row)?;
         program = program.subcommand(command)?;
     }
     Ok(program)
+}
+
+// A function for each group: the checker's work at one grows with the cube of its rows.
+
+fn with_lines<'a>(alloc: Global, program: Command<'a>) -> Result<Command<'a>, AllocError> {
+    with(alloc, program, LINES)
+}
+
+fn with_reading<'a>(alloc: Global, program: Command<'a>) -> Result<Command<'a>, AllocError> {
+    with(alloc, program, READING)
+}
+
+fn with_changes<'a>(alloc: Global, program: Command<'a>) -> Result<Command<'a>, AllocError> {
+    with(alloc, program, CHANGES)
+}
+
+fn with_copies<'a>(alloc: Global, program: Command<'a>) -> Result<Command<'a>, AllocError> {
+    with(alloc, program, COPIES)
+}
+
+fn with_looks<'a>(alloc: Global, program: Command<'a>) -> Result<Command<'a>, AllocError> {
+    with(alloc, program, LOOKS)
+}
+
+fn with_bus<'a>(alloc: Global, program: Command<'a>) -> Result<Command<'a>, AllocError> {
+    with(alloc, program, BUS)
 }
 
 // An argument of a command.
@@ -351,8 +392,8 @@ const READING: &[CommandRow] = &[
     },
 ];
 
-// Commands that change, copy or look at an image.
-const IMAGES: &[CommandRow] = &[
+// Commands that change the register of an image.
+const CHANGES: &[CommandRow] = &[
     CommandRow {
         name: "fit",
         about: "Adds the meters of a list to an image's register, all of them or none",
@@ -415,6 +456,10 @@ const IMAGES: &[CommandRow] = &[
         after: help::OUT,
         args: &[IMAGE, METER],
     },
+];
+
+// Commands that make an image of another one.
+const COPIES: &[CommandRow] = &[
     CommandRow {
         name: "copy",
         about: "Copies an image as it is at one instant, also while mbdc writes it",
@@ -427,6 +472,10 @@ const IMAGES: &[CommandRow] = &[
         after: help::RESCUE,
         args: &[IMAGE, NEW_IMAGE],
     },
+];
+
+// Commands that look at an image.
+const LOOKS: &[CommandRow] = &[
     CommandRow {
         name: "report",
         about: "Prints an image's register, or its due-date values for a date",
