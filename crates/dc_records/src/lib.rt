@@ -28,7 +28,7 @@ pub use front::{Front, front_of};
 pub use header::Header;
 pub use laws::{first_fault, one_record, one_telegram, read_as_spelled};
 pub use mbdc_io::{Bytes, IoFault, Sink, Source};
-pub use reading::width;
+pub use reading::{MOST_EXTENSIONS, Numbers, chain_len, counted, data, numbers_of, width};
 pub use record::Record;
 pub use records::Records;
 pub use telegram::Telegram;

@@ -8,13 +8,16 @@ ghost use Rattle.dc_records.specs.Reading.{record_at};
 use crate::fault::BodyFault;
 use crate::record::Record;
 
-// The most DIFEs, and the most VIFEs.
-const MOST_EXTENSIONS: usize = 10;
+/// The most DIFEs of a record, and the most VIFEs (EN 13757-3).
+pub const MOST_EXTENSIONS: usize = 10;
 
-// How many bytes follow `last`, each announced by bit 7 of the one before it: at most `room`, else `many`. Mostly none.
+/// How many bytes follow `last`, each announced by bit 7 of the one before it: at most `room`. Mostly none.
+///
+/// # Errors
+/// `many` if more than `room` are announced, [`BodyFault::Cut`] if the bytes end before the last one.
 #[inline]
 #[tactic(auto, using(crate::proofs::Spellings::Chain::chain_ends))]
-fn chain_len(many: BodyFault, room: usize, last: u8, bytes: &[u8]) -> Result<usize, BodyFault>
+pub fn chain_len(many: BodyFault, room: usize, last: u8, bytes: &[u8]) -> Result<usize, BodyFault>
     ensures exact { result ≡ chain_len many room last bytes.now }
     ensures room { IfOk result (λ n. n ≤ room) }
     ensures within { IfOk result (λ n. n ≤ length bytes.now) }
@@ -47,8 +50,11 @@ fn counted_chain(many: BodyFault, room: usize, last: u8, bytes: &[u8]) -> Result
     }
 }
 
-// A length byte, then that many bytes: those bytes, and the rest.
-fn counted(bytes: &[u8]) -> Result<(&[u8], &[u8]), BodyFault>
+/// A length byte, then that many bytes: those bytes, and the rest.
+///
+/// # Errors
+/// [`BodyFault::BadLength`] if the length byte is F0 or more, [`BodyFault::Cut`] if the bytes end before.
+pub fn counted(bytes: &[u8]) -> Result<(&[u8], &[u8]), BodyFault>
     ensures { Gives (λ x. (x.0.now, x.1.now)) result (counted_at bytes.now) }
 {
     let Some((first, rest)) = bytes.split_first() else {
@@ -93,8 +99,11 @@ pub fn width(field: u8) -> usize
     if at < WIDTHS.len() { WIDTHS[at] } else { 0 }
 }
 
-// The data that a data field has: its content, and the rest.
-fn data(field: u8, bytes: &[u8]) -> Result<(&[u8], &[u8]), BodyFault>
+/// The data that a data field has: its content, and the rest.
+///
+/// # Errors
+/// [`BodyFault::BadLength`] if a length byte is F0 or more, [`BodyFault::Cut`] if the bytes end before.
+pub fn data(field: u8, bytes: &[u8]) -> Result<(&[u8], &[u8]), BodyFault>
     ensures { Gives (λ x. (x.0.now, x.1.now)) result (data_at field bytes.now) }
 {
     if field == 0xD {
@@ -103,17 +112,20 @@ fn data(field: u8, bytes: &[u8]) -> Result<(&[u8], &[u8]), BodyFault>
     bytes.split_at_checked(width(field)).ok_or(BodyFault::Cut)
 }
 
-// The numbers that the DIFEs make. Ten of them fit in these types.
+/// The numbers that DIFEs make. Ten of them fit in these types.
 #[derive(Clone, Copy)]
-struct Numbers {
-    storage: u64,
-    tariff: u32,
-    subunit: u16,
+pub struct Numbers {
+    /// The storage number, but for the bit in the DIF.
+    pub storage: u64,
+    /// The tariff.
+    pub tariff: u32,
+    /// The subunit.
+    pub subunit: u16,
 }
 
-// The numbers of a record with these DIFEs.
+/// The numbers of a record with these DIFEs (EN 13757-3).
 #[inline]
-fn numbers_of(difes: &[u8]) -> Numbers
+pub fn numbers_of(difes: &[u8]) -> Numbers
     requires { length difes.now ≤ 10 }
     ensures storage { result.storage ≡ number 16 (map storage_digit difes.now) }
     ensures tariff { result.tariff ≡ number 4 (map tariff_digit difes.now) }

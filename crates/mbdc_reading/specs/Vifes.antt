@@ -4,7 +4,7 @@ use Rattle.std.specs.List.{list_all}
 use Rattle.mbdc_reading.specs.declared.vifes.Vife as written
 use Rattle.mbdc_reading.specs.declared.vifes.Effect.{Effect}
 use Rattle.mbdc_reading.specs.declared.vifes.Effect.TheVariants.{Block}
-use Rattle.mbdc_reading.specs.declared.vifes.TheConstants.{VIFES}
+use Rattle.mbdc_reading.specs.declared.vifes.TheConstants.{VIFES, LIMIT_VIFES, LATER_VIFES}
 
 -- a VIFE: its name, its effect, and the text of the unit, the direction or the phase that it says
 pub record Vife : Type 0 where
@@ -29,7 +29,10 @@ vife_in (r ∷ rows) number = if nat_le number r.last then r.vife else vife_in r
 
 -- the VIFE with this number: its code without bit 7, and 80 more where it follows FC
 unfoldable pub vife_at : ℕ → Vife
-vife_at number = vife_in (map (λ r. row_of r.0 r.1.now r.2 r.3.now) VIFES) number
+vife_at number =
+    if nat_le number 0x3F then vife_in (map (λ r. row_of r.0 r.1.now r.2 r.3.now) VIFES) number
+    else if nat_le number 0x6F then vife_in (map (λ r. row_of r.0 r.1.now r.2 r.3.now) LIMIT_VIFES) number
+    else vife_in (map (λ r. row_of r.0 r.1.now r.2 r.3.now) LATER_VIFES) number
 
 -- ---- for private clauses
 

@@ -1,8 +1,8 @@
 //! A second reading of records, for what the due-date table leaves as other (EN 13757-3).
 //!
-//! **Codes and VIFEs** stand in two tables, [`CODES`] and [`VIFES`], with their names, units, powers of ten and
-//! effects. What a block says is its code, changed by its VIFEs from left to right; a VIFE whose meaning isn't certain
-//! leaves the record unread, and a manufacturer's VIFE ends what is interpreted.
+//! **Codes and VIFEs** stand in tables, [`CODES`], and [`VIFES`], [`LIMIT_VIFES`] and [`LATER_VIFES`], with their names,
+//! units, powers of ten and effects. What a block says is its code, changed by its VIFEs from left to right; a VIFE whose
+//! meaning isn't certain leaves the record unread, and a manufacturer's VIFE ends what is interpreted.
 //!
 //! **Values.** A record that the due-date table has is read as its point. Else its data are read as its code's kind
 //! says, where their form has one: a number, flags, digits, a text, a date or a time, an identity; else
@@ -39,4 +39,4 @@ pub use reading::{Found, How, Reading, reading_of};
 pub use sent::{Sent, SentRecords, end_of};
 pub use text::{READING_ROOM, digits_text, label_text, unit_text, value_text};
 pub use value::{Datum, NoValue, value_of};
-pub use vifes::{Effect, VIFES, Vife, vife_at};
+pub use vifes::{Effect, LATER_VIFES, LIMIT_VIFES, VIFES, Vife, vife_at};

@@ -29,9 +29,9 @@ pub struct Vife {
     pub text: &'static str,
 }
 
-/// Combinable VIFEs without bit 7 (EN 13757-3, tables of combinable VIFE codes and of the codes for record errors),
-/// those after FC from 80 on: rows in rising order, each of the codes up to its last one that no earlier row has.
-pub const VIFES: [(u8, &str, Effect, &str); 140] = [
+/// Combinable VIFEs without bit 7 (EN 13757-3, tables of combinable VIFE codes and of the codes for record errors), up to
+/// 3F: rows in rising order, each of the codes up to its last one that no earlier row has.
+pub const VIFES: [(u8, &str, Effect, &str); 59] = [
     (0x00, "no error", Effect::Nothing, ""),
     (0x01, "too many DIFEs", Effect::Failure, ""),
     (0x02, "storage number not implemented", Effect::Failure, ""),
@@ -116,6 +116,11 @@ pub const VIFES: [(u8, &str, Effect, &str); 140] = [
     (0x3D, "non-metric units", Effect::Block, ""),
     (0x3E, "at base conditions", Effect::Tag, ""),
     (0x3F, "OBIS declaration", Effect::Block, ""),
+];
+
+/// Those of limits and durations, from 40 to 6F. A table for each part, for the checker's work grows with the cube of its
+/// rows.
+pub const LIMIT_VIFES: [(u8, &str, Effect, &str); 46] = [
     (0x40, "lower limit", Effect::Tag, ""),
     (0x41, "exceeds of lower limit", Effect::Count, ""),
     (
@@ -282,6 +287,10 @@ pub const VIFES: [(u8, &str, Effect, &str); 140] = [
     (0x6D, "overflow", Effect::Tag, ""),
     (0x6E, "begin of last", Effect::Moment, ""),
     (0x6F, "end of last", Effect::Moment, ""),
+];
+
+/// Those from 70 on, and those after FC from 80 on.
+pub const LATER_VIFES: [(u8, &str, Effect, &str); 35] = [
     (0x70, "multiplicative correction 10^-6", Effect::Scale, ""),
     (0x71, "multiplicative correction 10^-5", Effect::Scale, ""),
     (0x72, "multiplicative correction 10^-4", Effect::Scale, ""),
@@ -356,5 +365,9 @@ pub fn vife_at(number: u8) -> Vife
     ensures exact { vife_view result ≡ vife_at number }
     ensures short { length result.text.now ≤ 16 }
 {
-    vife_in(&VIFES, number)
+    match number {
+        0..=0x3F => vife_in(&VIFES, number),
+        0x40..=0x6F => vife_in(&LIMIT_VIFES, number),
+        _ => vife_in(&LATER_VIFES, number),
+    }
 }
