@@ -6,9 +6,10 @@ use dc_address::{Identity, Primary};
 use dc_meters::House;
 use dc_poller::CommandNotes;
 use dc_readout::Why;
-use mbdc_change::Numbered;
+use mbdc_change::{Flat, Numbered};
+use mbdc_decode::tokens::{Piece, put_pieces};
 use mbdc_files::{Host, Journal, journal_lines, own_lines};
-use mbdc_io::{Bytes, NoMemory};
+use mbdc_io::{Bytes, IoFault, NoMemory, Sink};
 use mbdc_json::journal;
 use mbdc_poll::events::{Notes, put_command_note, put_note, put_object};
 use mbdc_poll::{Addressed, Doubt, Event, Known};
@@ -123,11 +124,7 @@ impl<'h, 'i, R: Files<File = File> + Clock + Eprint + AllocGlobal> Noting<'h, 'i
         let mut before = Vec::new(alloc);
         for line in 1..=lines {
             let was_lost = poll.contains(format!(in alloc; "{LOST}{line}")?.as_str());
-            let head = format!(in alloc; "{ADDRESSES}{line}{ODD}")?;
-            let said = own
-                .rsplit_once(head.as_str())
-                .map_or("", |(_, after)| after);
-            let said = said.split_once('\n').map_or(said, |(said, _)| said);
+            let said = said_of(alloc, own, line)?;
             before.push(self.before_on(line, spares && !was_lost, recounts, said)?)?;
         }
         Ok(before)
@@ -142,8 +139,6 @@ impl<'h, 'i, R: Files<File = File> + Clock + Eprint + AllocGlobal> Noting<'h, 'i
         said: &str,
     ) -> Result<Before, NoMemory> {
         let alloc = self.rt.alloc();
-        // A line that is torn says nothing.
-        let said = if said.ends_with(LAST) { said } else { NOTHING };
         let mut before = Before {
             meters: 0,
             silent: Vec::new(alloc),
@@ -215,54 +210,80 @@ impl<'h, 'i, R: Files<File = File> + Clock + Eprint + AllocGlobal> Noting<'h, 'i
         let mut line = 0u8;
         for (before, odd) in before.iter().zip(odd) {
             line = line.saturating_add(1);
-            if let Ok(said) = self.addresses_on(line, before, odd)
-                && said.as_str() != before.said.as_str()
-                && let Ok(text) = format!(in alloc;
-                    "{{\"at\":{now},{ADDRESSES}{line}{ODD}{said}\n"
-                )
+            let (mut said, mut text) = (Bytes::new(alloc), Bytes::new(alloc));
+            if self.put_addresses(&mut said, line, before, odd).is_ok()
+                && said.as_slice() != before.said.as_bytes()
+                && put_pieces(&mut text, &addresses_line(now, line, said.as_slice())).is_ok()
             {
-                self.append(text.as_bytes(), false);
+                self.append(text.as_slice(), false);
             }
         }
     }
 
-    // What the journal's line has after the number of a bus line.
-    fn addresses_on(
+    // Writes what the journal's line has after the number of a bus line.
+    fn put_addresses(
         &self,
+        out: &mut Bytes<Global>,
         line: u8,
         before: &Before,
         odd: &Option<Identity>,
-    ) -> Result<String, NoMemory> {
-        let alloc = self.rt.alloc();
+    ) -> Result<(), IoFault> {
         if let Some(meter) = odd {
-            let text = meter.text();
-            let name = str::from_utf8(&text).unwrap_or_default();
             // Beside such a meter a telegram may be that of two.
             let addresses = before.said.as_str().split_once(METERS);
             let addresses = addresses.map_or(LAST, |(_, addresses)| addresses);
-            return Ok(format!(in alloc; "\"{name}\"{METERS}{addresses}")?);
+            out.put(b"\"")?;
+            out.put(&meter.text())?;
+            out.put(b"\"")?;
+            out.put(METERS.as_bytes())?;
+            return out.put(addresses.as_bytes());
         }
-        let mut said = format!(in alloc; "null{METERS}")?;
+        out.put(b"null")?;
+        out.put(METERS.as_bytes())?;
         for it in &before.selected {
-            let others = before
-                .selected
-                .iter()
-                .filter(|other| other.known == it.known);
-            let mut rows = self.house.iter().flat_map(|house| house.meters());
             if let Some(address) = it.known
-                && others.count() == 1
-                && !rows.any(|(_, row)| row.line() == line && row.address() == it.known)
+                && self.is_of_one(line, before, address)
             {
-                let (text, address) = (it.meter.text(), address.get());
-                let name = str::from_utf8(&text).unwrap_or_default();
-                if !said.as_str().ends_with('{') {
-                    said.push_str(",")?;
-                }
-                said.push_str(format!(in alloc; "\"{name}\":{address}")?.as_str())?;
+                put_address(out, &it.meter, address)?;
             }
         }
-        said.push_str(LAST)?;
-        Ok(said)
+        out.put(LAST.as_bytes())
+    }
+
+    // Whether this address on a bus line is known to belong to one meter.
+    fn is_of_one(&self, line: u8, before: &Before, address: Primary) -> bool {
+        let selected = before.selected.iter();
+        let known = selected.filter(|it| it.known == Some(address)).count();
+        let mut rows = self.house.iter().flat_map(|house| house.meters());
+        known == 1 && !rows.any(|(_, row)| row.line() == line && row.address() == Some(address))
+    }
+
+    // Says on standard error where a meter sent another number of telegrams than in the last poll: it sends as many each
+    // time.
+    fn tell_telegrams(&self, event: &Event<'_>) {
+        let Event::Read { meter, bodies, .. } = event else {
+            return;
+        };
+        let (count, before) = (bodies.len(), self.last.bodies_of(meter).len());
+        if before != 0 && before != count {
+            let text = meter.text();
+            let name = str::from_utf8(&text).unwrap_or_default();
+            let _ = eprint!(self.rt;
+                "mbdc: parts: {name}: telegrams {count}, in the last poll {before}\n"
+            );
+        }
+    }
+
+    // The flat of the meter of an event, where it is registered.
+    fn flat_of(&self, event: &Event<'_>) -> Option<Flat> {
+        let (Event::Read { meter, .. }
+        | Event::Failed { meter, .. }
+        | Event::Refused { meter, .. }) = event
+        else {
+            return None;
+        };
+        let house = self.house.as_ref()?;
+        Some(house.meter(meter)?.flat())
     }
 
     // Appends a line, or only one that isn't there.
@@ -287,30 +308,53 @@ impl<'h, 'i, R: Files<File = File> + Clock + Eprint + AllocGlobal> Noting<'h, 'i
     }
 }
 
+// What the last line of the addresses on a bus line has after the number of that. One that is torn says nothing.
+fn said_of<'s>(alloc: Global, own: &'s str, line: u8) -> Result<&'s str, NoMemory> {
+    let head = format!(in alloc; "{ADDRESSES}{line}{ODD}")?;
+    let said = own
+        .rsplit_once(head.as_str())
+        .map_or("", |(_, after)| after);
+    let said = said.split_once('\n').map_or(said, |(said, _)| said);
+    Ok(if said.ends_with(LAST) { said } else { NOTHING })
+}
+
+// The journal's line of the addresses on a bus line.
+fn addresses_line(now: u64, line: u8, said: &[u8]) -> [Piece<'_>; 8] {
+    [
+        Piece::Text(b"{\"at\":"),
+        Piece::Number(now),
+        Piece::Text(b","),
+        Piece::Text(ADDRESSES.as_bytes()),
+        Piece::Number(u64::from(line)),
+        Piece::Text(ODD.as_bytes()),
+        Piece::Text(said),
+        Piece::Text(b"\n"),
+    ]
+}
+
+// Writes a meter and its address into an object, behind a comma where it isn't the first.
+fn put_address(out: &mut Bytes<Global>, meter: &Identity, address: Primary) -> Result<(), IoFault> {
+    let before: &[u8] = if out.as_slice().ends_with(b"{") {
+        b"\""
+    } else {
+        b",\""
+    };
+    put_pieces(
+        out,
+        &[
+            Piece::Text(before),
+            Piece::Text(&meter.text()),
+            Piece::Text(b"\":"),
+            Piece::Number(u64::from(address.get())),
+        ],
+    )
+}
+
 impl<R: Files<File = File> + Clock + Eprint + AllocGlobal> Notes for Noting<'_, '_, R> {
     fn note(&mut self, event: &Event<'_>) {
         let alloc = self.rt.alloc();
-        if let Event::Read { meter, bodies, .. } = event {
-            // A meter sends as many each time.
-            let (count, before) = (bodies.len(), self.last.bodies_of(meter).len());
-            if before != 0 && before != count {
-                let text = meter.text();
-                let name = str::from_utf8(&text).unwrap_or_default();
-                let _ = eprint!(self.rt;
-                    "mbdc: parts: {name}: telegrams {count}, in the last poll {before}\n"
-                );
-            }
-        }
-        let meter = match event {
-            Event::Read { meter, .. }
-            | Event::Failed { meter, .. }
-            | Event::Refused { meter, .. } => Some(meter),
-            Event::Lost { .. } | Event::Late { .. } | Event::End { .. } => None,
-        };
-        let flat = match (meter, &self.house) {
-            (Some(meter), Some(house)) => house.meter(meter).map(|known| known.flat()),
-            _ => None,
-        };
+        self.tell_telegrams(event);
+        let flat = self.flat_of(event);
         let flat = match &flat {
             Some(flat) => flat.as_slice(),
             None => b"".as_slice(),

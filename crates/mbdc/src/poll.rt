@@ -48,10 +48,26 @@ where
         Ok(disk) => disk,
         Err(ending) => return ending,
     };
-    let (only, house) = match meters_of(host, &mut disk, task.only.as_slice(), task.image) {
-        Ok(found) => found,
-        Err(ending) => return ending,
-    };
+    match meters_of(host, &mut disk, task.only.as_slice(), task.image) {
+        Ok((only, house)) => poll_known(host, disk, only.as_slice(), house, begun, task),
+        Err(ending) => ending,
+    }
+}
+
+// Reads the meters of this register, or only those that are named, over the links of their lines.
+fn poll_known<'a, D, R>(
+    host: &Host<'a, R>,
+    disk: D,
+    only: &[Identity],
+    house: Option<House<Global>>,
+    begun: Moment,
+    task: &PollTask<'a>,
+) -> Ending<'a>
+where
+    D: Disk + Drop,
+    R: Files<File = File> + Net<Stream = TcpStream> + Clock + Copy + Print + Eprint + AllocGlobal,
+    ensures { Refuses result ⊎ IsPolled D.Disk only.now task.now.image.now disk result }
+{
     let trace = match trace_of(host, task.trace) {
         Ok(trace) => trace,
         Err(error) => return host.why.file(task.trace.unwrap_or_default(), error),
@@ -60,36 +76,43 @@ where
         Ok(peers) => peers,
         Err(ending) => return ending,
     };
-    let known = (only, house);
+    let mut notes = Noting::new(host, task.image, house);
     let ending = poll_reached(
         host,
         disk,
         peers.as_slice(),
         trace.as_ref(),
-        known,
+        only,
         begun,
+        &mut notes,
         task,
     );
     released(host, peers.as_slice());
     ending
 }
 
-// Reads the meters of this register, or only those that are named, over connected links.
+// Reads the meters of the notes' register, or only those that are named, over connected links.
 fn poll_reached<'a, D, R>(
     host: &Host<'_, R>,
     disk: D,
     peers: &[Option<Peer<R>>],
     trace: Option<&Trace<'_, R>>,
-    known: (Vec<Identity>, Option<House<Global>>),
+    only: &[Identity],
     begun: Moment,
+    notes: &mut Noting<'_, '_, R>,
     task: &PollTask<'a>,
 ) -> Ending<'a>
 where
     D: Disk + Drop,
     R: Files<File = File> + Net<Stream = TcpStream> + Clock + Copy + Print + Eprint + AllocGlobal,
-    ensures { Refuses result ⊎ IsPolled D.Disk known.0.items task.now.image.now disk result }
+    ensures { Refuses result ⊎ IsPolled D.Disk only.now task.now.image.now disk result }
 {
-    let (only, house) = known;
+    // A meter that is named gets all its tries. A readout may begin anew where there is a second try.
+    let lines = u8::try_from(peers.len()).unwrap_or_default();
+    let mut before = match notes.before(lines, only.is_empty(), task.tries > 1) {
+        Ok(before) => before,
+        Err(NoMemory) => return Ending::Memory,
+    };
     let printing = Printing {
         begun,
         form: if task.is_json { Form::Json } else { Form::Text },
@@ -98,13 +121,6 @@ where
     let missing = Missing {
         lines: Cell::new(NOTHING_FOUND),
     };
-    let mut notes = Noting::new(host, task.image, house);
-    // A meter that is named gets all its tries. A readout may begin anew where there is a second try.
-    let lines = u8::try_from(peers.len()).unwrap_or_default();
-    let mut before = match notes.before(lines, only.is_empty(), task.tries > 1) {
-        Ok(before) => before,
-        Err(NoMemory) => return Ending::Memory,
-    };
     let ending = match tracers_of(host, trace, peers.len()) {
         Ok(observers) => poll_peers(
             host,
@@ -112,9 +128,9 @@ where
             peers,
             observers,
             before.as_mut_slice(),
-            only.as_slice(),
+            only,
             printing,
-            &mut notes,
+            notes,
             &missing,
             task,
         ),

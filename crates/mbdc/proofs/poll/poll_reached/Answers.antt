@@ -1,5 +1,4 @@
-use Rattle.std.proofs.Common.{◌⊎◌, List, inl, sym, subst}
-use Rattle.dc_address.specs.declared.identity.Identity.{Identity}
+use Rattle.std.proofs.Common.{◌⊎◌, inl, sym, subst}
 use Rattle.mbdc_ending.specs.declared.ending.Ending.{Ending}
 use Rattle.mbdc.specs.Commands.{IsPolled, Refuses}
 use Rattle.mbdc.proofs.poll.poll_reached.Goals as goal
@@ -7,9 +6,8 @@ use Rattle.mbdc.proofs.poll.poll_reached.Goals.{in-Ok-tracers_of, in-Err-tracers
 
 pub returns : goal.returns
 returns g c =
-    let ends = λ (only : List Identity) (e : Ending). Refuses e ⊎ IsPolled g.D.Disk only c.args.task.now.image.now c.args.disk e in
+    let ends = λ (e : Ending). Refuses e ⊎ IsPolled g.D.Disk c.args.only.now c.args.task.now.image.now c.args.disk e in
     elim c.match-tracers_of.branch [
-      | in-Ok-tracers_of w ↦ subst (ends c.args.known.0.items) (sym w.ending-is)
-          (subst (λ (only : List Identity). ends only w.poll_peers-ending.result) w.as_slice.ensures.value w.poll_peers-ending.ensures)
-      | in-Err-tracers_of w ↦ subst (ends c.args.known.0.items) (sym w.ending-is) (inl w.in-Err-tracers_of.ensures)
+      | in-Ok-tracers_of w ↦ subst ends (sym w.ending-is) w.poll_peers-ending.ensures
+      | in-Err-tracers_of w ↦ subst ends (sym w.ending-is) (inl w.in-Err-tracers_of.ensures)
     ]
