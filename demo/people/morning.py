@@ -98,8 +98,8 @@ def troubles_of(days: Days) -> list[Trouble]:
                 "UPDATE meters SET heard = now(), stored_at = now(), at = now() WHERE box = '{house}'"),
         Trouble("silent", "UPDATE meters SET heard = now() - interval '5 days', stored_at = now() - interval '5 days',"
                 " at = now() - interval '5 days' WHERE identity = " + METER, "exchange",
-                {"new": "99000002.PAD.01.04", "at": f"{days.last}T12:00", "last": "5900000", "first": "0",
-                 "unit": "Wh"},
+                {"new": "99000002.PAD.01.04", "at": f"{days.last + datetime.timedelta(days=1)}T00:30",
+                 "last": str(5_011_500 + 9000 * (days.last - days.first).days), "first": "0", "unit": "Wh"},
                 "UPDATE orders SET state = 'done', number = 1, answer = 'OK', ended_at = now() WHERE box = '{house}';"
                 "UPDATE meters SET identity = '99000002.PAD.01.04', since = now(), heard = now(), stored_at = now(),"
                 " at = now() WHERE identity = " + METER),
