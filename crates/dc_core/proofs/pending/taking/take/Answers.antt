@@ -52,3 +52,33 @@ push-requires-clause-is_change g c = grind (arith, common_steps)
 
 pub returns-clause-accepted : goal.returns-clause-accepted
 returns-clause-accepted g c = grind (arith, common_steps)
+
+pub is_full-requires : goal.is_full-requires
+is_full-requires g c = grind (arith, common_steps)
+
+pub returns-then-is_full-clause-ok : goal.returns-then-is_full-clause-ok
+returns-then-is_full-clause-ok g c = grind (arith, common_steps)
+
+pub of-requires : goal.of-requires
+of-requires g c = grind (arith, common_steps)
+
+pub returns-in_default-clause-ok : goal.returns-in_default-clause-ok
+returns-in_default-clause-ok g c = grind (arith, common_steps)
+
+pub as_slice-is_body-requires : goal.as_slice-is_body-requires
+as_slice-is_body-requires g c = grind (arith, common_steps)
+
+pub check-requires : goal.check-requires
+check-requires g c κs = grind (arith, common_steps)
+
+pub returns-then-is_err-clause-ok : goal.returns-then-is_err-clause-ok
+returns-then-is_err-clause-ok g c = grind (arith, common_steps)
+
+pub returns-then-is_err-2-clause-ok : goal.returns-then-is_err-2-clause-ok
+returns-then-is_err-2-clause-ok g c = grind (arith, common_steps)
+
+pub returns-clause-house : goal.returns-clause-house
+returns-clause-house g c = grind (arith, common_steps)
+
+pub returns-clause-waiting : goal.returns-clause-waiting
+returns-clause-waiting g c = grind (arith, common_steps)
