@@ -37,3 +37,18 @@ returns g c = λ s found all.
 
 pub returns-in_err-check_values : goal.returns-in_err-check_values
 returns-in_err-check_values g c = grind (arith, common_steps)
+
+pub as_slice-runs-requires : goal.as_slice-runs-requires
+as_slice-runs-requires g c κs = grind (arith, common_steps)
+
+pub get-requires : goal.get-requires
+get-requires g c κs = grind (arith, common_steps)
+
+pub check_values-requires : goal.check_values-requires
+check_values-requires g c κs = grind (arith, common_steps)
+
+pub reach-requires : goal.reach-requires
+reach-requires g c κs = grind (arith, common_steps)
+
+pub check_parts-requires : goal.check_parts-requires
+check_parts-requires g c κs = grind (arith, common_steps)
