@@ -69,3 +69,7 @@ returns-in_err-put_number_word-2 g c =
     (puts_front-second (number_word c.len.result) c.in_ok-put_number_word.ensures.0 (puts_front-second (codes "\nSIZE") c.in_ok-put-2.ensures.bytes
     (puts_front-first (codes "\n") c.in_err-put_number_word-2.ensures.2))))) in
     grind arith
+
+pub returns : goal.returns
+unfolding register_text
+returns g c = grind (arith, common_steps)
