@@ -8,6 +8,7 @@ use Rattle.mbdc_poll.specs.declared.station.Station.{Station}
 use Rattle.mbdc_poll.proofs.Rounds.{get_or_any, all_as, all_none, all_then, all_set, falls_none, falls_then, falls_step, falls_all}
 use Rattle.mbdc_poll.proofs.Hearing.{all_heard, heard_none, room_made}
 use Rattle.mbdc_poll.proofs.Running.{runs_as, runs_none, runs_then}
+use Rattle.std.proofs.lemmas.Grind.{common_steps}
 use Rattle.mbdc_poll.proofs.lines.hear_all.Goals as goal
 
 pub lines-init : goal.lines-init
@@ -72,3 +73,33 @@ returns-in-Err-clause-budget g c = c.make_room.ensures.budget ∙ c.lines.invari
 
 pub returns-clause-fewer : goal.returns-clause-fewer
 returns-clause-fewer g c = falls_all _ _ c.args.stations.now c.lines.stations c.lines.at (omega (arith, c.lines-test.false)) c.lines.invariant.falls
+
+pub make_room-requires : goal.make_room-requires
+make_room-requires g c κs = grind (arith, common_steps)
+
+pub returns-in-Err-clause-fewer : goal.returns-in-Err-clause-fewer
+returns-in-Err-clause-fewer g c = grind (arith, common_steps)
+
+pub offset_bounds-stations-at : goal.offset_bounds-stations-at
+offset_bounds-stations-at g c = grind (arith, common_steps)
+
+pub bounds-stations-at : goal.bounds-stations-at
+bounds-stations-at g c = grind (arith, common_steps)
+
+pub line_at-requires : goal.line_at-requires
+line_at-requires g c = grind (arith, common_steps)
+
+pub hear-requires : goal.hear-requires
+hear-requires g c = grind (arith, common_steps)
+
+pub and_accepted-pending-requires : goal.and_accepted-pending-requires
+and_accepted-pending-requires g c = grind (arith, common_steps)
+
+pub lines-smaller : goal.lines-smaller
+lines-smaller g c = grind (arith, common_steps)
+
+pub returns-clause-sound : goal.returns-clause-sound
+returns-clause-sound g c = grind (arith, common_steps)
+
+pub returns-clause-budget : goal.returns-clause-budget
+returns-clause-budget g c = grind (arith, common_steps)
