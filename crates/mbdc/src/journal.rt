@@ -258,8 +258,8 @@ impl<'h, 'i, R: Files<File = File> + Clock + Eprint + AllocGlobal> Noting<'h, 'i
         known == 1 && !rows.any(|(_, row)| row.line() == line && row.address() == Some(address))
     }
 
-    // Says on standard error where a meter sent another number of telegrams than in the last poll: it sends as many each
-    // time.
+    // Says on standard error where a meter, which sends a fixed number of telegrams, sent another one than in the last
+    // poll.
     fn tell_telegrams(&self, event: &Event<'_>) {
         let Event::Read { meter, bodies, .. } = event else {
             return;
@@ -332,7 +332,7 @@ fn addresses_line(now: u64, line: u8, said: &[u8]) -> [Piece<'_>; 8] {
     ]
 }
 
-// Writes a meter and its address into an object, behind a comma where it isn't the first.
+// Writes a meter and its address into an object, after a comma where it isn't the first.
 fn put_address(out: &mut Bytes<Global>, meter: &Identity, address: Primary) -> Result<(), IoFault> {
     let before: &[u8] = if out.as_slice().ends_with(b"{") {
         b"\""
