@@ -5,6 +5,7 @@ use Rattle.mbdc_poll.specs.declared.station.Station.{Station}
 use Rattle.mbdc_poll.proofs.Rounds.{get_or_any, rounds_none, rounds_step, becomes_none, becomes_step, becomes_all}
 use Rattle.mbdc_poll.proofs.Running.{runs_none, runs_then}
 use Rattle.mbdc_poll.proofs.Taking.{told_none, told_then}
+use Rattle.std.proofs.lemmas.Grind.{common_steps}
 use Rattle.mbdc_poll.proofs.telling.tell_all.Goals as goal
 
 pub lines-init : goal.lines-init
@@ -59,3 +60,36 @@ pub returns-clause-sound : goal.returns-clause-sound
 returns-clause-sound g c tries sound k d below =
     let within : k < length c.args.stations.now = omega (arith, below, c.lines.invariant.count) in
     (becomes_all _ c.args.stations.now c.lines.stations c.lines.at (omega (arith, c.lines-test.false)) c.lines.invariant.becomes k d within tries).0 (sound k d within)
+
+pub offset_bounds-stations-at : goal.offset_bounds-stations-at
+offset_bounds-stations-at g c = grind (arith, common_steps)
+
+pub bounds-stations-at : goal.bounds-stations-at
+bounds-stations-at g c = grind (arith, common_steps)
+
+pub line_at-requires : goal.line_at-requires
+line_at-requires g c = grind (arith, common_steps)
+
+pub returns-in-Err-clause-few : goal.returns-in-Err-clause-few
+returns-in-Err-clause-few g c = grind (arith, common_steps)
+
+pub returns-in-Err-clause-sound : goal.returns-in-Err-clause-sound
+returns-in-Err-clause-sound g c = grind (arith, common_steps)
+
+pub returns-in-Err-clause-fewer : goal.returns-in-Err-clause-fewer
+returns-in-Err-clause-fewer g c = grind (arith, common_steps)
+
+pub returns-in-Err-clause-counted : goal.returns-in-Err-clause-counted
+returns-in-Err-clause-counted g c = grind (arith, common_steps)
+
+pub lines-smaller : goal.lines-smaller
+lines-smaller g c = grind (arith, common_steps)
+
+pub returns-clause-went : goal.returns-clause-went
+returns-clause-went g c = grind (arith, common_steps)
+
+pub returns-clause-few : goal.returns-clause-few
+returns-clause-few g c = grind (arith, common_steps)
+
+pub returns-clause-counted : goal.returns-clause-counted
+returns-clause-counted g c = grind (arith, common_steps)
